@@ -1,0 +1,13 @@
+pub mod LineLemmas
+pub mod Digits
+pub mod Ends
+pub mod Readings
+pub mod Feeding
+pub mod Cutting
+pub mod Values
+pub mod Fields
+pub mod Heads
+pub mod Faults
+pub mod Framing
+pub mod Pasts
+pub mod Minimal

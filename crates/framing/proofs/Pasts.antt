@@ -1,0 +1,95 @@
+-- What is kept stands for all that came.
+use Rattle.std.proofs.Common.{◌≡◌, ℕ, List, [], ◌∷◌, ◌++◌, Option, Some, None, Result, Ok, Err, refl, sym, ap, ◌∙◌, subst, append_assoc}
+use Rattle.framing.specs.Reading.{Reading, Tail, reading_of, with_bodies}
+use Rattle.framing.specs.Reading.Tail.{Partial, Faulty}
+use Rattle.framing.specs.Parts.{tail_by}
+use Rattle.framing.specs.Streams.{TailIs, Reads, HasFault, Unframed, Stream, StandsFor, Takes, TakesPiece, LendsBody, Feeds, fed, fault_of, reading_after, with_piece, with_lent, first_of, others_of, lent_from, nothing_fed, nothing_came}
+use Rattle.framing.specs.declared.error.FrameError.{FrameError}
+use Rattle.framing.specs.declared.error.FrameError.TheVariants.{Header, NoLength, TwoLengths, BadLength, TooLong, HeaderTooLong, NoMemory}
+use Rattle.framing.proofs.Cutting.{reading_of-append}
+use Rattle.framing.proofs.Faults.{fault_read}
+use Rattle.framing.proofs.Framing.{framed_read, reading_is_right}
+
+pub nothing_stands : (limit : ℕ) → StandsFor (nothing_fed limit) nothing_came
+unfolding reading_of
+nothing_stands limit = record { reads = refl }
+
+-- after a piece
+pub fed_stands : (kept : Unframed) (s : Stream) (piece : List ℕ) → StandsFor kept s → StandsFor (fed kept piece) (with_piece s piece)
+fed_stands kept s piece h =
+    let more : Reading = reading_after kept.limit kept.tail piece in
+    record {
+      reads =
+          reading_of-append kept.limit s.fed piece
+          ∙ ap (λ (r : Reading). with_bodies r.bodies (reading_after kept.limit r.tail piece)) h.reads
+          ∙ ap (λ (l : List (List ℕ)). let r : Reading = record { bodies = l; tail = more.tail } in r) (append_assoc s.lent kept.waiting more.bodies);
+    }
+
+-- after a body was lent
+lent_by : (limit : ℕ) (waiting : List (List ℕ)) (tail : Tail) (s : Stream) → StandsFor (record { limit = limit; waiting = waiting; tail = tail }) s → StandsFor (record { limit = limit; waiting = others_of waiting; tail = tail }) (with_lent s (first_of waiting))
+lent_by limit [] tail s h = h
+lent_by limit (body ∷ bodies) tail s h = record { reads = h.reads ∙ ap (λ (l : List (List ℕ)). let r : Reading = record { bodies = l; tail = tail } in r) (sym (append_assoc s.lent (body ∷ []) bodies)) }
+
+pub lent_stands : (kept : Unframed) (s : Stream) → StandsFor kept s → StandsFor (lent_from kept) (with_lent s (first_of kept.waiting))
+lent_stands kept s h = lent_by kept.limit kept.waiting kept.tail s h
+
+pub lending : (kept : Unframed) → LendsBody kept (first_of kept.waiting) (lent_from kept)
+lending kept = record { to_each = λ s h. lent_stands kept s h }
+
+-- the fault of a stream is the one that is read
+pub fault_is_read : (limit : ℕ) (stream : List ℕ) (fault : FrameError) → HasFault limit stream fault → (reading_of limit stream).tail ≡ Faulty fault
+fault_is_read limit stream fault h =
+    ap (λ (r : Reading). r.tail) (framed_read limit stream h.bodies h.rest h.framed) ∙ ap (λ s. tail_by s h.rest) (fault_read limit h.rest fault h.has)
+
+pub fault_that_is_read : (limit : ℕ) (stream : List ℕ) (fault : FrameError) → (reading_of limit stream).tail ≡ Faulty fault → HasFault limit stream fault
+fault_that_is_read limit stream fault e =
+    let r = reading_is_right limit stream in
+    record { bodies = (reading_of limit stream).bodies; rest = r.rest; framed = r.framed; has = subst (TailIs limit r.rest) e r.tail }
+
+-- the fault that is kept is the stream's
+tail_fault : (tail : Tail) (fault : FrameError) → fault_of tail ≡ Some fault → tail ≡ Faulty fault
+tail_fault (Partial rest) fault h = absurd (none_is h) where
+  none_is : (let x : Option FrameError = None in x) ≡ Some fault → ⊥
+  none_is h = cc
+tail_fault (Faulty k) fault h = ap (λ (x : FrameError). Faulty x) (some_is h) where
+  some_is : (let x : Option FrameError = Some k in x) ≡ Some fault → k ≡ fault
+  some_is h = cc
+
+no_fault : (tail : Tail) (fault : FrameError) → fault_of tail ≡ None → tail ≡ Faulty fault → ⊥
+no_fault tail fault none e = some_none (sym (ap fault_of e) ∙ none) where
+  some_none : (let x : Option FrameError = Some fault in x) ≡ None → ⊥
+  some_none h = cc
+
+stands_here : (new kept : Unframed) (s : Stream) → new ≡ kept → StandsFor kept s → StandsFor new s
+stands_here new kept s e h = subst (λ (x : Unframed). StandsFor x s) (sym e) h
+
+-- the tail of the stream with the piece is the one that is kept
+new_tail : (old new : Unframed) (s : Stream) (piece : List ℕ) → new ≡ fed old piece → StandsFor old s → (reading_of old.limit (s.fed ++ piece)).tail ≡ new.tail
+new_tail old new s piece e h = ap (λ (r : Reading). r.tail) (fed_stands old s piece h).reads ∙ sym (ap (λ (x : Unframed). x.tail) e)
+
+faulted : (old new : Unframed) (s : Stream) (piece : List ℕ) (fault : FrameError) → (new ≡ fed old piece) × (fault_of new.tail ≡ Some fault) → StandsFor old s → StandsFor new (with_piece s piece) × HasFault old.limit (s.fed ++ piece) fault
+faulted old new s piece fault f h = (
+  stands_here new (fed old piece) (with_piece s piece) f.0 (fed_stands old s piece h),
+  fault_that_is_read old.limit (s.fed ++ piece) fault (new_tail old new s piece f.0 h ∙ tail_fault new.tail fault f.1),
+)
+
+takes : (T : Type 0) (old : Unframed) (s : Stream) (piece : List ℕ) (result : Result T FrameError) (new : Unframed) → Feeds old piece result new → StandsFor old s → Takes old s piece result new
+takes T old s piece (Ok x) new f h = (
+  stands_here new (fed old piece) (with_piece s piece) f.0 (fed_stands old s piece h),
+  λ fault has. no_fault new.tail fault f.1 (sym (new_tail old new s piece f.0 h) ∙ fault_is_read old.limit (s.fed ++ piece) fault has),
+)
+takes T old s piece (Err NoMemory) new f h = stands_here new old s f h
+takes T old s piece (Err Header) new f h = faulted old new s piece Header f h
+takes T old s piece (Err NoLength) new f h = faulted old new s piece NoLength f h
+takes T old s piece (Err TwoLengths) new f h = faulted old new s piece TwoLengths f h
+takes T old s piece (Err BadLength) new f h = faulted old new s piece BadLength f h
+takes T old s piece (Err TooLong) new f h = faulted old new s piece TooLong f h
+takes T old s piece (Err HeaderTooLong) new f h = faulted old new s piece HeaderTooLong f h
+
+-- what goes so on what is kept goes so for each stream that it stood for
+pub taking : (T : Type 0) (old : Unframed) (piece : List ℕ) (result : Result T FrameError) (new : Unframed) → Feeds old piece result new → TakesPiece old piece result new
+taking T old piece result new f = record { to_each = λ s h. takes T old s piece result new f h }
+
+-- and its bodies and its tail are the stream's
+pub stands_right : (kept : Unframed) (s : Stream) → StandsFor kept s → Reads kept.limit s.fed (record { bodies = s.lent ++ kept.waiting; tail = kept.tail })
+stands_right kept s h = subst (Reads kept.limit s.fed) h.reads (reading_is_right kept.limit s.fed)

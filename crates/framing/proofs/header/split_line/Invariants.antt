@@ -1,0 +1,8 @@
+use Rattle.std.proofs.Common.{◌≡◌, ◌-◌, take, drop}
+use Rattle.framing.specs.Reading.{lines_of}
+use Rattle.framing.proofs.LineLemmas.{onto_line}
+use Rattle.framing.proofs.header.split_line.Given as goal
+
+abbrev pub invariant-loop-i : goal.invariant-loop-i
+invariant-loop-i l =
+    lines_of l.lines ≡ onto_line (take (l.i - 1) l.lines) (lines_of (drop (l.i - 1) l.lines))

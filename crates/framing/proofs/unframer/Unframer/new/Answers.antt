@@ -1,0 +1,8 @@
+use Rattle.std.proofs.Common.{sym, subst}
+use Rattle.framing.specs.Streams.{Unframed, StandsFor, nothing_came}
+use Rattle.framing.proofs.Pasts.{nothing_stands}
+use Rattle.framing.proofs.unframer.Unframer.new.Goals as goal
+
+pub returns-clause-stream : goal.returns-clause-stream
+returns-clause-stream c =
+    subst (λ (k : Unframed). StandsFor k nothing_came) (sym c.new.ensures) (nothing_stands c.args.limit)

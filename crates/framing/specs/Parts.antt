@@ -1,0 +1,42 @@
+-- How the code holds a stream: the bytes that came of the next frame, how that frame starts, and bodies.
+use Rattle.std.specs.Prelude.{◌≡◌, ℕ, ◌+◌, ◌-◌, ◌≤◌, Bool, true, false, nat_lt, if◌then◌else◌, List, ◌++◌, map, length, take, drop, Option, Some, None}
+use Rattle.std.specs.declared.vec.Vec.{Vec}
+use Rattle.std.specs.declared.alloc.Global.{Global}
+use Rattle.framing.specs.Reading.{Tail, start_of, reading_of}
+use Rattle.framing.specs.Reading.Tail.{Partial, Faulty}
+use Rattle.framing.specs.declared.start.Start.{Start}
+use Rattle.framing.specs.declared.start.Start.TheVariants.{Waits, Breaks, Begins}
+
+-- the bodies that a list of vectors holds
+abbrev pub bodies_of : List (Vec ℕ Global) → List (List ℕ)
+bodies_of vectors = map (λ v. v.items) vectors
+
+-- the content of a frame that starts so, and the bytes behind it, if the frame is whole
+abbrev pub parts_of : Start → List ℕ → Option (List ℕ × List ℕ)
+parts_of Waits bytes = None
+parts_of (Breaks fault) bytes = None
+parts_of (Begins size n) bytes = if nat_lt (length bytes) (size + n) then None else Some (take n (drop size bytes), drop (size + n) bytes)
+
+-- the tail of a stream whose next frame starts so and is not whole
+abbrev pub tail_by : Start → List ℕ → Tail
+tail_by Waits rest = Partial rest
+tail_by (Breaks fault) rest = Faulty fault
+tail_by (Begins size n) rest = Partial rest
+
+-- whether there is no next frame
+abbrev pub is_broken : Start → Bool
+is_broken Waits = false
+is_broken (Breaks fault) = true
+is_broken (Begins size n) = false
+
+-- Bytes are parted into the bodies of whole frames and what is left of the next frame, which starts so.
+pub record Parts (limit : ℕ) (bytes : List ℕ) (bodies : List (List ℕ)) (start : Start) (left : ℕ) : Type 0 where
+  pub within : left ≤ length bytes
+  pub starts : start ≡ start_of limit (drop (length bytes - left) bytes)
+  pub reads : reading_of limit bytes ≡ record { bodies = bodies; tail = tail_by start (drop (length bytes - left) bytes) }
+
+-- The bodies of the whole frames at the front of the bytes were added.
+pub record TakesFrames (limit : ℕ) (bytes : List ℕ) (old new : List (Vec ℕ Global)) (start : Start) (left : ℕ) : Type 0 where
+  pub bodies : List (List ℕ)
+  pub parts : Parts limit bytes bodies start left
+  pub added : bodies_of new ≡ bodies_of old ++ bodies

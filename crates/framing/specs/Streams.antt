@@ -1,0 +1,110 @@
+-- A stream that comes in pieces, and the value that an unframer is.
+--
+-- Of a stream the value keeps three things: the limit, the bodies that wait to be lent, and the tail, which is
+-- part of a frame or the fault. So a piece that comes goes on from the tail alone, and still the bodies are
+-- those of the whole stream, however it was cut.
+use Rattle.std.specs.Prelude.{◌≡◌, ℕ, List, [], ◌∷◌, ◌++◌, Option, Some, None, Result, Ok, Err}
+use Rattle.framing.specs.Frames.{Framed, Fault}
+use Rattle.framing.specs.Reading.{Tail, Reading, reading_of}
+use Rattle.framing.specs.Reading.Tail.{Partial, Faulty}
+use Rattle.framing.specs.declared.error.FrameError.{FrameError}
+use Rattle.framing.specs.declared.error.FrameError.TheVariants.{NoMemory}
+
+-- what is kept of a stream
+pub record Unframed : Type 0 where
+  pub limit : ℕ
+  pub waiting : List (List ℕ)
+  pub tail : Tail
+
+-- before anything came
+abbrev pub nothing_fed : ℕ → Unframed
+nothing_fed limit = record { limit = limit; waiting = []; tail = Partial [] }
+
+-- the reading of what has come of the next frame, and a piece
+abbrev pub reading_after : ℕ → Tail → List ℕ → Reading
+reading_after limit (Partial rest) piece = reading_of limit (rest ++ piece)
+reading_after limit (Faulty fault) piece = record { bodies = []; tail = Faulty fault }
+
+-- what is kept after a piece: new bodies wait behind the others
+abbrev pub with_reading : Unframed → Reading → Unframed
+with_reading kept r = record { limit = kept.limit; waiting = kept.waiting ++ r.bodies; tail = r.tail }
+
+abbrev pub fed : Unframed → List ℕ → Unframed
+fed kept piece = with_reading kept (reading_after kept.limit kept.tail piece)
+
+-- the fault that a tail is, if it is one
+abbrev pub fault_of : Tail → Option FrameError
+fault_of (Partial rest) = None
+fault_of (Faulty fault) = Some fault
+
+-- `feed` takes the piece, and answers the fault of the stream so far, if it has one. Without memory nothing changes.
+abbrev pub Feeds : {T : Type 0} → Unframed → List ℕ → Result T FrameError → Unframed → Type 0
+Feeds old piece (Ok _) new = (new ≡ fed old piece) × (fault_of new.tail ≡ None)
+Feeds old piece (Err NoMemory) new = new ≡ old
+Feeds old piece (Err fault) new = (new ≡ fed old piece) × (fault_of new.tail ≡ Some fault)
+
+-- the first body that waits, and the others
+abbrev pub first_of : List (List ℕ) → Option (List ℕ)
+first_of [] = None
+first_of (body ∷ bodies) = Some body
+
+abbrev pub others_of : List (List ℕ) → List (List ℕ)
+others_of [] = []
+others_of (body ∷ bodies) = bodies
+
+-- what is kept after the first body that waits was lent
+abbrev pub lent_from : Unframed → Unframed
+lent_from kept = record { limit = kept.limit; waiting = others_of kept.waiting; tail = kept.tail }
+
+-- A reading as statements: the stream is frames of these bodies and a rest, which is the partial tail, or has the fault.
+abbrev pub TailIs : ℕ → List ℕ → Tail → Type 0
+TailIs limit rest (Partial bytes) = (rest ≡ bytes) × ((fault : FrameError) → Fault limit rest fault → ⊥)
+TailIs limit rest (Faulty fault) = Fault limit rest fault
+
+pub record Reads (limit : ℕ) (stream : List ℕ) (reading : Reading) : Type 0 where
+  pub rest : List ℕ
+  pub framed : Framed limit stream reading.bodies rest
+  pub tail : TailIs limit rest reading.tail
+
+-- A stream has a fault: its rest has it.
+pub record HasFault (limit : ℕ) (stream : List ℕ) (fault : FrameError) : Type 0 where
+  pub bodies : List (List ℕ)
+  pub rest : List ℕ
+  pub framed : Framed limit stream bodies rest
+  pub has : Fault limit rest fault
+
+-- all that was ever fed, and the bodies that were ever lent
+pub record Stream : Type 0 where
+  pub fed : List ℕ
+  pub lent : List (List ℕ)
+
+-- the stream on which nothing came
+abbrev pub nothing_came : Stream
+nothing_came = record { fed = []; lent = [] }
+
+-- the stream after a piece, and after a body was lent, if there was one
+abbrev pub with_piece : Stream → List ℕ → Stream
+with_piece s piece = record { fed = s.fed ++ piece; lent = s.lent }
+
+abbrev pub with_lent : Stream → Option (List ℕ) → Stream
+with_lent s None = s
+with_lent s (Some body) = record { fed = s.fed; lent = s.lent ++ body ∷ [] }
+
+-- What is kept stands for a stream: its bodies are those lent and then those that wait, and its tail is the one kept.
+pub record StandsFor (kept : Unframed) (s : Stream) : Type 0 where
+  pub reads : reading_of kept.limit s.fed ≡ record { bodies = s.lent ++ kept.waiting; tail = kept.tail }
+
+-- `feed` for a stream: what is kept then stands for the stream with the piece. An error is the fault of that stream;
+-- without an error it has none. Without memory what is kept stands for the stream of before.
+abbrev pub Takes : {T : Type 0} → Unframed → Stream → List ℕ → Result T FrameError → Unframed → Type 0
+Takes old s piece (Ok _) new = StandsFor new (with_piece s piece) × ((fault : FrameError) → HasFault old.limit (s.fed ++ piece) fault → ⊥)
+Takes old s piece (Err NoMemory) new = StandsFor new s
+Takes old s piece (Err fault) new = StandsFor new (with_piece s piece) × HasFault old.limit (s.fed ++ piece) fault
+
+-- so it is for each stream that the value stood for
+pub record TakesPiece {T : Type 0} (old : Unframed) (piece : List ℕ) (result : Result T FrameError) (new : Unframed) : Type 0 where
+  pub to_each : (s : Stream) → StandsFor old s → Takes old s piece result new
+
+-- `next_body` for each stream that the value stood for: what is kept then stands for the stream with the body lent
+pub record LendsBody (old : Unframed) (body : Option (List ℕ)) (new : Unframed) : Type 0 where
+  pub to_each : (s : Stream) → StandsFor old s → StandsFor new (with_lent s body)

@@ -1,0 +1,46 @@
+//! What holds of every stream: each law is the contract of a function that does nothing.
+
+ghost use Rattle.framing.specs.Laws.{
+  BodiesAreRight,
+  CutsDoNotMatter,
+  FaultIsOnly,
+  FramesAreOnly,
+  FramesAreRead,
+  ReadingIsOnly,
+  ReadingIsRight,
+};
+
+/// The reading of a stream is its bodies, its rest and its fault.
+pub fn reading_is_right()
+    ensures { ReadingIsRight }
+{}
+
+/// No other reading is.
+pub fn reading_is_only()
+    ensures { ReadingIsOnly }
+{}
+
+/// A stream has no other bodies, and no other rest behind them.
+pub fn frames_are_only()
+    ensures { FramesAreOnly }
+{}
+
+/// A stream has at most one fault.
+pub fn fault_is_only()
+    ensures { FaultIsOnly }
+{}
+
+/// The bodies that an unframer lent, and those that wait, are those of all that was ever fed.
+pub fn bodies_are_right()
+    ensures { BodiesAreRight }
+{}
+
+/// However a stream is cut, its reading is that of the front, gone on with.
+pub fn cuts_do_not_matter()
+    ensures { CutsDoNotMatter }
+{}
+
+/// What `frame` writes is read as the body, whatever follows.
+pub fn frames_are_read()
+    ensures { FramesAreRead }
+{}

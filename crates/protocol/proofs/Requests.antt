@@ -1,0 +1,102 @@
+-- What holds of the table of requests, row by row.
+use Rattle.std.proofs.Common.{◌≡◌, ℕ, Bool, true, false, cond, List, [], ◌∷◌, Option, Some, None, Result, Ok, Err, refl, sym, ◌∙◌, ap}
+use Rattle.std.proofs.lemmas.Slice.Eq.{bytes_eq-Decides}
+use Rattle.std.specs.List.{AllByRecursion}
+use Rattle.std.specs.Prelude.{ok_or, bytes_eq, option_and_then, option_map}
+use Rattle.serde_json.specs.Data.{Members}
+use Rattle.protocol.specs.Properties.{arguments_members}
+use Rattle.protocol.specs.Initialize.{initialize_arguments}
+use Rattle.protocol.specs.Threads.{threads_arguments}
+use Rattle.protocol.specs.Disconnect.{disconnect_arguments}
+use Rattle.protocol.specs.Commands.{Row, row, requests, command_among, name_of}
+use Rattle.protocol.specs.Laws.{KnowsRequestsByName, KeepsTheName}
+use Rattle.protocol.specs.declared.command.Command.{Command}
+use Rattle.protocol.specs.declared.command.Command.TheVariants.{Initialize, Threads, Disconnect}
+use Rattle.protocol.specs.declared.refusal.Refusal.{Refusal}
+use Rattle.protocol.specs.declared.refusal.Refusal.TheVariants.{UnknownCommand, BadArguments}
+use Rattle.protocol.specs.declared.initialize.TheConstants.{NAME as INITIALIZE}
+use Rattle.protocol.specs.declared.threads.TheConstants.{NAME as THREADS}
+use Rattle.protocol.specs.declared.disconnect.TheConstants.{NAME as DISCONNECT}
+
+-- a name that no row has is unknown, whatever the members of the arguments are
+unknown_at : (here : Bool) (f g : Option Command) (x y : Result Command Refusal)
+    → (x ≡ Err UnknownCommand → y ≡ Err UnknownCommand)
+    → cond here (ok_or f BadArguments) x ≡ Err UnknownCommand
+    → cond here (ok_or g BadArguments) y ≡ Err UnknownCommand
+unknown_at true None g x y later e = cc
+unknown_at true (Some c) g x y later e = cc
+unknown_at false f g x y later e = later e
+
+unknown_among : (rows : List Row) (name : List ℕ) (a b : Option Members)
+    → command_among rows name a ≡ Err UnknownCommand
+    → command_among rows name b ≡ Err UnknownCommand
+unknown_among [] name a b e = refl
+unknown_among (r ∷ rs) name a b e =
+    unknown_at (bytes_eq name r.name) (option_and_then r.meaning a) _ _ _
+    (unknown_among rs name a b) e
+
+pub knows_by_name : KnowsRequestsByName
+knows_by_name name some all e =
+    unknown_among requests name (arguments_members some) (arguments_members all) e
+
+-- what a row reads has the row's name
+abbrev KeepsItsName : Row → Type 0
+KeepsItsName r = (members : Members) (command : Command)
+    → r.meaning members ≡ Some command → name_of command ≡ r.name
+
+made : {A : Type 0} (name : List ℕ) (make : A → Command) (found : Option A) (command : Command)
+    → ((a : A) → name_of (make a) ≡ name)
+    → option_map make found ≡ Some command → name_of command ≡ name
+made name make None command named e = absurd (cc)
+made name make (Some a) command named e =
+    let same : make a ≡ command = cc in
+    ap name_of (sym same) ∙ named a
+
+row_keeps : {A : Type 0} (name : List ℕ) (arguments : Members → Option A) (make : A → Command)
+    → ((a : A) → name_of (make a) ≡ name)
+    → KeepsItsName (row name arguments make)
+row_keeps name arguments make named members command e =
+    made name make (arguments members) command named e
+
+ok_is : (found : Option Command) (command : Command) → ok_or found BadArguments ≡ Ok command
+    → found ≡ Some command
+ok_is None command e = absurd (cc)
+ok_is (Some c) command e = cc
+
+meant : (r : Row) (members : Option Members) (command : Command) → KeepsItsName r
+    → option_and_then r.meaning members ≡ Some command → name_of command ≡ r.name
+meant r None command keeps e = absurd (cc)
+meant r (Some ms) command keeps e = keeps ms command e
+
+named_at : (here : Bool) (r : Row) (name : List ℕ) (members : Option Members)
+    (rest : Result Command Refusal) (command : Command)
+    → bytes_eq name r.name ≡ here → KeepsItsName r → (rest ≡ Ok command → name_of command ≡ name)
+    → cond here (ok_or (option_and_then r.meaning members) BadArguments) rest ≡ Ok command
+    → name_of command ≡ name
+named_at true r name members rest command same keeps later e =
+    meant r members command keeps (ok_is _ command e) ∙ sym ((bytes_eq-Decides name r.name).0 same)
+named_at false r name members rest command other keeps later e = later e
+
+named_among : (rows : List Row) (name : List ℕ) (members : Option Members) (command : Command)
+    → AllByRecursion KeepsItsName rows
+    → command_among rows name members ≡ Ok command → name_of command ≡ name
+named_among [] name members command keep e = absurd (cc)
+named_among (r ∷ rs) name members command keep e =
+    named_at (bytes_eq name r.name) r name members _ command refl keep.0
+    (named_among rs name members command keep.1) e
+
+-- a pair, with its parts on lines of their own
+infixr 5 ◌and◌
+◌and◌ : {A B : Type 0} → A → B → A × B
+a and b = (a, b)
+
+-- one line for each request
+requests_keep : AllByRecursion KeepsItsName requests
+requests_keep = row_keeps INITIALIZE.now initialize_arguments (λ a. Initialize a) (λ _. refl)
+    and row_keeps THREADS.now threads_arguments (λ _. Threads) (λ _. refl)
+    and row_keeps DISCONNECT.now disconnect_arguments (λ a. Disconnect a) (λ _. refl)
+    and tt
+
+pub keeps_the_name : KeepsTheName
+keeps_the_name name arguments command e =
+    named_among requests name (arguments_members arguments) command requests_keep e

@@ -1,0 +1,24 @@
+-- The request `disconnect` (`DisconnectRequest`): what its arguments mean.
+--
+-- The editor may say what is to become of the program. What it doesn't say stays open here, since
+-- it depends on how the program was started. All else that it says is not looked at.
+use Rattle.std.specs.Prelude.{◌≡◌, Option, Some, None, true, codes, refl}
+use Rattle.serde_json.specs.Data.{boolean, Members, no_members, member}
+use Rattle.protocol.specs.Properties.{◌>>=◌, property, optional_bool}
+use Rattle.protocol.specs.declared.disconnect.DisconnectArguments.{DisconnectArguments}
+use Rattle.protocol.specs.declared.disconnect.TheConstants.{TERMINATE_DEBUGGEE, SUSPEND_DEBUGGEE}
+
+-- the arguments; None where one of the two is there and is neither true nor false
+abbrev pub disconnect_arguments : Members → Option DisconnectArguments
+disconnect_arguments members = do
+  terminate ← optional_bool (property TERMINATE_DEBUGGEE.now members)
+  suspend ← optional_bool (property SUSPEND_DEBUGGEE.now members)
+  Some (record { terminate_debuggee = terminate; suspend_debuggee = suspend })
+
+to_end : disconnect_arguments (member (codes "terminateDebuggee") (boolean true) no_members)
+    ≡ Some (record { terminate_debuggee = Some true; suspend_debuggee = None })
+to_end = refl
+
+to_suspend : disconnect_arguments (member (codes "suspendDebuggee") (boolean true) no_members)
+    ≡ Some (record { terminate_debuggee = None; suspend_debuggee = Some true })
+to_suspend = refl

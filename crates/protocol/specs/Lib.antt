@@ -1,0 +1,9 @@
+pub mod Refusals
+pub mod Json
+pub mod Properties
+pub mod Initialize
+pub mod Threads
+pub mod Disconnect
+pub mod Commands
+pub mod Reading
+pub mod Laws

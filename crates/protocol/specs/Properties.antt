@@ -1,0 +1,62 @@
+-- The properties of the protocol's objects.
+--
+-- The protocol's schema gives the objects of a message properties, some of them optional. A
+-- property is the member of its name. A member that is null says as much as one that is absent:
+-- both are no property. Members that the schema does not name are never looked at.
+--
+-- A property has the type that the schema gives it, or the message is not taken as it stands: 1 is
+-- not true, and "true" is not true either.
+use Rattle.std.specs.Prelude.{◌≡◌, ℕ, List, Bool, Option, Some, None, codes, option_and_then, option_map, nat_le, refl, if◌then◌else◌}
+use Rattle.serde_json.specs.Data.{Data, null, number, string, unsigned, Members, no_members, member}
+use Rattle.serde_json.specs.Find.{get_member, as_bool, as_number, as_object, as_str, as_u64}
+
+-- what follows from a value, where there is one
+infixl 10 ◌>>=◌
+abbrev pub ◌>>=◌ : {A B : Type 0} → Option A → (A → Option B) → Option B
+found >>= next = option_and_then next found
+
+-- the value, unless it is null
+abbrev pub non_null : Data → Option Data
+non_null null = None
+non_null value = Some value
+
+-- the property of that name
+abbrev pub property : List ℕ → Members → Option Data
+property name members = get_member name members >>= non_null
+
+null_is_no_property : property (codes "seq") (member (codes "seq") null no_members) ≡ None
+null_is_no_property = refl
+
+-- a text, which has to be there
+abbrev pub text : Option Data → Option (List ℕ)
+text value = value >>= as_str
+
+-- the number, where a message may have it (`ProtocolMessage.seq`)
+abbrev pub within_seq : ℕ → Option ℕ
+within_seq n = if nat_le n 2147483647 then Some n else None
+
+-- a message's number, which has to be there: a whole number from 0 to 2,147,483,647
+abbrev pub sequence_number : Option Data → Option ℕ
+sequence_number value = value >>= as_number >>= as_u64 >>= within_seq
+
+the_greatest_number : sequence_number (Some (number (unsigned 2147483647))) ≡ Some 2147483647
+the_greatest_number = refl
+
+no_greater_number : sequence_number (Some (number (unsigned 2147483648))) ≡ None
+no_greater_number = refl
+
+a_text_is_no_number : sequence_number (Some (string (codes "1"))) ≡ None
+a_text_is_no_number = refl
+
+-- true or false, where it is there; None where it is something else
+abbrev pub optional_bool : Option Data → Option (Option Bool)
+optional_bool None = Some None
+optional_bool (Some value) = option_map (λ b. Some b) (as_bool value)
+
+a_number_is_not_true : optional_bool (Some (number (unsigned 1))) ≡ None
+a_number_is_not_true = refl
+
+-- the members of the arguments: absent ones are as an empty object; None where they are no object
+abbrev pub arguments_members : Option Data → Option Members
+arguments_members None = Some no_members
+arguments_members (Some value) = as_object value

@@ -1,0 +1,26 @@
+//! What an editor says: the requests of the Debug Adapter Protocol, read from the bodies of frames.
+//!
+//! A request has a module of its own (`initialize`, `threads`, `disconnect`), with its arguments
+//! and how they are read. `command` lists them.
+#![tactic(auto)]
+
+pub mod command;
+pub mod disconnect;
+pub mod initialize;
+mod json;
+pub mod laws;
+pub mod members;
+mod properties;
+pub mod refusal;
+pub mod request;
+#[cfg(test)]
+mod tests;
+pub mod text;
+pub mod threads;
+
+pub use command::Command;
+pub use disconnect::DisconnectArguments;
+pub use initialize::InitializeArguments;
+pub use refusal::Refusal;
+pub use request::{Incoming, MessageError, Request, read_request};
+pub use text::Text;

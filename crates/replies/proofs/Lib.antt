@@ -1,0 +1,6 @@
+pub mod Bodies
+pub mod Sameness
+pub mod Texts
+pub mod Told
+pub mod Claiming
+pub mod Finding

@@ -1,0 +1,5 @@
+use Rattle.replies.proofs.Told.{is_ordered-message_data}
+use Rattle.replies.proofs.laws.names_rise.Goals as goal
+
+pub returns : goal.returns
+returns c = is_ordered-message_data

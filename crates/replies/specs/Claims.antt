@@ -1,0 +1,90 @@
+-- Which message a JSON value claims to be.
+--
+-- Most of a message is fixed by a few members: its number, the request's number and command, whether the request
+-- succeeded, and the number of the refusal where it did not. These are the ones that are looked at here. What they claim
+-- may be false, as where another member is wrong or missing.
+use Rattle.std.specs.Prelude.{◌==◌, ℕ, ◌^◌, ◌&&◌, List, Bool, true, false, nat_lt, if◌then◌else◌, Option, Some, None, option_map, option_and_then, codes}
+use Rattle.std.specs.List.{list_any}
+use Rattle.std.specs.Str.{bytes_eq}
+use Rattle.serde_json.specs.Data.{Data}
+use Rattle.serde_json.specs.Find.{get, as_bool, as_number, as_str, as_u64}
+use Rattle.protocol.specs.declared.refusal.Refusal.{Refusal}
+use Rattle.protocol.specs.declared.refusal.Refusal.TheVariants.{UnknownCommand, BadArguments, WrongPhase}
+use Rattle.replies.specs.declared.response.Response as response
+use Rattle.replies.specs.declared.response.Outcome.{Outcome}
+use Rattle.replies.specs.declared.response.Outcome.TheVariants.{Done, Refused}
+use Rattle.replies.specs.declared.response.ResponseBody.{ResponseBody}
+use Rattle.replies.specs.declared.response.ResponseBody.TheVariants.{Initialize, Threads, Empty}
+use Rattle.replies.specs.declared.message.Message.{Message}
+use Rattle.replies.specs.declared.message.Message.TheVariants.{Response}
+use Rattle.replies.specs.Responses.{without_body}
+
+-- the value, if it passes the test
+abbrev pub kept_if : {A : Type 0} → (A → Bool) → Option A → Option A
+kept_if test found = option_and_then (λ a. if test a then Some a else None) found
+
+-- the whole number of this name
+abbrev pub number_at : List ℕ → Data → Option ℕ
+number_at name value = option_and_then as_u64 (option_and_then as_number (get name value))
+
+-- the text of this name
+abbrev pub text_at : List ℕ → Data → Option (List ℕ)
+text_at name value = option_and_then as_str (get name value)
+
+-- the truth value of this name
+abbrev pub truth_at : List ℕ → Data → Option Bool
+truth_at name value = option_and_then as_bool (get name value)
+
+-- the message's number
+abbrev pub seq_in : Data → Option ℕ
+seq_in value = kept_if (λ n. nat_lt 0 n && nat_lt n (2 ^ 31)) (number_at (codes "seq") value)
+
+-- the request's number
+abbrev pub request_seq_in : Data → Option ℕ
+request_seq_in value = kept_if (λ n. nat_lt n (2 ^ 32)) (number_at (codes "request_seq") value)
+
+-- the body of a success of this command
+abbrev pub body_for : List ℕ → Option ResponseBody
+body_for command =
+    if list_any (bytes_eq command) without_body then Some Empty
+    else (if bytes_eq command (codes "initialize") then Some Initialize
+    else (if bytes_eq command (codes "threads") then Some Threads else None))
+
+-- the refusal of this number
+abbrev pub refusal_of : ℕ → Option Refusal
+refusal_of id =
+    if id == 1 then Some UnknownCommand
+    else (if id == 2 then Some BadArguments
+    else (if id == 3 then Some WrongPhase else None))
+
+-- the refusal
+abbrev pub refusal_in : Data → Option Refusal
+refusal_in value =
+    option_and_then refusal_of
+    (option_and_then (number_at (codes "id")) (option_and_then (get (codes "error")) (get (codes "body") value)))
+
+-- what became of a request of this command
+abbrev pub outcome_in : List ℕ → Data → Bool → Option Outcome
+outcome_in command value true = option_map Done (body_for command)
+outcome_in command value false = option_map (λ refusal. Refused refusal None) (refusal_in value)
+
+infixl 10 ◌>>=◌
+-- the next step, where there is a value
+abbrev pub ◌>>=◌ : {A B : Type 0} → Option A → (A → Option B) → Option B
+found >>= next = option_and_then next found
+
+-- the response that the value claims to be
+abbrev pub response_in : Data → Option response.Response
+response_in value = do
+  request_seq ← request_seq_in value
+  command ← text_at (codes "command") value
+  success ← truth_at (codes "success") value
+  outcome ← outcome_in command value success
+  Some (record { request_seq = request_seq; command = command; outcome = outcome })
+
+-- the number and the message that the value claims to be
+abbrev pub claim_in : Data → Option (ℕ × Message)
+claim_in value = do
+  seq ← seq_in value
+  response ← response_in value
+  Some (seq, Response response)

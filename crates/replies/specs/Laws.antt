@@ -1,0 +1,71 @@
+-- What holds of all messages.
+--
+-- What is written for a message is read as that message and as no other. The members of each object stand in byte order
+-- of their names, each name once, as a JSON object should have it (RFC 8259, section 4).
+use Rattle.std.specs.Prelude.{◌≡◌, ℕ, List, Bool, true, ◌&&◌, Some, Ok, IsUtf8, IfSome, IsTrue}
+use Rattle.std.specs.Cmp.Lexicographic.{slice_cmp}
+use Rattle.std.specs.Ordering.{nat_cmp, is_lt}
+use Rattle.serde_json.specs.Data.{Data, null, boolean, number, string, array, object, Items, no_items, item, Members, no_members, member}
+use Rattle.replies.specs.declared.message.Message.{Message}
+use Rattle.replies.specs.declared.message.Message.TheVariants.{Response}
+use Rattle.replies.specs.declared.response.Outcome.{Outcome}
+use Rattle.replies.specs.declared.response.Outcome.TheVariants.{Done, Refused}
+use Rattle.protocol.specs.Json.{json_of}
+use Rattle.replies.specs.Messages.{message_data, text_of, IsProper, IsNumber}
+use Rattle.replies.specs.Reading.{IsMessage, ReadsAs, reading_of}
+
+-- ---- reading back
+
+-- the texts of an outcome are UTF-8
+abbrev pub HasOutcomeTexts : Outcome → Type 0
+HasOutcomeTexts (Done body) = Unit {0}
+HasOutcomeTexts (Refused refusal text) = IfSome text IsUtf8
+
+-- the texts of a message are UTF-8, as they are in each that a program holds
+abbrev pub HasTexts : Message → Type 0
+HasTexts (Response response) = IsUtf8 response.command × HasOutcomeTexts response.outcome
+
+-- the text of a message has the JSON value of the message
+abbrev pub TextHasValue : Type 0
+TextHasValue = (seq : ℕ) (message : Message) → IsNumber seq → IsProper message → HasTexts message → json_of (text_of seq message) ≡ Some (message_data seq message)
+
+-- what is written for a message is read as that message
+abbrev pub WrittenIsRead : Type 0
+WrittenIsRead = (seq : ℕ) (message : Message) → IsNumber seq → IsProper message → HasTexts message → reading_of (text_of seq message) ≡ Ok (seq, message)
+
+-- no two messages have one JSON value
+abbrev pub ValuesDiffer : Type 0
+ValuesDiffer = (value : Data) (seq other_seq : ℕ) (message other : Message) → IsMessage value seq message → IsMessage value other_seq other → (seq ≡ other_seq) × (message ≡ other)
+
+-- what bytes are read as is what they are
+abbrev pub ReadingIsRight : Type 0
+ReadingIsRight = (bytes : List ℕ) → ReadsAs bytes (reading_of bytes)
+
+-- ---- the order of members
+
+-- the first name, if there is one, is above this one
+abbrev pub begins_above : List ℕ → Members → Bool
+begins_above name no_members = true
+begins_above name (member next value rest) = is_lt (slice_cmp nat_cmp name next)
+
+abbrev mutual
+  -- the names of each object rise
+  pub is_ordered : Data → Bool
+  is_ordered null = true
+  is_ordered (boolean b) = true
+  is_ordered (number n) = true
+  is_ordered (string s) = true
+  is_ordered (array values) = are_items_ordered values
+  is_ordered (object named) = are_members_ordered named
+
+  pub are_items_ordered : Items → Bool
+  are_items_ordered no_items = true
+  are_items_ordered (item value values) = is_ordered value && are_items_ordered values
+
+  pub are_members_ordered : Members → Bool
+  are_members_ordered no_members = true
+  are_members_ordered (member name value rest) = begins_above name rest && (is_ordered value && are_members_ordered rest)
+
+-- in each object of a message the names rise, byte for byte
+abbrev pub NamesRise : Type 0
+NamesRise = (seq : ℕ) (message : Message) → IsTrue (is_ordered (message_data seq message))

@@ -1,0 +1,11 @@
+pub mod Same
+pub mod Initialize
+pub mod Threads
+pub mod Responses
+pub mod Messages
+pub mod Claims
+pub mod Reading
+pub mod Laws
+pub use Rattle.protocol.specs.Commands
+pub use Rattle.protocol.specs.Refusals
+pub use Rattle.protocol.specs.Json

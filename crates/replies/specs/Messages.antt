@@ -1,0 +1,52 @@
+-- What the adapter sends, as JSON and as text.
+--
+-- A message of the adapter (DAP specification, `ProtocolMessage`) is a response to a request. Each has a number, which
+-- is no part of the message itself: the first that is sent on a connection has the number 1, and each next one is 1
+-- greater. The text is the compact one (RFC 8259 without insignificant whitespace), so a message has one text.
+use Rattle.std.specs.Prelude.{◌≡◌, ℕ, ◌^◌, ◌≤◌, ◌<◌, List, None, codes, refl}
+use Rattle.std.specs.Fmt.{digits}
+use Rattle.serde_json.specs.Data.{Data}
+use Rattle.serde_json.specs.Written.{compact_text}
+use Rattle.serde_json.proofs.OnLiterals.{serde_json_on_literals}
+use Rattle.protocol.specs.declared.refusal.Refusal.TheVariants.{WrongPhase}
+use Rattle.replies.specs.declared.response.Outcome.TheVariants.{Done, Refused}
+use Rattle.replies.specs.declared.response.ResponseBody.TheVariants.{Threads, Empty}
+use Rattle.replies.specs.declared.message.Message.{Message}
+use Rattle.replies.specs.declared.message.Message.TheVariants.{Response}
+use Rattle.replies.specs.Responses.{response_data, IsProperResponse}
+
+-- a message with this number, as a JSON value
+abbrev pub message_data : ℕ → Message → Data
+message_data seq (Response response) = response_data seq response
+
+-- a message with this number, as text
+abbrev pub text_of : ℕ → Message → List ℕ
+text_of seq message = compact_text (message_data seq message)
+
+-- the message is one that the adapter may send
+abbrev pub IsProper : Message → Type 0
+IsProper (Response response) = IsProperResponse response
+
+-- the number of a message, from 1 to 2,147,483,647
+abbrev pub IsNumber : ℕ → Type 0
+IsNumber seq = (1 ≤ seq) × (seq < 2 ^ 31)
+
+-- ---- examples
+
+-- the answer to `disconnect`, as the third message, to the third request
+example-acknowledgement : text_of 3 (Response (record { request_seq = 3; command = codes "disconnect"; outcome = Done Empty }))
+    ≡ codes "{\"command\":\"disconnect\",\"request_seq\":3,\"seq\":3,\"success\":true,\"type\":\"response\"}"
+unfolding serde_json_on_literals digits
+example-acknowledgement = refl
+
+-- the threads, as the second message, to the second request
+example-threads : text_of 2 (Response (record { request_seq = 2; command = codes "threads"; outcome = Done Threads }))
+    ≡ codes "{\"body\":{\"threads\":[{\"id\":1,\"name\":\"hart 0\"}]},\"command\":\"threads\",\"request_seq\":2,\"seq\":2,\"success\":true,\"type\":\"response\"}"
+unfolding serde_json_on_literals digits
+example-threads = refl
+
+-- the answer to a `threads` that comes before `initialize`
+example-refusal : text_of 1 (Response (record { request_seq = 1; command = codes "threads"; outcome = Refused WrongPhase None }))
+    ≡ codes "{\"body\":{\"error\":{\"format\":\"wrongPhase\",\"id\":3}},\"command\":\"threads\",\"message\":\"wrongPhase\",\"request_seq\":1,\"seq\":1,\"success\":false,\"type\":\"response\"}"
+unfolding serde_json_on_literals digits
+example-refusal = refl

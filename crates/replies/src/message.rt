@@ -1,0 +1,65 @@
+//! Messages: what the adapter sends, written and read.
+ghost use Rattle.std.specs.Prelude.{◌≡◌, ◌≤◌, ◌⊎◌, ℕ, Some, None, IfOk, OnErr};
+ghost use Rattle.serde_json.specs.Data.{depth};
+ghost use Rattle.serde_json.specs.Read.{max_depth};
+ghost use Rattle.serde_json.specs.View.{view};
+ghost use Rattle.replies.specs.declared.message.Message.{Message as AMessage};
+ghost use Rattle.protocol.specs.Json.{json_of};
+ghost use Rattle.replies.specs.Messages.{message_data, text_of, IsNumber, IsProper};
+ghost use Rattle.replies.specs.Reading.{ReadsAs, reading_of};
+
+use crate::response::Response;
+use crate::{reading, writing};
+use protocol::MessageError;
+use serde_json::Value;
+use std::alloc::{AllocError, Global};
+
+/// What the adapter sends (`ProtocolMessage`).
+#[derive(Debug, Drop)]
+pub enum Message {
+    /// An answer to a request.
+    Response(Response),
+}
+
+/// The message with this number as compact JSON in UTF-8, with no header (DAP base protocol,
+/// "Content Part"). It fails where no memory is left.
+pub fn write_message(alloc: Global, seq: u32, message: &Message) -> Result<Vec<u8>, AllocError>
+    ensures text { IfOk result (λ b. b.items ≡ text_of seq message.now) }
+    ensures value { IfOk result (λ b. json_of b.items ≡ Some (message_data seq message.now)) }
+{
+    writing::message(alloc, seq, message)?.to_vec(alloc)
+}
+
+/// The number and the message that a body is (DAP base protocol, "Content Part").
+///
+/// `NotJson` where the body is no JSON text in UTF-8, `NotAMessage` where its value is that of no
+/// message of the adapter with a number from 1 to 2,147,483,647, `NoMemory` where no memory is left.
+/// Spaces and the order of members do not matter.
+pub fn read_message(alloc: Global, body: &[u8]) -> Result<(u32, Message), MessageError>
+    ensures reads { ReadsAs body.now result }
+    ensures exact { (result ≡ reading_of body.now) ⊎ (result ≡ Err MessageError.NoMemory) }
+    ensures written { (seq : ℕ) (message : AMessage) → IsNumber seq → IsProper message
+        → json_of body.now ≡ Some (message_data seq message)
+        → (result ≡ Ok (seq, message)) ⊎ (result ≡ Err MessageError.NoMemory) }
+{
+    let value = parsed(alloc, body)?;
+    match reading::message(alloc, &value) {
+        Ok(Some(found)) => Ok(found),
+        Ok(None) => Err(MessageError::NotAMessage),
+        Err(_) => Err(MessageError::NoMemory),
+    }
+}
+
+/// The JSON value of the body.
+fn parsed(alloc: Global, body: &[u8]) -> Result<Value, MessageError>
+    ensures ok { IfOk result (λ v. json_of body.now ≡ Some (view v)) }
+    ensures nests { IfOk result (λ v. depth (view v) ≤ max_depth) }
+    ensures err { OnErr result ((result ≡ Err MessageError.NoMemory)
+        ⊎ ((result ≡ Err MessageError.NotJson) × (json_of body.now ≡ None))) }
+{
+    match Value::from_slice(alloc, body) {
+        Ok(value) => Ok(value),
+        Err(error) if error.is_memory() => Err(MessageError::NoMemory),
+        Err(_) => Err(MessageError::NotJson),
+    }
+}

@@ -1,0 +1,156 @@
+//! Messages found in JSON values.
+ghost use Rattle.std.specs.Prelude.{◌≡◌, ◌≤◌, false, IfOk};
+ghost use Rattle.serde_json.specs.Data.{depth};
+ghost use Rattle.serde_json.specs.Read.{max_depth};
+ghost use Rattle.serde_json.specs.View.{view};
+ghost use Rattle.serde_json.specs.Written.{has_float};
+ghost use Rattle.replies.specs.Claims.{number_at, seq_in, request_seq_in, body_for, refusal_of, refusal_in, outcome_in, response_in, claim_in};
+ghost use Rattle.replies.specs.Reading.{message_in};
+ghost use Rattle.replies.specs.Same.{is_same};
+
+use crate::members::{BODY, COMMAND, ERROR, ID, REQUEST_SEQ, SEQ, SUCCESS};
+use crate::{Message, Outcome, Response, ResponseBody, writing};
+use protocol::{Refusal, Text, disconnect, initialize, threads};
+use serde_json::Value;
+use std::alloc::{AllocError, Global};
+
+/// The requests whose success has no body.
+const WITHOUT_BODY: &[&str] = &[disconnect::NAME];
+
+/// The whole number of this name.
+fn number_at(value: &Value, name: &str) -> Option<u64>
+    ensures { result ≡ number_at name.now (view value.now) }
+{
+    value.get(name).and_then(Value::as_u64)
+}
+
+/// The message's number, from 1 to 2,147,483,647.
+fn seq_in(value: &Value) -> Option<u32>
+    ensures { result ≡ seq_in (view value.now) }
+{
+    let n = number_at(value, SEQ)?;
+    if n > 0 && n < 1 << 31 {
+        Some(n as u32)
+    } else {
+        None
+    }
+}
+
+/// The request's number.
+fn request_seq_in(value: &Value) -> Option<u32>
+    ensures { result ≡ request_seq_in (view value.now) }
+{
+    let n = number_at(value, REQUEST_SEQ)?;
+    if n < 1 << 32 { Some(n as u32) } else { None }
+}
+
+/// The body of a success of this command.
+fn body_for(command: &str) -> Option<ResponseBody>
+    ensures { result ≡ body_for command.now }
+{
+    if WITHOUT_BODY.contains(&command) {
+        Some(ResponseBody::Empty)
+    } else if command == initialize::NAME {
+        Some(ResponseBody::Initialize)
+    } else if command == threads::NAME {
+        Some(ResponseBody::Threads)
+    } else {
+        None
+    }
+}
+
+/// The refusal of this number.
+fn refusal_of(id: u64) -> Option<Refusal>
+    ensures { result ≡ refusal_of id }
+{
+    match id {
+        1 => Some(Refusal::UnknownCommand),
+        2 => Some(Refusal::BadArguments),
+        3 => Some(Refusal::WrongPhase),
+        _ => None,
+    }
+}
+
+/// The refusal that a response says.
+fn refusal_in(value: &Value) -> Option<Refusal>
+    ensures { result ≡ refusal_in (view value.now) }
+{
+    let error = value.get(BODY)?.get(ERROR)?;
+    refusal_of(number_at(error, ID)?)
+}
+
+/// What became of a request of this command.
+fn outcome_in(command: &str, value: &Value, success: bool) -> Option<Outcome>
+    ensures { result ≡ outcome_in command.now (view value.now) success }
+{
+    if success {
+        Some(Outcome::Done(body_for(command)?))
+    } else {
+        Some(Outcome::Refused(refusal_in(value)?, None))
+    }
+}
+
+/// The response that a value claims to be.
+fn response_in(alloc: Global, value: &Value) -> Result<Option<Response>, AllocError>
+    ensures { IfOk result (λ o. o ≡ response_in (view value.now)) }
+{
+    let Some(request_seq) = request_seq_in(value) else {
+        return Ok(None);
+    };
+    let Some(command) = value.get(COMMAND).and_then(Value::as_str) else {
+        return Ok(None);
+    };
+    let Some(success) = value.get(SUCCESS).and_then(Value::as_bool) else {
+        return Ok(None);
+    };
+    let Some(outcome) = outcome_in(command, value, success) else {
+        return Ok(None);
+    };
+    Ok(Some(Response {
+        request_seq,
+        command: Text::from_string(String::from_str(alloc, command)?),
+        outcome,
+    }))
+}
+
+/// The number and the message that a value claims to be.
+fn claim_in(alloc: Global, value: &Value) -> Result<Option<(u32, Message)>, AllocError>
+    ensures { IfOk result (λ o. o ≡ claim_in (view value.now)) }
+{
+    let Some(seq) = seq_in(value) else {
+        return Ok(None);
+    };
+    let Some(response) = response_in(alloc, value)? else {
+        return Ok(None);
+    };
+    Ok(Some((seq, Message::Response(response))))
+}
+
+/// Whether the two are one JSON value, of which the second has no float. They are exactly where
+/// their compact texts are one.
+fn is_same(alloc: Global, value: &Value, other: &Value) -> Result<bool, AllocError>
+    requires shallow { depth (view value.now) ≤ max_depth }
+    requires other_shallow { depth (view other.now) ≤ max_depth }
+    requires no_float { has_float (view other.now) ≡ false }
+    ensures { IfOk result (λ b. b ≡ is_same (view value.now) (view other.now)) }
+{
+    let text = value.to_vec(alloc)?;
+    let other = other.to_vec(alloc)?;
+    Ok(text.as_slice() == other.as_slice())
+}
+
+/// The number and the message that a value is, if it is one.
+pub(crate) fn message(alloc: Global, value: &Value) -> Result<Option<(u32, Message)>, AllocError>
+    requires { depth (view value.now) ≤ max_depth }
+    ensures { IfOk result (λ o. o ≡ message_in (view value.now)) }
+{
+    let Some((seq, message)) = claim_in(alloc, value)? else {
+        return Ok(None);
+    };
+    let written = writing::message(alloc, seq, &message)?;
+    if is_same(alloc, value, &written)? {
+        Ok(Some((seq, message)))
+    } else {
+        Ok(None)
+    }
+}

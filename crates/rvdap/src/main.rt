@@ -1,0 +1,52 @@
+//! `rvdap`, a debug adapter: an editor that speaks the Debug Adapter Protocol over standard streams.
+#![tactic(auto)]
+
+mod answers;
+mod end;
+mod ending;
+mod exchange;
+mod feeding;
+mod inbox;
+mod laws;
+mod options;
+mod outbox;
+mod phase;
+mod requests;
+mod room;
+mod serve;
+mod server;
+#[cfg(test)]
+mod tests;
+
+use end::StreamEnd;
+use options::{Words, read_words};
+use serve::serve_streams;
+use std::process::ExitCode;
+
+/// The greatest length of a body, in bytes.
+pub const BODY_LIMIT: u32 = 1_048_576;
+
+/// Status 0 where the input ended or a `disconnect` succeeded, and where help or the version was
+/// asked; 1 with one line on standard error where serving failed; 2 where the words are not taken.
+fn main(rt: HostRuntime) -> ExitCode {
+    match read_words(&rt) {
+        Words::Serve => serve_editor(&rt),
+        Words::Told(status) => ExitCode::from(status),
+        Words::NoMemory => fail(&rt, "no memory"),
+    }
+}
+
+fn serve_editor(rt: &HostRuntime) -> ExitCode {
+    match serve_streams(rt.alloc(), &mut rt.stdin(), &mut rt.stdout(), u64::MAX) {
+        StreamEnd::Closed => ExitCode::SUCCESS,
+        StreamEnd::BadMessage => fail(rt, "bad message"),
+        StreamEnd::Fault | StreamEnd::Turns => fail(rt, "read or write fault"),
+        StreamEnd::NoMemory => fail(rt, "no memory"),
+    }
+}
+
+// One line on standard error. Where it can't be written, the status still tells.
+fn fail(rt: &impl Eprint, reason: &str) -> ExitCode {
+    let _ = eprintln!(rt; "rvdap: {reason}");
+    ExitCode::FAILURE
+}
