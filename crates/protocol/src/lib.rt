@@ -7,7 +7,7 @@
 pub mod command;
 pub mod disconnect;
 pub mod initialize;
-mod json;
+pub mod json;
 pub mod laws;
 pub mod members;
 mod properties;

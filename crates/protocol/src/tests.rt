@@ -1,8 +1,10 @@
 //! Worked bodies, and what they mean.
+use crate::json::json_value;
 use crate::{
     Command, DisconnectArguments, Incoming, InitializeArguments, MessageError, Refusal, Request,
     Text, read_request,
 };
+use serde_json::Value;
 use std::test::Fail;
 
 /// The first request of a connection, as an editor that says nothing of itself writes it.
@@ -259,6 +261,17 @@ fn refuses_what_is_no_json(rt: HostRuntime) {
             "{body:?}"
         );
     }
+}
+
+#[test]
+fn gives_the_json_value_of_a_body(rt: HostRuntime) {
+    let found = json_value(rt.alloc(), br#"{"seq":7,"seq":8}"#);
+    let seq = match &found {
+        Ok(value) => value.get("seq").and_then(Value::as_u64),
+        Err(_) => None,
+    };
+    assert_eq!(rt; seq, Some(8));
+    assert!(rt; matches!(json_value(rt.alloc(), b"{"), Err(MessageError::NotJson)));
 }
 
 #[test]

@@ -1,23 +1,16 @@
--- The JSON value of bytes that are UTF-8, and of those that are not.
-use Rattle.std.proofs.Common.{◌≡◌, ℕ, List, Bool, true, false, None, Result, Ok, Err, IfOk, refl, ◌∙◌}
-use Rattle.std.proofs.lemmas.Str.{IsUtf8-from_is_utf8, is_utf8-from_IsUtf8}
-use Rattle.std.specs.Str.{IsUtf8, is_utf8}
+-- Bytes that have a JSON value are read as that value.
+use Rattle.std.proofs.Common.{◌≡◌, ℕ, List, Bool, true, false, Some, None, refl, sym, ◌∙◌}
+use Rattle.std.proofs.lemmas.Str.{IsUtf8-from_is_utf8}
+use Rattle.std.specs.Str.{is_utf8}
+use Rattle.serde_json.specs.Data.{Data}
 use Rattle.serde_json.specs.Read.{read}
 use Rattle.protocol.specs.Json.{json_of}
+use Rattle.protocol.proofs.JsonTexts.{json_of-text}
 
-pub json_of-from_utf8 : (bytes : List ℕ) → IsUtf8 bytes → json_of bytes ≡ read bytes
+read_at : (bytes : List ℕ) (value : Data) (b : Bool) → is_utf8 bytes ≡ b → json_of bytes ≡ Some value → read bytes ≡ Some value
 unfolding json_of
-json_of-from_utf8 bytes h = rw (is_utf8-from_IsUtf8 bytes h) refl
+read_at bytes value true e h = sym (json_of-text bytes (IsUtf8-from_is_utf8 bytes e)) ∙ h
+read_at bytes value false e h = let none : None ≡ Some value = rw e at h in absurd cc
 
-none_at : (bytes : List ℕ) (b : Bool) → is_utf8 bytes ≡ b → (IsUtf8 bytes → read bytes ≡ None) → json_of bytes ≡ None
-unfolding json_of
-none_at bytes true e h = json_of-from_utf8 bytes (IsUtf8-from_is_utf8 bytes e) ∙ h (IsUtf8-from_is_utf8 bytes e)
-none_at bytes false e h = rw e refl
-
-pub json_of-none : (bytes : List ℕ) → (IsUtf8 bytes → read bytes ≡ None) → json_of bytes ≡ None
-json_of-none bytes h = none_at bytes (is_utf8 bytes) refl h
-
--- a fact that follows from two others
-pub IfOk-both : {T E : Type 0} (r : Result T E) (P Q R : T → Type 0) → IfOk r P → IfOk r Q → ((x : T) → P x → Q x → R x) → IfOk r R
-IfOk-both (Ok x) P Q R p q h = h x p q
-IfOk-both (Err e) P Q R p q h = tt
+pub read-from_json_of : (bytes : List ℕ) (value : Data) → json_of bytes ≡ Some value → read bytes ≡ Some value
+read-from_json_of bytes value h = read_at bytes value (is_utf8 bytes) refl h

@@ -2,5 +2,7 @@ pub mod Bodies
 pub mod Sameness
 pub mod Texts
 pub mod Told
+pub mod Appending
+pub mod Printing
 pub mod Claiming
 pub mod Finding

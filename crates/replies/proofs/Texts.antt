@@ -22,17 +22,17 @@ use Rattle.serde_json.proofs.Numbers.{number_of-decimal}
 use Rattle.serde_json.proofs.Texts.{print-outline}
 use Rattle.protocol.specs.Json.{json_of}
 use Rattle.replies.specs.Laws.{begins_above, is_ordered, are_items_ordered, are_members_ordered}
-use Rattle.replies.proofs.Bodies.{json_of-from_utf8}
+use Rattle.protocol.proofs.JsonTexts.{json_of-text}
 
 -- ---- reading
 
 tokens-compact_text : (d : Data) → tree.HasNumbers (outline d) → tokens (compact_text d) ≡ tree.json_tokens (outline d)
 tokens-compact_text d h = ap tokens (sym (print-outline d)) ∙ tokens-print (tree.json_tokens (outline d)) (ArePrintable-json_tokens (outline d) h)
 
-pub read-compact_text : (d : Data) → tree.HasNumbers (outline d) → tree.depth (outline d) ≤ max_depth → read (compact_text d) ≡ of_json (outline d)
-read-compact_text d h shallow =
+read-tokens : (text : List ℕ) (d : Data) → tokens text ≡ tree.json_tokens (outline d) → tree.depth (outline d) ≤ max_depth → read text ≡ of_json (outline d)
+read-tokens text d is shallow =
     ap (λ o. option_and_then of_json (option_and_then (λ p. json.if_last p.0 p.1) o))
-    (ap (json.value max_depth) (tokens-compact_text d h ∙ sym (append-nil _)) ∙ value-json_tokens (outline d) max_depth [] shallow)
+    (ap (json.value max_depth) (is ∙ sym (append-nil _)) ∙ value-json_tokens (outline d) max_depth [] shallow)
 
 -- ---- UTF-8
 
@@ -98,6 +98,41 @@ mutual
       IsUtf8-append _ _ (comma later) (IsUtf8-append _ _ (IsUtf8-quoted k h.0) (ascii_then 58 _ refl (IsUtf8-append _ _ (IsUtf8-compact_text d h.1) (IsUtf8-members_text true ms h.2))))
 
 -- ---- the value of its outline
+
+-- the numbers are not negative and fit 64 bits
+abbrev mutual
+  pub HasSmallNumbers : Data → Type 0
+  HasSmallNumbers null = Unit {0}
+  HasSmallNumbers (boolean b) = Unit {0}
+  HasSmallNumbers (number n) = IsPlainNumber n
+  HasSmallNumbers (string s) = Unit {0}
+  HasSmallNumbers (array ds) = ItemsHaveSmallNumbers ds
+  HasSmallNumbers (object ms) = MembersHaveSmallNumbers ms
+
+  pub ItemsHaveSmallNumbers : Items → Type 0
+  ItemsHaveSmallNumbers no_items = Unit {0}
+  ItemsHaveSmallNumbers (item d ds) = HasSmallNumbers d × ItemsHaveSmallNumbers ds
+
+  pub MembersHaveSmallNumbers : Members → Type 0
+  MembersHaveSmallNumbers no_members = Unit {0}
+  MembersHaveSmallNumbers (member k d ms) = HasSmallNumbers d × MembersHaveSmallNumbers ms
+
+mutual
+  pub HasSmallNumbers-IsPlain : (d : Data) → IsPlain d → HasSmallNumbers d
+  HasSmallNumbers-IsPlain null h = tt
+  HasSmallNumbers-IsPlain (boolean b) h = tt
+  HasSmallNumbers-IsPlain (number n) h = h
+  HasSmallNumbers-IsPlain (string s) h = tt
+  HasSmallNumbers-IsPlain (array ds) h = ItemsHaveSmallNumbers-plain ds h
+  HasSmallNumbers-IsPlain (object ms) h = MembersHaveSmallNumbers-plain ms h
+
+  ItemsHaveSmallNumbers-plain : (ds : Items) → AreItemsPlain ds → ItemsHaveSmallNumbers ds
+  ItemsHaveSmallNumbers-plain no_items h = tt
+  ItemsHaveSmallNumbers-plain (item d ds) h = (HasSmallNumbers-IsPlain d h.0, ItemsHaveSmallNumbers-plain ds h.1)
+
+  MembersHaveSmallNumbers-plain : (ms : Members) → AreMembersPlain ms → MembersHaveSmallNumbers ms
+  MembersHaveSmallNumbers-plain no_members h = tt
+  MembersHaveSmallNumbers-plain (member k d ms) h = (HasSmallNumbers-IsPlain d h.1, MembersHaveSmallNumbers-plain ms h.2)
 
 mutual
   pub HasNumbers-outline : (d : Data) → IsPlain d → tree.HasNumbers (outline d)
@@ -182,7 +217,7 @@ follows found k d no_members h e = tt
 follows found k d (member l f ms) h e = AllBelow-joined k l d found (less_from _ e) h
 
 mutual
-  pub of_json-outline : (d : Data) → IsPlain d → is_ordered d ≡ true → of_json (outline d) ≡ Some d
+  pub of_json-outline : (d : Data) → HasSmallNumbers d → is_ordered d ≡ true → of_json (outline d) ≡ Some d
   of_json-outline null h o = refl
   of_json-outline (boolean b) h o = refl
   of_json-outline (number (unsigned n)) h o = rw (number_of-decimal n h) refl
@@ -192,27 +227,30 @@ mutual
   of_json-outline (array ds) h o = rw (of_items-outline ds h o) refl
   of_json-outline (object ms) h o = rw (of_members-outline ms no_members h o (first ms)) refl
 
-  of_items-outline : (ds : Items) → AreItemsPlain ds → are_items_ordered ds ≡ true → of_items (items_outline ds) ≡ Some ds
+  of_items-outline : (ds : Items) → ItemsHaveSmallNumbers ds → are_items_ordered ds ≡ true → of_items (items_outline ds) ≡ Some ds
   of_items-outline no_items h o = refl
   of_items-outline (item d ds) h o =
       let p = and_parts _ _ o in
       rw (of_json-outline d h.0 p.0, of_items-outline ds h.1 p.1) refl
 
-  of_members-outline : (ms found : Members) → AreMembersPlain ms → are_members_ordered ms ≡ true → FollowedBy found ms → of_members (members_outline ms) found ≡ Some (joined found ms)
+  of_members-outline : (ms found : Members) → MembersHaveSmallNumbers ms → are_members_ordered ms ≡ true → FollowedBy found ms → of_members (members_outline ms) found ≡ Some (joined found ms)
   of_members-outline no_members found h o f = ap Some (sym (joined-none found))
   of_members-outline (member k d ms) found h o f =
       let p = and_parts _ _ o in
       let q = and_parts _ _ p.1 in
-      rw (of_json-outline d h.1 q.0, put-above k d found f)
-      (of_members-outline ms (joined found (member k d no_members)) h.2 q.1 (follows found k d ms f p.0) ∙ ap Some (joined-joined found k d ms))
+      rw (of_json-outline d h.0 q.0, put-above k d found f)
+      (of_members-outline ms (joined found (member k d no_members)) h.1 q.1 (follows found k d ms f p.0) ∙ ap Some (joined-joined found k d ms))
 
   first : (ms : Members) → FollowedBy no_members ms
   first no_members = tt
   first (member k d ms) = tt
 
+-- a text with the tokens of a value reads as the value
+pub json_of-tokens : (text : List ℕ) (d : Data) → IsUtf8 text → tokens text ≡ tree.json_tokens (outline d) → HasSmallNumbers d → is_ordered d ≡ true → depth d ≤ max_depth → json_of text ≡ Some d
+json_of-tokens text d utf8 is small ordered shallow =
+    json_of-text text utf8 ∙ read-tokens text d is (rw (depth-outline d) shallow) ∙ of_json-outline d small ordered
+
 -- the compact text of a value reads as the value
 pub json_of-compact_text : (d : Data) → IsPlain d → is_ordered d ≡ true → depth d ≤ max_depth → json_of (compact_text d) ≡ Some d
 json_of-compact_text d plain ordered shallow =
-    json_of-from_utf8 (compact_text d) (IsUtf8-compact_text d plain)
-    ∙ read-compact_text d (HasNumbers-outline d plain) (rw (depth-outline d) shallow)
-    ∙ of_json-outline d plain ordered
+    json_of-tokens (compact_text d) d (IsUtf8-compact_text d plain) (tokens-compact_text d (HasNumbers-outline d plain)) (HasSmallNumbers-IsPlain d plain) ordered shallow

@@ -20,7 +20,8 @@ use Rattle.replies.specs.Laws.{is_ordered, HasOutcomeTexts, HasTexts}
 use Rattle.protocol.specs.Json.{json_of}
 use Rattle.replies.specs.Messages.{message_data, text_of, IsNumber, IsProper}
 use Rattle.replies.specs.Responses.{with_body, shared_members, body_data, format_of, outcome_data}
-use Rattle.replies.proofs.Texts.{json_of-compact_text, IsPlain, AreItemsPlain, AreMembersPlain}
+use Rattle.replies.specs.Written.{HasNumbers}
+use Rattle.replies.proofs.Texts.{json_of-compact_text, IsPlain, AreItemsPlain, AreMembersPlain, HasSmallNumbers, HasSmallNumbers-IsPlain}
 
 -- ---- bodies that are fixed
 
@@ -162,6 +163,18 @@ plain_outcome seq request_seq command (Refused refusal format) small request_sma
       (name (codes "error") refl, (name (codes "format") refl, text-format_of refusal format texts, (name (codes "id") refl, small-id_of refusal, tt)), tt),
       (rest.0, rest.1, (name (codes "message") refl, text-name_of refusal, rest.2)),
     )
+
+small_done : (seq request_seq : ℕ) (command : List ℕ) (body : Option Data) → IfSome body IsGood → seq < 2 ^ 64 → request_seq < 2 ^ 64 → HasSmallNumbers (done_data seq request_seq command body)
+small_done seq request_seq command None good small request_small = (tt, (request_small, (small, (tt, (tt, tt)))))
+small_done seq request_seq command (Some body) good small request_small = (HasSmallNumbers-IsPlain body good.plain, (tt, (request_small, (small, (tt, (tt, tt))))))
+
+small_outcome : (seq request_seq : ℕ) (command : List ℕ) (outcome : Outcome) → seq < 2 ^ 64 → request_seq < 2 ^ 64 → HasSmallNumbers (outcome_data seq request_seq command outcome)
+small_outcome seq request_seq command (Done body) small request_small = small_done seq request_seq command (body_data body) (IsGood-body_data body) small request_small
+small_outcome seq request_seq command (Refused refusal text) small request_small = (((tt, (small-id_of refusal, tt)), tt), (tt, (tt, (request_small, (small, (tt, (tt, tt)))))))
+
+-- its numbers are small
+pub HasSmallNumbers-message_data : (seq : ℕ) (message : Message) → seq < 2 ^ 32 → HasNumbers message → HasSmallNumbers (message_data seq message)
+HasSmallNumbers-message_data seq (Response r) small numbers = small_outcome seq r.request_seq r.command r.outcome (omega arith) (omega arith)
 
 -- it is plain
 pub IsPlain-message_data : (seq : ℕ) (message : Message) → IsNumber seq → IsProper message → HasTexts message → IsPlain (message_data seq message)

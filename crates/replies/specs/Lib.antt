@@ -3,6 +3,7 @@ pub mod Initialize
 pub mod Threads
 pub mod Responses
 pub mod Messages
+pub mod Written
 pub mod Claims
 pub mod Reading
 pub mod Laws

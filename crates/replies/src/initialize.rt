@@ -1,11 +1,11 @@
 //! The body that answers `initialize`: what the adapter can do.
-ghost use Rattle.std.specs.Prelude.{◌≡◌, IfOk, map};
-ghost use Rattle.serde_json.specs.Data.{no_members};
-ghost use Rattle.serde_json.specs.View.{view, members_view};
-ghost use Rattle.replies.specs.Initialize.{initialize_body, with_true};
+ghost use Rattle.std.specs.Prelude.{OnOk, map};
+ghost use Rattle.replies.specs.Initialize.{initialize_body};
+ghost use Rattle.replies.specs.Written.{Appends, tokens_of, true_tokens};
 
-use serde_json::{Map, Value, put};
-use std::alloc::{AllocError, Global};
+use crate::member;
+use json::Writer;
+use std::alloc::AllocError;
 
 /// What the adapter can do (`Capabilities`).
 const CAPABILITIES: &[&str] = &[
@@ -27,20 +27,21 @@ const CAPABILITIES: &[&str] = &[
 ];
 
 /// The capabilities, each of them true.
-pub(crate) fn body(alloc: Global) -> Result<Value, AllocError>
-    ensures { IfOk result (λ v. view v ≡ initialize_body) }
+pub(crate) fn body(out: &mut Writer) -> Result<(), AllocError>
+    ensures { OnOk result (Appends out.old out.new (tokens_of initialize_body)) }
 {
-    Ok(Value::Object(all_true(alloc, CAPABILITIES)?))
+    out.begin_object()?;
+    all_true(out, CAPABILITIES)?;
+    out.end_object()
 }
 
 /// A member of each name, each of them true.
-fn all_true(alloc: Global, names: &[&str]) -> Result<Map<String, Value>, AllocError>
-    ensures { IfOk result (λ m. members_view m.entries
-        ≡ with_true (map (λ name. name.now) names.now) no_members) }
+fn all_true(out: &mut Writer, names: &[&str]) -> Result<(), AllocError>
+    ensures { OnOk result (Appends out.old out.new
+        (true_tokens (map (λ name. name.now) names.now))) }
 {
-    let mut members = Map::new(alloc);
     for name in names {
-        put(&mut members, alloc, name, Value::from(true))?;
+        member::truth(out, name, true)?;
     }
-    Ok(members)
+    Ok(())
 }

@@ -7,6 +7,7 @@
 
 mod initialize;
 pub mod laws;
+mod member;
 mod members;
 pub mod message;
 mod reading;

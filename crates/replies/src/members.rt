@@ -17,3 +17,7 @@ pub const ERROR: &str = "error";
 pub const ID: &str = "id";
 /// The text of a refusal for people (`Message.format`).
 pub const FORMAT: &str = "format";
+/// Which threads there are (`ThreadsResponse.body.threads`).
+pub const THREADS: &str = "threads";
+/// The name of a thread (`Thread.name`).
+pub const NAME: &str = "name";

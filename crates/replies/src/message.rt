@@ -1,8 +1,5 @@
 //! Messages: what the adapter sends, written and read.
-ghost use Rattle.std.specs.Prelude.{◌≡◌, ◌≤◌, ◌⊎◌, ℕ, Some, None, IfOk, OnErr};
-ghost use Rattle.serde_json.specs.Data.{depth};
-ghost use Rattle.serde_json.specs.Read.{max_depth};
-ghost use Rattle.serde_json.specs.View.{view};
+ghost use Rattle.std.specs.Prelude.{◌≡◌, ◌⊎◌, ℕ, Some, IfOk};
 ghost use Rattle.replies.specs.declared.message.Message.{Message as AMessage};
 ghost use Rattle.protocol.specs.Json.{json_of};
 ghost use Rattle.replies.specs.Messages.{message_data, text_of, IsNumber, IsProper};
@@ -11,7 +8,7 @@ ghost use Rattle.replies.specs.Reading.{ReadsAs, reading_of};
 use crate::response::Response;
 use crate::{reading, writing};
 use protocol::MessageError;
-use serde_json::Value;
+use protocol::json::json_value;
 use std::alloc::{AllocError, Global};
 
 /// What the adapter sends (`ProtocolMessage`).
@@ -27,7 +24,7 @@ pub fn write_message(alloc: Global, seq: u32, message: &Message) -> Result<Vec<u
     ensures text { IfOk result (λ b. b.items ≡ text_of seq message.now) }
     ensures value { IfOk result (λ b. json_of b.items ≡ Some (message_data seq message.now)) }
 {
-    writing::message(alloc, seq, message)?.to_vec(alloc)
+    writing::message(alloc, seq, message)
 }
 
 /// The number and the message that a body is (DAP base protocol, "Content Part").
@@ -42,24 +39,10 @@ pub fn read_message(alloc: Global, body: &[u8]) -> Result<(u32, Message), Messag
         → json_of body.now ≡ Some (message_data seq message)
         → (result ≡ Ok (seq, message)) ⊎ (result ≡ Err MessageError.NoMemory) }
 {
-    let value = parsed(alloc, body)?;
+    let value = json_value(alloc, body)?;
     match reading::message(alloc, &value) {
         Ok(Some(found)) => Ok(found),
         Ok(None) => Err(MessageError::NotAMessage),
         Err(_) => Err(MessageError::NoMemory),
-    }
-}
-
-/// The JSON value of the body.
-fn parsed(alloc: Global, body: &[u8]) -> Result<Value, MessageError>
-    ensures ok { IfOk result (λ v. json_of body.now ≡ Some (view v)) }
-    ensures nests { IfOk result (λ v. depth (view v) ≤ max_depth) }
-    ensures err { OnErr result ((result ≡ Err MessageError.NoMemory)
-        ⊎ ((result ≡ Err MessageError.NotJson) × (json_of body.now ≡ None))) }
-{
-    match Value::from_slice(alloc, body) {
-        Ok(value) => Ok(value),
-        Err(error) if error.is_memory() => Err(MessageError::NoMemory),
-        Err(_) => Err(MessageError::NotJson),
     }
 }

@@ -1,10 +1,10 @@
 //! Messages found in JSON values.
-ghost use Rattle.std.specs.Prelude.{◌≡◌, ◌≤◌, false, IfOk};
+ghost use Rattle.std.specs.Prelude.{◌≡◌, ◌≤◌, IfOk};
 ghost use Rattle.serde_json.specs.Data.{depth};
 ghost use Rattle.serde_json.specs.Read.{max_depth};
 ghost use Rattle.serde_json.specs.View.{view};
-ghost use Rattle.serde_json.specs.Written.{has_float};
 ghost use Rattle.replies.specs.Claims.{number_at, seq_in, request_seq_in, body_for, refusal_of, refusal_in, outcome_in, response_in, claim_in};
+ghost use Rattle.replies.specs.Messages.{message_data};
 ghost use Rattle.replies.specs.Reading.{message_in};
 ghost use Rattle.replies.specs.Same.{is_same};
 
@@ -126,17 +126,15 @@ fn claim_in(alloc: Global, value: &Value) -> Result<Option<(u32, Message)>, Allo
     Ok(Some((seq, Message::Response(response))))
 }
 
-/// Whether the two are one JSON value, of which the second has no float. They are exactly where
-/// their compact texts are one.
-fn is_same(alloc: Global, value: &Value, other: &Value) -> Result<bool, AllocError>
-    requires shallow { depth (view value.now) ≤ max_depth }
-    requires other_shallow { depth (view other.now) ≤ max_depth }
-    requires no_float { has_float (view other.now) ≡ false }
-    ensures { IfOk result (λ b. b ≡ is_same (view value.now) (view other.now)) }
+/// Whether the value is that of the message with this number. It is exactly where their compact
+/// texts are one.
+fn is_same(alloc: Global, value: &Value, seq: u32, message: &Message) -> Result<bool, AllocError>
+    requires { depth (view value.now) ≤ max_depth }
+    ensures { IfOk result (λ b. b ≡ is_same (view value.now) (message_data seq message.now)) }
 {
     let text = value.to_vec(alloc)?;
-    let other = other.to_vec(alloc)?;
-    Ok(text.as_slice() == other.as_slice())
+    let written = writing::message(alloc, seq, message)?;
+    Ok(text.as_slice() == written.as_slice())
 }
 
 /// The number and the message that a value is, if it is one.
@@ -147,8 +145,7 @@ pub(crate) fn message(alloc: Global, value: &Value) -> Result<Option<(u32, Messa
     let Some((seq, message)) = claim_in(alloc, value)? else {
         return Ok(None);
     };
-    let written = writing::message(alloc, seq, &message)?;
-    if is_same(alloc, value, &written)? {
+    if is_same(alloc, value, seq, &message)? {
         Ok(Some((seq, message)))
     } else {
         Ok(None)

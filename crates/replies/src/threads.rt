@@ -1,14 +1,24 @@
 //! The body that answers `threads`: which threads there are.
-ghost use Rattle.std.specs.Prelude.{◌≡◌, IfOk};
-ghost use Rattle.serde_json.specs.View.{view};
+ghost use Rattle.std.specs.Prelude.{OnOk};
 ghost use Rattle.replies.specs.Threads.{threads_body};
+ghost use Rattle.replies.specs.Written.{Appends, tokens_of};
 
-use serde_json::{Value, json};
-use std::alloc::{AllocError, Global};
+use crate::member;
+use crate::members::{ID, NAME, THREADS};
+use json::Writer;
+use std::alloc::AllocError;
 
 /// The one thread of the machine (`Thread`), which is its hart.
-pub(crate) fn body(alloc: Global) -> Result<Value, AllocError>
-    ensures { IfOk result (λ v. view v ≡ threads_body) }
+pub(crate) fn body(out: &mut Writer) -> Result<(), AllocError>
+    ensures { OnOk result (Appends out.old out.new (tokens_of threads_body)) }
 {
-    json!(in alloc; {"threads": [{"id": 1u32, "name": "hart 0"}]})
+    out.begin_object()?;
+    out.key(THREADS)?;
+    out.begin_array()?;
+    out.begin_object()?;
+    member::number(out, ID, 1)?;
+    member::text(out, NAME, "hart 0")?;
+    out.end_object()?;
+    out.end_array()?;
+    out.end_object()
 }

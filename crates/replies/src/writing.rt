@@ -1,112 +1,148 @@
-//! Messages as JSON values.
-ghost use Rattle.std.specs.Prelude.{◌≡◌, IfOk, option_map};
-ghost use Rattle.serde_json.specs.View.{view, members_view};
-ghost use Rattle.replies.specs.Messages.{message_data};
-ghost use Rattle.replies.specs.Responses.{response_data, outcome_data, shared_members, body_data, error_data};
+//! Messages written as compact JSON, member by member into one buffer.
+ghost use Rattle.std.specs.Prelude.{◌≡◌, ◌^◌, ◌<◌, Some, IfOk, OnOk};
+ghost use Rattle.protocol.specs.Json.{json_of};
+ghost use Rattle.replies.specs.Messages.{message_data, text_of};
+ghost use Rattle.replies.specs.Responses.{response_data, outcome_data, body_data, error_data, format_of};
+ghost use Rattle.replies.specs.Written.{Appends, HasNumbers, tokens_of, body_tokens, last_tokens};
 
 use crate::members::{
     BODY, COMMAND, ERROR, FORMAT, ID, MESSAGE, REQUEST_SEQ, RESPONSE, SEQ, SUCCESS, TYPE,
 };
-use crate::{Message, Outcome, Response, ResponseBody, initialize, threads};
+use crate::{Message, Outcome, Response, ResponseBody, initialize, member, threads};
+use json::Writer;
 use protocol::{Refusal, Text};
-use serde_json::{Map, Value, json, put};
 use std::alloc::{AllocError, Global};
 
-/// The message with this number.
-pub(crate) fn message(alloc: Global, seq: u32, message: &Message) -> Result<Value, AllocError>
-    ensures { IfOk result (λ v. view v ≡ message_data seq message.now) }
+/// The bytes that most messages fit in.
+const USUAL_LEN: usize = 256;
+
+/// The message with this number as compact JSON. It fails where no memory is left.
+pub(crate) fn message(alloc: Global, seq: u32, message: &Message) -> Result<Vec<u8>, AllocError>
+    ensures text { IfOk result (λ b. b.items ≡ text_of seq message.now) }
+    ensures value { IfOk result (λ b. json_of b.items ≡ Some (message_data seq message.now)) }
+{
+    let mut out = Writer::new(Vec::with_capacity(alloc, USUAL_LEN)?);
+    write(&mut out, seq, message)?;
+    Ok(out.into_inner())
+}
+
+/// The message with this number, written. As each function below, it fails where no memory is
+/// left, and then the writer is of no more use.
+fn write(out: &mut Writer, seq: u32, message: &Message) -> Result<(), AllocError>
+    ensures tokens { OnOk result (Appends out.old out.new
+        (tokens_of (message_data seq message.now))) }
+    ensures numbers { OnOk result (HasNumbers message.now) }
 {
     match message {
-        Message::Response(response) => written_response(alloc, seq, response),
+        Message::Response(response) => write_response(out, seq, response),
     }
 }
 
 /// The response with this number.
-fn written_response(alloc: Global, seq: u32, response: &Response) -> Result<Value, AllocError>
-    ensures { IfOk result (λ v. view v ≡ response_data seq response.now) }
+fn write_response(out: &mut Writer, seq: u32, response: &Response) -> Result<(), AllocError>
+    ensures tokens { OnOk result (Appends out.old out.new
+        (tokens_of (response_data seq response.now))) }
+    ensures numbers { OnOk result (response.now.request_seq < 2 ^ 32) }
 {
+    let request_seq = response.request_seq;
+    let command = response.command.as_str();
     match &response.outcome {
-        Outcome::Done(body) => success(alloc, seq, response, body),
-        Outcome::Refused(refusal, text) => refused(alloc, seq, response, *refusal, text),
+        Outcome::Done(body) => success(out, seq, request_seq, command, body),
+        Outcome::Refused(refusal, text) => {
+            refused(out, seq, request_seq, command, *refusal, text)
+        }
     }
 }
 
-/// The response with this number to the same request, which succeeded with this body.
+/// The response with this number to the request of this number and command, which succeeded.
 fn success(
-    alloc: Global,
+    out: &mut Writer,
     seq: u32,
-    response: &Response,
+    request_seq: u32,
+    command: &str,
     body: &ResponseBody,
-) -> Result<Value, AllocError>
-    ensures { IfOk result (λ v. view v ≡ outcome_data seq response.now.request_seq
-        response.now.command (Outcome.Done body.now)) }
+) -> Result<(), AllocError>
+    ensures { OnOk result (Appends out.old out.new
+        (tokens_of (outcome_data seq request_seq command.now (Outcome.Done body.now)))) }
 {
-    let mut members = shared(alloc, seq, response, true)?;
-    let Some(body) = written_body(alloc, body)? else {
-        return Ok(Value::Object(members));
-    };
-    put(&mut members, alloc, BODY, body)?;
-    Ok(Value::Object(members))
+    out.begin_object()?;
+    write_body(out, body)?;
+    member::text(out, COMMAND, command)?;
+    last_members(out, seq, request_seq, true)
 }
 
-/// The response with this number to the same request, which was refused.
+/// The response with this number to the request of this number and command, which was refused.
 fn refused(
-    alloc: Global,
+    out: &mut Writer,
     seq: u32,
-    response: &Response,
+    request_seq: u32,
+    command: &str,
     refusal: Refusal,
     text: &Option<Text>,
-) -> Result<Value, AllocError>
-    ensures { IfOk result (λ v. view v ≡ outcome_data seq response.now.request_seq
-        response.now.command (Outcome.Refused refusal text.now)) }
+) -> Result<(), AllocError>
+    ensures { OnOk result (Appends out.old out.new
+        (tokens_of (outcome_data seq request_seq command.now (Outcome.Refused refusal text.now)))) }
 {
-    let mut members = shared(alloc, seq, response, false)?;
-    let name = Value::try_from_str(alloc, refusal.name())?;
-    put(&mut members, alloc, MESSAGE, name)?;
-    put(&mut members, alloc, BODY, error(alloc, refusal, text)?)?;
-    Ok(Value::Object(members))
+    out.begin_object()?;
+    out.key(BODY)?;
+    error(out, refusal, text)?;
+    member::text(out, COMMAND, command)?;
+    member::text(out, MESSAGE, refusal.name())?;
+    last_members(out, seq, request_seq, false)
 }
 
-/// The members of every response.
-fn shared(
-    alloc: Global,
+/// The members of every response that stand after the others, and the end of the response.
+fn last_members(
+    out: &mut Writer,
     seq: u32,
-    response: &Response,
+    request_seq: u32,
     success: bool,
-) -> Result<Map<String, Value>, AllocError>
-    ensures { IfOk result (λ m. members_view m.entries
-        ≡ shared_members seq response.now.request_seq response.now.command success) }
+) -> Result<(), AllocError>
+    ensures { OnOk result (Appends out.old out.new (last_tokens seq request_seq success)) }
 {
-    let mut members = Map::new(alloc);
-    let command = Value::try_from_str(alloc, response.command.as_str())?;
-    let request_seq = Value::from(response.request_seq);
-    let kind = Value::try_from_str(alloc, RESPONSE)?;
-    put(&mut members, alloc, COMMAND, command)?;
-    put(&mut members, alloc, REQUEST_SEQ, request_seq)?;
-    put(&mut members, alloc, SEQ, Value::from(seq))?;
-    put(&mut members, alloc, SUCCESS, Value::from(success))?;
-    put(&mut members, alloc, TYPE, kind)?;
-    Ok(members)
+    member::number(out, REQUEST_SEQ, request_seq)?;
+    member::number(out, SEQ, seq)?;
+    member::truth(out, SUCCESS, success)?;
+    member::text(out, TYPE, RESPONSE)?;
+    out.end_object()
 }
 
-/// The body, if there is one.
-fn written_body(alloc: Global, body: &ResponseBody) -> Result<Option<Value>, AllocError>
-    ensures { IfOk result (λ o. option_map view o ≡ body_data body.now) }
+/// The member that is the body, if there is one.
+fn write_body(out: &mut Writer, body: &ResponseBody) -> Result<(), AllocError>
+    ensures { OnOk result (Appends out.old out.new (body_tokens (body_data body.now))) }
 {
-    Ok(match body {
-        ResponseBody::Initialize => Some(initialize::body(alloc)?),
-        ResponseBody::Threads => Some(threads::body(alloc)?),
-        ResponseBody::Empty => None,
-    })
+    match body {
+        ResponseBody::Initialize => {
+            out.key(BODY)?;
+            initialize::body(out)
+        }
+        ResponseBody::Threads => {
+            out.key(BODY)?;
+            threads::body(out)
+        }
+        ResponseBody::Empty => Ok(()),
+    }
 }
 
 /// The body of a refusal.
-fn error(alloc: Global, refusal: Refusal, text: &Option<Text>) -> Result<Value, AllocError>
-    ensures { IfOk result (λ v. view v ≡ error_data refusal text.now) }
+fn error(out: &mut Writer, refusal: Refusal, text: &Option<Text>) -> Result<(), AllocError>
+    ensures { OnOk result (Appends out.old out.new (tokens_of (error_data refusal text.now))) }
 {
-    let format = match text {
+    out.begin_object()?;
+    out.key(ERROR)?;
+    out.begin_object()?;
+    member::text(out, FORMAT, format_of(refusal, text))?;
+    member::number(out, ID, refusal.id())?;
+    out.end_object()?;
+    out.end_object()
+}
+
+/// The text of a refusal for people: its own if it has one, else its name.
+fn format_of(refusal: Refusal, text: &Option<Text>) -> &str
+    ensures { result.now ≡ format_of refusal text.now }
+{
+    match text {
         Some(text) => text.as_str(),
         None => refusal.name(),
-    };
-    json!(in alloc; {(ERROR): {(FORMAT): format, (ID): refusal.id()}})
+    }
 }

@@ -1,5 +1,5 @@
 -- What a turn makes of an exchange.
-use Rattle.std.proofs.Common.{◌≡◌, ℕ, ◌+◌, ◌==◌, Bool, true, false, List, [], ◌∷◌, ◌++◌, length, take, drop, Option, Some, None, IfSome, IfNone, Result, Ok, Err, refl, sym, ap, subst, ◌∙◌, append_assoc, append-nil, length-append, take-append-drop, arith}
+use Rattle.std.proofs.Common.{◌≡◌, ℕ, ◌+◌, ◌<◌, ◌==◌, Bool, true, false, List, [], ◌∷◌, ◌++◌, length, take, drop, Option, Some, None, IfSome, IfNone, Result, Ok, Err, refl, sym, ap, subst, ◌∙◌, append_assoc, append-nil, length-append, take-append-drop, arith}
 use Rattle.std.proofs.lemmas.Bool.Decides.{nat_tests}
 use Rattle.std.specs.Io.KnownBytes.{Consumes, Appends, IsAtEnd}
 use Rattle.std.proofs.KnownBytes.{Consumes-nil, Appends-nil}
@@ -25,7 +25,7 @@ use Rattle.rvdap.specs.declared.phase.Phase.TheVariants.{Fresh}
 use Rattle.rvdap.specs.Answers.{answer_to}
 use Rattle.rvdap.specs.Outbox.{Queued, frame_of}
 use Rattle.rvdap.specs.Conversation.{has_fault, Script, with_answer, with_incoming, with_body, ended_by, script_of, conversation_of, frames_from, output_of}
-use Rattle.rvdap.specs.Serving.{IsFrontOf, IsClosed, GivesUp, Serves}
+use Rattle.rvdap.specs.Serving.{IsFrontOf, IsClosed, IsAtWork, GivesUp, Serves}
 use Rattle.rvdap.specs.Exchanges.{Past, Stands, with_answer_of, GoesOn, Comes, Went}
 use Rattle.rvdap.proofs.Scripts.{script_grows, script_stays_disconnected, script_stays_broken, script_of-push, frames_from-append}
 
@@ -58,15 +58,16 @@ output_at : (x : Exchange) (past : Past) (s : Stands x past) → output_of past.
 unfolding output_of
 output_at x past s = ap (λ (c : Script). frames_from 1 c.answers) (conversation_at x past s)
 
--- what was written is a front of what is to be written
-pub front : (x : Exchange) (past : Past) → Stands x past → IsFrontOf past.written (output_of past.read)
-front x past s =
+-- what is to be written begins with what was written and with what waits
+unwritten : (x : Exchange) (past : Past) → Stands x past → (more : List ℕ) × (output_of past.read ≡ past.written ++ (x.outbox.waiting ++ more))
+unwritten x past s =
     let given = (script_of s.taken).answers in
     let grown = script_grows s.taken x.unframer.waiting in
-    let more = frames_from (1 + length given) grown.0 in (
-      x.outbox.waiting ++ more,
-      output_at x past s ∙ ap (frames_from 1) grown.1 ∙ frames_from-append 1 given grown.0 ∙ ap (λ l. l ++ more) (sym s.frames) ∙ append_assoc past.written x.outbox.waiting more,
-    )
+    let more = frames_from (1 + length given) grown.0 in
+    (more, output_at x past s ∙ ap (frames_from 1) grown.1 ∙ frames_from-append 1 given grown.0 ∙ ap (λ l. l ++ more) (sym s.frames) ∙ append_assoc past.written x.outbox.waiting more)
+
+pub front : (x : Exchange) (past : Past) → Stands x past → IsFrontOf past.written (output_of past.read)
+front x past s = let u = unwritten x past s in (x.outbox.waiting ++ u.0, u.1)
 
 -- all is written, where nothing waits and the bodies that wait change nothing
 pub settled : (x : Exchange) (past : Past) (s : Stands x past) → x.outbox.waiting ≡ [] → script_of (s.taken ++ x.unframer.waiting) ≡ script_of s.taken
@@ -81,13 +82,9 @@ settled x past s nothing same = (
 pub gives_up : (e : StreamEnd) (left : Option (List ℕ)) (past : Past) → GivesUp e → IsFrontOf past.written (output_of past.read) → Serves e left past.read past.written
 gives_up Closed left past g f = absurd g
 gives_up BadMessage left past g f = absurd g
-gives_up Fault left past g f = f
+gives_up Fault left past g f = absurd g
 gives_up Turns left past g f = f
 gives_up NoMemory left past g f = f
-
-pub pauses : (end : Option StreamEnd) (left : Option (List ℕ)) (x : Exchange) (past : Past) → IfSome end GivesUp → Stands x past → Comes end left x past
-pauses None left x past g s = s
-pauses (Some e) left x past g s = gives_up e left past g (front x past s)
 
 ended_disconnected : (tail : Tail) → ended_by tail Disconnected ≡ Disconnected
 ended_disconnected (Partial rest) = refl
@@ -132,6 +129,26 @@ pub closed_by_end : (left : Option (List ℕ)) (phase : Phase) (x : Exchange) (p
 closed_by_end left phase x past nothing e none sound at_end s =
     let all = settled x past s nothing (none_waits x past s none) in
     closed_at left past (Open phase) all.0 (all.1 ∙ ap (ended_by x.unframer.tail) e ∙ ended_partial x.unframer.tail phase (sym sound ∙ s.faulty)) at_end
+
+pub fails : (left : Option (List ℕ)) (x : Exchange) (past : Past) → IsAtWork past.read past.written → Stands x past → Serves Fault left past.read past.written
+fails left x past w s = (front x past s, w)
+
+pub pauses : (end : Option StreamEnd) (left : Option (List ℕ)) (x : Exchange) (past : Past) → IfSome end (λ e. e ≡ Fault) → IsAtWork past.read past.written → Stands x past → Comes end left x past
+pauses None left x past e w s = s
+pauses (Some end) left x past e w s = subst (λ d. Serves d left past.read past.written) (sym e) (fails left x past w s)
+
+nothing_more : (written waiting more : List ℕ) → written ≡ written ++ (waiting ++ more) → 0 < length waiting → ⊥
+nothing_more written waiting more e l =
+    let lengths : length written ≡ length written + (length waiting + length more) = ap length e ∙ length-append written (waiting ++ more) ∙ ap (λ n. length written + n) (length-append waiting more) in
+    omega (arith, lengths, l)
+
+-- not all is written where something waits
+pub at_work_writing : (x : Exchange) (past : Past) → 0 < length x.outbox.waiting → Stands x past → IsAtWork past.read past.written
+at_work_writing x past l s all = let u = unwritten x past s in absurd (nothing_more past.written x.outbox.waiting u.0 (all ∙ u.1) l)
+
+pub at_work_reading : (phase : Phase) (x : Exchange) (past : Past) → x.outbox.waiting ≡ [] → x.ending ≡ Open phase → x.unframer.waiting ≡ [] → x.is_faulty ≡ false → Stands x past → IsAtWork past.read past.written
+at_work_reading phase x past nothing e none sound s all =
+    (phase, (settled x past s nothing (none_waits x past s none)).1 ∙ ap (ended_by x.unframer.tail) e ∙ ended_partial x.unframer.tail phase (sym sound ∙ s.faulty))
 
 -- ---- turns
 

@@ -1,6 +1,7 @@
 //! One connection: what came, what was answered, and what waits to be written.
 ghost use Rattle.std.specs.Prelude.{◌≡◌, ◌<◌, [], length, Option, List, ℕ, IfNone, IfSome};
 ghost use Rattle.rvdap.specs.Serving.{GivesUp};
+ghost use Rattle.rvdap.specs.declared.end.StreamEnd.TheVariants as ends;
 
 use crate::BODY_LIMIT;
 use crate::answers::answer_to;
@@ -65,6 +66,7 @@ impl Exchange {
     }
 
     fn write_turn<W: Write>(&mut self, writer: &mut W) -> Option<StreamEnd>
+        requires { 0 < length self.old.outbox.waiting }
         ensures { (left : Option (List ℕ)) (past : Past) → Stands self.old past → Went left left
             (W.contents writer.old) (W.contents writer.new) past self.new result }
     {
@@ -158,7 +160,7 @@ impl Exchange {
 
 // A call that a signal interrupted is made again in the next turn.
 fn unless_interrupted(error: &io::Error) -> Option<StreamEnd>
-    ensures { IfSome result GivesUp }
+    ensures { IfSome result (λ e. e ≡ ends.Fault) }
 {
     if error.kind() == ErrorKind::Interrupted {
         None

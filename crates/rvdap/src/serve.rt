@@ -16,7 +16,8 @@ use std::io::{Read, Write};
 ///   behind that `disconnect` is not looked at.
 /// - `BadMessage`: what was read is no frame, or a body is no message (base protocol); the answers to
 ///   all that came before are written.
-/// - `Fault`: a read or a write failed, or a write took nothing.
+/// - `Fault`: a read or a write failed, or a write took nothing, while an answer was left to write or
+///   the connection was open.
 /// - `Turns`: all turns were made, or the adapter's last sequence number, 2,147,483,647, is used.
 /// - `NoMemory`: no memory was left.
 ///

@@ -1,6 +1,6 @@
 use Rattle.std.proofs.Common.{arith}
 use Rattle.std.proofs.KnownBytes.{Consumes-nil, Consumes-kept, Appends-nil}
-use Rattle.rvdap.proofs.Turns.{idle, nothing_happens, broken_by_frame, closed_by_end, was_read, was_lost, pauses, consumes_none}
+use Rattle.rvdap.proofs.Turns.{idle, nothing_happens, broken_by_frame, closed_by_end, was_read, was_lost, pauses, at_work_reading, consumes_none}
 use Rattle.rvdap.proofs.exchange.Exchange.starved_turn.Goals as goal
 
 pub returns-then-self : goal.returns-then-self
@@ -18,4 +18,5 @@ pub returns-in-Err-feed : goal.returns-in-Err-feed
 returns-in-Err-feed g c held past s = was_lost _ _ held c.args.self.now _ past _ c.in-Ok.ensures.bytes.0 s
 
 pub returns-in-Err : goal.returns-in-Err
-returns-in-Err g c held past s = idle _ _ held held _ past _ (Consumes-kept _ _ _ _ (Consumes-nil _) c.in-Err.ensures.bytes) (Appends-nil held) (pauses c.unless_interrupted.result _ c.args.self.now past c.unless_interrupted.ensures s)
+returns-in-Err g c held past s = idle _ _ held held _ past _ (Consumes-kept _ _ _ _ (Consumes-nil _) c.in-Err.ensures.bytes) (Appends-nil held) (pauses c.unless_interrupted.result _ c.args.self.now past c.unless_interrupted.ensures
+    (at_work_reading c.args.phase c.args.self.now past c.requires.nothing_waits c.requires.open c.requires.all_taken c.if-self.false s) s)

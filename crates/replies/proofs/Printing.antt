@@ -1,0 +1,36 @@
+-- What a writer hands over at the end of a value, where it was empty at the start.
+use Rattle.std.proofs.Common.{◌≡◌, ℕ, ◌^◌, ◌<◌, List, [], ◌++◌, Some, IsUtf8, sym, ap, ◌∙◌, subst}
+use Rattle.json.specs.Lex.{tokens}
+use Rattle.json.specs.Print.{print}
+use Rattle.json.specs.Written.{Written}
+use Rattle.serde_json.specs.Data.{Data}
+use Rattle.serde_json.specs.Written.{compact_text}
+use Rattle.serde_json.proofs.Texts.{print-outline}
+use Rattle.protocol.specs.Json.{json_of}
+use Rattle.replies.specs.declared.message.Message.{Message}
+use Rattle.replies.specs.Messages.{message_data}
+use Rattle.replies.specs.Written.{Appends, HasNumbers, tokens_of}
+use Rattle.replies.proofs.Texts.{json_of-tokens}
+use Rattle.replies.proofs.Told.{HasSmallNumbers-message_data, is_ordered-message_data, depth-message_data}
+
+-- it has written this value, and nothing else
+pub record Holds (items : List ℕ) (end : Written) (value : Data) : Type 0 where
+  pub items_are : items ≡ print end.tokens
+  pub tokens_are : end.tokens ≡ tokens_of value
+
+pub Holds-Appends : (items : List ℕ) (start end : Written) (value : Data) → start.before ≡ [] → start.tokens ≡ [] → Appends start end (tokens_of value) → items ≡ end.before ++ print end.tokens → Holds items end value
+Holds-Appends items start end value none empty h is = record {
+  items_are = is ∙ ap (λ b. b ++ print end.tokens) (h.before ∙ none);
+  tokens_are = h.tokens ∙ ap (λ ts. ts ++ tokens_of value) empty;
+}
+
+-- it is the value's compact text
+pub compact_text-Holds : (items : List ℕ) (end : Written) (value : Data) → Holds items end value → items ≡ compact_text value
+compact_text-Holds items end value h = h.items_are ∙ ap print h.tokens_are ∙ print-outline value
+
+-- it reads as the message
+pub json_of-Holds : (items : List ℕ) (end : Written) (seq : ℕ) (message : Message) → Holds items end (message_data seq message) → tokens (print end.tokens) ≡ end.tokens → IsUtf8 (print end.tokens) → seq < 2 ^ 32 → HasNumbers message
+    → json_of items ≡ Some (message_data seq message)
+json_of-Holds items end seq message h reads_back utf8 small numbers =
+    json_of-tokens items (message_data seq message) (subst IsUtf8 (sym h.items_are) utf8) (ap tokens h.items_are ∙ reads_back ∙ h.tokens_are) (HasSmallNumbers-message_data seq message small numbers)
+    (is_ordered-message_data seq message) (depth-message_data seq message)

@@ -1,0 +1,16 @@
+use Rattle.std.proofs.lemmas.Result.{on_ok_weaker}
+use Rattle.replies.proofs.Appending.{Appends-then, Appends-token, Appends-last}
+use Rattle.replies.proofs.threads.body.Goals as goal
+
+pub returns : goal.returns
+returns c =
+    on_ok_weaker c.end_object-2.result
+    (λ end.
+    Appends-token c.in_ok-begin_object.ensures
+    (Appends-token c.in_ok-key.ensures
+    (Appends-token c.in_ok-begin_array.ensures
+    (Appends-token c.in_ok-begin_object-2.ensures
+    (Appends-then c.in_ok-number.ensures
+    (Appends-then c.in_ok-text.ensures
+    (Appends-token c.in_ok-end_object.ensures
+    (Appends-token c.in_ok-end_array.ensures end)))))))) (Appends-last c.end_object-2.result c.end_object-2.ensures)
