@@ -5,3 +5,4 @@ pub mod ServerLemmas
 pub mod Sending
 pub mod Order
 pub mod Proper
+pub mod Once

@@ -1,6 +1,10 @@
 -- What holds of every conversation, in the words of requests and answers alone.
-use Rattle.std.specs.Prelude.{◌≡◌, ℕ, List, [], ◌∷◌, map, Result, Ok, Err}
+use Rattle.std.specs.Prelude.{◌≡◌, ℕ, ◌+◌, ◌≤◌, List, [], ◌∷◌, map, Result, Ok, Err}
 use Rattle.std.specs.List.{AllByRecursion}
+use Rattle.replies.specs.declared.response.Response.{Response}
+use Rattle.replies.specs.declared.response.Outcome.{Outcome}
+use Rattle.replies.specs.declared.response.Outcome.TheVariants.{Done}
+use Rattle.replies.specs.declared.response.ResponseBody.TheVariants.{Initialize}
 use Rattle.replies.specs.Responses.{IsProperResponse}
 use Rattle.protocol.specs.declared.request.Incoming.{Incoming}
 use Rattle.protocol.specs.declared.request.Incoming.TheVariants.{Request, Bad, Ignored}
@@ -33,3 +37,17 @@ AnswersInOrder input = IsFrontOf (answered_numbers input) (request_numbers (mess
 -- is of the kind that has one.
 abbrev pub AnswersAreProper : List ℕ → Type 0
 AnswersAreProper input = AllByRecursion IsProperResponse (conversation_of input).answers
+
+-- one for a success of `initialize`, and none for another answer
+abbrev pub initializes : Outcome → ℕ
+initializes (Done Initialize) = 1
+initializes outcome = 0
+
+-- how often `initialize` succeeded
+abbrev pub times_initialized : List Response → ℕ
+times_initialized [] = 0
+times_initialized (r ∷ rs) = initializes r.outcome + times_initialized rs
+
+-- `initialize` succeeds once at most (`InitializeRequest`).
+abbrev pub InitializesOnce : List ℕ → Type 0
+InitializesOnce input = times_initialized (conversation_of input).answers ≤ 1
