@@ -1,0 +1,85 @@
+//! Runs a program on a hart, step by step: what `bench/hart/run` times.
+//!
+//! Words: the program (`tight`, `sort` or `fib`), and its argument.
+#![tactic(auto)]
+
+mod programs;
+
+use image::Memory;
+use programs::{FIB, SORT, TIGHT};
+use rv32i::{Hart, Stepped};
+use std::alloc::AllocError;
+use std::process::ExitCode;
+use std::rt::Env;
+use std::{env, io};
+
+const BASE: u32 = 0x0001_0000;
+
+const SIZE: u32 = 0x0010_0000;
+
+/// How a run ended: after so many instructions, with what the last step answered.
+#[derive(Clone, Copy)]
+struct Ending {
+    retired: u64,
+    stepped: Stepped,
+}
+
+fn main(rt: HostRuntime) -> io::Result<ExitCode> {
+    let words: Vec<String> = env::args(&rt)?.collect(rt.alloc())?;
+    let Some((program, argument)) = load_of(words.as_slice()) else {
+        eprintln!(rt; "usage: bench_hart tight|sort|fib ARGUMENT")?;
+        return Ok(ExitCode::from(2));
+    };
+    let mut memory = Memory::new(rt.alloc(), BASE, SIZE)?;
+    place(&mut memory, program);
+    let ending = run(&mut memory, argument)?;
+    let retired = ending.retired;
+    match ending.stepped {
+        Stepped::Exit(code) => println!(rt; "{retired} instructions, code {code}")?,
+        _ => println!(rt; "{retired} instructions, and then a stop")?,
+    }
+    Ok(ExitCode::SUCCESS)
+}
+
+fn load_of(words: &[String]) -> Option<(&'static [u32], u32)> {
+    let [_, program, argument] = words else {
+        return None;
+    };
+    let argument = argument.as_str().parse().ok()?;
+    match program.as_str() {
+        "tight" => Some((TIGHT, argument)),
+        "sort" => Some((SORT, argument)),
+        "fib" => Some((FIB, argument)),
+        _ => None,
+    }
+}
+
+fn place(memory: &mut Memory, program: &[u32]) {
+    let mut at = BASE;
+    for word in program {
+        let _ = memory.write_word(at, *word);
+        at = at.wrapping_add(4);
+    }
+}
+
+/// A hart at the program's start, with the argument in a0.
+fn hart_with(argument: u32) -> Hart {
+    let mut hart = Hart::new(BASE, BASE + SIZE);
+    hart.x[10] = argument;
+    hart
+}
+
+fn run(memory: &mut Memory, argument: u32) -> Result<Ending, AllocError> {
+    let mut hart = hart_with(argument);
+    let mut stepped = Stepped::Retired;
+    for retired in 0..u64::MAX {
+        stepped = hart.step(memory)?;
+        if stepped != Stepped::Retired {
+            return Ok(Ending { retired, stepped });
+        }
+    }
+    Ok(Ending {
+        retired: u64::MAX,
+        stepped,
+    })
+}

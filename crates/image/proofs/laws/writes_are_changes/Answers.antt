@@ -1,0 +1,5 @@
+use Rattle.image.proofs.Maps.{writes_bytes, keeps_below, keeps_above}
+use Rattle.image.proofs.laws.writes_are_changes.Goals as goal
+
+pub returns : goal.returns
+returns c = record { bytes = writes_bytes; below = keeps_below; above = keeps_above }

@@ -1,0 +1,12 @@
+-- What holds of every word. Each of these statements is the contract of a function of the module `laws`.
+use Rattle.std.specs.Prelude.{◌≡◌, ℕ}
+use Rattle.rv32i.specs.Encoding.{Encodes}
+use Rattle.rv32i.specs.declared.instr.Instr.{Instr}
+
+-- A word encodes at most one instruction.
+abbrev pub InstructionIsOnly : Type 0
+InstructionIsOnly = (word : ℕ) (i j : Instr) → Encodes i word → Encodes j word → i ≡ j
+
+-- An instruction has at most one word.
+abbrev pub EncodingIsOnly : Type 0
+EncodingIsOnly = (i : Instr) (word other : ℕ) → Encodes i word → Encodes i other → word ≡ other

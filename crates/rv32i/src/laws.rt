@@ -1,0 +1,15 @@
+//! What holds of every word and of every move: each law is the contract of a function that does
+//! nothing.
+
+ghost use Rattle.rv32i.specs.Laws.{EncodingIsOnly, InstructionIsOnly};
+
+/// A word encodes at most one instruction.
+pub fn instruction_is_only()
+    ensures { InstructionIsOnly }
+{}
+
+/// An instruction has at most one word. So what `encode` makes of what `decode` made of a word is that
+/// word.
+pub fn encoding_is_only()
+    ensures { EncodingIsOnly }
+{}

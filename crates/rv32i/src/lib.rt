@@ -1,0 +1,27 @@
+//! RV32I (RISC-V Unprivileged ISA 20191213, chapter 2): its words, their texts, and a hart that steps.
+#![tactic(auto)]
+
+mod access;
+mod decoding;
+mod encoding;
+mod fields;
+mod hart;
+mod instr;
+pub mod laws;
+mod names;
+mod parts;
+mod perform;
+mod stepped;
+mod text;
+
+pub use decoding::decode;
+pub use encoding::encode;
+pub use fields::{BranchOffset, FenceSet, Imm, JumpOffset, Reg, Shamt, Upper};
+pub use hart::Hart;
+pub use instr::Instr;
+pub use names::{reg_name, reg_of};
+pub use stepped::{Cause, Stepped};
+pub use text::text_of;
+
+#[cfg(test)]
+mod tests;

@@ -1,0 +1,103 @@
+//! The names of the registers (RISC-V Unprivileged ISA 20191213, chapter 25, "RISC-V Assembly
+//! Programmer's Handbook").
+
+ghost use Rattle.std.specs.Prelude.{◌≡◌, ◌<◌};
+ghost use Rattle.rv32i.specs.Names.{name_of, numbered_name_of, NamesOrNot};
+
+/// The name of the register of a number from 0 to 31.
+pub fn reg_name(number: u32) -> &'static str
+    requires { number < 32 }
+    ensures { result.now ≡ name_of number }
+{
+    match number {
+        0 => "zero",
+        1 => "ra",
+        2 => "sp",
+        3 => "gp",
+        4 => "tp",
+        5 => "t0",
+        6 => "t1",
+        7 => "t2",
+        8 => "s0",
+        9 => "s1",
+        10 => "a0",
+        11 => "a1",
+        12 => "a2",
+        13 => "a3",
+        14 => "a4",
+        15 => "a5",
+        16 => "a6",
+        17 => "a7",
+        18 => "s2",
+        19 => "s3",
+        20 => "s4",
+        21 => "s5",
+        22 => "s6",
+        23 => "s7",
+        24 => "s8",
+        25 => "s9",
+        26 => "s10",
+        27 => "s11",
+        28 => "t3",
+        29 => "t4",
+        30 => "t5",
+        _ => "t6",
+    }
+}
+
+// The name of a register by its number.
+fn numbered_name(number: u32) -> &'static str
+    requires { number < 32 }
+    ensures { result.now ≡ numbered_name_of number }
+{
+    match number {
+        0 => "x0",
+        1 => "x1",
+        2 => "x2",
+        3 => "x3",
+        4 => "x4",
+        5 => "x5",
+        6 => "x6",
+        7 => "x7",
+        8 => "x8",
+        9 => "x9",
+        10 => "x10",
+        11 => "x11",
+        12 => "x12",
+        13 => "x13",
+        14 => "x14",
+        15 => "x15",
+        16 => "x16",
+        17 => "x17",
+        18 => "x18",
+        19 => "x19",
+        20 => "x20",
+        21 => "x21",
+        22 => "x22",
+        23 => "x23",
+        24 => "x24",
+        25 => "x25",
+        26 => "x26",
+        27 => "x27",
+        28 => "x28",
+        29 => "x29",
+        30 => "x30",
+        _ => "x31",
+    }
+}
+
+/// The number of the register that a name means: one of the names of `reg_name`, `fp` for `s0`, or `x0`
+/// to `x31`. `None`: it names none.
+pub fn reg_of(name: &str) -> Option<u32>
+    ensures { NamesOrNot name.now result }
+{
+    if name == "fp" {
+        return Some(8);
+    }
+    for number in 0..32 {
+        if name == reg_name(number) || name == numbered_name(number) {
+            return Some(number);
+        }
+    }
+    None
+}
