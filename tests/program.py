@@ -59,6 +59,16 @@ class Talk:
     def write(self, data):
         self.process.stdin.write(data)
 
+    def write_all(self, data):
+        """Writes all of the data, by as many calls as the pipe takes."""
+        while data:
+            data = data[os.write(self.process.stdin.fileno(), data):]
+
+    def answers(self, data, wanted):
+        """Writes the data, and reads as many bytes as are wanted."""
+        self.write(data)
+        return self.read(len(wanted))
+
     def has_more(self, seconds):
         """Whether output comes within the time."""
         return bool(select.select([self.process.stdout], [], [], seconds)[0])

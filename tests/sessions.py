@@ -3,6 +3,8 @@ import os
 import random
 import subprocess
 import tempfile
+import threading
+import time
 
 from program import PROGRAM, TOP, Talk, expect, frame, run
 
@@ -19,6 +21,7 @@ CAPABILITIES = (
     '"command":"initialize","request_seq":%d,"seq":%d,"success":true,"type":"response"}'
 )
 THREADS = '{"body":{"threads":[{"id":1,"name":"hart 0"}]},"command":"threads","request_seq":%d,"seq":%d,"success":true,"type":"response"}'
+CANCELLED = '{"command":"cancel","request_seq":%d,"seq":%d,"success":true,"type":"response"}'
 DISCONNECTED = '{"command":"disconnect","request_seq":%d,"seq":%d,"success":true,"type":"response"}'
 REFUSED = '{"body":{"error":{"format":"%s","id":%d}},"command":"%s","message":"%s","request_seq":%d,"seq":%d,"success":false,"type":"response"}'
 
@@ -88,12 +91,22 @@ def the_example_session_is_the_first_session():
     expect((played.stdout, played.stderr, played.returncode), (wanted, b"", 0), "what examples/play prints")
 
 
-def the_first_session_is_valid_by_the_published_schema():
-    with tempfile.NamedTemporaryFile() as transcript:
-        subprocess.run([os.path.join(TOP, "examples", "play"), os.path.join(TOP, "examples", "first-session"), PROGRAM],
-                       stdout=transcript, check=True, timeout=20)
-        checked = subprocess.run([VALIDATOR, "--strict", transcript.name], capture_output=True, text=True, timeout=60)
-        expect(checked.returncode, 0, "the schema's checker: " + checked.stdout + checked.stderr)
+def the_example_of_a_late_cancel_is_told_that_the_request_is_gone():
+    path = os.path.join(TOP, "examples", "late-cancel")
+    played = subprocess.run([os.path.join(TOP, "examples", "play"), path, PROGRAM], capture_output=True, timeout=20)
+    answers = [CAPABILITIES % (1, 1), THREADS % (2, 2), REFUSED % ("requestGone", 20, "cancel", "requestGone", 3, 3), CANCELLED % (4, 4), DISCONNECTED % (5, 5)]
+    lines = open(path, "rb").read().splitlines()
+    wanted = b"".join(line + b"\n" + answer.encode() + b"\n" for line, answer in zip(lines, answers, strict=True))
+    expect((played.stdout, played.stderr, played.returncode), (wanted, b"", 0), "what examples/play prints")
+
+
+def the_examples_are_valid_by_the_published_schema():
+    for name in ("first-session", "late-cancel"):
+        with tempfile.NamedTemporaryFile() as transcript:
+            subprocess.run([os.path.join(TOP, "examples", "play"), os.path.join(TOP, "examples", name), PROGRAM],
+                           stdout=transcript, check=True, timeout=20)
+            checked = subprocess.run([VALIDATOR, "--strict", transcript.name], capture_output=True, text=True, timeout=60)
+            expect(checked.returncode, 0, "the schema's checker on %s: %s" % (name, checked.stdout + checked.stderr))
 
 
 def an_empty_input_is_answered_with_nothing():
@@ -109,7 +122,8 @@ def an_unfinished_frame_is_dropped():
 def requests_out_of_phase_are_refused():
     expect_run(request(1, "threads"), refused("wrongPhase", 3, "threads", 1, 1))
     expect_run(FIRST + request(2, "initialize", adapterID="again"), FIRST_ANSWER + refused("wrongPhase", 3, "initialize", 2, 2))
-    expect_run(request(4, "disconnect") + SESSION, frame(DISCONNECTED % (4, 1)))
+    expect_run(request(4, "disconnect") + request(5, "threads") + request(6, "initialize"),
+               frame(DISCONNECTED % (4, 1)) + refused("wrongPhase", 3, "threads", 5, 2) + refused("wrongPhase", 3, "initialize", 6, 3))
 
 
 def unknown_requests_and_bad_arguments_are_refused():
@@ -117,7 +131,8 @@ def unknown_requests_and_bad_arguments_are_refused():
     expect_run(FIRST + request(2, "continue", threadId=1), FIRST_ANSWER + refused("unknownCommand", 1, "continue", 2, 2))
     expect_run(request(1, "initialize", linesStartAt1=1), refused("badArguments", 2, "initialize", 1, 1))
     bad = frame('{"seq":9,"type":"request","command":"disconnect","arguments":[]}')
-    expect_run(bad + request(10, "disconnect") + b"behind it", refused("badArguments", 2, "disconnect", 9, 1) + frame(DISCONNECTED % (10, 2)))
+    expect_run(bad + request(10, "disconnect"), refused("badArguments", 2, "disconnect", 9, 1) + frame(DISCONNECTED % (10, 2)))
+    expect_run(request(1, "cancel", requestId="2"), refused("badArguments", 2, "cancel", 1, 1))
 
 
 def responses_and_events_are_passed_over():
@@ -125,9 +140,62 @@ def responses_and_events_are_passed_over():
     expect_run(ignored + FIRST + ignored + request(2, "threads") + ignored, FIRST_ANSWER + frame(THREADS % (2, 2)))
 
 
-def nothing_behind_a_disconnect_is_looked_at():
+def numbers_that_do_not_rise_are_refused():
+    repeat = FIRST + request(5, "threads") + request(5, "threads") + request(4, "cancel", requestId=5) + request(6, "threads")
+    answers = (FIRST_ANSWER + frame(THREADS % (5, 2)) + refused("repeatedSequence", 6, "threads", 5, 3)
+               + refused("repeatedSequence", 6, "cancel", 4, 4) + frame(THREADS % (6, 5)))
+    expect_run(repeat, answers)
+    expect_run(None, answers, pieces=[repeat[i:i + 1] for i in range(len(repeat))])
+    expect_run(SESSION[:len(FIRST)] * 2, FIRST_ANSWER + refused("repeatedSequence", 6, "initialize", 1, 2))
+    expect_run(request(7, "fly") * 2, refused("unknownCommand", 1, "fly", 7, 1) + refused("repeatedSequence", 6, "fly", 7, 2))
+
+
+def a_cancel_in_the_same_piece_cancels_a_request():
+    piece = request(8, "threads") + request(9, "cancel", requestId=8)
+    answers = refused("cancelled", 5, "threads", 8, 2) + frame(CANCELLED % (9, 3))
+    expect_run(FIRST + piece, FIRST_ANSWER + answers)
+    with Talk() as talk:
+        expect(talk.answers(FIRST, FIRST_ANSWER), FIRST_ANSWER, "the answer of initialize")
+        expect(talk.answers(piece, answers), answers, "the answers of a piece")
+        expect(talk.end(), (0, b""), "the end")
+
+
+def a_cancel_of_an_answered_request_comes_too_late():
+    with Talk() as talk:
+        for sent, answer in ((FIRST, FIRST_ANSWER), (request(5, "threads"), frame(THREADS % (5, 2))),
+                             (request(9, "cancel", requestId=5), refused("requestGone", 20, "cancel", 9, 3)),
+                             (request(10, "cancel", requestId=10), refused("requestGone", 20, "cancel", 10, 4)),
+                             (request(11, "cancel"), frame(CANCELLED % (11, 5)))):
+            expect(talk.answers(sent, answer), answer, "the answer")
+        expect(talk.end(), (0, b""), "the end")
+
+
+def a_cancelled_disconnect_does_not_end_the_session():
+    piece = FIRST + request(2, "disconnect") + request(3, "cancel", requestId=2) + request(4, "threads")
+    expect_run(piece, FIRST_ANSWER + refused("cancelled", 5, "disconnect", 2, 2) + frame(CANCELLED % (3, 3)) + frame(THREADS % (4, 4)))
+
+
+def requests_in_the_piece_of_a_disconnect_are_refused_behind_it():
+    behind = request(4, "threads") + request(5, "cancel") + request(6, "disconnect")
+    answers = ANSWERS + b"".join(refused("wrongPhase", 3, name, n, n) for n, name in ((4, "threads"), (5, "cancel"), (6, "disconnect")))
+    expect_run(SESSION + behind, answers)
+
+
+def what_is_no_message_in_the_piece_of_a_disconnect_ends_with_one_line():
+    for behind in (b"no frame at all\r\n\r\n", frame("no JSON"), b"\0" * 5000):
+        expect_run(None, ANSWERS, b"rvdap: bad message\n", 1, pieces=[SESSION + behind])
+    expect_run(SESSION + b"an unfinished frame", ANSWERS)
+
+
+def what_comes_after_a_disconnect_was_answered_is_not_read():
     for behind in (b"no frame at all\r\n\r\n", frame("no JSON"), request(4, "threads"), b"\0" * 100000):
-        expect_run(SESSION + behind, ANSWERS)
+        with Talk() as talk:
+            expect(talk.answers(SESSION, ANSWERS), ANSWERS, "the answers")
+            try:
+                talk.write(behind)
+            except BrokenPipeError:
+                pass
+            expect(talk.end(), (0, b""), "the end, with %r behind it" % behind[:20])
 
 
 def the_headers_of_a_frame_may_vary():
@@ -191,6 +259,50 @@ def ten_thousand_requests_in_one_input():
     expect_run(data, FIRST_ANSWER + b"".join(frame(THREADS % (n, n)) for n in range(2, count + 2)))
 
 
+def many_requests_in_few_pieces_are_answered_in_order():
+    count = 1200
+    data = FIRST + b"".join(request(n, "threads") for n in range(2, count + 2))
+    answers = FIRST_ANSWER + b"".join(frame(THREADS % (n, n)) for n in range(2, count + 2))
+    expect(count > 4 * 256 and len(answers) > 2 * 65536 and len(data) > 65536, True, "more than may wait")
+    for size in (65536, 20000, 4099):
+        expect_run(None, answers, pieces=[data[i:i + size] for i in range(0, len(data), size)])
+
+
+def more_requests_than_may_wait_come_before_an_answer_is_taken():
+    count = 3000
+    data = FIRST + b"".join(request(n, "threads") for n in range(2, count + 2))
+    answers = FIRST_ANSWER + b"".join(frame(THREADS % (n, n)) for n in range(2, count + 2))
+    with Talk() as talk:
+        writer = threading.Thread(target=talk.write_all, args=(data,))
+        writer.start()
+        time.sleep(0.3)
+        expect(talk.read(len(answers)), answers, "the answers")
+        writer.join()
+        expect(talk.end(), (0, b""), "the end")
+
+
+def a_conversation_is_the_same_however_it_is_cut():
+    # No cancel here names a request that waits, so that nothing depends on what was answered already.
+    data = (request(1, "threads") + request(2, "initialize") + frame('{"type":"event","event":"x"}') + request(4, "threads") + request(4, "threads")
+            + request(5, "fly") + request(6, "cancel", requestId=7) + request(9, "cancel") + request(10, "disconnect"))
+    answers = (refused("wrongPhase", 3, "threads", 1, 1) + frame(CAPABILITIES % (2, 2)) + frame(THREADS % (4, 3))
+               + refused("repeatedSequence", 6, "threads", 4, 4) + refused("unknownCommand", 1, "fly", 5, 5)
+               + refused("requestGone", 20, "cancel", 6, 6) + frame(CANCELLED % (9, 7)) + frame(DISCONNECTED % (10, 8)))
+    for size in (1, 2, 7, 83, 1000, len(data)):
+        expect_run(None, answers, pieces=[data[i:i + size] for i in range(0, len(data), size)])
+    chance = random.Random(8086)
+    for _ in range(50):
+        cuts = sorted(chance.randrange(len(data)) for _ in range(6))
+        expect_run(None, answers, pieces=[data[a:b] for a, b in zip([0] + cuts, cuts + [len(data)])])
+
+
+def an_editor_that_closes_its_end_early_ends_the_session_well():
+    for sent, answers in ((b"", b""), (FIRST, FIRST_ANSWER), (FIRST + request(2, "threads")[:30], FIRST_ANSWER)):
+        with Talk() as talk:
+            expect(talk.answers(sent, answers), answers, "the answers")
+            expect(talk.end(), (0, b""), "the end after %r" % sent)
+
+
 def any_bytes_end_with_a_status_and_at_most_one_line():
     chance = random.Random(20191213)
     for turn in range(300):
@@ -237,7 +349,7 @@ def any_other_word_is_a_fault_of_usage():
 
 def checks():
     """Each check with its name."""
-    by_the_schema = (the_first_session_is_valid_by_the_published_schema,) if VALIDATOR else ()
+    by_the_schema = (the_examples_are_valid_by_the_published_schema,) if VALIDATOR else ()
     return [(check.__name__.replace("_", " "), check) for check in by_the_schema + (
         the_texts_have_the_lengths_of_the_protocol_profile,
         the_first_session_whole,
@@ -245,16 +357,27 @@ def checks():
         the_first_session_byte_by_byte,
         each_answer_comes_before_more_is_read,
         the_example_session_is_the_first_session,
+        the_example_of_a_late_cancel_is_told_that_the_request_is_gone,
         an_empty_input_is_answered_with_nothing,
         an_unfinished_frame_is_dropped,
         requests_out_of_phase_are_refused,
         unknown_requests_and_bad_arguments_are_refused,
         responses_and_events_are_passed_over,
-        nothing_behind_a_disconnect_is_looked_at,
+        numbers_that_do_not_rise_are_refused,
+        a_cancel_in_the_same_piece_cancels_a_request,
+        a_cancel_of_an_answered_request_comes_too_late,
+        a_cancelled_disconnect_does_not_end_the_session,
+        requests_in_the_piece_of_a_disconnect_are_refused_behind_it,
+        what_is_no_message_in_the_piece_of_a_disconnect_ends_with_one_line,
+        what_comes_after_a_disconnect_was_answered_is_not_read,
         the_headers_of_a_frame_may_vary,
         what_is_no_message_ends_with_one_line_and_loses_no_answer,
         a_body_of_the_greatest_length_is_taken,
         ten_thousand_requests_in_one_input,
+        many_requests_in_few_pieces_are_answered_in_order,
+        more_requests_than_may_wait_come_before_an_answer_is_taken,
+        a_conversation_is_the_same_however_it_is_cut,
+        an_editor_that_closes_its_end_early_ends_the_session_well,
         any_bytes_end_with_a_status_and_at_most_one_line,
         an_editor_that_stops_listening_is_a_fault,
         an_input_that_cannot_be_read_is_a_fault,

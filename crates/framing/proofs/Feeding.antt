@@ -1,10 +1,11 @@
 -- What is kept of a stream after a piece.
-use Rattle.std.proofs.Common.{◌≡◌, ℕ, ◌-◌, ◌⊎◌, inl, inr, Bool, true, false, cond, ltb, leb, List, [], ◌∷◌, ◌++◌, length, take, drop, Option, Some, None, Result, Ok, Err, refl, sym, ap, ◌∙◌, subst}
+use Rattle.std.proofs.Common.{◌≡◌, ℕ, ◌-◌, ◌⊎◌, inl, inr, Bool, true, false, cond, ltb, leb, List, [], ◌∷◌, ◌++◌, length, take, drop, Option, Some, None, IsSome, Result, Ok, Err, refl, sym, ap, ◌∙◌}
+use Rattle.std.proofs.lemmas.List.{append-nil}
 use Rattle.framing.specs.Headers.{Field, length_fields}
 use Rattle.framing.specs.Reading.{Reading, Tail, size_of, start_by, start_at, start_of, content_length, length_by, length_among, length_or_fault, number_in, trimmed, fields_in, lines_of, reading_of}
-use Rattle.framing.specs.Reading.Tail.{Partial}
+use Rattle.framing.specs.Reading.Tail.{Partial, Faulty}
 use Rattle.framing.specs.Parts.{Parts, tail_by, is_broken}
-use Rattle.framing.specs.Streams.{Unframed, fed, fault_of, Feeds}
+use Rattle.framing.specs.Streams.{Before, Unframed, fed, fault_of, Feeds}
 use Rattle.framing.specs.declared.error.FrameError.{FrameError}
 use Rattle.framing.specs.declared.error.FrameError.TheVariants.{Header, NoLength, TwoLengths, BadLength, TooLong, HeaderTooLong, NoMemory}
 use Rattle.framing.specs.declared.start.Start.{Start}
@@ -63,21 +64,51 @@ pub no_memory_fault : (limit : ℕ) (bytes : List ℕ) → start_of limit bytes 
 unfolding start_of
 no_memory_fault limit bytes h = at_fault limit bytes (size_of bytes) h
 
--- what is kept after a piece that completes these bodies
-fed_partial : (limit : ℕ) (waiting : List (List ℕ)) (rest piece : List ℕ) (bodies : List (List ℕ)) (tail : Tail) → reading_of limit (rest ++ piece) ≡ record { bodies = bodies; tail = tail }
-    → fed (record { limit = limit; waiting = waiting; tail = Partial rest }) piece ≡ record { limit = limit; waiting = waiting ++ bodies; tail = tail }
-fed_partial limit waiting rest piece bodies tail h = ap (λ (r : Reading). let k : Unframed = record { limit = limit; waiting = waiting ++ r.bodies; tail = r.tail } in k) h
+-- the value before a piece, and after a piece that completes these bodies
+abbrev held_at : ℕ → List (List ℕ) → Start → List ℕ → Option Before → Unframed
+held_at limit waiting start rest before = record { limit = limit; waiting = waiting; tail = tail_by start rest; before = before }
 
-pub fed_is : (limit : ℕ) (waiting : List (List ℕ)) (start : Start) (rest piece : List ℕ) (bodies : List (List ℕ)) (tail : Tail) → is_broken start ≡ false → reading_of limit (rest ++ piece) ≡ record { bodies = bodies; tail = tail }
-    → fed (record { limit = limit; waiting = waiting; tail = tail_by start rest }) piece ≡ record { limit = limit; waiting = waiting ++ bodies; tail = tail }
-fed_is limit waiting Waits rest piece bodies tail whole h = fed_partial limit waiting rest piece bodies tail h
-fed_is limit waiting (Begins size n) rest piece bodies tail whole h = fed_partial limit waiting rest piece bodies tail h
-fed_is limit waiting (Breaks fault) rest piece bodies tail whole h = absurd (not_false whole) where
+abbrev gone_on : ℕ → List (List ℕ) → List (List ℕ) → Tail → Tail → Unframed
+gone_on limit now waiting tail old = record { limit = limit; waiting = now; tail = tail; before = Some (record { waiting = waiting; tail = old }) }
+
+fed_partial : (limit : ℕ) (waiting : List (List ℕ)) (rest piece : List ℕ) (before : Option Before) (bodies : List (List ℕ)) (tail : Tail) → reading_of limit (rest ++ piece) ≡ record { bodies = bodies; tail = tail }
+    → fed (record { limit = limit; waiting = waiting; tail = Partial rest; before = before }) piece ≡ gone_on limit (waiting ++ bodies) waiting tail (Partial rest)
+fed_partial limit waiting rest piece before bodies tail h = ap (λ (r : Reading). gone_on limit (waiting ++ r.bodies) waiting r.tail (Partial rest)) h
+
+fed_is : (limit : ℕ) (waiting : List (List ℕ)) (start : Start) (rest piece : List ℕ) (before : Option Before) (bodies : List (List ℕ)) (tail : Tail) → is_broken start ≡ false → reading_of limit (rest ++ piece) ≡ record { bodies = bodies; tail = tail }
+    → fed (held_at limit waiting start rest before) piece ≡ gone_on limit (waiting ++ bodies) waiting tail (tail_by start rest)
+fed_is limit waiting Waits rest piece before bodies tail whole h = fed_partial limit waiting rest piece before bodies tail h
+fed_is limit waiting (Begins size n) rest piece before bodies tail whole h = fed_partial limit waiting rest piece before bodies tail h
+fed_is limit waiting (Breaks fault) rest piece before bodies tail whole h = absurd (not_false whole) where
   not_false : true ≡ false → ⊥
   not_false e = cc
 
+-- The bodies that wait now, how the next frame starts and what came of it, and what the mark goes back to, are what a
+-- piece makes of the bodies that waited and of what had come.
+pub record Went (limit : ℕ) (waiting : List (List ℕ)) (start : Start) (rest piece : List ℕ) (now : List (List ℕ)) (next : Start) (left : ℕ) (waited : List (List ℕ)) (front : List ℕ) : Type 0 where
+  pub bodies : List (List ℕ)
+  pub whole : is_broken start ≡ false
+  pub parts : Parts limit (rest ++ piece) bodies next left
+  pub added : now ≡ waiting ++ bodies
+  pub waited_is : waited ≡ waiting
+  pub front_is : front ≡ rest
+
+-- what has come of the next frame, behind the whole ones
+abbrev behind : ℕ → List ℕ → List ℕ
+behind left bytes = drop (length bytes - left) bytes
+
+went_fed : (limit : ℕ) (waiting : List (List ℕ)) (start : Start) (rest piece : List ℕ) (before : Option Before) (now : List (List ℕ)) (next : Start) (left : ℕ) (waited : List (List ℕ)) (front : List ℕ) (tail : Tail)
+    → Went limit waiting start rest piece now next left waited front → tail ≡ tail_by next (behind left (rest ++ piece))
+    → gone_on limit now waited tail (tail_by start front) ≡ fed (held_at limit waiting start rest before) piece
+went_fed limit waiting start rest piece before now next left waited front tail w tail_is =
+    ap (λ (n : List (List ℕ)). gone_on limit n waited tail (tail_by start front)) w.added
+    ∙ ap (λ (n : List (List ℕ)). gone_on limit (waiting ++ w.bodies) n tail (tail_by start front)) w.waited_is
+    ∙ ap (λ (t : Tail). gone_on limit (waiting ++ w.bodies) waiting t (tail_by start front)) tail_is
+    ∙ ap (λ (l : List ℕ). gone_on limit (waiting ++ w.bodies) waiting (tail_by next (behind left (rest ++ piece))) (tail_by start l)) w.front_is
+    ∙ sym (fed_is limit waiting start rest piece before w.bodies (tail_by next (behind left (rest ++ piece))) w.whole w.parts.reads)
+
 -- a fault is answered
-pub feeds_fault : (T : Type 0) (old : Unframed) (piece : List ℕ) (new : Unframed) (fault : FrameError) → new ≡ fed old piece → fault_of new.tail ≡ Some fault → (fault ≡ NoMemory → new ≡ old) → Feeds {T = T} old piece (Err fault) new
+feeds_fault : (T : Type 0) (old : Unframed) (piece : List ℕ) (new : Unframed) (fault : FrameError) → new ≡ fed old piece → fault_of new.tail ≡ Some fault → (fault ≡ NoMemory → new ≡ old) → Feeds {T = T} old piece (Err fault) new
 feeds_fault T old piece new Header e f m = (e, f)
 feeds_fault T old piece new NoLength e f m = (e, f)
 feeds_fault T old piece new TwoLengths e f m = (e, f)
@@ -86,29 +117,60 @@ feeds_fault T old piece new TooLong e f m = (e, f)
 feeds_fault T old piece new HeaderTooLong e f m = (e, f)
 feeds_fault T old piece new NoMemory e f m = m refl
 
--- a piece that brings a fault
+-- a piece that brings a fault: what has come behind it does not matter
 broken_tail : (next : Start) (fault : FrameError) (a b : List ℕ) → next ≡ Breaks fault → tail_by next a ≡ tail_by next b
 broken_tail next fault a b e = ap (λ s. tail_by s a) e ∙ sym (ap (λ s. tail_by s b) e)
 
-fault_comes : (T : Type 0) (limit : ℕ) (waiting new_waiting : List (List ℕ)) (start : Start) (rest piece bytes kept : List ℕ) (bodies : List (List ℕ)) (next : Start) (left : ℕ) (fault : FrameError)
-    → is_broken start ≡ false → bytes ≡ rest ++ piece → Parts limit bytes bodies next left → new_waiting ≡ waiting ++ bodies → next ≡ Breaks fault
-    → Feeds {T = T} (record { limit = limit; waiting = waiting; tail = tail_by start rest }) piece (Err fault) (record { limit = limit; waiting = new_waiting; tail = tail_by next kept })
-fault_comes T limit waiting new_waiting start rest piece bytes kept bodies next left fault whole bytes_are p added breaks =
-    let old : Unframed = record { limit = limit; waiting = waiting; tail = tail_by start rest } in
-    let new : Unframed = record { limit = limit; waiting = new_waiting; tail = tail_by next kept } in
-    let reads : reading_of limit (rest ++ piece) ≡ record { bodies = bodies; tail = tail_by next (drop (length bytes - left) bytes) } = ap (reading_of limit) (sym bytes_are) ∙ p.reads in
-    let feeds = fed_is limit waiting start rest piece bodies (tail_by next (drop (length bytes - left) bytes)) whole reads in
+pub fault_came : (T : Type 0) (old : Unframed) (limit : ℕ) (waiting : List (List ℕ)) (start : Start) (rest piece : List ℕ) (before : Option Before) (now : List (List ℕ)) (next : Start) (left : ℕ) (waited : List (List ℕ)) (front kept : List ℕ) (fault : FrameError)
+    → held_at limit waiting start rest before ≡ old → Went limit waiting start rest piece now next left waited front → next ≡ Breaks fault
+    → Feeds {T = T} old piece (Err fault) (gone_on limit now waited (tail_by next kept) (tail_by start front))
+fault_came T old limit waiting start rest piece before now next left waited front kept fault was w breaks =
+    let new : Unframed = gone_on limit now waited (tail_by next kept) (tail_by start front) in
     let e : new ≡ fed old piece =
-    ap (λ (w : List (List ℕ)). let k : Unframed = record { limit = limit; waiting = w; tail = tail_by next kept } in k) added
-    ∙ ap (λ (t : Tail). let k : Unframed = record { limit = limit; waiting = waiting ++ bodies; tail = t } in k) (broken_tail next fault kept (drop (length bytes - left) bytes) breaks)
-    ∙ sym feeds in
+    went_fed limit waiting start rest piece before now next left waited front (tail_by next kept) w (broken_tail next fault kept (behind left (rest ++ piece)) breaks) ∙ ap (λ (o : Unframed). fed o piece) was in
     let f : fault_of (tail_by next kept) ≡ Some fault = ap (λ s. fault_of (tail_by s kept)) breaks in
-    feeds_fault T old piece new fault e f (λ m. absurd (no_memory_fault limit (drop (length bytes - left) bytes) (sym p.starts ∙ breaks ∙ ap (λ x. Breaks x) m)))
+    feeds_fault T old piece new fault e f (λ m. absurd (no_memory_fault limit (behind left (rest ++ piece)) (sym w.parts.starts ∙ breaks ∙ ap (λ x. Breaks x) m)))
 
-pub fault_came : (T : Type 0) (old : Unframed) (limit : ℕ) (waiting new_waiting : List (List ℕ)) (start : Start) (rest piece bytes kept : List ℕ) (bodies : List (List ℕ)) (next : Start) (left : ℕ) (fault : FrameError)
-    → record { limit = limit; waiting = waiting; tail = tail_by start rest } ≡ old
-    → is_broken start ≡ false → bytes ≡ rest ++ piece → Parts limit bytes bodies next left → new_waiting ≡ waiting ++ bodies → next ≡ Breaks fault
-    → Feeds {T = T} old piece (Err fault) (record { limit = limit; waiting = new_waiting; tail = tail_by next kept })
-fault_came T old limit waiting new_waiting start rest piece bytes kept bodies next left fault was whole bytes_are p added breaks =
-    subst (λ (o : Unframed). Feeds {T = T} o piece (Err fault) (record { limit = limit; waiting = new_waiting; tail = tail_by next kept })) was
-    (fault_comes T limit waiting new_waiting start rest piece bytes kept bodies next left fault whole bytes_are p added breaks)
+-- a piece that brings none
+no_fault_by : (next : Start) (rest : List ℕ) → is_broken next ≡ false → fault_of (tail_by next rest) ≡ None
+no_fault_by Waits rest h = refl
+no_fault_by (Begins size n) rest h = refl
+no_fault_by (Breaks fault) rest h = absurd (not_false h) where
+  not_false : true ≡ false → ⊥
+  not_false e = cc
+
+pub piece_came : (T : Type 0) (x : T) (old : Unframed) (limit : ℕ) (waiting : List (List ℕ)) (start : Start) (rest piece : List ℕ) (before : Option Before) (now : List (List ℕ)) (next : Start) (left : ℕ) (waited : List (List ℕ)) (front kept : List ℕ)
+    → held_at limit waiting start rest before ≡ old → Went limit waiting start rest piece now next left waited front → is_broken next ≡ false → kept ≡ behind left (rest ++ piece)
+    → Feeds {T = T} old piece (Ok x) (gone_on limit now waited (tail_by next kept) (tail_by start front))
+piece_came T x old limit waiting start rest piece before now next left waited front kept was w some kept_is =
+    (went_fed limit waiting start rest piece before now next left waited front (tail_by next kept) w (ap (tail_by next) kept_is) ∙ ap (λ (o : Unframed). fed o piece) was, no_fault_by next kept some)
+
+-- a piece behind a fault
+fed_broken : (limit : ℕ) (waiting : List (List ℕ)) (rest piece : List ℕ) (before : Option Before) (fault : FrameError) → fed (held_at limit waiting (Breaks fault) rest before) piece ≡ gone_on limit waiting waiting (Faulty fault) (Faulty fault)
+fed_broken limit waiting rest piece before fault = ap (λ (n : List (List ℕ)). gone_on limit n waiting (Faulty fault) (Faulty fault)) (append-nil waiting)
+
+pub fault_stays : (old : Unframed) (limit : ℕ) (waiting : List (List ℕ)) (start : Start) (rest : List ℕ) (before : Option Before) (now waited : List (List ℕ)) (kept front piece : List ℕ)
+    → held_at limit waiting start rest before ≡ old → is_broken start ≡ true → now ≡ waiting → waited ≡ waiting
+    → gone_on limit now waited (tail_by start kept) (tail_by start front) ≡ fed old piece
+fault_stays old limit waiting (Breaks fault) rest before now waited kept front piece was broken now_is waited_is =
+    ap (λ (n : List (List ℕ)). gone_on limit n waited (Faulty fault) (Faulty fault)) now_is
+    ∙ ap (λ (n : List (List ℕ)). gone_on limit waiting n (Faulty fault) (Faulty fault)) waited_is
+    ∙ sym (fed_broken limit waiting rest piece before fault)
+    ∙ ap (λ (o : Unframed). fed o piece) was
+fault_stays old limit waiting Waits rest before now waited kept front piece was broken now_is waited_is = absurd (not_true broken) where
+  not_true : false ≡ true → ⊥
+  not_true e = cc
+fault_stays old limit waiting (Begins size n) rest before now waited kept front piece was broken now_is waited_is = absurd (not_true broken) where
+  not_true : false ≡ true → ⊥
+  not_true e = cc
+
+pub fault_stayed : (T : Type 0) (old : Unframed) (limit : ℕ) (waiting : List (List ℕ)) (start : Start) (rest piece : List ℕ) (before : Option Before) (new : Unframed) (fault : FrameError)
+    → held_at limit waiting start rest before ≡ old → start ≡ Breaks fault → (start ≡ Breaks NoMemory → ⊥) → new ≡ fed old piece → Feeds {T = T} old piece (Err fault) new
+fault_stayed T old limit waiting start rest piece before new fault was breaks other e =
+    let held : fed (held_at limit waiting (Breaks fault) rest before) piece ≡ fed old piece = ap (λ (s : Start). fed (held_at limit waiting s rest before) piece) (sym breaks) ∙ ap (λ (o : Unframed). fed o piece) was in
+    feeds_fault T old piece new fault e (ap (λ (k : Unframed). fault_of k.tail) (e ∙ sym held)) (λ m. absurd (other (breaks ∙ ap (λ x. Breaks x) m)))
+
+pub broken_by : (start : Start) (rest : List ℕ) → IsSome (fault_of (tail_by start rest)) → is_broken start ≡ true
+broken_by Waits rest h = h
+broken_by (Breaks fault) rest h = h
+broken_by (Begins size n) rest h = h

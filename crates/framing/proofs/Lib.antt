@@ -3,6 +3,7 @@ pub mod Digits
 pub mod Ends
 pub mod Readings
 pub mod Feeding
+pub mod Holding
 pub mod Cutting
 pub mod Values
 pub mod Fields

@@ -2,7 +2,7 @@
 use Rattle.std.specs.Prelude.{◌≡◌, ℕ, ◌^◌, ◌<◌, ◌≤◌, List, ◌++◌, length}
 use Rattle.framing.specs.Frames.{Frame, Framed, Fault, minimal_frame}
 use Rattle.framing.specs.Reading.{Reading, reading_of, with_body, with_bodies}
-use Rattle.framing.specs.Streams.{Reads, Unframed, Stream, StandsFor, reading_after}
+use Rattle.framing.specs.Streams.{Reads, Unframed, Stream, StandsFor, reading_after, fed, lent_times, retracted}
 use Rattle.framing.specs.declared.error.FrameError.{FrameError}
 
 -- The reading of a stream is its bodies, its rest and its fault by the statements.
@@ -33,3 +33,12 @@ FramesAreRead = (limit : ℕ) (body more : List ℕ) → limit < 2 ^ 32 → leng
 -- and the tail is its tail.
 abbrev pub BodiesAreRight : Type 0
 BodiesAreRight = (kept : Unframed) (s : Stream) → StandsFor kept s → Reads kept.limit s.fed (record { bodies = s.lent ++ kept.waiting; tail = kept.tail })
+
+-- Whatever a piece brought, and however many bodies were lent since: what is left after it was taken back stands for
+-- all that was fed before it, with the bodies that were lent before it.
+abbrev pub RetractGoesBack : Type 0
+RetractGoesBack = (kept : Unframed) (s : Stream) (piece : List ℕ) (loans : ℕ) → StandsFor kept s → StandsFor (retracted (lent_times loans (fed kept piece))) s
+
+-- No piece is taken back behind one that was, however many bodies were lent since.
+abbrev pub RetractsOnce : Type 0
+RetractsOnce = (kept : Unframed) (loans : ℕ) → retracted (lent_times loans (retracted kept)) ≡ lent_times loans (retracted kept)

@@ -4,8 +4,11 @@ use Rattle.std.specs.declared.vec.Vec.{Vec}
 use Rattle.std.specs.declared.alloc.Global.{Global}
 use Rattle.framing.specs.Reading.{Tail, start_of, reading_of}
 use Rattle.framing.specs.Reading.Tail.{Partial, Faulty}
+use Rattle.framing.specs.Streams.{Before}
+use Rattle.framing.specs.declared.error.FrameError.TheVariants.{NoMemory}
 use Rattle.framing.specs.declared.start.Start.{Start}
 use Rattle.framing.specs.declared.start.Start.TheVariants.{Waits, Breaks, Begins}
+use Rattle.framing.specs.declared.state.Mark.{Mark}
 
 -- the bodies that a list of vectors holds
 abbrev pub bodies_of : List (Vec ℕ Global) → List (List ℕ)
@@ -28,6 +31,28 @@ abbrev pub is_broken : Start → Bool
 is_broken Waits = false
 is_broken (Breaks fault) = true
 is_broken (Begins size n) = false
+
+-- what a mark goes back to: bodies at the front of those that are held, and part of a frame at the front of the bytes
+abbrev pub before_by : List (List ℕ) → List ℕ → Option Mark → Option Before
+before_by bodies bytes None = None
+before_by bodies bytes (Some m) = Some (record { waiting = take m.waiting bodies; tail = tail_by m.start (take m.size bytes) })
+
+-- A frame of which these bytes have come starts so, if there is one. Want of memory is no fault of a stream.
+pub record Starts (limit : ℕ) (start : Start) (rest : List ℕ) : Type 0 where
+  pub so : is_broken start ≡ false → start ≡ start_of limit rest
+  pub no_other : start ≡ Breaks NoMemory → ⊥
+
+abbrev pub MarkStarts : ℕ → List ℕ → Option Mark → Type 0
+MarkStarts limit bytes None = Unit {0}
+MarkStarts limit bytes (Some m) = Starts limit m.start (take m.size bytes)
+
+-- What is held fits together: bodies of which some were lent, bytes of which some are in whole frames, how the frame
+-- behind those starts, and how the one at the mark did.
+pub record Fits (limit : ℕ) (bodies : List (List ℕ)) (lent : ℕ) (bytes : List ℕ) (done : ℕ) (start : Start) (mark : Option Mark) : Type 0 where
+  pub lent_within : lent ≤ length bodies
+  pub done_within : done ≤ length bytes
+  pub starts : Starts limit start (drop done bytes)
+  pub mark_starts : MarkStarts limit bytes mark
 
 -- Bytes are parted into the bodies of whole frames and what is left of the next frame, which starts so.
 pub record Parts (limit : ℕ) (bytes : List ℕ) (bodies : List (List ℕ)) (start : Start) (left : ℕ) : Type 0 where

@@ -8,6 +8,8 @@ ghost use Rattle.framing.specs.Laws.{
   FramesAreRead,
   ReadingIsOnly,
   ReadingIsRight,
+  RetractGoesBack,
+  RetractsOnce,
 };
 
 /// The reading of a stream is its bodies, its rest and its fault.
@@ -43,4 +45,15 @@ pub fn cuts_do_not_matter()
 /// What `frame` writes is read as the body, whatever follows.
 pub fn frames_are_read()
     ensures { FramesAreRead }
+{}
+
+/// What `retract` leaves stands for all that was fed before the last piece, with the bodies that were
+/// lent before it, however many were lent since.
+pub fn retract_goes_back()
+    ensures { RetractGoesBack }
+{}
+
+/// Behind a piece that was taken back none is, however many bodies were lent since.
+pub fn retracts_once()
+    ensures { RetractsOnce }
 {}

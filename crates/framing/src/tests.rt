@@ -161,19 +161,24 @@ fn numbered(alloc: Global, count: u32) -> Result<Vec<u8>, AllocError> {
     Ok(stream)
 }
 
+/// Whether the numbered bodies wait, and no others.
+fn lends_numbered(alloc: Global, unframer: &mut Unframer, count: u32) -> Result<bool, Fail> {
+    for i in 0..count {
+        let body = i.to_string(alloc)?;
+        if !lends(unframer, body.as_bytes()) {
+            return Ok(false);
+        }
+    }
+    Ok(unframer.next_body().is_none())
+}
+
 /// Whether a stream in pieces of a size has the numbered bodies, and no others.
 fn reads_numbered(alloc: Global, stream: &[u8], size: usize, count: u32) -> Result<bool, Fail> {
     let mut unframer = Unframer::new(alloc, LIMIT);
     for piece in stream.chunks(size.max(1)) {
         unframer.feed(piece)?;
     }
-    for i in 0..count {
-        let body = i.to_string(alloc)?;
-        if !lends(&mut unframer, body.as_bytes()) {
-            return Ok(false);
-        }
-    }
-    Ok(unframer.next_body().is_none())
+    lends_numbered(alloc, &mut unframer, count)
 }
 
 #[test]
@@ -183,6 +188,144 @@ fn ten_thousand_frames_are_read_in_order_however_cut(rt: HostRuntime) -> Result<
     assert!(rt; reads_numbered(rt.alloc(), &stream, 7, 10_000)?);
     assert!(rt; reads_numbered(rt.alloc(), &stream, 4_096, 10_000)?);
     Ok(())
+}
+
+#[test]
+fn ten_thousand_frames_that_were_taken_back_are_read_again(rt: HostRuntime) -> Result<(), Fail> {
+    let stream = numbered(rt.alloc(), 10_000)?;
+    let mut unframer = Unframer::new(rt.alloc(), LIMIT);
+    unframer.feed(&stream)?;
+    assert!(rt; lends_numbered(rt.alloc(), &mut unframer, 10_000)?);
+    unframer.retract();
+    for piece in stream.chunks(7) {
+        unframer.feed(piece)?;
+    }
+    assert!(rt; lends_numbered(rt.alloc(), &mut unframer, 10_000)?);
+    Ok(())
+}
+
+/// What is done to an unframer, and what has to come of it.
+#[derive(Clone, Copy)]
+enum Step {
+    /// The stream has no fault with this piece.
+    Fed(&'static [u8]),
+    /// The stream has a fault with this piece.
+    Faulty(&'static [u8], FrameError),
+    /// This body is lent.
+    Lent(&'static [u8]),
+    /// No body waits.
+    NoneWaits,
+    /// The last piece is taken back.
+    Retracted,
+}
+
+/// Whether a step goes as it has to.
+fn goes(unframer: &mut Unframer, step: Step) -> bool {
+    match step {
+        Step::Fed(piece) => unframer.feed(piece).is_ok(),
+        Step::Faulty(piece, fault) => unframer.feed(piece) == Err(fault),
+        Step::Lent(body) => lends(unframer, body),
+        Step::NoneWaits => unframer.next_body().is_none(),
+        Step::Retracted => {
+            unframer.retract();
+            true
+        }
+    }
+}
+
+/// The first step that does not go as it has to.
+fn wrong_step(alloc: Global, steps: &[Step]) -> Option<usize> {
+    let mut unframer = Unframer::new(alloc, LIMIT);
+    for (i, step) in steps.iter().enumerate() {
+        if !goes(&mut unframer, *step) {
+            return Some(i);
+        }
+    }
+    None
+}
+
+#[test]
+fn a_piece_that_was_taken_back_can_come_in_other_cuts(rt: HostRuntime) {
+    let steps = [
+        Step::Fed(b"Content-Length: 2\r\n\r\n{}Content-Le"),
+        Step::Fed(b"ngth: 3\r\n\r\n[1]Content-Length: 1\r\n\r\n"),
+        Step::Lent(b"{}"),
+        Step::Lent(b"[1]"),
+        Step::NoneWaits,
+        Step::Retracted,
+        Step::Fed(b"n"),
+        Step::Fed(b"gth: 3\r\n\r\n[1]Content-Length: 1\r\n\r"),
+        Step::Lent(b"{}"),
+        Step::Lent(b"[1]"),
+        Step::NoneWaits,
+        Step::Fed(b"\n7"),
+        Step::Lent(b"7"),
+        Step::NoneWaits,
+    ];
+    assert_eq!(rt; wrong_step(rt.alloc(), &steps), None);
+}
+
+#[test]
+fn a_fault_is_taken_back_with_its_piece(rt: HostRuntime) {
+    let steps = [
+        Step::Fed(b"Content-Length: 2\r\n\r\n{}Content-Le"),
+        Step::Faulty(
+            b"ngth: 3\r\n\r\n[1]Content-Length: x\r\n\r\n",
+            FrameError::BadLength,
+        ),
+        Step::Lent(b"{}"),
+        Step::Lent(b"[1]"),
+        Step::NoneWaits,
+        Step::Retracted,
+        Step::Lent(b"{}"),
+        Step::NoneWaits,
+        Step::Fed(b"ngth: 1\r\n\r\n7"),
+        Step::Lent(b"7"),
+        Step::NoneWaits,
+    ];
+    assert_eq!(rt; wrong_step(rt.alloc(), &steps), None);
+}
+
+#[test]
+fn one_piece_alone_is_taken_back(rt: HostRuntime) {
+    let steps = [
+        Step::Retracted,
+        Step::NoneWaits,
+        Step::Fed(b"Content-Length: 2\r\n\r\n{}"),
+        Step::Fed(b"Content-Length: 3\r\n\r\n[1]"),
+        Step::Retracted,
+        Step::Retracted,
+        Step::Lent(b"{}"),
+        Step::NoneWaits,
+        Step::Retracted,
+        Step::NoneWaits,
+        Step::Fed(b"Content-Length: 1\r\n\r\n7"),
+        Step::Lent(b"7"),
+        Step::Retracted,
+        Step::NoneWaits,
+    ];
+    assert_eq!(rt; wrong_step(rt.alloc(), &steps), None);
+}
+
+#[test]
+fn a_fault_of_before_stays_where_a_piece_is_taken_back(rt: HostRuntime) {
+    let steps = [
+        Step::Faulty(
+            b"Content-Length: 2\r\n\r\n{}X: 1\r\n\r\n",
+            FrameError::NoLength,
+        ),
+        Step::Faulty(b"Content-Length: 1\r\n\r\n7", FrameError::NoLength),
+        Step::Lent(b"{}"),
+        Step::NoneWaits,
+        Step::Retracted,
+        Step::Retracted,
+        Step::Lent(b"{}"),
+        Step::NoneWaits,
+        Step::Faulty(b"", FrameError::NoLength),
+        Step::Retracted,
+        Step::Faulty(b"", FrameError::NoLength),
+    ];
+    assert_eq!(rt; wrong_step(rt.alloc(), &steps), None);
 }
 
 /// Feeds a piece, and again where no memory was left.
@@ -214,6 +357,20 @@ fn refused_feed(rt: HostRuntime) {
     assert!(rt; lends(&mut unframer, b"{}"));
     assert!(rt; lends(&mut unframer, b"[1]"));
     assert!(rt; lends(&mut unframer, b"7"));
+    assert!(rt; unframer.next_body().is_none());
+}
+
+#[test]
+fn refused_retract(rt: HostRuntime) {
+    let mut unframer = Unframer::new(rt.alloc(), LIMIT);
+    assert_eq!(rt;
+        feed_again(&mut unframer, b"Content-Length: 2\r\n\r\n{}"),
+        Ok(())
+    );
+    let is_fed = unframer.feed(b"Content-Length: 3\r\n\r\n[1]").is_ok();
+    unframer.retract();
+    // Without memory the second piece was not taken, and the first was taken back.
+    assert_eq!(rt; lends(&mut unframer, b"{}"), is_fed);
     assert!(rt; unframer.next_body().is_none());
 }
 

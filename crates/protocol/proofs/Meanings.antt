@@ -1,5 +1,5 @@
 -- What holds of each meaning of a body.
-use Rattle.std.proofs.Common.{◌≡◌, ◌≢◌, ◌≤◌, ◌⊎◌, inl, inr, ℕ, Bool, true, false, cond, leb, List, [], ◌∷◌, Option, Some, None, Result, Ok, Err, refl, ap, ◌∙◌, ⊎_elim, arith}
+use Rattle.std.proofs.Common.{◌≡◌, ◌≤◌, ◌⊎◌, inl, inr, ℕ, Bool, true, false, cond, leb, List, [], ◌∷◌, Option, Some, None, Result, Ok, Err, refl, ap, ◌∙◌, ⊎_elim, arith}
 use Rattle.std.proofs.lemmas.Bool.Decides.{nat_tests}
 use Rattle.std.specs.Prelude.{ok_or, bytes_eq, option_and_then, ◌||◌}
 use Rattle.serde_json.specs.Data.{Data, object, Members, put}
@@ -12,18 +12,22 @@ use Rattle.protocol.specs.Reading.{◌>>=◌, received, request_of, typed_messag
 use Rattle.protocol.specs.Laws.{IsOfType, IgnoresWhatIsNoRequest, PassesOverUnknownMembers}
 use Rattle.protocol.specs.declared.command.Command.{Command}
 use Rattle.protocol.specs.declared.refusal.Refusal.{Refusal}
-use Rattle.protocol.specs.declared.refusal.Refusal.TheVariants.{UnknownCommand, BadArguments, WrongPhase}
+use Rattle.protocol.specs.declared.refusal.Refusal.TheVariants.{UnknownCommand, BadArguments}
 use Rattle.protocol.specs.declared.request.Incoming.{Incoming}
 use Rattle.protocol.specs.declared.request.Incoming.TheVariants.{Request, Bad, Ignored}
 use Rattle.protocol.specs.declared.request.MessageError.{MessageError}
 use Rattle.protocol.specs.declared.request.MessageError.TheVariants.{NotJson, NotAMessage, BadSeq, NoMemory}
 use Rattle.protocol.specs.declared.members.TheConstants.{SEQ, TYPE, COMMAND, ARGUMENTS, REQUEST, RESPONSE, EVENT}
 
+-- a refusal of a name or of arguments
+abbrev pub IsOfNameOrArguments : Refusal → Type 0
+IsOfNameOrArguments refusal = (refusal ≡ UnknownCommand) ⊎ (refusal ≡ BadArguments)
+
 -- what holds of a meaning: its number is within bounds, a refusal is of its name or arguments, and
 -- it is not that memory ran out
 abbrev pub IsSound : Result Incoming MessageError → Type 0
 IsSound (Ok (Request request)) = request.seq ≤ 2147483647
-IsSound (Ok (Bad seq name refusal)) = (seq ≤ 2147483647) × (refusal ≢ WrongPhase)
+IsSound (Ok (Bad seq name refusal)) = (seq ≤ 2147483647) × IsOfNameOrArguments refusal
 IsSound (Ok Ignored) = Unit {0}
 IsSound (Err NoMemory) = ⊥
 IsSound (Err NotJson) = Unit {0}
@@ -42,29 +46,31 @@ sound_if : (b : Bool) (x y : Result Incoming MessageError) → IsSound x → IsS
 sound_if true x y p q = p
 sound_if false x y p q = q
 
--- the refusals of a name and its arguments
-arguments-not_phase : {A : Type 0} (found : Option A) → ok_or found BadArguments ≡ Err WrongPhase
-    → ⊥
-arguments-not_phase None e = cc
-arguments-not_phase (Some value) e = cc
+-- a command, or a refusal of its name or its arguments
+abbrev IsRefusedRightly : Result Command Refusal → Type 0
+IsRefusedRightly (Ok command) = Unit {0}
+IsRefusedRightly (Err refusal) = IsOfNameOrArguments refusal
 
-if-not_phase : (b : Bool) (found : Option Command) (rest : Result Command Refusal)
-    → (rest ≡ Err WrongPhase → ⊥)
-    → cond b (ok_or found BadArguments) rest ≡ Err WrongPhase → ⊥
-if-not_phase true found rest h e = arguments-not_phase found e
-if-not_phase false found rest h e = h e
+arguments-right : (found : Option Command) → IsRefusedRightly (ok_or found BadArguments)
+arguments-right None = inr refl
+arguments-right (Some command) = tt
 
-command_among-not_phase : (rows : List Row) (name : List ℕ) (members : Option Members)
-    → command_among rows name members ≡ Err WrongPhase → ⊥
-command_among-not_phase [] name members e = cc
-command_among-not_phase (r ∷ rs) name members e =
-    if-not_phase (bytes_eq name r.name) (option_and_then r.meaning members) _
-    (command_among-not_phase rs name members) e
+if-right : (b : Bool) (x y : Result Command Refusal) → IsRefusedRightly x → IsRefusedRightly y
+    → IsRefusedRightly (cond b x y)
+if-right true x y p q = p
+if-right false x y p q = q
+
+command_among-right : (rows : List Row) (name : List ℕ) (members : Option Members)
+    → IsRefusedRightly (command_among rows name members)
+command_among-right [] name members = inl refl
+command_among-right (r ∷ rs) name members =
+    if-right (bytes_eq name r.name) _ _ (arguments-right (option_and_then r.meaning members))
+    (command_among-right rs name members)
 
 received-sound : (seq : ℕ) (name : List ℕ) (found : Result Command Refusal) → seq ≤ 2147483647
-    → (found ≡ Err WrongPhase → ⊥) → IsSound (Ok (received seq name found))
-received-sound seq name (Ok command) within h = within
-received-sound seq name (Err refusal) within h = (within, λ e. h (ap (λ r. Err r) e))
+    → IsRefusedRightly found → IsSound (Ok (received seq name found))
+received-sound seq name (Ok command) within right = within
+received-sound seq name (Err refusal) within right = (within, right)
 
 -- the numbers that a message may have
 within_at : (b : Bool) (n m : ℕ) → leb n 2147483647 ≡ b → cond b (Some n) None ≡ Some m
@@ -87,7 +93,7 @@ request_of-sound members =
     sound_next (text (property COMMAND.now members)) NotAMessage _ tt (λ name _.
     sound_next (sequence_number (property SEQ.now members)) BadSeq _ tt (λ seq is.
     received-sound seq name _ (sequence_number-within (property SEQ.now members) seq is)
-    (command_among-not_phase requests name (arguments_members (property ARGUMENTS.now members)))))
+    (command_among-right requests name (arguments_members (property ARGUMENTS.now members)))))
 
 typed_message_of-sound : (kind : List ℕ) (members : Members)
     → IsSound (typed_message_of kind members)
@@ -140,10 +146,3 @@ unfolding incoming_of
 incoming_of-ignored body ms is_object is_typed =
     let next = λ (value : Data). ok_or (as_object value) NotAMessage >>= message_of in
     next_is (json_of body) (object ms) NotJson next is_object ∙ message_of-ignored ms is_typed
-
--- a refusal that is not for the phase
-pub named : (refusal : Refusal) → refusal ≢ WrongPhase
-    → (refusal ≡ UnknownCommand) ⊎ (refusal ≡ BadArguments)
-named UnknownCommand other = inl refl
-named BadArguments other = inr refl
-named WrongPhase other = absurd (other refl)

@@ -7,15 +7,17 @@ use Rattle.serde_json.specs.Data.{Members}
 use Rattle.protocol.specs.Properties.{arguments_members}
 use Rattle.protocol.specs.Initialize.{initialize_arguments}
 use Rattle.protocol.specs.Threads.{threads_arguments}
+use Rattle.protocol.specs.Cancel.{cancel_arguments}
 use Rattle.protocol.specs.Disconnect.{disconnect_arguments}
 use Rattle.protocol.specs.Commands.{Row, row, requests, command_among, name_of}
 use Rattle.protocol.specs.Laws.{KnowsRequestsByName, KeepsTheName}
 use Rattle.protocol.specs.declared.command.Command.{Command}
-use Rattle.protocol.specs.declared.command.Command.TheVariants.{Initialize, Threads, Disconnect}
+use Rattle.protocol.specs.declared.command.Command.TheVariants.{Initialize, Threads, Cancel, Disconnect}
 use Rattle.protocol.specs.declared.refusal.Refusal.{Refusal}
 use Rattle.protocol.specs.declared.refusal.Refusal.TheVariants.{UnknownCommand, BadArguments}
 use Rattle.protocol.specs.declared.initialize.TheConstants.{NAME as INITIALIZE}
 use Rattle.protocol.specs.declared.threads.TheConstants.{NAME as THREADS}
+use Rattle.protocol.specs.declared.cancel.TheConstants.{NAME as CANCEL}
 use Rattle.protocol.specs.declared.disconnect.TheConstants.{NAME as DISCONNECT}
 
 -- a name that no row has is unknown, whatever the members of the arguments are
@@ -94,6 +96,7 @@ a and b = (a, b)
 requests_keep : AllByRecursion KeepsItsName requests
 requests_keep = row_keeps INITIALIZE.now initialize_arguments (λ a. Initialize a) (λ _. refl)
     and row_keeps THREADS.now threads_arguments (λ _. Threads) (λ _. refl)
+    and row_keeps CANCEL.now cancel_arguments (λ a. Cancel a) (λ _. refl)
     and row_keeps DISCONNECT.now disconnect_arguments (λ a. Disconnect a) (λ _. refl)
     and tt
 

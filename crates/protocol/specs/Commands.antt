@@ -3,19 +3,21 @@
 -- A request is known by its name (`Request.command`), and its arguments mean what that request says
 -- of them, in its own file. A name that is not in the table is an unknown command, whatever the
 -- arguments are. The arguments of a known one are bad where they are no object, or where a property
--- that is looked at has another type than the schema's.
+-- that is looked at has another type than the schema's or is a number out of range.
 use Rattle.std.specs.Prelude.{◌≡◌, ℕ, List, [], ◌∷◌, Option, Some, None, option_map, option_and_then, Result, Ok, Err, ok_or, bytes_eq, true, codes, refl, if◌then◌else◌}
 use Rattle.serde_json.specs.Data.{Data, array, no_items, Members}
 use Rattle.protocol.specs.Properties.{arguments_members}
 use Rattle.protocol.specs.Initialize.{initialize_arguments}
 use Rattle.protocol.specs.Threads.{threads_arguments}
+use Rattle.protocol.specs.Cancel.{cancel_arguments}
 use Rattle.protocol.specs.Disconnect.{disconnect_arguments}
 use Rattle.protocol.specs.declared.command.Command.{Command}
-use Rattle.protocol.specs.declared.command.Command.TheVariants.{Initialize, Threads, Disconnect}
+use Rattle.protocol.specs.declared.command.Command.TheVariants.{Initialize, Threads, Cancel, Disconnect}
 use Rattle.protocol.specs.declared.refusal.Refusal.{Refusal}
 use Rattle.protocol.specs.declared.refusal.Refusal.TheVariants.{UnknownCommand, BadArguments}
 use Rattle.protocol.specs.declared.initialize.TheConstants.{NAME as INITIALIZE}
 use Rattle.protocol.specs.declared.threads.TheConstants.{NAME as THREADS}
+use Rattle.protocol.specs.declared.cancel.TheConstants.{NAME as CANCEL}
 use Rattle.protocol.specs.declared.disconnect.TheConstants.{NAME as DISCONNECT}
 
 -- a request: its name, and what the members of its arguments mean, where they mean something
@@ -32,6 +34,7 @@ row name arguments make =
 abbrev pub requests : List Row
 requests = row INITIALIZE.now initialize_arguments (λ a. Initialize a)
     ∷ row THREADS.now threads_arguments (λ _. Threads)
+    ∷ row CANCEL.now cancel_arguments (λ a. Cancel a)
     ∷ row DISCONNECT.now disconnect_arguments (λ a. Disconnect a)
     ∷ []
 
@@ -51,6 +54,10 @@ initialize_has_defaults : command_of (codes "initialize") None
     ≡ Ok (Initialize (record { lines_start_at1 = true; columns_start_at1 = true }))
 initialize_has_defaults = refl
 
+cancel_may_name_no_request : command_of (codes "cancel") None
+    ≡ Ok (Cancel (record { request_id = None }))
+cancel_may_name_no_request = refl
+
 disconnect_leaves_it_open : command_of (codes "disconnect") None
     ≡ Ok (Disconnect (record { terminate_debuggee = None; suspend_debuggee = None }))
 disconnect_leaves_it_open = refl
@@ -68,4 +75,5 @@ unknown_with_a_list = refl
 abbrev pub name_of : Command → List ℕ
 name_of (Initialize arguments) = INITIALIZE.now
 name_of Threads = THREADS.now
+name_of (Cancel arguments) = CANCEL.now
 name_of (Disconnect arguments) = DISCONNECT.now

@@ -3,6 +3,7 @@ pub mod Json
 pub mod Properties
 pub mod Initialize
 pub mod Threads
+pub mod Cancel
 pub mod Disconnect
 pub mod Commands
 pub mod Reading

@@ -5,10 +5,11 @@
 -- both are no property. Members that the schema does not name are never looked at.
 --
 -- A property has the type that the schema gives it, or the message is not taken as it stands: 1 is
--- not true, and "true" is not true either.
-use Rattle.std.specs.Prelude.{◌≡◌, ℕ, List, Bool, Option, Some, None, codes, option_and_then, option_map, nat_le, refl, if◌then◌else◌}
-use Rattle.serde_json.specs.Data.{Data, null, number, string, unsigned, Members, no_members, member}
-use Rattle.serde_json.specs.Find.{get_member, as_bool, as_number, as_object, as_str, as_u64}
+-- not true, and "true" is not true either. Where the schema says integer, a whole number from
+-- -2,147,483,648 to 2,147,483,647 is taken, and no other. `1.0`, `1e2` and `-0` are floats.
+use Rattle.std.specs.Prelude.{◌≡◌, ℕ, List, Bool, Option, Some, None, codes, option_and_then, option_map, nat_le, ℤ, pos, neg_ℤ, int_le, ◌&&◌, Float, refl, if◌then◌else◌}
+use Rattle.serde_json.specs.Data.{Data, null, number, string, unsigned, negative, float, Members, no_members, member}
+use Rattle.serde_json.specs.Find.{get_member, as_bool, as_i64, as_number, as_object, as_str, as_u64}
 
 -- what follows from a value, where there is one
 infixl 10 ◌>>=◌
@@ -47,6 +48,46 @@ no_greater_number = refl
 
 a_text_is_no_number : sequence_number (Some (string (codes "1"))) ≡ None
 a_text_is_no_number = refl
+
+-- the whole number, where 32 bits hold it: -2,147,483,648 is the least, 2,147,483,647 the greatest
+abbrev pub within_i32 : ℤ → Option ℤ
+within_i32 z =
+    if int_le (neg_ℤ (pos 2147483648)) z && int_le z (pos 2147483647) then Some z else None
+
+-- a whole number from -2,147,483,648 to 2,147,483,647
+abbrev pub integer : Data → Option ℤ
+integer value = as_number value >>= as_i64 >>= within_i32
+
+-- such a number, where it is there; None where it is something else
+abbrev pub optional_integer : Option Data → Option (Option ℤ)
+optional_integer None = Some None
+optional_integer (Some value) = option_map (λ z. Some z) (integer value)
+
+no_integer_is_fine : optional_integer None ≡ Some None
+no_integer_is_fine = refl
+
+the_greatest_integer : optional_integer (Some (number (unsigned 2147483647)))
+    ≡ Some (Some (pos 2147483647))
+the_greatest_integer = refl
+
+no_greater_integer : optional_integer (Some (number (unsigned 2147483648))) ≡ None
+no_greater_integer = refl
+
+the_least_integer : optional_integer (Some (number (negative (neg_ℤ (pos 2147483648)))))
+    ≡ Some (Some (neg_ℤ (pos 2147483648)))
+the_least_integer = refl
+
+no_lesser_integer : optional_integer (Some (number (negative (neg_ℤ (pos 2147483649))))) ≡ None
+no_lesser_integer = refl
+
+no_integer_of_64_bits : optional_integer (Some (number (unsigned 18446744073709551615))) ≡ None
+no_integer_of_64_bits = refl
+
+a_float_is_no_integer : (x : Float) → optional_integer (Some (number (float x))) ≡ None
+a_float_is_no_integer x = refl
+
+a_text_is_no_integer : optional_integer (Some (string (codes "1"))) ≡ None
+a_text_is_no_integer = refl
 
 -- true or false, where it is there; None where it is something else
 abbrev pub optional_bool : Option Data → Option (Option Bool)

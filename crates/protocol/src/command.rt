@@ -3,10 +3,11 @@ ghost use Rattle.std.specs.Prelude.{◌≡◌, option_map, ok_or};
 ghost use Rattle.serde_json.specs.View.{view, members_view};
 ghost use Rattle.protocol.specs.Commands.{command_among, command_of, name_of, requests};
 
+use crate::cancel::CancelArguments;
 use crate::disconnect::DisconnectArguments;
 use crate::initialize::InitializeArguments;
 use crate::refusal::Refusal;
-use crate::{disconnect, initialize, threads};
+use crate::{cancel, disconnect, initialize, threads};
 use serde_json::{Map, Value};
 use std::alloc::Global;
 
@@ -17,6 +18,8 @@ pub enum Command {
     Initialize(InitializeArguments),
     /// Which threads there are (`ThreadsRequest`).
     Threads,
+    /// The cancellation of an earlier request (`CancelRequest`).
+    Cancel(CancelArguments),
     /// The end of the session (`DisconnectRequest`).
     Disconnect(DisconnectArguments),
 }
@@ -29,6 +32,7 @@ impl Command {
         match self {
             Command::Initialize(_) => initialize::NAME,
             Command::Threads => threads::NAME,
+            Command::Cancel(_) => cancel::NAME,
             Command::Disconnect(_) => disconnect::NAME,
         }
     }
@@ -36,7 +40,7 @@ impl Command {
 
 /// The command of that name with those arguments. `UnknownCommand` where the adapter has no request
 /// of that name, whatever the arguments are. Else `BadArguments` where these are no object, or a
-/// property in them has another type than the schema's.
+/// property in them has another type than the schema's or is a number out of range.
 pub(crate) fn command_named(
     alloc: Global,
     name: &str,
@@ -58,6 +62,7 @@ fn command_with(name: &str, members: Option<&Map<String, Value>>) -> Result<Comm
     match name {
         initialize::NAME => or_bad(initialize::arguments(members).map(Command::Initialize)),
         threads::NAME => or_bad(threads::arguments(members).map(|()| Command::Threads)),
+        cancel::NAME => or_bad(cancel::arguments(members).map(Command::Cancel)),
         disconnect::NAME => or_bad(disconnect::arguments(members).map(Command::Disconnect)),
         _ => Err(Refusal::UnknownCommand),
     }

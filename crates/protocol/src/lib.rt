@@ -1,9 +1,10 @@
 //! What an editor says: the requests of the Debug Adapter Protocol, read from the bodies of frames.
 //!
-//! A request has a module of its own (`initialize`, `threads`, `disconnect`), with its arguments
-//! and how they are read. `command` lists them.
+//! A request has a module of its own (`initialize`, `threads`, `cancel`, `disconnect`), with its
+//! arguments and how they are read. `command` lists them.
 #![tactic(auto)]
 
+pub mod cancel;
 pub mod command;
 pub mod disconnect;
 pub mod initialize;
@@ -18,6 +19,7 @@ mod tests;
 pub mod text;
 pub mod threads;
 
+pub use cancel::CancelArguments;
 pub use command::Command;
 pub use disconnect::DisconnectArguments;
 pub use initialize::InitializeArguments;

@@ -1,8 +1,8 @@
 //! Worked bodies, and what they mean.
 use crate::json::json_value;
 use crate::{
-    Command, DisconnectArguments, Incoming, InitializeArguments, MessageError, Refusal, Request,
-    Text, read_request,
+    CancelArguments, Command, DisconnectArguments, Incoming, InitializeArguments, MessageError,
+    Refusal, Request, Text, read_request,
 };
 use serde_json::Value;
 use std::test::Fail;
@@ -15,6 +15,7 @@ const FIRST: &str =
 enum Meaning {
     Initialize(u32, bool, bool),
     Threads(u32),
+    Cancel(u32, Option<i32>),
     Disconnect(u32, Option<bool>, Option<bool>),
     Bad(u32, &'static str, Refusal),
     Ignored,
@@ -54,6 +55,9 @@ fn is_request(request: &Request, meaning: Meaning) -> bool {
             }),
         ),
         Meaning::Threads(seq) => (seq, Command::Threads),
+        Meaning::Cancel(seq, request_id) => {
+            (seq, Command::Cancel(CancelArguments { request_id }))
+        }
         Meaning::Disconnect(seq, terminate_debuggee, suspend_debuggee) => (
             seq,
             Command::Disconnect(DisconnectArguments {
@@ -67,7 +71,7 @@ fn is_request(request: &Request, meaning: Meaning) -> bool {
 }
 
 #[test]
-fn reads_the_three_requests(rt: HostRuntime) {
+fn reads_initialize_threads_and_disconnect(rt: HostRuntime) {
     assert_eq!(rt; FIRST.len(), 83);
     let table = [
         (FIRST, Meaning::Initialize(1, true, true)),
@@ -116,6 +120,89 @@ fn reads_the_three_requests(rt: HostRuntime) {
     for (body, meaning) in table {
         assert!(rt;
             is(&read_request(rt.alloc(), body.as_bytes()), meaning),
+            "{body}"
+        );
+    }
+}
+
+#[test]
+fn reads_cancel(rt: HostRuntime) {
+    let table = [
+        (
+            r#"{"seq":9,"type":"request","command":"cancel","arguments":{"requestId":8}}"#,
+            Some(8),
+        ),
+        (r#"{"seq":9,"type":"request","command":"cancel"}"#, None),
+        (
+            r#"{"seq":9,"type":"request","command":"cancel","arguments":null}"#,
+            None,
+        ),
+        (
+            r#"{"seq":9,"type":"request","command":"cancel","arguments":{"requestId":null}}"#,
+            None,
+        ),
+        (
+            r#"{"seq":9,"type":"request","command":"cancel","arguments":{"progressId":"8"}}"#,
+            None,
+        ),
+        (
+            r#"{"seq":9,"type":"request","command":"cancel",
+"arguments":{"progressId":1.5,"requestId":0}}"#,
+            Some(0),
+        ),
+        (
+            r#"{"seq":9,"type":"request","command":"cancel","arguments":{"requestId":-1}}"#,
+            Some(-1),
+        ),
+        (
+            r#"{"seq":9,"type":"request","command":"cancel","arguments":{"requestId":2147483647}}"#,
+            Some(2_147_483_647),
+        ),
+        (
+            r#"{"seq":9,"type":"request","command":"cancel","arguments":{"requestId":-2147483648}}"#,
+            Some(-2_147_483_648),
+        ),
+    ];
+    for (body, request_id) in table {
+        assert!(rt;
+            is(
+                &read_request(rt.alloc(), body.as_bytes()),
+                Meaning::Cancel(9, request_id)
+            ),
+            "{body}"
+        );
+    }
+}
+
+#[test]
+fn refuses_cancel_of_what_is_no_number(rt: HostRuntime) {
+    for body in [
+        r#"{"seq":9,"type":"request","command":"cancel","arguments":[]}"#,
+        r#"{"seq":9,"type":"request","command":"cancel","arguments":[8]}"#,
+        r#"{"seq":9,"type":"request","command":"cancel","arguments":8}"#,
+        r#"{"seq":9,"type":"request","command":"cancel","arguments":{"requestId":"x"}}"#,
+        r#"{"seq":9,"type":"request","command":"cancel","arguments":{"requestId":"8"}}"#,
+        r#"{"seq":9,"type":"request","command":"cancel","arguments":{"requestId":true}}"#,
+        r#"{"seq":9,"type":"request","command":"cancel","arguments":{"requestId":[8]}}"#,
+        r#"{"seq":9,"type":"request","command":"cancel","arguments":{"requestId":{}}}"#,
+        r#"{"seq":9,"type":"request","command":"cancel","arguments":{"requestId":1.5}}"#,
+        r#"{"seq":9,"type":"request","command":"cancel","arguments":{"requestId":1.0}}"#,
+        r#"{"seq":9,"type":"request","command":"cancel","arguments":{"requestId":1e2}}"#,
+        r#"{"seq":9,"type":"request","command":"cancel","arguments":{"requestId":-0}}"#,
+        r#"{"seq":9,"type":"request","command":"cancel","arguments":{"requestId":2147483648}}"#,
+        r#"{"seq":9,"type":"request","command":"cancel","arguments":{"requestId":-2147483649}}"#,
+        r#"{"seq":9,"type":"request","command":"cancel",
+"arguments":{"requestId":9223372036854775808}}"#,
+        r#"{"seq":9,"type":"request","command":"cancel",
+"arguments":{"requestId":18446744073709551615}}"#,
+        r#"{"seq":9,"type":"request","command":"cancel",
+"arguments":{"requestId":18446744073709551616}}"#,
+    ] {
+        assert!(rt;
+            is(
+                &read_request(rt.alloc(), body.as_bytes()),
+                Meaning::Bad(9, "cancel", Refusal::BadArguments)
+            ),
             "{body}"
         );
     }
@@ -319,11 +406,16 @@ fn names_requests_and_refusals(rt: HostRuntime) -> Result<(), Fail> {
         suspend_debuggee: None,
     });
     assert_eq!(rt; disconnect.name(), "disconnect");
+    let cancel = Command::Cancel(CancelArguments { request_id: None });
+    assert_eq!(rt; cancel.name(), "cancel");
     assert_eq!(rt; Command::Threads.name(), "threads");
     for (refusal, id, name) in [
+        (Refusal::RepeatedSequence, 6, "repeatedSequence"),
+        (Refusal::Cancelled, 5, "cancelled"),
         (Refusal::UnknownCommand, 1, "unknownCommand"),
         (Refusal::BadArguments, 2, "badArguments"),
         (Refusal::WrongPhase, 3, "wrongPhase"),
+        (Refusal::RequestGone, 20, "requestGone"),
     ] {
         assert_eq!(rt; refusal.id(), id);
         assert_eq!(rt; refusal.name(), name);

@@ -1,5 +1,5 @@
 -- A value that is a message claims to be that one, and what a value claims to be is in order.
-use Rattle.std.proofs.Common.{◌≡◌, ℕ, ◌^◌, ◌<◌, ◌&&◌, List, Bool, true, false, cond, nat_lt, Option, Some, None, is_some, option_map, option_and_then, IfSome, codes, refl, ap, arith, lt-ltb, ltb-true}
+use Rattle.std.proofs.Common.{◌≡◌, ℕ, ◌^◌, ◌<◌, ◌&&◌, List, Bool, true, false, cond, nat_lt, Option, Some, None, is_some, option_map, option_and_then, IfSome, codes, refl, sym, ap, ◌∙◌, arith, lt-ltb, ltb-true}
 use Rattle.std.proofs.lemmas.Bool.{and_parts}
 use Rattle.std.proofs.lemmas.Slice.Eq.{bytes_eq-Decides}
 use Rattle.std.specs.List.{list_any}
@@ -7,7 +7,7 @@ use Rattle.std.specs.Str.{bytes_eq}
 use Rattle.serde_json.specs.Data.{Data, object}
 use Rattle.protocol.specs.Refusals.{id_of}
 use Rattle.protocol.specs.declared.refusal.Refusal.{Refusal}
-use Rattle.protocol.specs.declared.refusal.Refusal.TheVariants.{UnknownCommand, BadArguments, WrongPhase}
+use Rattle.protocol.specs.declared.refusal.Refusal.TheVariants.{RepeatedSequence, Cancelled, UnknownCommand, BadArguments, WrongPhase, RequestGone}
 use Rattle.replies.specs.declared.message.Message.{Message}
 use Rattle.replies.specs.declared.message.Message.TheVariants.{Response}
 use Rattle.replies.specs.declared.response.Outcome.{Outcome}
@@ -70,17 +70,27 @@ body_for-command command Threads h = rw h refl
 body_for-command command Empty h = rw h refl
 
 refusal_of-id : (refusal : Refusal) → refusal_of (id_of refusal) ≡ Some refusal
+refusal_of-id RepeatedSequence = refl
+refusal_of-id Cancelled = refl
 refusal_of-id UnknownCommand = refl
 refusal_of-id BadArguments = refl
 refusal_of-id WrongPhase = refl
+refusal_of-id RequestGone = refl
+
+has_text-none : (refusal : Refusal) → has_text refusal ≡ false
+has_text-none RepeatedSequence = refl
+has_text-none Cancelled = refl
+has_text-none UnknownCommand = refl
+has_text-none BadArguments = refl
+has_text-none WrongPhase = refl
+has_text-none RequestGone = refl
+
+none_at : (text : Option (List ℕ)) → is_some text ≡ false → text ≡ None
+none_at None h = refl
+none_at (Some t) h = cc
 
 no_text : (refusal : Refusal) (text : Option (List ℕ)) → is_some text ≡ has_text refusal → text ≡ None
-no_text UnknownCommand None h = refl
-no_text BadArguments None h = refl
-no_text WrongPhase None h = refl
-no_text UnknownCommand (Some t) h = cc
-no_text BadArguments (Some t) h = cc
-no_text WrongPhase (Some t) h = cc
+no_text refusal text h = none_at text (h ∙ has_text-none refusal)
 
 outcome_in-outcome_data : (seq request_seq : ℕ) (command : List ℕ) (outcome : Outcome) → IsOutcomeOf command outcome → outcome_in command (outcome_data seq request_seq command outcome) (succeeded outcome) ≡ Some outcome
 outcome_in-outcome_data seq request_seq command (Done body) h = ap (option_map Done) (body_for-command command body h)
@@ -128,18 +138,13 @@ IsBodyOf-body_for command =
     (if_keeps P (bytes_eq command (codes "initialize")) _ _ (bytes_eq-Decides command (codes "initialize")).0
     (if_keeps P (bytes_eq command (codes "threads")) _ _ (bytes_eq-Decides command (codes "threads")).0 tt))
 
-has_text-none : (refusal : Refusal) → false ≡ has_text refusal
-has_text-none UnknownCommand = refl
-has_text-none BadArguments = refl
-has_text-none WrongPhase = refl
-
 done : (command : List ℕ) (o : Option ResponseBody) → IfSome o (IsBodyOf command) → IfSome (option_map Done o) (IsOutcomeOf command)
 done command None h = tt
 done command (Some body) h = h
 
 refused : (command : List ℕ) (o : Option Refusal) → IfSome (option_map (λ refusal. Refused refusal None) o) (IsOutcomeOf command)
 refused command None = tt
-refused command (Some refusal) = has_text-none refusal
+refused command (Some refusal) = sym (has_text-none refusal)
 
 IsOutcomeOf-outcome_in : (command : List ℕ) (value : Data) (success : Bool) → IfSome (outcome_in command value success) (IsOutcomeOf command)
 IsOutcomeOf-outcome_in command value true = done command (body_for command) (IsBodyOf-body_for command)

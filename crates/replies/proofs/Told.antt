@@ -6,7 +6,7 @@ use Rattle.serde_json.specs.Data.{Num, unsigned, negative, float, Data, null, bo
 use Rattle.serde_json.specs.Read.{max_depth}
 use Rattle.serde_json.specs.Written.{has_float}
 use Rattle.protocol.specs.declared.refusal.Refusal.{Refusal}
-use Rattle.protocol.specs.declared.refusal.Refusal.TheVariants.{UnknownCommand, BadArguments, WrongPhase}
+use Rattle.protocol.specs.declared.refusal.Refusal.TheVariants.{RepeatedSequence, Cancelled, UnknownCommand, BadArguments, WrongPhase, RequestGone}
 use Rattle.protocol.specs.Refusals.{id_of, name_of}
 use Rattle.replies.specs.declared.message.Message.{Message}
 use Rattle.replies.specs.declared.message.Message.TheVariants.{Response}
@@ -141,14 +141,20 @@ plain_done seq request_seq command None good small request_small text = shared_p
 plain_done seq request_seq command (Some body) good small request_small text = (IsUtf8-are_ascii (codes "body") refl, good.plain, shared_plain seq request_seq command true small request_small text)
 
 text-name_of : (refusal : Refusal) → IsUtf8 (name_of refusal)
+text-name_of RepeatedSequence = IsUtf8-are_ascii _ refl
+text-name_of Cancelled = IsUtf8-are_ascii _ refl
 text-name_of UnknownCommand = IsUtf8-are_ascii _ refl
 text-name_of BadArguments = IsUtf8-are_ascii _ refl
 text-name_of WrongPhase = IsUtf8-are_ascii _ refl
+text-name_of RequestGone = IsUtf8-are_ascii _ refl
 
 small-id_of : (refusal : Refusal) → id_of refusal < 2 ^ 64
+small-id_of RepeatedSequence = omega arith
+small-id_of Cancelled = omega arith
 small-id_of UnknownCommand = omega arith
 small-id_of BadArguments = omega arith
 small-id_of WrongPhase = omega arith
+small-id_of RequestGone = omega arith
 
 text-format_of : (refusal : Refusal) (text : Option (List ℕ)) → IfSome text IsUtf8 → IsUtf8 (format_of refusal text)
 text-format_of refusal None h = text-name_of refusal

@@ -9,7 +9,7 @@ use Rattle.std.specs.Str.{bytes_eq}
 use Rattle.serde_json.specs.Data.{Data}
 use Rattle.serde_json.specs.Find.{get, as_bool, as_number, as_str, as_u64}
 use Rattle.protocol.specs.declared.refusal.Refusal.{Refusal}
-use Rattle.protocol.specs.declared.refusal.Refusal.TheVariants.{UnknownCommand, BadArguments, WrongPhase}
+use Rattle.protocol.specs.declared.refusal.Refusal.TheVariants.{RepeatedSequence, Cancelled, UnknownCommand, BadArguments, WrongPhase, RequestGone}
 use Rattle.replies.specs.declared.response.Response as response
 use Rattle.replies.specs.declared.response.Outcome.{Outcome}
 use Rattle.replies.specs.declared.response.Outcome.TheVariants.{Done, Refused}
@@ -55,7 +55,10 @@ abbrev pub refusal_of : ℕ → Option Refusal
 refusal_of id =
     if id == 1 then Some UnknownCommand
     else (if id == 2 then Some BadArguments
-    else (if id == 3 then Some WrongPhase else None))
+    else (if id == 3 then Some WrongPhase
+    else (if id == 5 then Some Cancelled
+    else (if id == 6 then Some RepeatedSequence
+    else (if id == 20 then Some RequestGone else None)))))
 
 -- the refusal
 abbrev pub refusal_in : Data → Option Refusal

@@ -11,7 +11,7 @@ use Rattle.std.specs.List.{list_any}
 use Rattle.std.specs.Str.{bytes_eq}
 use Rattle.serde_json.specs.Data.{Data, boolean, number, unsigned, string, object, Members, no_members, member, put}
 use Rattle.protocol.specs.declared.refusal.Refusal.{Refusal}
-use Rattle.protocol.specs.declared.refusal.Refusal.TheVariants.{UnknownCommand, BadArguments, WrongPhase}
+use Rattle.protocol.specs.declared.refusal.Refusal.TheVariants.{RepeatedSequence, Cancelled, UnknownCommand, BadArguments, WrongPhase, RequestGone}
 use Rattle.protocol.specs.Refusals.{id_of, name_of}
 use Rattle.replies.specs.declared.response.Response.{Response}
 use Rattle.replies.specs.declared.response.Outcome.{Outcome}
@@ -73,7 +73,7 @@ response_data seq response = outcome_data seq response.request_seq response.comm
 
 -- the requests whose success has no body
 abbrev pub without_body : List (List ℕ)
-without_body = codes "disconnect" ∷ []
+without_body = codes "cancel" ∷ codes "disconnect" ∷ []
 
 -- the body is that of a success of this command
 abbrev pub IsBodyOf : List ℕ → ResponseBody → Type 0
@@ -83,9 +83,12 @@ IsBodyOf command Empty = IsTrue (list_any (bytes_eq command) without_body)
 
 -- the refusal has a text of its own
 abbrev pub has_text : Refusal → Bool
+has_text RepeatedSequence = false
+has_text Cancelled = false
 has_text UnknownCommand = false
 has_text BadArguments = false
 has_text WrongPhase = false
+has_text RequestGone = false
 
 -- the body is of its command, and a refusal has a text exactly if it is of the kind that has
 abbrev pub IsOutcomeOf : List ℕ → Outcome → Type 0

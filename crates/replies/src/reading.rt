@@ -1,21 +1,24 @@
 //! Messages found in JSON values.
 ghost use Rattle.std.specs.Prelude.{◌≡◌, ◌≤◌, IfOk};
+ghost use Rattle.std.specs.List.{list_any};
+ghost use Rattle.std.specs.Str.{bytes_eq};
 ghost use Rattle.serde_json.specs.Data.{depth};
 ghost use Rattle.serde_json.specs.Read.{max_depth};
 ghost use Rattle.serde_json.specs.View.{view};
 ghost use Rattle.replies.specs.Claims.{number_at, seq_in, request_seq_in, body_for, refusal_of, refusal_in, outcome_in, response_in, claim_in};
 ghost use Rattle.replies.specs.Messages.{message_data};
 ghost use Rattle.replies.specs.Reading.{message_in};
+ghost use Rattle.replies.specs.Responses.{without_body};
 ghost use Rattle.replies.specs.Same.{is_same};
 
 use crate::members::{BODY, COMMAND, ERROR, ID, REQUEST_SEQ, SEQ, SUCCESS};
 use crate::{Message, Outcome, Response, ResponseBody, writing};
-use protocol::{Refusal, Text, disconnect, initialize, threads};
+use protocol::{Refusal, Text, cancel, disconnect, initialize, threads};
 use serde_json::Value;
 use std::alloc::{AllocError, Global};
 
 /// The requests whose success has no body.
-const WITHOUT_BODY: &[&str] = &[disconnect::NAME];
+const WITHOUT_BODY: &[&str] = &[cancel::NAME, disconnect::NAME];
 
 /// The whole number of this name.
 fn number_at(value: &Value, name: &str) -> Option<u64>
@@ -44,11 +47,18 @@ fn request_seq_in(value: &Value) -> Option<u32>
     if n < 1 << 32 { Some(n as u32) } else { None }
 }
 
+/// Whether a success of this command has no body.
+fn is_without_body(command: &str) -> bool
+    ensures { result ≡ list_any (bytes_eq command.now) without_body }
+{
+    WITHOUT_BODY.contains(&command)
+}
+
 /// The body of a success of this command.
 fn body_for(command: &str) -> Option<ResponseBody>
     ensures { result ≡ body_for command.now }
 {
-    if WITHOUT_BODY.contains(&command) {
+    if is_without_body(command) {
         Some(ResponseBody::Empty)
     } else if command == initialize::NAME {
         Some(ResponseBody::Initialize)
@@ -67,6 +77,9 @@ fn refusal_of(id: u64) -> Option<Refusal>
         1 => Some(Refusal::UnknownCommand),
         2 => Some(Refusal::BadArguments),
         3 => Some(Refusal::WrongPhase),
+        5 => Some(Refusal::Cancelled),
+        6 => Some(Refusal::RepeatedSequence),
+        20 => Some(Refusal::RequestGone),
         _ => None,
     }
 }

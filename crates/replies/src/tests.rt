@@ -2,7 +2,8 @@
 
 use crate::{Message, Outcome, Response, ResponseBody, read_message, write_message};
 use protocol::{
-    Command, DisconnectArguments, InitializeArguments, MessageError, Refusal, Request, Text,
+    CancelArguments, Command, DisconnectArguments, InitializeArguments, MessageError, Refusal,
+    Request, Text,
 };
 use std::alloc::Global;
 use std::process::Abort;
@@ -27,6 +28,10 @@ const DISCONNECT: &str = "\
     {\"command\":\"disconnect\",\"request_seq\":3,\"seq\":3,\"success\":true,\
     \"type\":\"response\"}";
 
+const CANCEL: &str = "\
+    {\"command\":\"cancel\",\"request_seq\":9,\"seq\":10,\"success\":true,\
+    \"type\":\"response\"}";
+
 const REFUSED: &str = "\
     {\"body\":{\"error\":{\"format\":\"wrongPhase\",\"id\":3}},\"command\":\"threads\",\
     \"message\":\"wrongPhase\",\"request_seq\":1,\"seq\":1,\"success\":false,\
@@ -47,6 +52,13 @@ fn threads(seq: u32) -> Request {
     Request {
         seq,
         command: Command::Threads,
+    }
+}
+
+fn cancel(seq: u32) -> Request {
+    Request {
+        seq,
+        command: Command::Cancel(CancelArguments { request_id: None }),
     }
 }
 
@@ -96,8 +108,54 @@ fn texts_of_the_answers(rt: HostRuntime) -> Result<(), Fail> {
         DISCONNECT,
     )?;
     assert_eq!(rt; DISCONNECT.len(), 81);
+    assert_is(&rt, alloc, 10, Response::ack(alloc, &cancel(9))?, CANCEL)?;
     let refused = Response::error(alloc, &threads(1), Refusal::WrongPhase)?;
     assert_is(&rt, alloc, 1, refused, REFUSED)?;
+    Ok(())
+}
+
+/// The texts of the refusals of one request.
+const REFUSALS: [(Refusal, &str); 6] = [
+    (
+        Refusal::RepeatedSequence,
+        r#"{"body":{"error":{"format":"repeatedSequence","id":6}},"command":"threads","message":"repeatedSequence","request_seq":5,"seq":3,"success":false,"type":"response"}"#,
+    ),
+    (
+        Refusal::Cancelled,
+        r#"{"body":{"error":{"format":"cancelled","id":5}},"command":"threads","message":"cancelled","request_seq":5,"seq":3,"success":false,"type":"response"}"#,
+    ),
+    (
+        Refusal::UnknownCommand,
+        r#"{"body":{"error":{"format":"unknownCommand","id":1}},"command":"threads","message":"unknownCommand","request_seq":5,"seq":3,"success":false,"type":"response"}"#,
+    ),
+    (
+        Refusal::BadArguments,
+        r#"{"body":{"error":{"format":"badArguments","id":2}},"command":"threads","message":"badArguments","request_seq":5,"seq":3,"success":false,"type":"response"}"#,
+    ),
+    (
+        Refusal::WrongPhase,
+        r#"{"body":{"error":{"format":"wrongPhase","id":3}},"command":"threads","message":"wrongPhase","request_seq":5,"seq":3,"success":false,"type":"response"}"#,
+    ),
+    (
+        Refusal::RequestGone,
+        r#"{"body":{"error":{"format":"requestGone","id":20}},"command":"threads","message":"requestGone","request_seq":5,"seq":3,"success":false,"type":"response"}"#,
+    ),
+];
+
+#[test]
+fn each_refusal_has_its_text(rt: HostRuntime) -> Result<(), Fail> {
+    let alloc = rt.alloc();
+    for (refusal, text) in REFUSALS {
+        let refused = Response::error(alloc, &threads(5), refusal)?;
+        assert_is(&rt, alloc, 3, refused, text)?;
+        let response = response_in(alloc, text)?;
+        assert_eq!(rt; response.request_seq, 5);
+        assert!(rt; response.command.as_str() == "threads");
+        assert!(rt;
+            matches!(&response.outcome, Outcome::Refused(found, None) if *found == refusal),
+            "{text}"
+        );
+    }
     Ok(())
 }
 
@@ -116,6 +174,8 @@ fn parts_of_what_is_read(rt: HostRuntime) -> Result<(), Fail> {
     assert!(rt; matches!(&response.outcome, Outcome::Done(ResponseBody::Threads)));
     let response = response_in(alloc, INITIALIZE)?;
     assert!(rt; matches!(&response.outcome, Outcome::Done(ResponseBody::Initialize)));
+    let response = response_in(alloc, CANCEL)?;
+    assert!(rt; matches!(&response.outcome, Outcome::Done(ResponseBody::Empty)));
     let response = response_in(alloc, DISCONNECT)?;
     assert!(rt; matches!(&response.outcome, Outcome::Done(ResponseBody::Empty)));
     let response = response_in(alloc, REFUSED)?;
@@ -153,6 +213,10 @@ fn bodies_that_are_no_message(rt: HostRuntime) -> Result<(), Fail> {
         r#"{"command":"threads","request_seq":3,"seq":3,"success":true,"type":"response"}"#,
         r#"{"body":{},
             "command":"disconnect","request_seq":3,"seq":3,"success":true,"type":"response"}"#,
+        r#"{"body":{},
+            "command":"cancel","request_seq":3,"seq":3,"success":true,"type":"response"}"#,
+        r#"{"body":{"threads":[{"id":1,"name":"hart 0"}]},
+            "command":"cancel","request_seq":3,"seq":3,"success":true,"type":"response"}"#,
         // a command that no request has, a member more, a member less
         r#"{"command":"quit","request_seq":3,"seq":3,"success":true,"type":"response"}"#,
         r#"{"extra":1,
@@ -175,6 +239,10 @@ fn bodies_that_are_no_message(rt: HostRuntime) -> Result<(), Fail> {
             "command":"threads","request_seq":1,"seq":1,"success":false,"type":"response"}"#,
         r#"{"body":{"error":{"format":"wrongPhase","id":4}},"message":"wrongPhase",
             "command":"threads","request_seq":1,"seq":1,"success":false,"type":"response"}"#,
+        r#"{"body":{"error":{"format":"cancelled","id":6}},"message":"cancelled",
+            "command":"threads","request_seq":1,"seq":1,"success":false,"type":"response"}"#,
+        r#"{"body":{"error":{"format":"requestGone","id":2}},"message":"requestGone",
+            "command":"cancel","request_seq":1,"seq":1,"success":false,"type":"response"}"#,
     ] {
         let error = read_message(rt.alloc(), body.as_bytes()).err();
         assert_eq!(rt; error, Some(MessageError::NotAMessage), "{body}");
@@ -202,6 +270,7 @@ fn answers_name_their_request(rt: HostRuntime) -> Result<(), Fail> {
     for (request, name) in [
         (initialize(7), "initialize"),
         (threads(7), "threads"),
+        (cancel(7), "cancel"),
         (disconnect(7), "disconnect"),
     ] {
         let done = Response::success(alloc, &request, ResponseBody::Threads)?;

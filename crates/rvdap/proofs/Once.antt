@@ -1,73 +1,204 @@
--- `initialize` succeeds once at most.
-use Rattle.std.proofs.Common.{◌≡◌, ℕ, ◌+◌, ◌≤◌, List, [], ◌∷◌, ◌++◌, fold, Result, Ok, Err, refl, arith}
-use Rattle.framing.specs.Reading.{reading_of}
+-- `initialize` succeeds once at most on a connection, and messages have the numbers 1, 2, 3 and so on.
+use Rattle.std.proofs.Common.{◌≡◌, ℕ, ◌+◌, ◌≤◌, Bool, true, false, cond, eqb, List, [], ◌∷◌, ◌++◌, length, Option, Some, None, ◌⊎◌, inl, inr, refl, sym, ap, ◌∙◌, subst, arith, eqb-true}
+use Rattle.std.specs.Prelude.{All}
+use Rattle.std.proofs.lemmas.List.{length-append}
+use Rattle.std.proofs.lemmas.List.Elements.{All-push, All-weaker, All-nil}
 use Rattle.protocol.specs.declared.command.Command.{Command}
-use Rattle.protocol.specs.declared.command.Command.TheVariants.{Initialize, Threads, Disconnect}
-use Rattle.protocol.specs.declared.request.Incoming.{Incoming}
-use Rattle.protocol.specs.declared.request.Incoming.TheVariants.{Request as IsRequest, Bad, Ignored}
-use Rattle.protocol.specs.declared.request.MessageError.{MessageError}
-use Rattle.protocol.specs.Reading.{incoming_of}
-use Rattle.replies.specs.declared.response.Response.{Response}
-use Rattle.rvdap.specs.declared.TheConstants.{BODY_LIMIT}
-use Rattle.rvdap.specs.declared.ending.Ending.{Ending}
-use Rattle.rvdap.specs.declared.ending.Ending.TheVariants.{Open, Disconnected, Broken}
+use Rattle.protocol.specs.declared.command.Command.TheVariants.{Initialize, Threads, Cancel, Disconnect}
+use Rattle.replies.specs.declared.response.Outcome.{Outcome}
+use Rattle.rvdap.specs.declared.event.Event.{Event}
+use Rattle.rvdap.specs.declared.limits.Limits.{Limits}
+use Rattle.rvdap.specs.declared.link.Link.{Link}
+use Rattle.rvdap.specs.declared.pending.Ask.{Ask}
+use Rattle.rvdap.specs.declared.pending.Ask.TheVariants.{Request, Bad}
+use Rattle.rvdap.specs.declared.pending.Fate.{Fate}
+use Rattle.rvdap.specs.declared.pending.Fate.TheVariants.{Waits, Repeated, Cancelled, NamesNone}
+use Rattle.rvdap.specs.declared.pending.Pending.{Pending}
 use Rattle.rvdap.specs.declared.phase.Phase.{Phase}
-use Rattle.rvdap.specs.declared.phase.Phase.TheVariants.{Fresh, Initialized}
-use Rattle.rvdap.specs.Answers.{answer_to_request, refused}
-use Rattle.rvdap.specs.Conversation.{Script, with_incoming, with_body, script_of, conversation_of}
-use Rattle.rvdap.specs.Laws.{initializes, times_initialized, InitializesOnce}
-use Rattle.rvdap.proofs.Scripts.{step}
+use Rattle.rvdap.specs.declared.phase.Phase.TheVariants.{Fresh, Initialized, Left}
+use Rattle.rvdap.specs.Answers.{answer_to}
+use Rattle.rvdap.specs.Arrivals.{first_pending}
+use Rattle.rvdap.specs.Effects.{performed}
+use Rattle.rvdap.specs.Outcomes.{Now, Numbered, Open, Close, Accept, Take, answering, to_link, read_on, accepted}
+use Rattle.rvdap.specs.Sessions.{Session, On, on_connection, performed_on, histories, start, After}
+use Rattle.rvdap.specs.Laws.{AreNumberedFrom, NumbersRise, initializes, initializes_by, times_initialized, InitializesOnce}
+use Rattle.rvdap.proofs.Standing.{none_later}
+use Rattle.rvdap.proofs.Reaching.{KeptByEvents, reached}
+use Rattle.rvdap.proofs.Answering.{Answered, Replied, NotReplied, reply_to, answered_by}
+use Rattle.rvdap.proofs.Order.{put, more_on, same_on, none_is, some_is, by_now_same, accepting}
+
+-- ---- what an answer says of `initialize`
 
 -- how often `initialize` can have succeeded by then
-abbrev Suits : Ending → ℕ → Type 0
-Suits (Open Fresh) n = n ≡ 0
-Suits (Open Initialized) n = n ≤ 1
-Suits Disconnected n = n ≤ 1
-Suits Broken n = n ≤ 1
+abbrev Suits : Phase → ℕ → Type 0
+Suits Fresh n = n ≡ 0
+Suits Initialized n = n ≤ 1
+Suits Left n = n ≤ 1
 
-at_most_once : (ending : Ending) (n : ℕ) → Suits ending n → n ≤ 1
-at_most_once (Open Fresh) n h = omega (arith, h)
-at_most_once (Open Initialized) n h = h
-at_most_once Disconnected n h = h
-at_most_once Broken n h = h
+at_most_once : (phase : Phase) (n : ℕ) → Suits phase n → n ≤ 1
+at_most_once Fresh n h = omega (arith, h)
+at_most_once Initialized n h = h
+at_most_once Left n h = h
 
-one_more : (rs : List Response) (r : Response) → times_initialized (rs ++ r ∷ []) ≡ times_initialized rs + initializes r.outcome
-one_more [] r = let e : initializes r.outcome + 0 ≡ 0 + initializes r.outcome = omega arith in e
-one_more (x ∷ rs) r =
-    let rest = one_more rs r in
-    let e : initializes x.outcome + times_initialized (rs ++ r ∷ []) ≡ initializes x.outcome + times_initialized rs + initializes r.outcome = omega (arith, rest) in e
+refused_suits : (phase : Phase) (n : ℕ) → Suits phase n → Suits phase (n + 0)
+refused_suits Fresh n h = omega (arith, h)
+refused_suits Initialized n h = omega (arith, h)
+refused_suits Left n h = omega (arith, h)
 
--- an answer that is no success of `initialize`, in the same phase
-stays : (phase : Phase) (n : ℕ) → Suits (Open phase) n → Suits (Open phase) (n + 0)
-stays Fresh n h = omega (arith, h)
-stays Initialized n h = omega (arith, h)
+fewer : (phase : Phase) (n k : ℕ) → Suits phase (n + k) → Suits phase n
+fewer Fresh n k h = omega (arith, h)
+fewer Initialized n k h = omega (arith, h)
+fewer Left n k h = omega (arith, h)
 
-request_suits : (phase : Phase) (seq n : ℕ) (command : Command) → Suits (Open phase) n
-    → Suits (answer_to_request phase (record { seq = seq; command = command })).ending (n + initializes (answer_to_request phase (record { seq = seq; command = command })).response.outcome)
-request_suits Fresh seq n (Initialize arguments) h = omega (arith, h)
-request_suits Fresh seq n Threads h = omega (arith, h)
-request_suits Fresh seq n (Disconnect arguments) h = omega (arith, h)
-request_suits Initialized seq n (Initialize arguments) h = omega (arith, h)
-request_suits Initialized seq n Threads h = omega (arith, h)
-request_suits Initialized seq n (Disconnect arguments) h = omega (arith, h)
+abbrev SuitsAfter : Phase → Ask → Fate → ℕ → Type 0
+SuitsAfter phase ask fate n = Suits (answer_to phase (record { ask = ask; fate = fate })).phase (n + initializes (answer_to phase (record { ask = ask; fate = fate })).outcome)
 
-incoming_suits : (given : List Response) (phase : Phase) (i : Result Incoming MessageError) → Suits (Open phase) (times_initialized given)
-    → Suits (with_incoming given phase i).ending (times_initialized (with_incoming given phase i).answers)
-incoming_suits given phase (Ok (IsRequest r)) h = rw (one_more given (answer_to_request phase r).response) (request_suits phase r.seq (times_initialized given) r.command h)
-incoming_suits given phase (Ok (Bad seq command refusal)) h = rw (one_more given (refused phase seq command refusal).response) (stays phase (times_initialized given) h)
-incoming_suits given phase (Ok Ignored) h = h
-incoming_suits given phase (Err e) h = at_most_once (Open phase) (times_initialized given) h
+command_suits : (phase : Phase) (seq : ℕ) (command : Command) (fate : Fate) (n : ℕ) → Suits phase n → SuitsAfter phase (Request (record { seq = seq; command = command })) fate n
+command_suits phase seq command Repeated n h = refused_suits phase n h
+command_suits phase seq command Cancelled n h = refused_suits phase n h
+command_suits Fresh seq (Initialize arguments) Waits n h = omega (arith, h)
+command_suits Initialized seq (Initialize arguments) Waits n h = omega (arith, h)
+command_suits Left seq (Initialize arguments) Waits n h = omega (arith, h)
+command_suits Fresh seq Threads Waits n h = omega (arith, h)
+command_suits Initialized seq Threads Waits n h = omega (arith, h)
+command_suits Left seq Threads Waits n h = omega (arith, h)
+command_suits Fresh seq (Cancel arguments) Waits n h = omega (arith, h)
+command_suits Initialized seq (Cancel arguments) Waits n h = omega (arith, h)
+command_suits Left seq (Cancel arguments) Waits n h = omega (arith, h)
+command_suits Fresh seq (Disconnect arguments) Waits n h = omega (arith, h)
+command_suits Initialized seq (Disconnect arguments) Waits n h = omega (arith, h)
+command_suits Left seq (Disconnect arguments) Waits n h = omega (arith, h)
+command_suits Fresh seq (Initialize arguments) NamesNone n h = omega (arith, h)
+command_suits Initialized seq (Initialize arguments) NamesNone n h = omega (arith, h)
+command_suits Left seq (Initialize arguments) NamesNone n h = omega (arith, h)
+command_suits Fresh seq Threads NamesNone n h = omega (arith, h)
+command_suits Initialized seq Threads NamesNone n h = omega (arith, h)
+command_suits Left seq Threads NamesNone n h = omega (arith, h)
+command_suits Fresh seq (Cancel arguments) NamesNone n h = omega (arith, h)
+command_suits Initialized seq (Cancel arguments) NamesNone n h = omega (arith, h)
+command_suits Left seq (Cancel arguments) NamesNone n h = omega (arith, h)
+command_suits Fresh seq (Disconnect arguments) NamesNone n h = omega (arith, h)
+command_suits Initialized seq (Disconnect arguments) NamesNone n h = omega (arith, h)
+command_suits Left seq (Disconnect arguments) NamesNone n h = omega (arith, h)
 
-body_suits : (given : List Response) (ending : Ending) (body : List ℕ) → Suits ending (times_initialized given)
-    → Suits (with_body given ending body).ending (times_initialized (with_body given ending body).answers)
-body_suits given (Open phase) body h = incoming_suits given phase (incoming_of body) h
-body_suits given Disconnected body h = h
-body_suits given Broken body h = h
+suits_by : (phase : Phase) (ask : Ask) (fate : Fate) (n : ℕ) → Suits phase n → SuitsAfter phase ask fate n
+suits_by phase (Request r) fate n h = command_suits phase r.seq r.command fate n h
+suits_by phase (Bad seq command refusal) Repeated n h = refused_suits phase n h
+suits_by phase (Bad seq command refusal) Cancelled n h = refused_suits phase n h
+suits_by phase (Bad seq command refusal) Waits n h = refused_suits phase n h
+suits_by phase (Bad seq command refusal) NamesNone n h = refused_suits phase n h
 
-bodies_suit : (s : Script) (bodies : List (List ℕ)) → Suits s.ending (times_initialized s.answers) → Suits (fold step s bodies).ending (times_initialized (fold step s bodies).answers)
-bodies_suit s [] h = h
-bodies_suit s (b ∷ bs) h = bodies_suit (step s b) bs (body_suits s.answers s.ending b h)
+times-append : (xs : List Numbered) (m : Numbered) → times_initialized (xs ++ m ∷ []) ≡ times_initialized xs + initializes_by m.message
+times-append [] m = let e : initializes_by m.message + 0 ≡ 0 + initializes_by m.message = omega arith in e
+times-append (x ∷ xs) m =
+    let rest = times-append xs m in
+    let e : initializes_by x.message + times_initialized (xs ++ m ∷ []) ≡ initializes_by x.message + times_initialized xs + initializes_by m.message = omega (arith, rest) in e
 
-pub once : (input : List ℕ) → InitializesOnce input
-unfolding conversation_of script_of
-once input = at_most_once _ _ (bodies_suit _ (reading_of BODY_LIMIT input).bodies refl)
+numbered-append : (n : ℕ) (xs : List Numbered) (m : Numbered) → AreNumberedFrom n xs → m.seq ≡ n + length xs → AreNumberedFrom n (xs ++ m ∷ [])
+numbered-append n [] m h e = (let f : m.seq ≡ n = omega (arith, e) in f, tt)
+numbered-append n (x ∷ xs) m h e = (h.0, numbered-append (n + 1) xs m h.1 (let f : m.seq ≡ n + 1 + length xs = omega (arith, e) in f))
+
+-- ---- every connection
+
+pub record Counted (s : Session) : Type 0 where
+  pub numbers : (c : ℕ) → AreNumberedFrom 1 (on_connection c s.queued)
+  pub times : (c : ℕ) → times_initialized (on_connection c s.queued) ≤ 1
+  pub present : (l : Link) → s.now.link ≡ Some l → (l.seq ≡ length (on_connection s.now.connections s.queued)) × Suits l.phase (times_initialized (on_connection s.now.connections s.queued))
+  pub queued_by_now : All (λ (m : On Numbered). m.connection ≤ s.now.connections) s.queued
+
+counted_opens : (s : Session) → s.now.link ≡ None → Counted s → Counted (performed_on Open s)
+counted_opens s e h = record {
+  numbers = h.numbers;
+  times = h.times;
+  present = λ l f.
+      let none : on_connection (s.now.connections + 1) s.queued ≡ [] = none_later s.now.connections s.queued h.queued_by_now in
+      let same = some_is (let k : Link = record { seq = 0; phase = Fresh; is_closing = false } in k) l f in
+      subst (λ (k : Link). (k.seq ≡ length (on_connection (s.now.connections + 1) s.queued)) × Suits k.phase (times_initialized (on_connection (s.now.connections + 1) s.queued))) same
+      (sym (ap length none), ap times_initialized none);
+  queued_by_now = All-weaker (λ (m : On Numbered). m.connection ≤ s.now.connections) (λ (m : On Numbered). m.connection ≤ s.now.connections + 1) (λ m b. omega (arith, b)) s.queued h.queued_by_now;
+}
+
+counted_accepts : (s : Session) (l : Link) (piece : List ℕ) → s.now.link ≡ Some l → l.is_closing ≡ false → Counted s → Counted (performed_on (Accept piece) s)
+counted_accepts s l piece e n h = subst (λ x. Counted (accepting s l piece x)) (sym e) (record {
+  numbers = h.numbers;
+  times = h.times;
+  present = λ k f.
+      subst (λ (x : Link). (x.seq ≡ length (on_connection s.now.connections s.queued)) × Suits x.phase (times_initialized (on_connection s.now.connections s.queued))) (some_is _ k f) (h.present l e);
+  queued_by_now = h.queued_by_now;
+})
+
+counted_answers : (s : Session) (l : Link) (p : Pending) → s.now.link ≡ Some l → first_pending s.now.arrivals.pending ≡ Some p → Counted s → Counted (performed histories (answering l p) s)
+counted_answers s l p e f h = by_reply w.replies where
+  t : Session
+  t = performed histories (answering l p) s
+
+  phase : Phase
+  phase = (answer_to l.phase p).phase
+
+  outcome : Outcome
+  outcome = (answer_to l.phase p).outcome
+
+  w : Answered s l p phase outcome t
+  w = answered_by s l p e f
+
+  c : ℕ
+  c = s.now.connections
+
+  suits : Suits phase (times_initialized (on_connection c s.queued) + initializes outcome)
+  suits = suits_by l.phase p.ask p.fate (times_initialized (on_connection c s.queued)) (h.present l e).1
+
+  numbers_by : (d : ℕ) (b : Bool) → eqb c d ≡ b → AreNumberedFrom 1 (on_connection d (s.queued ++ put c (reply_to l p outcome) ∷ []))
+  numbers_by d true i = subst (λ x. AreNumberedFrom 1 (on_connection x (s.queued ++ put c (reply_to l p outcome) ∷ []))) (eqb-true c d i)
+      (subst (AreNumberedFrom 1) (sym (more_on c s.queued (reply_to l p outcome ∷ [])))
+      (numbered-append 1 (on_connection c s.queued) (reply_to l p outcome) (h.numbers c) (let g = (h.present l e).0 in let k : l.seq + 1 ≡ 1 + length (on_connection c s.queued) = omega (arith, g) in k)))
+  numbers_by d false i = subst (AreNumberedFrom 1) (sym (same_on c d s.queued (reply_to l p outcome ∷ []) i)) (h.numbers d)
+
+  more_times : times_initialized (on_connection c (s.queued ++ put c (reply_to l p outcome) ∷ [])) ≡ times_initialized (on_connection c s.queued) + initializes outcome
+  more_times = ap times_initialized (more_on c s.queued (reply_to l p outcome ∷ [])) ∙ times-append (on_connection c s.queued) (reply_to l p outcome)
+
+  times_by : (d : ℕ) (b : Bool) → eqb c d ≡ b → times_initialized (on_connection d (s.queued ++ put c (reply_to l p outcome) ∷ [])) ≤ 1
+  times_by d true i = subst (λ x. times_initialized (on_connection x (s.queued ++ put c (reply_to l p outcome) ∷ [])) ≤ 1) (eqb-true c d i) (subst (λ n. n ≤ 1) (sym more_times) (at_most_once phase _ suits))
+  times_by d false i = subst (λ xs. times_initialized xs ≤ 1) (sym (same_on c d s.queued (reply_to l p outcome ∷ []) i)) (h.times d)
+
+  by_reply : Replied s l p outcome w.link t ⊎ NotReplied s l w.link t → Counted t
+  by_reply (inl r) = record {
+    numbers = λ d. subst (λ q. AreNumberedFrom 1 (on_connection d q)) (sym r.queued) (numbers_by d (eqb c d) refl);
+    times = λ d. subst (λ q. times_initialized (on_connection d q) ≤ 1) (sym r.queued) (times_by d (eqb c d) refl);
+    present = λ k g. at_present k (some_is _ _ (sym w.is ∙ g)) t.now.connections w.connections t.queued r.queued
+        (r.seq ∙ sym (ap length (more_on c s.queued (reply_to l p outcome ∷ [])) ∙ length-append (on_connection c s.queued) (reply_to l p outcome ∷ []) ∙ ap (λ n. n + 1) (sym (h.present l e).0)))
+        (subst (Suits phase) (sym more_times) suits);
+    queued_by_now = by_now_same c t.now.connections (s.queued ++ put c (reply_to l p outcome) ∷ []) t.queued (sym w.connections) (sym r.queued) (All-push (λ (x : On Numbered). x.connection ≤ c) s.queued (put c (reply_to l p outcome)) h.queued_by_now (omega arith));
+  } where
+    at_present : (k : Link) → w.link ≡ k → (d : ℕ) → d ≡ c → (q : List (On Numbered)) → q ≡ s.queued ++ put c (reply_to l p outcome) ∷ [] → w.link.seq ≡ length (on_connection c (s.queued ++ put c (reply_to l p outcome) ∷ []))
+        → Suits phase (times_initialized (on_connection c (s.queued ++ put c (reply_to l p outcome) ∷ []))) → (k.seq ≡ length (on_connection d q)) × Suits k.phase (times_initialized (on_connection d q))
+    at_present k i d j q g a b = subst (λ (x : Link). (x.seq ≡ length (on_connection d q)) × Suits x.phase (times_initialized (on_connection d q))) i
+        (subst (λ y. (w.link.seq ≡ length (on_connection d y)) × Suits w.link.phase (times_initialized (on_connection d y))) (sym g)
+        (subst (λ y. (w.link.seq ≡ length (on_connection y (s.queued ++ put c (reply_to l p outcome) ∷ []))) × Suits w.link.phase (times_initialized (on_connection y (s.queued ++ put c (reply_to l p outcome) ∷ [])))) (sym j)
+        (a, subst (λ ph. Suits ph (times_initialized (on_connection c (s.queued ++ put c (reply_to l p outcome) ∷ [])))) (sym w.phase_is) b)))
+  by_reply (inr n) = record {
+    numbers = λ d. subst (λ q. AreNumberedFrom 1 (on_connection d q)) (sym n.queued) (h.numbers d);
+    times = λ d. subst (λ q. times_initialized (on_connection d q) ≤ 1) (sym n.queued) (h.times d);
+    present = λ k g. subst (λ (x : Link). (x.seq ≡ length (on_connection t.now.connections t.queued)) × Suits x.phase (times_initialized (on_connection t.now.connections t.queued))) (some_is _ _ (sym w.is ∙ g))
+        (subst (λ q. (w.link.seq ≡ length (on_connection t.now.connections q)) × Suits w.link.phase (times_initialized (on_connection t.now.connections q))) (sym n.queued)
+        (subst (λ d. (w.link.seq ≡ length (on_connection d s.queued)) × Suits w.link.phase (times_initialized (on_connection d s.queued))) (sym w.connections)
+        (n.seq ∙ (h.present l e).0, subst (λ ph. Suits ph (times_initialized (on_connection c s.queued))) (sym w.phase_is) (fewer phase _ (initializes outcome) suits))));
+    queued_by_now = by_now_same c t.now.connections s.queued t.queued (sym w.connections) (sym n.queued) h.queued_by_now;
+  }
+
+counted : KeptByEvents Counted
+counted = record {
+  opens = counted_opens;
+  closes = λ s h. record { numbers = h.numbers; times = h.times; present = λ l e. absurd (none_is l e); queued_by_now = h.queued_by_now };
+  accepts = counted_accepts;
+  answers = counted_answers;
+  takes = λ s l n e h. record { numbers = h.numbers; times = h.times; present = h.present; queued_by_now = h.queued_by_now };
+}
+
+counted_start : (limits : Limits) → Counted (start limits)
+counted_start limits = record { numbers = λ c. tt; times = λ c. omega arith; present = λ l e. absurd (none_is l e); queued_by_now = All-nil (λ (m : On Numbered). m.connection ≤ 0) }
+
+pub numbers_rise : (limits : Limits) (events : List Event) → NumbersRise (After limits events)
+numbers_rise limits events = (reached Counted counted limits (counted_start limits) events).numbers
+
+pub initializes_once : (limits : Limits) (events : List Event) → InitializesOnce (After limits events)
+initializes_once limits events = (reached Counted counted limits (counted_start limits) events).times

@@ -1,34 +1,37 @@
 -- Each answer is proper.
-use Rattle.std.proofs.Common.{ℕ, ◌<◌, ◌≤◌, Bool, true, false, List, [], ◌∷◌, ◌++◌, fold, Result, Ok, Err, refl, arith}
-use Rattle.std.specs.Prelude.{if◌then◌else◌}
-use Rattle.std.specs.List.{AllByRecursion}
-use Rattle.framing.specs.Reading.{reading_of}
+use Rattle.std.proofs.Common.{◌≡◌, ℕ, ◌<◌, ◌≤◌, Bool, true, false, List, [], ◌∷◌, ◌++◌, map, Option, Some, None, Result, Ok, Err, ◌⊎◌, inl, inr, refl, sym, ap, ◌∙◌, subst, arith}
+use Rattle.std.specs.Prelude.{All, if◌then◌else◌}
+use Rattle.std.proofs.lemmas.List.Elements.{All-push, All-nil}
 use Rattle.protocol.proofs.Meanings.{IsSound, incoming_of-sound}
 use Rattle.protocol.specs.declared.command.Command.{Command}
-use Rattle.protocol.specs.declared.command.Command.TheVariants.{Initialize, Threads, Disconnect}
+use Rattle.protocol.specs.declared.command.Command.TheVariants.{Initialize, Threads, Cancel, Disconnect}
 use Rattle.protocol.specs.declared.refusal.Refusal.{Refusal}
-use Rattle.protocol.specs.declared.refusal.Refusal.TheVariants.{UnknownCommand, BadArguments, WrongPhase}
+use Rattle.protocol.specs.declared.refusal.Refusal.TheVariants.{UnknownCommand, BadArguments, WrongPhase, Cancelled, RepeatedSequence, RequestGone}
 use Rattle.protocol.specs.declared.request.Incoming.{Incoming}
-use Rattle.protocol.specs.declared.request.Incoming.TheVariants.{Request as IsRequest, Bad, Ignored}
+use Rattle.protocol.specs.declared.request.Incoming.TheVariants.{Request as IsRequest, Bad as IsBad, Ignored}
 use Rattle.protocol.specs.declared.request.MessageError.{MessageError}
 use Rattle.protocol.specs.Commands.{name_of}
 use Rattle.protocol.specs.Reading.{incoming_of}
-use Rattle.replies.specs.declared.response.Response.{Response}
-use Rattle.replies.specs.Responses.{IsProperResponse, IsBodyOf}
-use Rattle.rvdap.specs.declared.TheConstants.{BODY_LIMIT}
-use Rattle.rvdap.specs.declared.answers.Answer.{Answer}
-use Rattle.rvdap.specs.declared.ending.Ending.{Ending}
-use Rattle.rvdap.specs.declared.ending.Ending.TheVariants.{Open, Disconnected, Broken}
+use Rattle.replies.specs.Responses.{IsProperResponse, IsBodyOf, IsOutcomeOf}
+use Rattle.rvdap.specs.declared.event.Event.{Event}
+use Rattle.rvdap.specs.declared.limits.Limits.{Limits}
+use Rattle.rvdap.specs.declared.link.Link.{Link}
+use Rattle.rvdap.specs.declared.pending.Ask.{Ask}
+use Rattle.rvdap.specs.declared.pending.Ask.TheVariants.{Request, Bad}
+use Rattle.rvdap.specs.declared.pending.Pending.{Pending}
 use Rattle.rvdap.specs.declared.phase.Phase.{Phase}
-use Rattle.rvdap.specs.Answers.{answer_to_request, taken, refused}
-use Rattle.rvdap.specs.Requests.{is_taken_in, success_of}
-use Rattle.rvdap.specs.Conversation.{Script, with_incoming, with_body, script_of, conversation_of}
-use Rattle.rvdap.specs.Laws.{AnswersAreProper}
-use Rattle.rvdap.proofs.Scripts.{step}
+use Rattle.rvdap.specs.Answers.{answer_to, answer_by, first_refusal, refusals, response_to}
+use Rattle.rvdap.specs.Arrivals.{number_of, name_asked, asks_in, asks_of, first_pending, others_pending, all_joined}
+use Rattle.rvdap.specs.Effects.{performed}
+use Rattle.rvdap.specs.Outcomes.{Numbered, Open, Close, Accept, Take, answering, read_on}
+use Rattle.rvdap.specs.Requests.{success_of}
+use Rattle.rvdap.specs.Sessions.{Session, On, performed_on, histories, start, After}
+use Rattle.rvdap.specs.Laws.{Named, asked_as, pending_as, IsProper, AnswersAreProper}
+use Rattle.rvdap.proofs.Reaching.{KeptByEvents, reached}
+use Rattle.rvdap.proofs.Answering.{Answered, Replied, NotReplied, reply_to, answered_by}
+use Rattle.rvdap.proofs.Order.{put, accepting, all_joined_as, first_is}
 
-one_more : (rs : List Response) (r : Response) → AllByRecursion IsProperResponse rs → IsProperResponse r → AllByRecursion IsProperResponse (rs ++ r ∷ [])
-one_more [] r all p = (p, tt)
-one_more (x ∷ rs) r all p = (all.0, one_more rs r all.1 p)
+-- ---- one answer
 
 within : (n : ℕ) → n ≤ 2147483647 → n < 4294967296
 within n h = omega (arith, h)
@@ -36,34 +39,95 @@ within n h = omega (arith, h)
 body_is_its_own : (phase : Phase) (command : Command) → IsBodyOf (name_of command) (success_of phase command).body
 body_is_its_own phase (Initialize arguments) = refl
 body_is_its_own phase Threads = refl
+body_is_its_own phase (Cancel arguments) = refl
 body_is_its_own phase (Disconnect arguments) = refl
 
-refused_is_proper : (phase : Phase) (seq : ℕ) (command : List ℕ) (refusal : Refusal) → seq ≤ 2147483647 → IsProperResponse (refused phase seq command refusal).response
-refused_is_proper phase seq command UnknownCommand h = (within seq h, refl)
-refused_is_proper phase seq command BadArguments h = (within seq h, refl)
-refused_is_proper phase seq command WrongPhase h = (within seq h, refl)
+refused_is_proper : (command : List ℕ) (phase : Phase) (ask : Ask) (refusal : Refusal) → IsOutcomeOf command (answer_by (Some refusal) phase ask).outcome
+refused_is_proper command phase ask UnknownCommand = refl
+refused_is_proper command phase ask BadArguments = refl
+refused_is_proper command phase ask WrongPhase = refl
+refused_is_proper command phase ask Cancelled = refl
+refused_is_proper command phase ask RepeatedSequence = refl
+refused_is_proper command phase ask RequestGone = refl
 
-chosen_is_proper : (b : Bool) (x y : Answer) → IsProperResponse x.response → IsProperResponse y.response → IsProperResponse (if b then x else y).response
-chosen_is_proper true x y p q = p
-chosen_is_proper false x y p q = q
+outcome_is_proper : (refusal : Option Refusal) (phase : Phase) (ask : Ask) → IsOutcomeOf (name_asked ask) (answer_by refusal phase ask).outcome
+outcome_is_proper (Some refusal) phase ask = refused_is_proper (name_asked ask) phase ask refusal
+outcome_is_proper None phase (Request r) = body_is_its_own phase r.command
+outcome_is_proper None phase (Bad seq command refusal) = refused_is_proper command phase (Bad seq command refusal) refusal
 
-incoming_is_proper : (given : List Response) (phase : Phase) (i : Result Incoming MessageError) → IsSound i → AllByRecursion IsProperResponse given → AllByRecursion IsProperResponse (with_incoming given phase i).answers
-incoming_is_proper given phase (Ok (IsRequest r)) sound all = one_more given (answer_to_request phase r).response all
-    (chosen_is_proper (is_taken_in phase r.command) (taken phase r) (refused phase r.seq (name_of r.command) WrongPhase) (within r.seq sound, body_is_its_own phase r.command)
-    (refused_is_proper phase r.seq (name_of r.command) WrongPhase sound))
-incoming_is_proper given phase (Ok (Bad seq command refusal)) sound all = one_more given (refused phase seq command refusal).response all (refused_is_proper phase seq command refusal sound.0)
-incoming_is_proper given phase (Ok Ignored) sound all = all
-incoming_is_proper given phase (Err e) sound all = all
+-- ---- requests have numbers that a request may have
 
-body_is_proper : (given : List Response) (ending : Ending) (body : List ℕ) → AllByRecursion IsProperResponse given → AllByRecursion IsProperResponse (with_body given ending body).answers
-body_is_proper given (Open phase) body all = incoming_is_proper given phase (incoming_of body) (incoming_of-sound body) all
-body_is_proper given Disconnected body all = all
-body_is_proper given Broken body all = all
+abbrev AreNumbers : List Named → Type 0
+AreNumbers [] = Unit {0}
+AreNumbers (n ∷ names) = (n.number ≤ 2147483647) × AreNumbers names
 
-bodies_are_proper : (s : Script) (bodies : List (List ℕ)) → AllByRecursion IsProperResponse s.answers → AllByRecursion IsProperResponse (fold step s bodies).answers
-bodies_are_proper s [] all = all
-bodies_are_proper s (b ∷ bs) all = bodies_are_proper (step s b) bs (body_is_proper s.answers s.ending b all)
+AreNumbers-append : (xs ys : List Named) → AreNumbers xs → AreNumbers ys → AreNumbers (xs ++ ys)
+AreNumbers-append [] ys a b = b
+AreNumbers-append (x ∷ xs) ys a b = (a.0, AreNumbers-append xs ys a.1 b)
 
-pub all_proper : (input : List ℕ) → AnswersAreProper input
-unfolding conversation_of script_of
-all_proper input = bodies_are_proper _ (reading_of BODY_LIMIT input).bodies tt
+message_numbers : (i : Result Incoming MessageError) → IsSound i → (rest : List (Result Incoming MessageError)) → AreNumbers (map asked_as (asks_in rest)) → AreNumbers (map asked_as (asks_in (i ∷ rest)))
+message_numbers (Ok (IsRequest r)) sound rest h = (sound, h)
+message_numbers (Ok (IsBad seq command refusal)) sound rest h = (sound.0, h)
+message_numbers (Ok Ignored) sound rest h = h
+message_numbers (Err e) sound rest h = tt
+
+numbers_of : (bodies : List (List ℕ)) → AreNumbers (map asked_as (asks_of bodies))
+numbers_of [] = tt
+numbers_of (b ∷ bodies) = message_numbers (incoming_of b) (incoming_of-sound b) (map incoming_of bodies) (numbers_of bodies)
+
+others_are : (pending : List Pending) → AreNumbers (pending_as pending) → AreNumbers (pending_as (others_pending pending))
+others_are [] h = h
+others_are (p ∷ rest) h = h.1
+
+-- ---- every session
+
+pub record AllProper (s : Session) : Type 0 where
+  pub queued : AnswersAreProper s
+  pub pending : AreNumbers (pending_as s.now.arrivals.pending)
+
+proper_accepts : (s : Session) (l : Link) (piece : List ℕ) → s.now.link ≡ Some l → l.is_closing ≡ false → AllProper s → AllProper (performed_on (Accept piece) s)
+proper_accepts s l piece e n h =
+    let asks = asks_of (read_on s.now piece).bodies in
+    subst (λ x. AllProper (accepting s l piece x)) (sym e) (record {
+      queued = h.queued;
+      pending = subst AreNumbers (sym (all_joined_as asks s.now.arrivals)) (AreNumbers-append (pending_as s.now.arrivals.pending) (map asked_as asks) h.pending (numbers_of (read_on s.now piece).bodies));
+    })
+
+proper_answers : (s : Session) (l : Link) (p : Pending) → s.now.link ≡ Some l → first_pending s.now.arrivals.pending ≡ Some p → AllProper s → AllProper (performed histories (answering l p) s)
+proper_answers s l p e f h = by_reply w.replies where
+  t : Session
+  t = performed histories (answering l p) s
+
+  w : Answered s l p (answer_to l.phase p).phase (answer_to l.phase p).outcome t
+  w = answered_by s l p e f
+
+  all : AreNumbers (pending_as (p ∷ others_pending s.now.arrivals.pending))
+  all = subst (λ x. AreNumbers (pending_as x)) (first_is s.now.arrivals.pending p f) h.pending
+
+  by_last : (b : Bool) → AreNumbers (pending_as (let x : List Pending = if b then [] else others_pending s.now.arrivals.pending in x))
+  by_last true = tt
+  by_last false = all.1
+
+  by_reply : Replied s l p (answer_to l.phase p).outcome w.link t ⊎ NotReplied s l w.link t → AllProper t
+  by_reply (inl r) = record {
+    queued = subst (All (λ (m : On Numbered). IsProper m.is.message)) (sym r.queued)
+        (All-push (λ (m : On Numbered). IsProper m.is.message) s.queued (put s.now.connections (reply_to l p (answer_to l.phase p).outcome)) h.queued
+        (within (number_of p.ask) all.0, outcome_is_proper (first_refusal (refusals l.phase p)) l.phase p.ask));
+    pending = subst (λ x. AreNumbers (pending_as x)) (sym r.pending) (by_last _);
+  }
+  by_reply (inr n) = record {
+    queued = subst (All (λ (m : On Numbered). IsProper m.is.message)) (sym n.queued) h.queued;
+    pending = subst (λ x. AreNumbers (pending_as x)) (sym n.pending) h.pending;
+  }
+
+proper : KeptByEvents AllProper
+proper = record {
+  opens = λ s e h. record { queued = h.queued; pending = tt };
+  closes = λ s h. record { queued = h.queued; pending = tt };
+  accepts = proper_accepts;
+  answers = proper_answers;
+  takes = λ s l n e h. record { queued = h.queued; pending = h.pending };
+}
+
+pub answers_are_proper : (limits : Limits) (events : List Event) → AnswersAreProper (After limits events)
+answers_are_proper limits events = (reached AllProper proper limits (record { queued = All-nil (λ (m : On Numbered). IsProper m.is.message); pending = tt }) events).queued

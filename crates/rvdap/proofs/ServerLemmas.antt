@@ -17,11 +17,11 @@ use Rattle.protocol.specs.Reading.{incoming_of, Gives}
 use Rattle.rvdap.specs.declared.TheConstants.{BODY_LIMIT}
 use Rattle.rvdap.specs.declared.server.ServerError.{ServerError}
 use Rattle.rvdap.specs.declared.server.ServerError.TheVariants.{Frame, Message, Read, Write, TooManyReads, NoMemory as NoMemoryLeft, SeqSpent}
-use Rattle.rvdap.specs.Conversation.{has_fault}
+use Rattle.rvdap.specs.Heard.{has_fault}
 use Rattle.rvdap.specs.Heard.{is_looked_at, messages_of, messages_in, Heard, HasHeard, and_gave, NextFails, Unread, HasRead, AllGiven, IsUnfinished, and_read}
 use Rattle.rvdap.specs.Servers.{Polled, Gave, Polls}
 use Rattle.rvdap.specs.Inbox.{Takes, polled_of, Reads, Listens}
-use Rattle.rvdap.proofs.Turns.{first_some}
+use Rattle.rvdap.proofs.Firsts.{first_some}
 
 messages_of-append : (xs ys : List (List ℕ)) → messages_of (xs ++ ys) ≡ messages_of xs ++ messages_of ys
 messages_of-append xs ys = ap (filter is_looked_at) (map-append incoming_of xs ys) ∙ filter-append is_looked_at (map incoming_of xs) (map incoming_of ys)
@@ -75,7 +75,7 @@ fails k heard b NoMemory first g s = s
 
 -- ---- what was read and not yet fed
 
-pub begins_reading : (unframer : Unframed) → unframer ≡ record { limit = BODY_LIMIT; waiting = []; tail = Partial [] } → HasRead (record { unframer = unframer; pending = [] }) (record { read = []; given = [] })
+pub begins_reading : (unframer : Unframed) → unframer ≡ record { limit = BODY_LIMIT; waiting = []; tail = Partial []; before = None } → HasRead (record { unframer = unframer; pending = [] }) (record { read = []; given = [] })
 begins_reading unframer e = record {
   fed = [];
   has_heard = record {

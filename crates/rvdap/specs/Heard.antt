@@ -3,15 +3,19 @@
 -- A stream is made of frames, and the bodies of these are messages or are none (`Rattle.protocol.specs.Reading`). An
 -- adapter looks at requests, and at what is no message; what else an editor sends it passes over. What was heard so far
 -- is a past: the bytes that were read, and the messages that were given of them.
-use Rattle.std.specs.Prelude.{◌≡◌, ℕ, Bool, true, false, List, [], ◌∷◌, ◌++◌, filter, map, Result, Ok, Err}
+use Rattle.std.specs.Prelude.{◌≡◌, ℕ, Bool, true, false, List, [], ◌∷◌, ◌++◌, filter, map, is_some, Result, Ok, Err}
 use Rattle.framing.specs.Reading.{Tail, reading_of}
 use Rattle.framing.specs.Reading.Tail.{Partial, Faulty}
-use Rattle.framing.specs.Streams.{Unframed, StandsFor}
+use Rattle.framing.specs.Streams.{Unframed, StandsFor, fault_of}
 use Rattle.protocol.specs.declared.request.Incoming.{Incoming}
 use Rattle.protocol.specs.declared.request.Incoming.TheVariants.{Request, Bad, Ignored}
 use Rattle.protocol.specs.declared.request.MessageError.{MessageError}
 use Rattle.protocol.specs.Reading.{incoming_of}
 use Rattle.rvdap.specs.declared.TheConstants.{BODY_LIMIT}
+
+-- whether a stream goes on as no frame can
+abbrev pub has_fault : Tail → Bool
+has_fault tail = is_some (fault_of tail)
 
 -- An adapter looks at requests, and at what is no message; not at responses and events.
 abbrev pub is_looked_at : Result Incoming MessageError → Bool

@@ -13,7 +13,7 @@ use Rattle.rvdap.specs.Heard.{Heard, and_gave, Unread, HasRead, and_read, AllGiv
 use Rattle.replies.specs.declared.response.Response.{Response}
 use Rattle.replies.specs.declared.message.Message.TheVariants.{Response as IsResponse}
 use Rattle.rvdap.specs.Outbox.{Queued, frame_of}
-use Rattle.rvdap.specs.Serving.{IsFrontOf}
+use Rattle.rvdap.specs.Fronts.{IsFrontOf}
 use Rattle.rvdap.specs.declared.server.ServerError.{ServerError}
 use Rattle.rvdap.specs.declared.server.ServerError.TheVariants.{Frame, Message, Read, Write, TooManyReads, NoMemory as NoMemoryLeft, SeqSpent}
 

@@ -3,13 +3,11 @@
 /// How serving ends.
 #[derive(Clone, Copy, Debug, PartialEq, Eq)]
 pub enum StreamEnd {
-    /// The input ended, or a `disconnect` succeeded.
+    /// The input ended, or all was said on the connection.
     Closed,
-    /// What was read is no frame, or holds no message.
-    BadMessage,
     /// A read or a write failed.
     Fault,
-    /// All turns were made, or all numbers for messages were used.
+    /// All turns were made.
     Turns,
     /// No memory was left.
     NoMemory,

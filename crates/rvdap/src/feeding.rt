@@ -1,23 +1,22 @@
 //! Feeding an unframer, with its faults apart from want of memory.
 ghost use Rattle.std.specs.Prelude.{◌≡◌, IfOk, OnOk, OnErr};
-ghost use Rattle.framing.specs.Streams.{fed};
-ghost use Rattle.rvdap.specs.Conversation.{has_fault};
+ghost use Rattle.framing.specs.Streams.{fault_of, fed};
 
 use framing::{FrameError, Unframer};
 use std::alloc::AllocError;
 
-/// Feeds a piece, and answers whether the stream so far has a fault. Where no memory was left,
-/// nothing was fed.
-pub(crate) fn feed(unframer: &mut Unframer, piece: &[u8]) -> Result<bool, AllocError>
+/// Feeds a piece, and answers the fault of the stream so far, if it has one. Where no memory was
+/// left, nothing was fed.
+pub(crate) fn feed(unframer: &mut Unframer, piece: &[u8]) -> Result<Option<FrameError>, AllocError>
     ensures fed { OnOk result (unframer.new ≡ fed unframer.old piece.now) }
-    ensures fault { IfOk result (λ is_faulty. is_faulty ≡ has_fault unframer.new.tail) }
+    ensures fault { IfOk result (λ fault. fault ≡ fault_of unframer.new.tail) }
     ensures err { OnErr result (unframer.new ≡ unframer.old) }
 {
     match unframer.feed(piece) {
-        Ok(()) => Ok(false),
+        Ok(()) => Ok(None),
         Err(fault) => match fault {
             FrameError::NoMemory => Err(AllocError),
-            _ => Ok(true),
+            _ => Ok(Some(fault)),
         },
     }
 }

@@ -27,7 +27,7 @@ pub struct Inbox {
 
 impl Model for Inbox {
     ghost use Rattle.std.specs.Prelude.{◌≡◌, ◌≤◌, take, vec_len};
-    ghost use Rattle.rvdap.specs.Conversation.{has_fault};
+    ghost use Rattle.rvdap.specs.Heard.{has_fault};
     ghost use Rattle.rvdap.specs.Heard.{Unread};
 
     ghost Value = { Unread };
@@ -62,7 +62,7 @@ impl Inbox {
         if self.pending == 0 {
             return Ok(());
         }
-        self.is_faulty = feed(&mut self.unframer, &self.room[..self.pending])?;
+        self.is_faulty = feed(&mut self.unframer, &self.room[..self.pending])?.is_some();
         self.pending = 0;
         Ok(())
     }

@@ -2,25 +2,34 @@
 #![tactic(auto)]
 
 mod answers;
+mod arrivals;
+mod buffer;
+mod bytes;
 mod end;
-mod ending;
-mod exchange;
+mod event;
 mod feeding;
 mod inbox;
 mod laws;
+mod limits;
+mod link;
 mod options;
 mod outbox;
+mod pending;
 mod phase;
 mod requests;
 mod room;
 mod serve;
 mod server;
+mod session;
+mod state;
 #[cfg(test)]
 mod tests;
 
 use end::StreamEnd;
+use limits::Limits;
 use options::{Words, read_words};
 use serve::serve_streams;
+use session::Session;
 use std::process::ExitCode;
 
 /// The greatest length of a body, in bytes.
@@ -37,9 +46,15 @@ fn main(rt: HostRuntime) -> ExitCode {
 }
 
 fn serve_editor(rt: &HostRuntime) -> ExitCode {
-    match serve_streams(rt.alloc(), &mut rt.stdin(), &mut rt.stdout(), u64::MAX) {
-        StreamEnd::Closed => ExitCode::SUCCESS,
-        StreamEnd::BadMessage => fail(rt, "bad message"),
+    let mut session = Session::new(rt.alloc(), Limits::greatest()).unwrap();
+    let _ = session.connect();
+    let mut input = rt.stdin();
+    let mut output = rt.stdout();
+    match serve_streams(rt.alloc(), &mut session, &mut input, &mut output, u64::MAX) {
+        StreamEnd::Closed => match session.link_fault() {
+            Some(_) => fail(rt, "bad message"),
+            None => ExitCode::SUCCESS,
+        },
         StreamEnd::Fault | StreamEnd::Turns => fail(rt, "read or write fault"),
         StreamEnd::NoMemory => fail(rt, "no memory"),
     }

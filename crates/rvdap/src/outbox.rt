@@ -1,11 +1,12 @@
 //! What waits to be written: numbered messages, framed.
-ghost use Rattle.std.specs.Prelude.{◌≡◌, ◌+◌, ◌==◌, ◌<◌, ◌≤◌, ◌++◌, ◌↔◌, [], List, ℕ, IsOk, OnOk, OnErr, IsErrOf, IsTrue, drop, length};
+ghost use Rattle.std.specs.Prelude.{◌≡◌, ◌+◌, ◌==◌, ◌<◌, ◌≤◌, ◌++◌, ◌↔◌, [], List, ℕ, IsOk, OnOk, OnErr, IfOk, IsErrOf, IsTrue, drop, length};
 ghost use Rattle.std.specs.Io.KnownBytes.{Keeps, Appends};
-ghost use Rattle.rvdap.specs.Outbox.{queued, Sends, SendsFront};
+ghost use Rattle.rvdap.specs.Outbox.{frame_of, queued, Sends, SendsFront};
 
+use crate::buffer::Buffer;
 use framing::frame;
 use replies::{Message, write_message};
-use std::alloc::Global;
+use std::alloc::{AllocError, Global};
 use std::io;
 use std::io::{ErrorKind, Write};
 use std::marker::Model;
@@ -28,20 +29,19 @@ pub enum QueueError {
 pub struct Outbox {
     alloc: Global,
     count: u32,
-    bytes: Vec<u8>,
-    start: usize,
+    buffer: Buffer,
 }
 
 impl Model for Outbox {
-    ghost use Rattle.std.specs.Prelude.{◌≤◌, drop, vec_len};
+    ghost use Rattle.std.specs.Prelude.{◌≤◌};
     ghost use Rattle.rvdap.specs.Outbox.{Queued};
     ghost use Rattle.rvdap.specs.declared.outbox.TheConstants.{LAST_SEQ};
 
     ghost Value = { Queued };
 
-    ghost view = { λ o. record { count = o.count; waiting = drop o.start o.bytes.items } };
+    ghost view = { λ o. record { count = o.count; waiting = o.buffer } };
 
-    ghost invariant = { λ o. (o.start ≤ vec_len o.bytes) × (o.count ≤ LAST_SEQ) };
+    ghost invariant = { λ o. o.count ≤ LAST_SEQ };
 }
 
 impl Outbox {
@@ -52,8 +52,7 @@ impl Outbox {
         Outbox {
             alloc,
             count: 0,
-            bytes: Vec::new(alloc),
-            start: 0,
+            buffer: Buffer::new(alloc),
         }
     }
 
@@ -61,11 +60,10 @@ impl Outbox {
     pub(crate) fn is_empty(&self) -> bool
         ensures { result ≡ (length self.now.waiting == 0) }
     {
-        self.start >= self.bytes.len()
+        self.buffer.len() == 0
     }
 
     /// Puts the frame of a message, with the next number, behind what waits.
-    #[tactic(auto, unfolding(crate::specs::Outbox::frame_of))]
     pub(crate) fn queue(&mut self, message: &Message) -> Result<(), QueueError>
         ensures ok { OnOk result (self.new ≡ queued self.old message.now) }
         ensures err { OnErr result (self.new ≡ self.old) }
@@ -74,13 +72,10 @@ impl Outbox {
         if self.count >= LAST_SEQ {
             return Err(QueueError::SeqSpent);
         }
-        let Ok(body) = write_message(self.alloc, self.count + 1, message) else {
+        let Ok(framed) = framed(self.alloc, self.count + 1, message) else {
             return Err(QueueError::NoMemory);
         };
-        let Ok(framed) = frame(self.alloc, &body) else {
-            return Err(QueueError::NoMemory);
-        };
-        if self.bytes.extend_from_slice(&framed).is_err() {
+        if self.buffer.push(&framed).is_err() {
             return Err(QueueError::NoMemory);
         }
         self.count += 1;
@@ -91,12 +86,8 @@ impl Outbox {
     pub(crate) fn send<W: Write>(&mut self, writer: &mut W) -> io::Result<usize>
         ensures { Sends (W.contents writer.old) (W.contents writer.new) self.old result self.new }
     {
-        let count = writer.write(&self.bytes[self.start..])?;
-        self.start += count;
-        if self.start >= self.bytes.len() {
-            self.bytes.clear();
-            self.start = 0;
-        }
+        let count = writer.write(self.buffer.as_slice())?;
+        self.buffer.take(count);
         Ok(count)
     }
 
@@ -119,4 +110,12 @@ impl Outbox {
         }
         false
     }
+}
+
+/// The frame of a message with its number.
+#[tactic(auto, unfolding(crate::specs::Outbox::frame_of))]
+pub(crate) fn framed(alloc: Global, seq: u32, message: &Message) -> Result<Vec<u8>, AllocError>
+    ensures { IfOk result (λ b. b.items ≡ frame_of seq message.now) }
+{
+    frame(alloc, &write_message(alloc, seq, message)?)
 }

@@ -7,4 +7,6 @@ pub enum Phase {
     Fresh,
     /// `initialize` was answered.
     Initialized,
+    /// `disconnect` was answered: no request is taken any more.
+    Left,
 }

@@ -2,11 +2,11 @@
 ghost use Rattle.std.specs.Prelude.{◌≡◌};
 ghost use Rattle.rvdap.specs.Requests.{is_taken_in, success_of};
 
+mod cancel;
 mod disconnect;
 mod initialize;
 mod threads;
 
-use crate::ending::Ending;
 use crate::phase::Phase;
 use protocol::Command;
 use replies::ResponseBody;
@@ -16,8 +16,8 @@ use replies::ResponseBody;
 pub struct Success {
     /// What is answered.
     pub body: ResponseBody,
-    /// Whether the connection goes on.
-    pub ending: Ending,
+    /// How far the connection has come then.
+    pub phase: Phase,
 }
 
 /// Whether the request is taken in the phase.
@@ -27,6 +27,7 @@ pub(crate) fn is_taken_in(phase: Phase, command: &Command) -> bool
     match command {
         Command::Initialize(_) => initialize::is_taken_in(phase),
         Command::Threads => threads::is_taken_in(phase),
+        Command::Cancel(_) => cancel::is_taken_in(phase),
         Command::Disconnect(_) => disconnect::is_taken_in(phase),
     }
 }
@@ -38,6 +39,7 @@ pub(crate) fn success_of(phase: Phase, command: &Command) -> Success
     match command {
         Command::Initialize(_) => initialize::success(phase),
         Command::Threads => threads::success(phase),
+        Command::Cancel(_) => cancel::success(phase),
         Command::Disconnect(_) => disconnect::success(phase),
     }
 }

@@ -1,9 +1,8 @@
-//! `disconnect`: the end of the session, in every phase.
+//! `disconnect`: the end of the session, in every phase but after itself.
 ghost use Rattle.std.specs.Prelude.{◌≡◌};
 ghost use Rattle.rvdap.specs.Disconnect as spec;
 
 use super::Success;
-use crate::ending::Ending;
 use crate::phase::Phase;
 use replies::ResponseBody;
 
@@ -14,6 +13,7 @@ pub(crate) fn is_taken_in(phase: Phase) -> bool
     match phase {
         Phase::Fresh => true,
         Phase::Initialized => true,
+        Phase::Left => false,
     }
 }
 
@@ -23,6 +23,6 @@ pub(crate) fn success(_phase: Phase) -> Success
 {
     Success {
         body: ResponseBody::Empty,
-        ending: Ending::Disconnected,
+        phase: Phase::Left,
     }
 }

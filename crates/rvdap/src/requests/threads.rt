@@ -3,7 +3,6 @@ ghost use Rattle.std.specs.Prelude.{◌≡◌};
 ghost use Rattle.rvdap.specs.Threads as spec;
 
 use super::Success;
-use crate::ending::Ending;
 use crate::phase::Phase;
 use replies::ResponseBody;
 
@@ -14,6 +13,7 @@ pub(crate) fn is_taken_in(phase: Phase) -> bool
     match phase {
         Phase::Fresh => false,
         Phase::Initialized => true,
+        Phase::Left => false,
     }
 }
 
@@ -23,6 +23,6 @@ pub(crate) fn success(phase: Phase) -> Success
 {
     Success {
         body: ResponseBody::Threads,
-        ending: Ending::Open(phase),
+        phase,
     }
 }

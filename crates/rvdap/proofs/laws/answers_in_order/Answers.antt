@@ -1,5 +1,5 @@
-use Rattle.rvdap.proofs.Order.{in_order}
+use Rattle.rvdap.proofs.Order.{answers_in_order as proved}
 use Rattle.rvdap.proofs.laws.answers_in_order.Goals as goal
 
 pub returns : goal.returns
-returns c = in_order
+returns c = proved

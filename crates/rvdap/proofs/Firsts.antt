@@ -1,0 +1,13 @@
+-- The first of a list, where there is one.
+use Rattle.std.proofs.Common.{◌≡◌, ℕ, List, [], ◌∷◌, length, Option, Some, None, refl, ap, true, arith}
+use Rattle.std.specs.Prelude.{◌==◌}
+use Rattle.std.proofs.lemmas.Bool.Decides.{nat_tests}
+use Rattle.framing.specs.Streams.{first_of}
+
+pub first_some : (waiting : List (List ℕ)) (b : List ℕ) → Some b ≡ first_of waiting → (bs : List (List ℕ)) × (waiting ≡ b ∷ bs)
+first_some [] b e = cc
+first_some (c ∷ bs) b e = let same : c ≡ b = cc in (bs, ap (λ d. d ∷ bs) same)
+
+pub first_none : (waiting : List (List ℕ)) → None ≡ first_of waiting → waiting ≡ []
+first_none [] e = refl
+first_none (b ∷ bs) e = cc
