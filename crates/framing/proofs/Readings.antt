@@ -3,10 +3,13 @@ use Rattle.std.proofs.Common.{◌≡◌, ℕ, ◌+◌, ◌-◌, ◌<◌, ◌≤�
 use Rattle.std.proofs.lemmas.List.{drop-drop, append-nil, take-append-le, take-append-drop, length-take-le}
 use Rattle.std.proofs.lemmas.Bool.{false≢true}
 use Rattle.std.proofs.lemmas.Bool.Decides.{nat_tests}
+use Rattle.std.specs.Option.{is_some, option_map}
+use Rattle.std.specs.declared.vec.Vec.{Vec}
+use Rattle.std.specs.declared.alloc.Global.{Global}
 use Rattle.framing.specs.Headers.{end_of}
 use Rattle.framing.specs.Reading.{Reading, Tail, size_of, size_by, start_by, start_at, start_of, content_length, reading_by, reading_within, reading_of, with_body, with_bodies}
 use Rattle.framing.specs.Reading.Tail.{Partial}
-use Rattle.framing.specs.Parts.{Parts, parts_of, tail_by}
+use Rattle.framing.specs.Parts.{Parts, TakesFrames, bodies_of, parts_of, tail_by}
 use Rattle.framing.specs.declared.error.FrameError.{FrameError}
 use Rattle.framing.specs.declared.error.FrameError.TheVariants.{HeaderTooLong}
 use Rattle.framing.specs.declared.start.Start.{Start}
@@ -187,6 +190,18 @@ reached_end limit bytes bodies start rest r h = record {
 } where
   with_none : (bodies : List (List ℕ)) (tail : Tail) → with_bodies bodies (record { bodies = []; tail = tail }) ≡ record { bodies = bodies; tail = tail }
   with_none bodies tail = ap (λ (l : List (List ℕ)). let y : Reading = record { bodies = l; tail = tail } in y) (append-nil bodies)
+
+-- bytes that make no frame whole
+pub no_frames : (limit : ℕ) (bytes : List ℕ) (start : Start) (waiting : List (Vec ℕ Global)) → start ≡ start_of limit bytes → parts_of start bytes ≡ None → TakesFrames limit bytes waiting waiting start (length bytes)
+no_frames limit bytes start waiting e h = record {
+  bodies = [];
+  parts = reached_end limit bytes [] start bytes (reached_start limit bytes start e) h;
+  added = sym (append-nil (bodies_of waiting));
+}
+
+pub mapped_none : {A B : Type 0} {r : Option B} (f : A → B) (o : Option A) → is_some o ≡ false → option_map f o ≡ r → r ≡ None
+mapped_none f None h e = sym e
+mapped_none f (Some x) h e = cc
 
 -- More bytes behind those that say how a frame starts change nothing.
 size_of_end : (bytes : List ℕ) (size : ℕ) → end_of bytes ≡ Some size → size ≤ 4096 → size_of bytes ≡ Some size

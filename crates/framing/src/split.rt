@@ -67,6 +67,13 @@ pub(crate) fn take_frames(
         TakesFrames limit bytes.now waiting.old.items waiting.new.items next.start next.size) }
     ensures err { OnErr result (waiting.new.items ≡ waiting.old.items) }
 {
+    // Most pieces of a long body make no frame whole, and then nothing is to be added.
+    if start.parts(bytes).is_none() {
+        return Ok(NextFrame {
+            start,
+            size: bytes.len(),
+        });
+    }
     let mut frames = split(alloc, limit, bytes, start)?;
     waiting.append(&mut frames.bodies)?;
     Ok(NextFrame {

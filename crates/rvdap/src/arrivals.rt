@@ -1,5 +1,6 @@
 //! The requests that came and wait for their answers.
 ghost use Rattle.std.specs.Prelude.{◌≡◌, ◌<◌, ◌≤◌, ◌+◌, [], ◌∷◌, length, map, take, Option, Some, None, IfOk, OnOk, OnErr, Ok, ◌++◌};
+ghost use Rattle.std.specs.Option.{option_copied};
 ghost use Rattle.std.specs.List.{list_any};
 ghost use Rattle.std.specs.VecDeque.{deque_len, deque_capacity};
 ghost use Rattle.framing.specs.Streams.{Unframed};
@@ -48,7 +49,7 @@ impl Arrivals {
 
     /// The first that waits.
     pub(crate) fn first(&self) -> Option<&Pending>
-        ensures { Rattle.std.specs.Option.option_copied result ≡ spec.first_pending self.now.pending }
+        ensures { option_copied result ≡ spec.first_pending self.now.pending }
     {
         self.pending.front()
     }
