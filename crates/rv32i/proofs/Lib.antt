@@ -6,3 +6,4 @@ pub mod Bytes
 pub mod Moves
 pub mod Texts
 pub mod Keeps
+pub mod Only

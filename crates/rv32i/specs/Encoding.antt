@@ -5,7 +5,8 @@
 -- and, each times its power of two, sum to the word. A word that no instruction has is illegal.
 --
 -- Beside the 40 instructions of RV32I nothing is decoded: FENCE.I and the other SYSTEM words are illegal, and so is a
--- shift by an immediate whose bit 25 is set. FENCE takes any value in the fields that the manual reserves.
+-- shift by an immediate in whose word bit 25 is set. FENCE takes any value in its fields, the reserved ones too;
+-- FENCE.TSO is a FENCE whose mode is 8.
 use Rattle.std.specs.Prelude.{◌≡◌, ℕ, Option, MatchOption}
 use Rattle.rv32i.specs.Formats.{RType, IType, ShiftType, SType, BType, UType, JType, FenceType}
 use Rattle.rv32i.specs.declared.instr.Instr.{Instr}

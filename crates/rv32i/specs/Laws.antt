@@ -1,6 +1,7 @@
--- What holds of every word. Each of these statements is the contract of a function of the module `laws`.
+-- What holds of every word and of every machine. Each of these statements is the contract of a function of the module `laws`.
 use Rattle.std.specs.Prelude.{◌≡◌, ℕ}
 use Rattle.rv32i.specs.Encoding.{Encodes}
+use Rattle.rv32i.specs.Machine.{Machine, Effect, IsMove}
 use Rattle.rv32i.specs.declared.instr.Instr.{Instr}
 
 -- A word encodes at most one instruction.
@@ -10,3 +11,7 @@ InstructionIsOnly = (word : ℕ) (i j : Instr) → Encodes i word → Encodes j 
 -- An instruction has at most one word.
 abbrev pub EncodingIsOnly : Type 0
 EncodingIsOnly = (i : Instr) (word other : ℕ) → Encodes i word → Encodes i other → word ≡ other
+
+-- A machine has at most one move: its pc, its registers and its memory settle what a step answers and leaves.
+abbrev pub MoveIsOnly : Type 0
+MoveIsOnly = (before : Machine) (effect other : Effect) → IsMove before effect → IsMove before other → effect ≡ other

@@ -1,7 +1,7 @@
 -- The moves of the machine (RISC-V Unprivileged ISA 20191213, chapter 2).
 --
--- The machine has a program counter, the registers x0 to x31, and memory: each number is below 2 ^ 32, and sums wrap.
--- x0 is hardwired to 0 (section 2.1): a value for x0 is dropped.
+-- The machine has a program counter, the registers x0 to x31, and memory. Of a hart each number is below 2 ^ 32, a byte
+-- below 2 ^ 8, and sums wrap. x0 is hardwired to 0 (section 2.1): it is 0 in each hart, and a value for x0 is dropped.
 --
 -- A move fetches the word at pc and does what its instruction says, one clause for each instruction below. A trap is
 -- precise: it leaves the machine as it was, and so does the end of the program.
@@ -58,7 +58,7 @@ is_below a b = nat_lt a b
 abbrev pub flag : Bool → ℕ
 flag test = if test then 1 else 0
 
--- the low 5 bits of a register say how far to shift (section 2.4.2)
+-- the low 5 bits of a register say how far to shift (section 2.4)
 abbrev pub places : ℕ → ℕ
 places a = a % 32
 
@@ -154,7 +154,7 @@ calls m = if value 17 m == 93 then record { answer = Exit (signed (value 10 m));
 -- ---- the instructions
 
 abbrev pub effect_of : Instr → Machine → Effect
--- 2.4.1: integer register-immediate instructions. The immediate is sign-extended.
+-- 2.4, integer register-immediate instructions. The immediate is sign-extended.
 effect_of (Addi rd rs1 imm) m = gives rd (sum (value rs1 m) imm) m
 effect_of (Slti rd rs1 imm) m = gives rd (flag (is_less (value rs1 m) imm)) m
 effect_of (Sltiu rd rs1 imm) m = gives rd (flag (is_below (value rs1 m) imm)) m
@@ -167,7 +167,7 @@ effect_of (Srai rd rs1 shamt) m = gives rd (shifted_right_signed (value rs1 m) s
 -- LUI: the immediate, whose lowest 12 bits are 0. AUIPC: the same, added to the address of the AUIPC.
 effect_of (Lui rd imm) m = gives rd imm m
 effect_of (Auipc rd imm) m = gives rd (sum m.pc imm) m
--- 2.4.2: integer register-register operations
+-- 2.4, integer register-register operations
 effect_of (Add rd rs1 rs2) m = gives rd (sum (value rs1 m) (value rs2 m)) m
 effect_of (Sub rd rs1 rs2) m = gives rd (difference (value rs1 m) (value rs2 m)) m
 effect_of (Sll rd rs1 rs2) m = gives rd (shifted_left (value rs1 m) (places (value rs2 m))) m

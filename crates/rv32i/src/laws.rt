@@ -1,7 +1,7 @@
 //! What holds of every word and of every move: each law is the contract of a function that does
 //! nothing.
 
-ghost use Rattle.rv32i.specs.Laws.{EncodingIsOnly, InstructionIsOnly};
+ghost use Rattle.rv32i.specs.Laws.{EncodingIsOnly, InstructionIsOnly, MoveIsOnly};
 
 /// A word encodes at most one instruction.
 pub fn instruction_is_only()
@@ -12,4 +12,10 @@ pub fn instruction_is_only()
 /// word.
 pub fn encoding_is_only()
     ensures { EncodingIsOnly }
+{}
+
+/// A machine has at most one move: pc, the registers and memory settle what a step answers and what it
+/// leaves.
+pub fn move_is_only()
+    ensures { MoveIsOnly }
 {}

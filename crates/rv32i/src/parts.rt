@@ -60,7 +60,7 @@ pub(crate) fn shamt(word: u32) -> Shamt
     Shamt::new(((word >> 20) & 31) as u8)
 }
 
-/// Four bits from bit 28, 24 or 20 on.
+/// Bits 31:28 as the mode of a FENCE.
 pub(crate) fn mode(word: u32) -> FenceSet
     ensures { result ≡ word / 2 ^ 28 }
 {

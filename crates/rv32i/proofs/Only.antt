@@ -1,0 +1,100 @@
+-- A machine has one move. Whether two effects are equal can be tested, so it is enough that they cannot differ. If they
+-- did, the word at pc would encode no instruction, since each one would make them equal; and then both are its trap.
+use Rattle.std.proofs.Common.{◌≡◌, ℕ, ℤ, pos, Bool, true, false, cond, eqb, List, Result, Ok, Err, MatchResult, Decides, bytes_eq, int_eq, refl, sym, ap, ◌∙◌}
+use Rattle.std.proofs.lemmas.Bool.Decides.{Decides-eqb, Decides-int_eq, not_from_Decides}
+use Rattle.std.proofs.lemmas.Slice.Eq.{bytes_eq-Decides}
+use Rattle.image.specs.Memory.{word_at}
+use Rattle.image.specs.declared.fault.MemFault.{MemFault}
+use Rattle.rv32i.specs.Encoding.{Encodes, IsIllegal}
+use Rattle.rv32i.specs.Machine.{Machine, Effect, IsMove, effect_of, trapped, fetch_cause}
+use Rattle.rv32i.specs.declared.instr.Instr.{Instr}
+use Rattle.rv32i.specs.declared.stepped.Stepped.{Stepped}
+use Rattle.rv32i.specs.declared.stepped.Stepped.TheVariants.{Retired, Printed, Break as Breakpoint, Exit, Trap}
+use Rattle.rv32i.specs.declared.stepped.Cause.TheVariants.{FetchOutside, Illegal, JumpMisaligned, LoadMisaligned, LoadOutside, StoreMisaligned, StoreOutside, UnknownCall}
+
+-- what a test decides, and what cannot fail to hold, holds
+holds : {P : Type 0} (test : Bool) → Decides test P → ((P → ⊥) → ⊥) → P
+holds true d n = d.0 refl
+holds false d n = absurd (n (not_from_Decides false d refl))
+
+-- An answer as two numbers, and back.
+kind : Stepped → ℕ
+kind Retired = 0
+kind (Printed n) = 1
+kind Breakpoint = 2
+kind (Exit n) = 3
+kind (Trap FetchOutside) = 4
+kind (Trap Illegal) = 5
+kind (Trap JumpMisaligned) = 6
+kind (Trap LoadMisaligned) = 7
+kind (Trap LoadOutside) = 8
+kind (Trap StoreMisaligned) = 9
+kind (Trap StoreOutside) = 10
+kind (Trap UnknownCall) = 11
+
+number : Stepped → ℤ
+number Retired = pos 0
+number (Printed n) = n
+number Breakpoint = pos 0
+number (Exit n) = n
+number (Trap cause) = pos 0
+
+abbrev stepped : ℕ → ℤ → Stepped
+stepped k n = cond (eqb k 0) Retired (cond (eqb k 1) (Printed n) (cond (eqb k 2) Breakpoint (cond (eqb k 3) (Exit n) (cond (eqb k 4) (Trap FetchOutside) (cond (eqb k 5) (Trap Illegal) (cond (eqb k 6) (Trap JumpMisaligned) (cond (eqb k 7) (Trap LoadMisaligned) (cond (eqb k 8) (Trap LoadOutside) (cond (eqb k 9) (Trap StoreMisaligned) (cond (eqb k 10) (Trap StoreOutside) (Trap UnknownCall)))))))))))
+
+back : (s : Stepped) → stepped (kind s) (number s) ≡ s
+unfolding kind number
+back Retired = refl
+back (Printed n) = refl
+back Breakpoint = refl
+back (Exit n) = refl
+back (Trap FetchOutside) = refl
+back (Trap Illegal) = refl
+back (Trap JumpMisaligned) = refl
+back (Trap LoadMisaligned) = refl
+back (Trap LoadOutside) = refl
+back (Trap StoreMisaligned) = refl
+back (Trap StoreOutside) = refl
+back (Trap UnknownCall) = refl
+
+same_answers : (s t : Stepped) → kind s ≡ kind t → number s ≡ number t → s ≡ t
+same_answers s t k n = sym (back s) ∙ ap (λ a. stepped a (number s)) k ∙ ap (stepped (kind t)) n ∙ back t
+
+abbrev made : Stepped → ℕ → List ℕ → List ℕ → Effect
+made answer pc x memory = record { answer = answer; machine = record { pc = pc; x = x; memory = memory } }
+
+same_effects : (e f : Effect) → e.answer ≡ f.answer → e.machine.pc ≡ f.machine.pc → e.machine.x ≡ f.machine.x → e.machine.memory ≡ f.machine.memory → e ≡ f
+same_effects e f a p x m = ap (λ s. made s e.machine.pc e.machine.x e.machine.memory) a ∙ ap (λ s. made f.answer s e.machine.x e.machine.memory) p ∙ ap (λ s. made f.answer f.machine.pc s e.machine.memory) x ∙ ap (made f.answer f.machine.pc f.machine.x) m
+
+-- Effects that cannot differ are equal.
+numbers_equal : (m n : ℕ) → ((m ≡ n → ⊥) → ⊥) → m ≡ n
+numbers_equal m n h = holds (eqb m n) (Decides-eqb m n) h
+
+integers_equal : (m n : ℤ) → ((m ≡ n → ⊥) → ⊥) → m ≡ n
+integers_equal m n h = holds (int_eq m n) (Decides-int_eq m n) h
+
+lists_equal : (xs ys : List ℕ) → ((xs ≡ ys → ⊥) → ⊥) → xs ≡ ys
+lists_equal xs ys h = holds (bytes_eq xs ys) (bytes_eq-Decides xs ys) h
+
+effects_equal : (e f : Effect) → ((e ≡ f → ⊥) → ⊥) → e ≡ f
+effects_equal e f n =
+    let k = numbers_equal (kind e.answer) (kind f.answer) (λ no. n (λ h. no (ap (λ s. kind s.answer) h))) in
+    let i = integers_equal (number e.answer) (number f.answer) (λ no. n (λ h. no (ap (λ s. number s.answer) h))) in
+    let p = numbers_equal e.machine.pc f.machine.pc (λ no. n (λ h. no (ap (λ s. s.machine.pc) h))) in
+    let x = lists_equal e.machine.x f.machine.x (λ no. n (λ h. no (ap (λ s. s.machine.x) h))) in
+    let m = lists_equal e.machine.memory f.machine.memory (λ no. n (λ h. no (ap (λ s. s.machine.memory) h))) in
+    same_effects e f (same_answers e.answer f.answer k i) p x m
+
+abbrev Fetched : Machine → Effect → Result ℕ MemFault → Type 0
+Fetched before effect fetched = MatchResult fetched
+    (λ word. ((i : Instr) → Encodes i word → effect ≡ effect_of i before) × (IsIllegal word → effect ≡ trapped Illegal before))
+    (λ fault. effect ≡ trapped (fetch_cause fault) before)
+
+one_fetched : (before : Machine) (e f : Effect) (fetched : Result ℕ MemFault) → Fetched before e fetched → Fetched before f fetched → e ≡ f
+one_fetched before e f (Ok word) a b = effects_equal e f (λ no.
+    let none : IsIllegal word = λ i h. no (a.0 i h ∙ sym (b.0 i h)) in
+    no (a.1 none ∙ sym (b.1 none)))
+one_fetched before e f (Err fault) a b = a ∙ sym b
+
+pub one_move : (before : Machine) (e f : Effect) → IsMove before e → IsMove before f → e ≡ f
+one_move before e f a b = one_fetched before e f (word_at before.memory before.pc) a b
