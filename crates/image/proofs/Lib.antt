@@ -1,1 +1,4 @@
 pub mod Maps
+mod Finding
+pub mod Rows
+pub mod Nearest

@@ -1,2 +1,4 @@
 pub mod Memory
 pub mod Laws
+pub mod Lines
+pub mod Orders

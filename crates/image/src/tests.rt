@@ -1,4 +1,6 @@
 //! Memory as programs see it.
+mod lines;
+
 use super::*;
 use std::alloc::{AllocError, Global};
 use std::test::Fail;

@@ -1,0 +1,25 @@
+use Rattle.std.proofs.Common.{rules, of_calls, ◌≡◌, sym, ◌∙◌, ap}
+use Rattle.std.specs.Prelude.{nat_le, nat_lt, find, slice_get}
+use Rattle.std.proofs.lemmas.Fn.{always_returns_same}
+use Rattle.std.proofs.lemmas.Option.{slice_get-get_or, slice_get_past}
+use Rattle.image.specs.Lines.{end_of, RowsRise, Table}
+use Rattle.image.proofs.Finding.{found_from_point}
+use Rattle.image.proofs.Rows.{ends_tested, lt_not_le}
+use Rattle.image.proofs.lines.LineTable.row_behind.Goals as goal
+use Rattle.image.proofs.lines.LineTable.row_behind.Goals.{After-partition_point-place}
+
+-- what the search of the rows found
+found : (c : After-partition_point-place) → find (λ row. nat_lt c.args.addr (end_of row)) c.args.self.now.rows ≡ slice_get c.as_slice-rows.result.now c.partition_point-place.result
+found c =
+    let rows = c.as_slice-rows.result.now in
+    let same : c.args.self.now.rows ≡ rows = ap (λ (t : Table). t.rows) (sym c.self.view_is) ∙ sym c.as_slice-rows.ensures.value in
+    let rise : RowsRise rows c.self.inside.end = rw c.as_slice-rows.ensures.value c.self.invariant.rise in
+    let point = c.partition_point-place.ensures.partitioned (λ row. nat_le (end_of row) c.args.addr) (always_returns_same _ _ _ (λ a r f k. search (rules, of_calls)))
+    (λ i j d l m up. ends_tested rows c.self.inside.end c.args.addr d rise i j l m up) in
+    ap (find (λ row. nat_lt c.args.addr (end_of row))) same ∙ found_from_point (λ row. nat_le (end_of row) c.args.addr) (λ row. nat_lt c.args.addr (end_of row)) rows c.partition_point-place.result (λ row. lt_not_le c.args.addr (end_of row)) c.partition_point-place.ensures.bound point.0 point.1
+
+pub returns-then-place-rows-clause-row : goal.returns-then-place-rows-clause-row
+returns-then-place-rows-clause-row c = sym (found (goal.at.returns-then-place-rows-clause-row c).After-partition_point-place ∙ slice_get-get_or c.as_slice-rows.result.now c.partition_point-place.result (0, 0, 0) c.if-place-rows.true)
+
+pub returns-else-place-rows-clause-row : goal.returns-else-place-rows-clause-row
+returns-else-place-rows-clause-row c = sym (found (goal.at.returns-else-place-rows-clause-row c).After-partition_point-place ∙ slice_get_past c.as_slice-rows.result.now c.partition_point-place.result c.if-place-rows.false)
