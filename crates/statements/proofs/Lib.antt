@@ -1,0 +1,5 @@
+pub mod Values
+pub mod Pieces
+pub mod Registers
+pub mod Said
+pub mod Labelling

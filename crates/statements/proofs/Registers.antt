@@ -1,0 +1,145 @@
+-- The names of registers.
+use Rattle.std.proofs.Common.{◌≡◌, ℕ, ◌+◌, ◌<◌, ◌≤◌, zero, suc, Bool, true, false, cond, not, nat_lt, ◌==◌, ◌&&◌, ◌⊎◌, List, [], ◌∷◌, length, take, drop, Option, Some, None, refl, sym, ap, ◌∙◌, arith, get_or, if◌then◌else◌, inl, inr, codes, lit<}
+use Rattle.std.proofs.lemmas.Bool.Decides.{nat_tests}
+use Rattle.std.specs.List.{list_all, position}
+use Rattle.std.proofs.lemmas.List.Quantifiers.{position-Some}
+use Rattle.std.proofs.lemmas.Slice.Eq.{bytes_eq-Decides}
+use Rattle.rv32i.specs.Names.{Names, names, numbered_names, name_of, numbered_name_of}
+use Rattle.statements.specs.Operands.{place_of, register_of, register_in}
+use Rattle.std.specs.Str.{bytes_eq, IsAscii, IsUtf8}
+use Rattle.std.proofs.lemmas.Str.{IsUtf8-from_ascii}
+use Rattle.statements.specs.Spelling.{begins_name, is_name, is_name_byte, named}
+
+and_left : (x y : Bool) → (x && y) ≡ true → x ≡ true
+and_left true y h = refl
+and_left false y h = h
+
+and_right : (x y : Bool) → (x && y) ≡ true → y ≡ true
+and_right true y h = h
+and_right false y h = cc
+
+name_byte_small : (b : ℕ) → is_name_byte b ≡ true → b < 128
+name_byte_small b h = grind (arith, nat_tests)
+
+name_bytes_small : (text : List ℕ) → list_all is_name_byte text ≡ true → (i : ℕ) → get_or text i 0 < 128
+name_bytes_small [] h i = omega arith
+name_bytes_small (b ∷ text) h zero = name_byte_small b (and_left (is_name_byte b) _ h)
+name_bytes_small (b ∷ text) h (suc i) = name_bytes_small text (and_right (is_name_byte b) _ h) i
+
+begins_small : (b : ℕ) → begins_name b ≡ true → b < 128
+begins_small b h = grind (arith, nat_tests)
+
+name_small : (text : List ℕ) → is_name text ≡ true → (i : ℕ) → get_or text i 0 < 128
+name_small [] h i = cc
+name_small (b ∷ text) h zero = begins_small b (and_left (begins_name b) _ h)
+name_small (b ∷ text) h (suc i) = name_bytes_small text (and_right (begins_name b) _ h) i
+
+-- a name is UTF-8
+pub name_is_utf8 : (text : List ℕ) → is_name text ≡ true → IsUtf8 text
+name_is_utf8 text h = IsUtf8-from_ascii text (name_small text h)
+
+-- a test of each number below another
+all_below : ℕ → (ℕ → Bool) → Bool
+all_below zero p = true
+all_below (suc k) p = p k && all_below k p
+
+all_below_at : (p : ℕ → Bool) (k n : ℕ) → all_below k p ≡ true → n < k → p n ≡ true
+unfolding all_below
+all_below_at p zero n h l = absurd (omega arith)
+all_below_at p (suc k) n h l =
+    let P : Bool → Type 0 = λ t. (n == k) ≡ t → p n ≡ true in
+    let go : P (n == k) = elim (n == k) as P [
+      | true ↦ λ t. let e : n ≡ k = grind (arith, nat_tests) in ap p e ∙ and_left (p k) _ h
+      | false ↦ λ t. let l : n < k = grind (arith, nat_tests) in all_below_at p k n (and_right (p k) _ h) l
+    ] in go refl
+
+is_place : Option ℕ → ℕ → Bool
+is_place None n = false
+is_place (Some m) n = m == n
+
+place_is : (o : Option ℕ) (n : ℕ) → is_place o n ≡ true → o ≡ Some n
+unfolding is_place
+place_is None n h = cc
+place_is (Some m) n h = let e : m ≡ n = grind (arith, nat_tests) in ap (λ x. Some x) e
+
+-- each register has its names, and they are names
+right_at : ℕ → Bool
+right_at n = is_place (register_of (name_of n)) n && (is_place (register_of (numbered_name_of n)) n && (is_name (name_of n) && is_name (numbered_name_of n)))
+
+right : all_below 32 right_at ≡ true
+unfolding all_below right_at is_place
+right = refl
+
+right_below : (n : ℕ) → n < 32 → right_at n ≡ true
+right_below n l = all_below_at right_at 32 n right l
+
+-- a name of a register is found to be that register's
+pub register_named : (name : List ℕ) (n : ℕ) → Names name n → register_of name ≡ Some n
+unfolding right_at
+register_named name n h =
+    let all = right_below n h.0 in
+    let P : Type 0 = register_of name ≡ Some n in
+    elim h.1 as (λ _. P) [
+      | inl e ↦ ap register_of e ∙ place_is _ n (and_left _ _ all)
+      | inr others ↦ elim others as (λ _. P) [
+        | inl e ↦ ap register_of e ∙ place_is _ n (and_left _ _ (and_right (is_place (register_of (name_of n)) n) _ all))
+        | inr fp ↦ ap register_of fp.0 ∙ ap (λ x. Some x) (sym fp.1)
+      ]
+    ]
+
+-- it is a name
+pub named_is_name : (name : List ℕ) (n : ℕ) → Names name n → is_name name ≡ true
+unfolding right_at
+named_is_name name n h =
+    let all = and_right (is_place (register_of (numbered_name_of n)) n) _ (and_right (is_place (register_of (name_of n)) n) _ (right_below n h.0)) in
+    let P : Type 0 = is_name name ≡ true in
+    elim h.1 as (λ _. P) [
+      | inl e ↦ ap is_name e ∙ and_left _ _ all
+      | inr others ↦ elim others as (λ _. P) [
+        | inl e ↦ ap is_name e ∙ and_right (is_name (name_of n)) _ all
+        | inr fp ↦ ap is_name fp.0
+      ]
+    ]
+
+-- what is in no list has no place
+no_place : (name : List ℕ) (list : List (List ℕ)) → ((i : ℕ) → i < length list → name ≡ get_or list i [] → ⊥) → place_of name list ≡ None
+no_place name list h = go (place_of name list) refl where
+  go : (o : Option ℕ) → place_of name list ≡ o → o ≡ None
+  go None e = refl
+  go (Some i) e =
+      let at = position-Some (λ other. bytes_eq name other) list i [] e in
+      absurd (h i at.0 ((bytes_eq-Decides name (get_or list i [])).0 at.1))
+
+-- and what names no register is not found
+pub register_none : (name : List ℕ) → ((n : ℕ) → Names name n → ⊥) → register_of name ≡ None
+register_none name h =
+    let plain : place_of name names ≡ None = no_place name names (λ i l e. h i (l, inl e)) in
+    let numbered : place_of name numbered_names ≡ None = no_place name numbered_names (λ i l e. h i (l, inr (inl e))) in
+    let eight : ℕ = 8 in
+    let P : Bool → Type 0 = λ t. bytes_eq name (codes "fp") ≡ t → cond t (Some eight) None ≡ None in
+    let fp : P (bytes_eq name (codes "fp")) = elim (bytes_eq name (codes "fp")) as P [
+      | true ↦ λ t. let small : eight < 32 = lit< tt in let fp : name ≡ codes "fp" = (bytes_eq-Decides name (codes "fp")).0 t in let named : Names name eight = (small, inr (inr (fp, refl))) in absurd (h eight named)
+      | false ↦ λ t. refl
+    ] in rw plain (rw numbered (fp refl))
+
+-- what a text is that was looked at as a name
+pub unnamed : (text : List ℕ) → None ≡ (if is_name text then Some text else None) → is_name text ≡ true → ⊥
+unnamed text h t = let some : None ≡ Some text = h ∙ rw t refl in cc
+
+pub named_text : (text name : List ℕ) → Some name ≡ (if is_name text then Some text else None) → name ≡ text
+named_text text name h =
+    let P : Bool → Type 0 = λ t. Some name ≡ cond t (Some text) None → name ≡ text in
+    let go : P (is_name text) = elim (is_name text) as P [
+      | true ↦ λ e. cc
+      | false ↦ λ e. cc
+    ] in go h
+
+-- what is no name stands in no table of names
+pub no_row : {A : Type 0} (rows : List (List ℕ × A)) (text : List ℕ) → list_all (λ row. is_name row.0) rows ≡ true → is_name text ≡ false → named rows text ≡ None
+no_row [] text all h = refl
+no_row ((name, a) ∷ rows) text all h =
+    let P : Bool → Type 0 = λ t. bytes_eq text name ≡ t → cond t (Some a) (named rows text) ≡ None in
+    let go : P (bytes_eq text name) = elim (bytes_eq text name) as P [
+      | true ↦ λ t. let same : text ≡ name = (bytes_eq-Decides text name).0 t in let both : true ≡ false = sym (and_left (is_name name) _ all) ∙ sym (ap is_name same) ∙ h in cc
+      | false ↦ λ t. no_row rows text (and_right (is_name name) _ all) h
+    ] in go refl

@@ -1,0 +1,13 @@
+use Rattle.std.proofs.Common.{◌≡◌, ◌+◌, List, ℕ, length, Option, Some, None, map}
+use Rattle.std.specs.List.{list_all}
+use Rattle.statements.specs.Operands.{are_operands, is_operand}
+use Rattle.statements.specs.Spelling.{pieces_behind, trimmed}
+use Rattle.std.specs.Option.{option_copied}
+use Rattle.statements.proofs.Pieces.{left}
+use Rattle.statements.proofs.operands.are_operands.Given as goal
+
+abbrev pub invariant-pieces : goal.invariant-pieces
+invariant-pieces l = are_operands l.text ≡ list_all is_operand (map trimmed (pieces_behind 44 (option_copied l.rest)))
+
+abbrev pub decreases-pieces : goal.decreases-pieces
+decreases-pieces l = left (option_copied l.rest)

@@ -1,0 +1,66 @@
+-- How a line is spelled: blanks, names, and a text divided at a byte.
+--
+-- Blanks are the space and the tab. A name is a letter, `_` or `.`, and then letters, digits, `_`, `.` and `$`. Labels
+-- are names, and so are the words of instructions and directives.
+use Rattle.std.specs.Prelude.{◌≡◌, ℕ, ◌+◌, Bool, true, false, ◌==◌, nat_le, if◌then◌else◌, ◌&&◌, ◌||◌, not, List, [], ◌∷◌, ◌++◌, length, take, drop, map, reverse, position, Option, Some, None, codes, refl}
+use Rattle.std.specs.List.{list_all, slice_split}
+use Rattle.std.specs.Str.{bytes_eq}
+use Rattle.std.specs.Char.{is_ascii_digit, is_ascii_alphabetic}
+
+-- a space or a tab
+abbrev pub is_blank : ℕ → Bool
+is_blank b = (b == 32) || (b == 9)
+
+-- the text without the blanks round it
+abbrev pub without_leading_blanks : List ℕ → List ℕ
+without_leading_blanks [] = []
+without_leading_blanks (b ∷ text) = if is_blank b then without_leading_blanks text else b ∷ text
+
+abbrev pub without_trailing_blanks : List ℕ → List ℕ
+without_trailing_blanks text = reverse (without_leading_blanks (reverse text))
+
+abbrev pub trimmed : List ℕ → List ℕ
+trimmed text = without_trailing_blanks (without_leading_blanks text)
+
+-- the bytes of a name
+abbrev pub begins_name : ℕ → Bool
+begins_name b = is_ascii_alphabetic b || ((b == 95) || (b == 46))
+
+abbrev pub is_name_byte : ℕ → Bool
+is_name_byte b = begins_name b || (is_ascii_digit b || (b == 36))
+
+abbrev pub is_name : List ℕ → Bool
+is_name [] = false
+is_name (b ∷ bytes) = begins_name b && list_all is_name_byte bytes
+
+-- a text divided at a byte into what stands before the first one, and what stands behind it, if there is one
+abbrev pub parted_at : List ℕ → Option ℕ → Option (List ℕ × List ℕ)
+parted_at text None = None
+parted_at text (Some i) = Some (take i text, drop (i + 1) text)
+
+abbrev pub parted : ℕ → List ℕ → Option (List ℕ × List ℕ)
+parted byte text = parted_at text (position (λ b. b == byte) text)
+
+-- a text divided at each of a byte: one piece more than there are such bytes
+abbrev pub pieces : ℕ → List ℕ → List (List ℕ)
+pieces byte text = slice_split (λ b. b == byte) text
+
+-- a text behind its front, if it has that front
+abbrev pub stripped : List ℕ → List ℕ → Option (List ℕ)
+stripped front text = if bytes_eq (take (length front) text) front then Some (drop (length front) text) else None
+
+pieces_of : pieces 44 (codes "a,,b") ≡ codes "a" ∷ [] ∷ codes "b" ∷ []
+pieces_of = refl
+
+trimmed_of : trimmed (codes "  a b ") ≡ codes "a b"
+trimmed_of = refl
+
+-- the pieces behind the first
+abbrev pub pieces_behind : ℕ → Option (List ℕ) → List (List ℕ)
+pieces_behind byte None = []
+pieces_behind byte (Some text) = pieces byte text
+
+-- what stands beside a text in a table
+abbrev pub named : {A : Type 0} → List (List ℕ × A) → List ℕ → Option A
+named [] text = None
+named ((name, a) ∷ rows) text = if bytes_eq text name then Some a else named rows text

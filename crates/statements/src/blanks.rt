@@ -1,0 +1,96 @@
+//! Texts without the blanks round them, and names.
+ghost use Rattle.std.specs.Prelude.{◌≡◌, ◌<◌, ◌==◌, ◌∷◌, List, ℕ, length, IsTrue, IfSome, Option, position};
+ghost use Rattle.std.specs.List.{list_all};
+ghost use Rattle.std.specs.Option.{option_copied, option_map};
+ghost use Rattle.statements.specs.Spelling.{begins_name, stripped, is_blank, is_name, is_name_byte, parted, trimmed, without_leading_blanks, without_trailing_blanks};
+
+/// Whether a byte is a space or a tab.
+#[inline]
+pub(crate) fn is_blank(byte: u8) -> bool
+    ensures { result ≡ is_blank byte }
+{
+    byte == b' ' || byte == b'\t'
+}
+
+/// The text without the blanks round it.
+pub(crate) fn trimmed(text: &[u8]) -> &[u8]
+    ensures { result.now ≡ trimmed text.now }
+{
+    without_trailing_blanks(without_leading_blanks(text))
+}
+
+/// The text without the blanks before it.
+pub(crate) fn without_leading_blanks(text: &[u8]) -> &[u8]
+    ensures { result.now ≡ without_leading_blanks text.now }
+{
+    for i in 0..text.len() {
+        if !is_blank(text[i]) {
+            return &text[i..];
+        }
+    }
+    b""
+}
+
+fn without_trailing_blanks(text: &[u8]) -> &[u8]
+    ensures { result.now ≡ without_trailing_blanks text.now }
+{
+    let mut end = text.len();
+    while end > 0 && is_blank(text[end - 1]) {
+        end -= 1;
+    }
+    &text[..end]
+}
+
+fn begins_name(byte: u8) -> bool
+    ensures { result ≡ begins_name byte }
+{
+    byte.is_ascii_alphabetic() || byte == b'_' || byte == b'.'
+}
+
+fn is_name_byte(byte: u8) -> bool
+    ensures { result ≡ is_name_byte byte }
+{
+    begins_name(byte) || byte.is_ascii_digit() || byte == b'$'
+}
+
+/// Whether a text is a name.
+pub(crate) fn is_name(text: &[u8]) -> bool
+    ensures { result ≡ is_name text.now }
+{
+    match text {
+        [] => false,
+        [first, rest @ ..] => begins_name(*first) && are_name_bytes(rest),
+    }
+}
+
+fn are_name_bytes(text: &[u8]) -> bool
+    ensures { result ≡ list_all is_name_byte text.now }
+{
+    text.iter().all(|b| is_name_byte(*b))
+}
+
+/// What stands before the first of a byte, and behind it. `None`: there is none.
+pub(crate) fn parted(byte: u8, text: &[u8]) -> Option<(&[u8], &[u8])>
+    ensures parts { option_map (λ p. (p.0.now, p.1.now)) result ≡ parted byte text.now }
+    ensures smaller { IfSome result (λ p. length p.1.now < length text.now) }
+{
+    let i = place_of(byte, text)?;
+    Some((&text[..i], &text[i + 1..]))
+}
+
+// Where the first of a byte is.
+fn place_of(byte: u8, text: &[u8]) -> Option<usize>
+    ensures { result ≡ position (λ b. b == byte) text.now }
+{
+    text.iter().position(|b| *b == byte)
+}
+
+/// The text behind this front. `None`: it has another.
+pub(crate) fn stripped<'a>(front: &[u8], text: &'a [u8]) -> Option<&'a [u8]>
+    ensures { option_copied result ≡ stripped front.now text.now }
+{
+    match text.strip_prefix(front) {
+        Some(rest) => Some(rest),
+        None => None,
+    }
+}

@@ -1,0 +1,268 @@
+//! What an operand may be.
+ghost use Rattle.std.specs.Prelude.{◌≡◌, ◌≤◌, ◌<◌, ◌+◌, ◌*◌, ◌%◌, ◌^◌, ◌∷◌, List, ℕ, length, codes, Option, Some, None, Ok, Err, IfOk, if◌then◌else◌};
+ghost use Rattle.std.specs.Option.{option_copied, option_map};
+ghost use Rattle.statements.specs.Spelling.{is_name, named};
+ghost use Rattle.statements.specs.Numbers as numbers;
+ghost use Rattle.statements.specs.Operands as spec;
+
+use crate::blanks::{is_name, parted, stripped, trimmed, without_leading_blanks};
+use crate::error::LineError;
+use crate::name::Name;
+use crate::number::bits_in;
+use crate::operands::{Access, Low};
+use crate::statement::Target;
+use rv32i::{FenceSet, Imm, Reg, reg_of};
+
+/// The register that a text names.
+pub(crate) fn register_in(text: &[u8]) -> Result<Reg, LineError>
+    ensures { result ≡ spec.register_in text.now }
+{
+    let Some(name) = name_in(text) else {
+        return Err(LineError::BadOperand);
+    };
+    match reg_of(name.as_str()) {
+        Some(number) => Ok(Reg::new(number as u8)),
+        None => Err(LineError::BadOperand),
+    }
+}
+
+/// The label that a text names.
+pub(crate) fn label_in(text: &[u8]) -> Result<Name<'_>, LineError>
+    ensures { result ≡ spec.label_in text.now }
+{
+    match name_in(text) {
+        Some(name) => Ok(name),
+        None => Err(LineError::BadOperand),
+    }
+}
+
+/// The text, if it is a name.
+pub(crate) fn name_in(text: &[u8]) -> Option<Name<'_>>
+    ensures { result ≡ (if is_name text.now then Some text.now else None) }
+{
+    if !is_name(text) {
+        return None;
+    }
+    match str::from_utf8(text) {
+        Ok(name) => Some(Name::new(name)),
+        Err(_) => None,
+    }
+}
+
+/// What stands before a closing bracket at the end, without the blanks round it.
+fn closed(text: &[u8]) -> Option<&[u8]>
+    ensures { option_copied result ≡ spec.closed text.now }
+{
+    match text.strip_suffix(b")") {
+        Some(inner) => Some(trimmed(inner)),
+        None => None,
+    }
+}
+
+/// What stands in brackets, without the blanks round it.
+fn bracketed(text: &[u8]) -> Option<&[u8]>
+    ensures { option_copied result ≡ spec.bracketed text.now }
+{
+    match stripped(b"(", text) {
+        Some(behind) => closed(behind),
+        None => None,
+    }
+}
+
+/// The label in brackets behind `%lo` or `%hi`.
+pub(crate) fn part_in(text: &[u8]) -> Result<Name<'_>, LineError>
+    ensures { result ≡ spec.part_in text.now }
+{
+    match bracketed(without_leading_blanks(text)) {
+        Some(label) => label_in(label),
+        None => Err(LineError::BadOperand),
+    }
+}
+
+fn immediate_in(text: &[u8]) -> Result<Imm, LineError>
+    ensures { result ≡ spec.immediate_in text.now }
+{
+    match bits_in(2048, 2047, text) {
+        Ok(bits) => Ok(Imm::new(bits)),
+        Err(error) => Err(error),
+    }
+}
+
+/// An immediate of 12 bits.
+pub(crate) fn low_in(text: &[u8]) -> Result<Low<'_>, LineError>
+    ensures { result ≡ spec.low_in text.now }
+{
+    match stripped(b"%lo", text) {
+        Some(behind) => part_low(part_in(behind)),
+        None => bits_low(immediate_in(text)),
+    }
+}
+
+fn bits_low<'a>(bits: Result<Imm, LineError>) -> Result<Low<'a>, LineError>
+    ensures { result ≡ spec.bits_low bits }
+{
+    match bits {
+        Ok(bits) => Ok(Low::Bits(bits)),
+        Err(error) => Err(error),
+    }
+}
+
+fn part_low(label: Result<Name<'_>, LineError>) -> Result<Low<'_>, LineError>
+    ensures { result ≡ spec.part_low label.entry }
+{
+    match label {
+        Ok(label) => Ok(Low::Part(label)),
+        Err(error) => Err(error),
+    }
+}
+
+/// A register in brackets behind an offset.
+pub(crate) fn access_in(text: &[u8]) -> Result<Access<'_>, LineError>
+    ensures { result ≡ spec.access_in text.now }
+{
+    match stripped(b"%lo", text) {
+        Some(behind) => part_access(stripped(b"(", without_leading_blanks(behind))),
+        None => plain_access(parted(b'(', text)),
+    }
+}
+
+fn plain_access<'a>(parts: Option<(&'a [u8], &'a [u8])>) -> Result<Access<'a>, LineError>
+    ensures { result ≡ spec.plain_access (option_map (λ p. (p.0.now, p.1.now)) parts.entry) }
+{
+    match parts {
+        Some((offset, behind)) => access_with(offset_in(trimmed(offset)), base_by(closed(behind))),
+        None => Err(LineError::BadOperand),
+    }
+}
+
+fn part_access(text: Option<&[u8]>) -> Result<Access<'_>, LineError>
+    ensures { result ≡ spec.part_access (option_copied text.entry) }
+{
+    let Some(text) = text else {
+        return Err(LineError::BadOperand);
+    };
+    match parted(b')', text) {
+        Some((label, behind)) => access_with(
+            part_low(label_in(trimmed(label))),
+            base_by(bracketed(without_leading_blanks(behind))),
+        ),
+        None => Err(LineError::BadOperand),
+    }
+}
+
+fn offset_in(text: &[u8]) -> Result<Low<'_>, LineError>
+    ensures { result ≡ spec.offset_in text.now }
+{
+    if text.is_empty() {
+        return Ok(Low::Bits(Imm::new(0)));
+    }
+    bits_low(immediate_in(text))
+}
+
+fn base_by(name: Option<&[u8]>) -> Result<Reg, LineError>
+    ensures { result ≡ spec.base_by (option_copied name.entry) }
+{
+    match name {
+        Some(name) => register_in(name),
+        None => Err(LineError::BadOperand),
+    }
+}
+
+// What has no such form is not looked at for its range.
+fn access_with(
+    offset: Result<Low<'_>, LineError>,
+    base: Result<Reg, LineError>,
+) -> Result<Access<'_>, LineError>
+    ensures { result ≡ spec.access_with offset.entry base }
+{
+    match base {
+        Ok(base) => match offset {
+            Ok(offset) => Ok(Access { offset, base }),
+            Err(error) => Err(error),
+        },
+        Err(error) => Err(error),
+    }
+}
+
+/// Where a jump or a branch goes.
+pub(crate) fn target_in(text: &[u8]) -> Result<Target<'_>, LineError>
+    ensures { result ≡ spec.target_in text.now }
+{
+    if let Some(label) = name_in(text) {
+        return Ok(Target::Label(label));
+    }
+    match bits_in(0, 4_294_967_295, text) {
+        Ok(address) => Ok(Target::Address(address)),
+        Err(error) => Err(error),
+    }
+}
+
+/// A set of accesses, by the letters of `iorw` in this order.
+pub(crate) fn set_in(text: &[u8]) -> Result<FenceSet, LineError>
+    ensures { result ≡ spec.set_in text.now }
+{
+    match name_in(text) {
+        Some(name) => set_named(name.as_str()),
+        None => Err(LineError::BadOperand),
+    }
+}
+
+fn set_named(name: &str) -> Result<FenceSet, LineError>
+    ensures { result ≡ spec.set_in name.now }
+{
+    match set_of(name) {
+        Some(set) => Ok(set),
+        None => Err(LineError::BadOperand),
+    }
+}
+
+fn set_of(name: &str) -> Option<FenceSet>
+    ensures { result ≡ named spec.sets name.now }
+{
+    if name == "w" {
+        return Some(FenceSet::new(1));
+    }
+    if name == "r" {
+        return Some(FenceSet::new(2));
+    }
+    if name == "rw" {
+        return Some(FenceSet::new(3));
+    }
+    if name == "o" {
+        return Some(FenceSet::new(4));
+    }
+    if name == "ow" {
+        return Some(FenceSet::new(5));
+    }
+    if name == "or" {
+        return Some(FenceSet::new(6));
+    }
+    if name == "orw" {
+        return Some(FenceSet::new(7));
+    }
+    if name == "i" {
+        return Some(FenceSet::new(8));
+    }
+    if name == "iw" {
+        return Some(FenceSet::new(9));
+    }
+    if name == "ir" {
+        return Some(FenceSet::new(10));
+    }
+    if name == "irw" {
+        return Some(FenceSet::new(11));
+    }
+    if name == "io" {
+        return Some(FenceSet::new(12));
+    }
+    if name == "iow" {
+        return Some(FenceSet::new(13));
+    }
+    if name == "ior" {
+        return Some(FenceSet::new(14));
+    }
+    if name == "iorw" {
+        return Some(FenceSet::new(15));
+    }
+    None
+}

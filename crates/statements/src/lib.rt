@@ -1,0 +1,25 @@
+//! The assembly language of RV32I, line by line: what a line says, before any address is known.
+#![tactic(auto)]
+
+mod blanks;
+mod directives;
+mod error;
+mod forms;
+mod instructions;
+mod items;
+mod line;
+mod name;
+mod number;
+mod operands;
+mod operations;
+mod reading;
+mod statement;
+mod words;
+
+pub use error::LineError;
+pub use items::{Item, Items, Width};
+pub use line::{Labels, Line};
+pub use name::Name;
+pub use operations::{Condition, ImmediateOperation, StoreOperation, lower_part, upper_part};
+pub use reading::read_line;
+pub use statement::{Statement, Target};

@@ -1,0 +1,145 @@
+//! Operands.
+ghost use Rattle.std.specs.Prelude.{◌≡◌, ◌≤◌, ◌<◌, ◌+◌, ◌%◌, ◌^◌, ◌∷◌, ◌↔◌, [], true, IsSome, List, ℕ, length, Option, Some, None, Ok, IfOk, IfSome, if◌then◌else◌};
+ghost use Rattle.std.specs.List.{list_all};
+ghost use Rattle.std.specs.Option.{option_copied};
+ghost use Rattle.statements.specs.Spelling.{is_name, pieces, pieces_behind, trimmed};
+ghost use Rattle.statements.specs.Numbers.{bits_in};
+ghost use Rattle.statements.specs.Operands as spec;
+
+use crate::blanks::{is_name, parted, stripped, trimmed, without_leading_blanks};
+use crate::error::LineError;
+use crate::name::Name;
+use crate::number::bits_in;
+use crate::statement::Target;
+use rv32i::{FenceSet, Imm, Reg, reg_of};
+use std::marker::Model;
+
+/// One operand, without the blanks round it. A contract sees its bytes.
+#[derive(Drop)]
+pub(crate) struct Operand<'a> {
+    text: &'a [u8],
+}
+
+impl<'a> Model for Operand<'a> {
+    ghost use Rattle.std.specs.Prelude.{List, ℕ};
+
+    ghost Value = { List ℕ };
+
+    ghost view = { λ o. o.text.now };
+}
+
+/// The operands behind a word, by their number.
+#[derive(Drop)]
+pub(crate) enum Operands<'a> {
+    /// There is none.
+    Zero,
+    /// There is one.
+    One(Operand<'a>),
+    /// There are two.
+    Two(Operand<'a>, Operand<'a>),
+    /// There are three.
+    Three(Operand<'a>, Operand<'a>, Operand<'a>),
+    /// There are more.
+    More,
+}
+
+/// The lower 12 bits of something.
+#[derive(Drop)]
+pub(crate) enum Low<'a> {
+    /// These.
+    Bits(Imm),
+    /// Those of a label's address.
+    Part(Name<'a>),
+}
+
+/// An address: a register and an offset.
+#[derive(Drop)]
+pub(crate) struct Access<'a> {
+    /// The offset.
+    pub offset: Low<'a>,
+    /// The register.
+    pub base: Reg,
+}
+
+/// The operands in what stands behind a word, which has no blanks round it. `None`: one of them is
+/// blank.
+pub(crate) fn operands_in(text: &[u8]) -> Option<Operands<'_>>
+    ensures some { IfSome result (λ o. o ≡ spec.operands_in text.now) }
+    ensures blank { IsSome result ↔ (spec.are_operands text.now ≡ true) }
+{
+    if text.is_empty() {
+        return Some(Operands::Zero);
+    }
+    if !are_operands(text) {
+        return None;
+    }
+    Some(counted(text))
+}
+
+// Whether none of them is blank.
+fn are_operands(text: &[u8]) -> bool
+    requires { 0 < length text.now }
+    ensures { result ≡ spec.are_operands text.now }
+{
+    let mut rest = Some(text);
+    'pieces: while let Some(pieces) = rest {
+        let (piece, behind) = first_piece(pieces);
+        if trimmed(piece).is_empty() {
+            return false;
+        }
+        rest = behind;
+    }
+    true
+}
+
+fn counted(text: &[u8]) -> Operands<'_>
+    requires { 0 < length text.now }
+    ensures { result ≡ spec.operands_in text.now }
+{
+    let (first, behind) = first_piece(text);
+    let first = Operand::new(first);
+    let Some(text) = behind else {
+        return Operands::One(first);
+    };
+    let (second, behind) = first_piece(text);
+    let second = Operand::new(second);
+    let Some(text) = behind else {
+        return Operands::Two(first, second);
+    };
+    let (third, behind) = first_piece(text);
+    let third = Operand::new(third);
+    if behind.is_some() {
+        return Operands::More;
+    }
+    Operands::Three(first, second, third)
+}
+
+/// The first piece of a text that is divided at commas, and what stands behind the comma, if there is
+/// one.
+pub(crate) fn first_piece(text: &[u8]) -> (&[u8], Option<&[u8]>)
+    ensures pieces { pieces 44 text.now ≡ result.0.now ∷ pieces_behind 44 (option_copied result.1) }
+    ensures smaller { IfSome result.1 (λ behind. length behind.now < length text.now) }
+{
+    match parted(b',', text) {
+        Some((piece, behind)) => (piece, Some(behind)),
+        None => (text, None),
+    }
+}
+
+impl<'a> Operand<'a> {
+    /// What stands between two commas, without the blanks round it.
+    fn new(piece: &'a [u8]) -> Operand<'a>
+        ensures { result ≡ trimmed piece.now }
+    {
+        Operand {
+            text: trimmed(piece),
+        }
+    }
+
+    /// Its text.
+    pub(crate) fn text(&self) -> &'a [u8]
+        ensures { result.now ≡ self.now }
+    {
+        self.text
+    }
+}
