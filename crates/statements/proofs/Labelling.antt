@@ -1,12 +1,10 @@
 -- The labels at the front of a text.
-use Rattle.std.proofs.Common.{◌≡◌, ℕ, ◌++◌, Bool, true, false, if◌then◌else◌, List, [], ◌∷◌, Option, Some, None, refl, sym, ap, ◌∙◌, append_assoc}
-use Rattle.std.proofs.lemmas.List.{append-nil}
+use Rattle.std.proofs.Common.{◌≡◌, ℕ, ◌++◌, List, [], ◌∷◌, Some, None, sym, ap, ◌∙◌, append_assoc}
 use Rattle.std.proofs.lemmas.List.Splits.{join_with_byte-slice_split}
 use Rattle.std.specs.List.{join_with_byte}
 use Rattle.statements.specs.Reading.{label_before, labels_of, labels_with, rest_of, rest_with}
-use Rattle.statements.specs.Spelling.{is_name, parted, pieces, without_leading_blanks}
+use Rattle.statements.specs.Spelling.{parted, pieces}
 use Rattle.statements.proofs.Pieces.{pieces_none, pieces_some, shape}
-use Rattle.statements.proofs.Registers.{named_text}
 
 -- without a colon there is no label
 pub no_colon : (text : List ℕ) → parted 58 text ≡ None → (labels_of (pieces 58 text) ≡ []) × (rest_of (pieces 58 text) ≡ text)

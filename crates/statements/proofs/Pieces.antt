@@ -1,10 +1,10 @@
 -- A text divided at a byte.
-use Rattle.std.proofs.Common.{◌≡◌, ℕ, ◌+◌, ◌<◌, ◌≤◌, zero, suc, Bool, true, false, cond, not, nat_lt, ◌==◌, List, [], ◌∷◌, ◌++◌, length, take, drop, map, Result, Ok, Err, Option, Some, None, refl, sym, ap, ◌∙◌, arith}
+use Rattle.std.proofs.Common.{◌≡◌, ℕ, ◌+◌, ◌<◌, Bool, true, false, cond, not, nat_lt, ◌==◌, List, [], ◌∷◌, ◌++◌, length, take, drop, map, Result, Ok, Err, Option, Some, None, refl, sym, ap, ◌∙◌, arith}
 use Rattle.std.proofs.lemmas.Bool.Decides.{nat_tests}
 use Rattle.std.proofs.lemmas.List.Splits.{slice_split_first, length-slice_split}
-use Rattle.std.specs.List.{count_by, slice_split, onto_first, position_or_len, prefix_len}
+use Rattle.std.specs.List.{count_by, slice_split, onto_first, position_or_len}
 use Rattle.std.specs.Option.{is_some, option_map}
-use Rattle.statements.specs.Operands.{counted, operand_list, operands_in}
+use Rattle.statements.specs.Operands.{counted, operands_in}
 use Rattle.statements.specs.Spelling.{parted, parted_at, pieces, pieces_behind, trimmed}
 use Rattle.statements.specs.declared.error.LineError.{LineError}
 use Rattle.statements.specs.declared.operands.Operands.TheVariants.{More}

@@ -1,12 +1,12 @@
 -- The names of registers.
-use Rattle.std.proofs.Common.{◌≡◌, ℕ, ◌+◌, ◌<◌, ◌≤◌, zero, suc, Bool, true, false, cond, not, nat_lt, ◌==◌, ◌&&◌, ◌⊎◌, List, [], ◌∷◌, length, take, drop, Option, Some, None, refl, sym, ap, ◌∙◌, arith, get_or, if◌then◌else◌, inl, inr, codes, lit<}
+use Rattle.std.proofs.Common.{◌≡◌, ℕ, ◌<◌, zero, suc, Bool, true, false, cond, ◌==◌, ◌&&◌, List, [], ◌∷◌, length, Option, Some, None, refl, sym, ap, ◌∙◌, arith, get_or, if◌then◌else◌, inl, inr, codes, lit<}
 use Rattle.std.proofs.lemmas.Bool.Decides.{nat_tests}
-use Rattle.std.specs.List.{list_all, position}
+use Rattle.std.specs.List.{list_all}
 use Rattle.std.proofs.lemmas.List.Quantifiers.{position-Some}
 use Rattle.std.proofs.lemmas.Slice.Eq.{bytes_eq-Decides}
 use Rattle.rv32i.specs.Names.{Names, names, numbered_names, name_of, numbered_name_of}
-use Rattle.statements.specs.Operands.{place_of, register_of, register_in}
-use Rattle.std.specs.Str.{bytes_eq, IsAscii, IsUtf8}
+use Rattle.statements.specs.Operands.{place_of, register_of}
+use Rattle.std.specs.Str.{bytes_eq, IsUtf8}
 use Rattle.std.proofs.lemmas.Str.{IsUtf8-from_ascii}
 use Rattle.statements.specs.Spelling.{begins_name, is_name, is_name_byte, named}
 

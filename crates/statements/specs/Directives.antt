@@ -3,7 +3,7 @@
 -- `.word`, `.half` and `.byte` take a list of items: numbers within the width, taken as signed or unsigned, and in
 -- `.word` labels too. `.space` takes a number of zero bytes, `.align` the power of 2 of a multiple. `.text`, `.data`,
 -- `.globl` and `.global` have no effect.
-use Rattle.std.specs.Prelude.{◌≡◌, ℕ, Bool, true, false, ◌==◌, if◌then◌else◌, ◌&&◌, ◌||◌, not, List, [], ◌∷◌, length, map, Option, Some, None, Result, Ok, Err, ⊤}
+use Rattle.std.specs.Prelude.{◌≡◌, ℕ, Bool, true, false, ◌==◌, if◌then◌else◌, ◌||◌, not, List, [], ◌∷◌, length, map, Result, Ok, Err, ⊤}
 use Rattle.std.specs.List.{list_all}
 use Rattle.statements.specs.Spelling.{is_name, pieces, trimmed}
 use Rattle.statements.specs.Numbers.{bits_in, constant_in}
@@ -16,8 +16,7 @@ use Rattle.statements.specs.declared.items.Width.TheVariants.{Byte, Half, Word}
 use Rattle.statements.specs.declared.items.Item.{Item}
 use Rattle.statements.specs.declared.items.Item.TheVariants.{Label, Number}
 use Rattle.statements.specs.declared.operands.Operands.{Operands}
-use Rattle.statements.specs.declared.operands.Operands.TheVariants.{Zero, One, Two, Three, More}
-use Rattle.statements.specs.declared.statement.Statement.{Statement}
+use Rattle.statements.specs.declared.operands.Operands.TheVariants.{Zero, One}
 use Rattle.statements.specs.declared.statement.Statement.TheVariants as say
 
 -- the answer, or want of memory in its place

@@ -1,19 +1,18 @@
 -- What the words of instructions and pseudo-instructions say of their operands (RISC-V Unprivileged ISA 20191213,
 -- chapter 2; chapter 25, tables 25.2 and 25.3). A pseudo-instruction is what its expansion is.
-use Rattle.std.specs.Prelude.{◌≡◌, ℕ, ◌+◌, ◌*◌, ◌%◌, ◌^◌, Bool, ◌==◌, nat_lt, if◌then◌else◌, List, Option, Some, None, Result, Ok, Err, codes, refl}
+use Rattle.std.specs.Prelude.{ℕ, ◌+◌, ◌*◌, ◌%◌, ◌^◌, ◌==◌, nat_lt, if◌then◌else◌, List, Option, Some, None, Result, Ok, Err, codes}
 use Rattle.rv32i.specs.declared.instr.Instr.{Instr}
 use Rattle.rv32i.specs.declared.instr.Instr.TheVariants as i
 use Rattle.statements.specs.Spelling.{stripped}
 use Rattle.statements.specs.Numbers.{bits_in, constant_in}
 use Rattle.statements.specs.Operands.{access_in, label_in, low_in, part_in, register_in, set_in, target_in}
-use Rattle.statements.specs.Operations.{branch_instruction, immediate_instruction, lower_part, register_instruction, shift_instruction, store_instruction, upper_part}
+use Rattle.statements.specs.Operations.{immediate_instruction, lower_part, register_instruction, shift_instruction, store_instruction, upper_part}
 use Rattle.statements.specs.declared.error.LineError.{LineError}
 use Rattle.statements.specs.declared.error.LineError.TheVariants.{BadOperand}
 use Rattle.statements.specs.declared.operands.Operands.{Operands}
-use Rattle.statements.specs.declared.operands.Operands.TheVariants.{Zero, One, Two, Three, More}
+use Rattle.statements.specs.declared.operands.Operands.TheVariants.{Zero, One, Two, Three}
 use Rattle.statements.specs.declared.operands.Low.{Low}
 use Rattle.statements.specs.declared.operands.Low.TheVariants.{Bits, Part}
-use Rattle.statements.specs.declared.operands.Access.{Access}
 use Rattle.statements.specs.declared.operations.RegisterOperation.{RegisterOperation}
 use Rattle.statements.specs.declared.operations.ShiftOperation.{ShiftOperation}
 use Rattle.statements.specs.declared.operations.ImmediateOperation.{ImmediateOperation}

@@ -3,14 +3,14 @@
 -- An operand is any characters but commas, not all blank. Which form it has to have, the word says: a register, a
 -- number, a label, `%hi(label)`, `%lo(label)`, a register in brackets behind an offset, or a set of accesses. Blanks may
 -- stand round the brackets.
-use Rattle.std.specs.Prelude.{◌≡◌, ℕ, ◌+◌, ◌-◌, ◌*◌, ◌<◌, Bool, true, false, ◌==◌, nat_lt, if◌then◌else◌, ◌&&◌, not, List, [], ◌∷◌, ◌++◌, length, take, drop, map, position, Option, Some, None, Result, Ok, Err, codes, refl}
+use Rattle.std.specs.Prelude.{◌≡◌, ℕ, ◌-◌, Bool, ◌==◌, if◌then◌else◌, not, List, [], ◌∷◌, length, take, drop, map, position, Option, Some, None, Result, Ok, Err, codes, refl}
 use Rattle.std.specs.List.{list_all}
 use Rattle.std.specs.Str.{bytes_eq}
 use Rattle.rv32i.specs.Names.{names, numbered_names}
-use Rattle.statements.specs.Spelling.{is_blank, is_name, named, trimmed, without_leading_blanks, without_trailing_blanks, parted, pieces, stripped}
+use Rattle.statements.specs.Spelling.{is_name, named, trimmed, without_leading_blanks, parted, pieces, stripped}
 use Rattle.statements.specs.Numbers.{bits_in}
 use Rattle.statements.specs.declared.error.LineError.{LineError}
-use Rattle.statements.specs.declared.error.LineError.TheVariants.{BadOperand, OutOfRange}
+use Rattle.statements.specs.declared.error.LineError.TheVariants.{BadOperand}
 use Rattle.statements.specs.declared.operands.Operands.{Operands}
 use Rattle.statements.specs.declared.operands.Operands.TheVariants.{Zero, One, Two, Three, More}
 use Rattle.statements.specs.declared.operands.Low.{Low}

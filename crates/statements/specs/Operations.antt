@@ -1,6 +1,6 @@
 -- Instructions by what they do: the formats of RV32I in which an assembler chooses among several (RISC-V Unprivileged
 -- ISA 20191213, chapter 2), and an address in two parts.
-use Rattle.std.specs.Prelude.{◌≡◌, ℕ, ◌+◌, ◌-◌, ◌*◌, ◌/◌, ◌%◌, ◌^◌, Bool, ◌==◌, nat_lt, if◌then◌else◌, Option, refl}
+use Rattle.std.specs.Prelude.{◌≡◌, ℕ, ◌+◌, ◌-◌, ◌*◌, ◌/◌, ◌%◌, ◌^◌, nat_lt, if◌then◌else◌, refl}
 use Rattle.rv32i.specs.declared.instr.Instr.{Instr}
 use Rattle.rv32i.specs.declared.instr.Instr.TheVariants as i
 use Rattle.statements.specs.declared.operations.RegisterOperation.{RegisterOperation}

@@ -6,7 +6,7 @@
 -- What is wrong with a line is the first of these that applies: another form than this (Syntax); a word that names
 -- nothing (UnknownInstruction); operands of another number or form than the word takes (BadOperand); a number outside
 -- the range of its place (OutOfRange).
-use Rattle.std.specs.Prelude.{◌≡◌, ℕ, Bool, true, false, ◌==◌, if◌then◌else◌, ◌&&◌, not, List, [], ◌∷◌, length, take, drop, position, Option, Some, None, Result, Ok, Err, codes, refl}
+use Rattle.std.specs.Prelude.{ℕ, ◌==◌, if◌then◌else◌, ◌&&◌, List, [], ◌∷◌, length, take, drop, position, Option, Some, None, Result, Ok, Err}
 use Rattle.std.specs.List.{join_with_byte}
 use Rattle.statements.specs.Spelling.{is_blank, is_name, parted, pieces, trimmed, without_leading_blanks}
 use Rattle.statements.specs.Operands.{are_operands, operands_in}
@@ -14,7 +14,7 @@ use Rattle.statements.specs.Words.{word_of}
 use Rattle.statements.specs.Instructions.{Said, against_zero, add_upper, branch, call, fence, fixed, immediate, jump, jump_and_link, jump_and_link_register, jump_register, load, load_address, load_immediate, load_upper, of_register, registers, shift, store, swapped, unary, with_zero, zero_against}
 use Rattle.statements.specs.Directives.{align, global, section, space, stated}
 use Rattle.statements.specs.declared.error.LineError.{LineError}
-use Rattle.statements.specs.declared.error.LineError.TheVariants.{Syntax, UnknownInstruction, BadOperand}
+use Rattle.statements.specs.declared.error.LineError.TheVariants.{Syntax, UnknownInstruction}
 use Rattle.statements.specs.declared.line.Line.{Line}
 use Rattle.statements.specs.declared.operands.Operands.{Operands}
 use Rattle.statements.specs.declared.statement.Statement.{Statement}

@@ -1,5 +1,5 @@
 //! What an operand may be.
-ghost use Rattle.std.specs.Prelude.{◌≡◌, ◌≤◌, ◌<◌, ◌+◌, ◌*◌, ◌%◌, ◌^◌, ◌∷◌, List, ℕ, length, codes, Option, Some, None, Ok, Err, IfOk, if◌then◌else◌};
+ghost use Rattle.std.specs.Prelude.{◌≡◌, ◌≤◌, ◌<◌, ◌+◌, ◌*◌, ◌%◌, ◌^◌, ◌∷◌, List, ℕ, length, codes, Option, Some, None, Ok, Err, IfOk, IfSome, if◌then◌else◌};
 ghost use Rattle.std.specs.Option.{option_copied, option_map};
 ghost use Rattle.statements.specs.Spelling.{is_name, named};
 ghost use Rattle.statements.specs.Numbers as numbers;
@@ -210,59 +210,32 @@ pub(crate) fn set_in(text: &[u8]) -> Result<FenceSet, LineError>
 fn set_named(name: &str) -> Result<FenceSet, LineError>
     ensures { result ≡ spec.set_in name.now }
 {
-    match set_of(name) {
-        Some(set) => Ok(set),
+    match set_number(name) {
+        Some(number) => Ok(FenceSet::new(number)),
         None => Err(LineError::BadOperand),
     }
 }
 
-fn set_of(name: &str) -> Option<FenceSet>
-    ensures { result ≡ named spec.sets name.now }
+fn set_number(name: &str) -> Option<u8>
+    ensures value { result ≡ named spec.sets name.now }
+    ensures small { IfSome result (λ number. number < 16) }
 {
-    if name == "w" {
-        return Some(FenceSet::new(1));
+    match name {
+        "w" => Some(1),
+        "r" => Some(2),
+        "rw" => Some(3),
+        "o" => Some(4),
+        "ow" => Some(5),
+        "or" => Some(6),
+        "orw" => Some(7),
+        "i" => Some(8),
+        "iw" => Some(9),
+        "ir" => Some(10),
+        "irw" => Some(11),
+        "io" => Some(12),
+        "iow" => Some(13),
+        "ior" => Some(14),
+        "iorw" => Some(15),
+        _ => None,
     }
-    if name == "r" {
-        return Some(FenceSet::new(2));
-    }
-    if name == "rw" {
-        return Some(FenceSet::new(3));
-    }
-    if name == "o" {
-        return Some(FenceSet::new(4));
-    }
-    if name == "ow" {
-        return Some(FenceSet::new(5));
-    }
-    if name == "or" {
-        return Some(FenceSet::new(6));
-    }
-    if name == "orw" {
-        return Some(FenceSet::new(7));
-    }
-    if name == "i" {
-        return Some(FenceSet::new(8));
-    }
-    if name == "iw" {
-        return Some(FenceSet::new(9));
-    }
-    if name == "ir" {
-        return Some(FenceSet::new(10));
-    }
-    if name == "irw" {
-        return Some(FenceSet::new(11));
-    }
-    if name == "io" {
-        return Some(FenceSet::new(12));
-    }
-    if name == "iow" {
-        return Some(FenceSet::new(13));
-    }
-    if name == "ior" {
-        return Some(FenceSet::new(14));
-    }
-    if name == "iorw" {
-        return Some(FenceSet::new(15));
-    }
-    None
 }

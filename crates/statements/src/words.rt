@@ -127,272 +127,144 @@ pub(crate) fn word_of(word: &str) -> Option<Word>
 fn immediate_words(word: &str) -> Option<Word>
     ensures { result ≡ named spec.immediate_words word.now }
 {
-    if word == "addi" {
-        return Some(Word::Immediate(ImmediateOperation::Addi));
+    match word {
+        "addi" => Some(Word::Immediate(ImmediateOperation::Addi)),
+        "slti" => Some(Word::Immediate(ImmediateOperation::Slti)),
+        "sltiu" => Some(Word::Immediate(ImmediateOperation::Sltiu)),
+        "xori" => Some(Word::Immediate(ImmediateOperation::Xori)),
+        "ori" => Some(Word::Immediate(ImmediateOperation::Ori)),
+        "andi" => Some(Word::Immediate(ImmediateOperation::Andi)),
+        "slli" => Some(Word::Shift(ShiftOperation::Slli)),
+        "srli" => Some(Word::Shift(ShiftOperation::Srli)),
+        "srai" => Some(Word::Shift(ShiftOperation::Srai)),
+        _ => None,
     }
-    if word == "slti" {
-        return Some(Word::Immediate(ImmediateOperation::Slti));
-    }
-    if word == "sltiu" {
-        return Some(Word::Immediate(ImmediateOperation::Sltiu));
-    }
-    if word == "xori" {
-        return Some(Word::Immediate(ImmediateOperation::Xori));
-    }
-    if word == "ori" {
-        return Some(Word::Immediate(ImmediateOperation::Ori));
-    }
-    if word == "andi" {
-        return Some(Word::Immediate(ImmediateOperation::Andi));
-    }
-    if word == "slli" {
-        return Some(Word::Shift(ShiftOperation::Slli));
-    }
-    if word == "srli" {
-        return Some(Word::Shift(ShiftOperation::Srli));
-    }
-    if word == "srai" {
-        return Some(Word::Shift(ShiftOperation::Srai));
-    }
-    None
 }
 
 fn access_words(word: &str) -> Option<Word>
     ensures { result ≡ named spec.access_words word.now }
 {
-    if word == "lw" {
-        return Some(Word::Load(ImmediateOperation::Lw));
+    match word {
+        "lw" => Some(Word::Load(ImmediateOperation::Lw)),
+        "lb" => Some(Word::Load(ImmediateOperation::Lb)),
+        "lh" => Some(Word::Load(ImmediateOperation::Lh)),
+        "lbu" => Some(Word::Load(ImmediateOperation::Lbu)),
+        "lhu" => Some(Word::Load(ImmediateOperation::Lhu)),
+        "sw" => Some(Word::Store(StoreOperation::Sw)),
+        "sb" => Some(Word::Store(StoreOperation::Sb)),
+        "sh" => Some(Word::Store(StoreOperation::Sh)),
+        _ => None,
     }
-    if word == "lb" {
-        return Some(Word::Load(ImmediateOperation::Lb));
-    }
-    if word == "lh" {
-        return Some(Word::Load(ImmediateOperation::Lh));
-    }
-    if word == "lbu" {
-        return Some(Word::Load(ImmediateOperation::Lbu));
-    }
-    if word == "lhu" {
-        return Some(Word::Load(ImmediateOperation::Lhu));
-    }
-    if word == "sw" {
-        return Some(Word::Store(StoreOperation::Sw));
-    }
-    if word == "sb" {
-        return Some(Word::Store(StoreOperation::Sb));
-    }
-    if word == "sh" {
-        return Some(Word::Store(StoreOperation::Sh));
-    }
-    None
 }
 
 fn branch_words(word: &str) -> Option<Word>
     ensures { result ≡ named spec.branch_words word.now }
 {
-    if word == "beq" {
-        return Some(Word::Branch(Condition::Equal));
+    match word {
+        "beq" => Some(Word::Branch(Condition::Equal)),
+        "bne" => Some(Word::Branch(Condition::NotEqual)),
+        "blt" => Some(Word::Branch(Condition::Less)),
+        "bge" => Some(Word::Branch(Condition::GreaterOrEqual)),
+        "bltu" => Some(Word::Branch(Condition::Below)),
+        "bgeu" => Some(Word::Branch(Condition::AboveOrEqual)),
+        "bgt" => Some(Word::Swapped(Condition::Less)),
+        "ble" => Some(Word::Swapped(Condition::GreaterOrEqual)),
+        "bgtu" => Some(Word::Swapped(Condition::Below)),
+        "bleu" => Some(Word::Swapped(Condition::AboveOrEqual)),
+        _ => None,
     }
-    if word == "bne" {
-        return Some(Word::Branch(Condition::NotEqual));
-    }
-    if word == "blt" {
-        return Some(Word::Branch(Condition::Less));
-    }
-    if word == "bge" {
-        return Some(Word::Branch(Condition::GreaterOrEqual));
-    }
-    if word == "bltu" {
-        return Some(Word::Branch(Condition::Below));
-    }
-    if word == "bgeu" {
-        return Some(Word::Branch(Condition::AboveOrEqual));
-    }
-    if word == "bgt" {
-        return Some(Word::Swapped(Condition::Less));
-    }
-    if word == "ble" {
-        return Some(Word::Swapped(Condition::GreaterOrEqual));
-    }
-    if word == "bgtu" {
-        return Some(Word::Swapped(Condition::Below));
-    }
-    if word == "bleu" {
-        return Some(Word::Swapped(Condition::AboveOrEqual));
-    }
-    None
 }
 
 fn zero_branch_words(word: &str) -> Option<Word>
     ensures { result ≡ named spec.zero_branch_words word.now }
 {
-    if word == "beqz" {
-        return Some(Word::AgainstZero(Condition::Equal));
+    match word {
+        "beqz" => Some(Word::AgainstZero(Condition::Equal)),
+        "bnez" => Some(Word::AgainstZero(Condition::NotEqual)),
+        "bgez" => Some(Word::AgainstZero(Condition::GreaterOrEqual)),
+        "bltz" => Some(Word::AgainstZero(Condition::Less)),
+        "blez" => Some(Word::ZeroAgainst(Condition::GreaterOrEqual)),
+        "bgtz" => Some(Word::ZeroAgainst(Condition::Less)),
+        _ => None,
     }
-    if word == "bnez" {
-        return Some(Word::AgainstZero(Condition::NotEqual));
-    }
-    if word == "bgez" {
-        return Some(Word::AgainstZero(Condition::GreaterOrEqual));
-    }
-    if word == "bltz" {
-        return Some(Word::AgainstZero(Condition::Less));
-    }
-    if word == "blez" {
-        return Some(Word::ZeroAgainst(Condition::GreaterOrEqual));
-    }
-    if word == "bgtz" {
-        return Some(Word::ZeroAgainst(Condition::Less));
-    }
-    None
 }
 
 fn register_words(word: &str) -> Option<Word>
     ensures { result ≡ named spec.register_words word.now }
 {
-    if word == "add" {
-        return Some(Word::Registers(RegisterOperation::Add));
+    match word {
+        "add" => Some(Word::Registers(RegisterOperation::Add)),
+        "sub" => Some(Word::Registers(RegisterOperation::Sub)),
+        "sll" => Some(Word::Registers(RegisterOperation::Sll)),
+        "slt" => Some(Word::Registers(RegisterOperation::Slt)),
+        "sltu" => Some(Word::Registers(RegisterOperation::Sltu)),
+        "xor" => Some(Word::Registers(RegisterOperation::Xor)),
+        "srl" => Some(Word::Registers(RegisterOperation::Srl)),
+        "sra" => Some(Word::Registers(RegisterOperation::Sra)),
+        "or" => Some(Word::Registers(RegisterOperation::Or)),
+        "and" => Some(Word::Registers(RegisterOperation::And)),
+        _ => None,
     }
-    if word == "sub" {
-        return Some(Word::Registers(RegisterOperation::Sub));
-    }
-    if word == "sll" {
-        return Some(Word::Registers(RegisterOperation::Sll));
-    }
-    if word == "slt" {
-        return Some(Word::Registers(RegisterOperation::Slt));
-    }
-    if word == "sltu" {
-        return Some(Word::Registers(RegisterOperation::Sltu));
-    }
-    if word == "xor" {
-        return Some(Word::Registers(RegisterOperation::Xor));
-    }
-    if word == "srl" {
-        return Some(Word::Registers(RegisterOperation::Srl));
-    }
-    if word == "sra" {
-        return Some(Word::Registers(RegisterOperation::Sra));
-    }
-    if word == "or" {
-        return Some(Word::Registers(RegisterOperation::Or));
-    }
-    if word == "and" {
-        return Some(Word::Registers(RegisterOperation::And));
-    }
-    None
 }
 
 fn copy_words(word: &str) -> Option<Word>
     ensures { result ≡ named spec.copy_words word.now }
 {
-    if word == "mv" {
-        return Some(Word::OfImmediate(Unary::Move));
+    match word {
+        "mv" => Some(Word::OfImmediate(Unary::Move)),
+        "not" => Some(Word::OfImmediate(Unary::Not)),
+        "seqz" => Some(Word::OfImmediate(Unary::IsZero)),
+        "neg" => Some(Word::OfRegister(RegisterOperation::Sub)),
+        "snez" => Some(Word::OfRegister(RegisterOperation::Sltu)),
+        "sgtz" => Some(Word::OfRegister(RegisterOperation::Slt)),
+        "sltz" => Some(Word::WithZero(RegisterOperation::Slt)),
+        _ => None,
     }
-    if word == "not" {
-        return Some(Word::OfImmediate(Unary::Not));
-    }
-    if word == "seqz" {
-        return Some(Word::OfImmediate(Unary::IsZero));
-    }
-    if word == "neg" {
-        return Some(Word::OfRegister(RegisterOperation::Sub));
-    }
-    if word == "snez" {
-        return Some(Word::OfRegister(RegisterOperation::Sltu));
-    }
-    if word == "sgtz" {
-        return Some(Word::OfRegister(RegisterOperation::Slt));
-    }
-    if word == "sltz" {
-        return Some(Word::WithZero(RegisterOperation::Slt));
-    }
-    None
 }
 
 fn jump_words(word: &str) -> Option<Word>
     ensures { result ≡ named spec.jump_words word.now }
 {
-    if word == "li" {
-        return Some(Word::LoadImmediate);
+    match word {
+        "li" => Some(Word::LoadImmediate),
+        "la" => Some(Word::LoadAddress),
+        "call" => Some(Word::Call),
+        "j" => Some(Word::Jump),
+        "jal" => Some(Word::JumpAndLink),
+        "jalr" => Some(Word::JumpAndLinkRegister),
+        "jr" => Some(Word::JumpRegister),
+        "lui" => Some(Word::LoadUpper),
+        "auipc" => Some(Word::AddUpper),
+        _ => None,
     }
-    if word == "la" {
-        return Some(Word::LoadAddress);
-    }
-    if word == "call" {
-        return Some(Word::Call);
-    }
-    if word == "j" {
-        return Some(Word::Jump);
-    }
-    if word == "jal" {
-        return Some(Word::JumpAndLink);
-    }
-    if word == "jalr" {
-        return Some(Word::JumpAndLinkRegister);
-    }
-    if word == "jr" {
-        return Some(Word::JumpRegister);
-    }
-    if word == "lui" {
-        return Some(Word::LoadUpper);
-    }
-    if word == "auipc" {
-        return Some(Word::AddUpper);
-    }
-    None
 }
 
 fn plain_words(word: &str) -> Option<Word>
     ensures { result ≡ named spec.plain_words word.now }
 {
-    if word == "ret" {
-        return Some(Word::Fixed(Fixed::Return));
+    match word {
+        "ret" => Some(Word::Fixed(Fixed::Return)),
+        "nop" => Some(Word::Fixed(Fixed::Nop)),
+        "ecall" => Some(Word::Fixed(Fixed::Ecall)),
+        "ebreak" => Some(Word::Fixed(Fixed::Ebreak)),
+        "fence" => Some(Word::Fence),
+        _ => None,
     }
-    if word == "nop" {
-        return Some(Word::Fixed(Fixed::Nop));
-    }
-    if word == "ecall" {
-        return Some(Word::Fixed(Fixed::Ecall));
-    }
-    if word == "ebreak" {
-        return Some(Word::Fixed(Fixed::Ebreak));
-    }
-    if word == "fence" {
-        return Some(Word::Fence);
-    }
-    None
 }
 
 fn directives(word: &str) -> Option<Word>
     ensures { result ≡ named spec.directives word.now }
 {
-    if word == ".word" {
-        return Some(Word::Data(Width::Word));
+    match word {
+        ".word" => Some(Word::Data(Width::Word)),
+        ".half" => Some(Word::Data(Width::Half)),
+        ".byte" => Some(Word::Data(Width::Byte)),
+        ".space" => Some(Word::Space),
+        ".align" => Some(Word::Align),
+        ".text" => Some(Word::Section),
+        ".data" => Some(Word::Section),
+        ".globl" => Some(Word::Global),
+        ".global" => Some(Word::Global),
+        _ => None,
     }
-    if word == ".half" {
-        return Some(Word::Data(Width::Half));
-    }
-    if word == ".byte" {
-        return Some(Word::Data(Width::Byte));
-    }
-    if word == ".space" {
-        return Some(Word::Space);
-    }
-    if word == ".align" {
-        return Some(Word::Align);
-    }
-    if word == ".text" {
-        return Some(Word::Section);
-    }
-    if word == ".data" {
-        return Some(Word::Section);
-    }
-    if word == ".globl" {
-        return Some(Word::Global);
-    }
-    if word == ".global" {
-        return Some(Word::Global);
-    }
-    None
 }

@@ -1,6 +1,6 @@
 use Rattle.std.proofs.Common.{◌≡◌, Some, ap, sym, subst, ◌∙◌}
 use Rattle.rv32i.specs.Names.{Names}
-use Rattle.statements.specs.Operands.{or_bad, register_of}
+use Rattle.statements.specs.Operands.{or_bad}
 use Rattle.statements.proofs.Registers.{register_named, register_none, unnamed, named_text, named_is_name}
 use Rattle.statements.proofs.forms.register_in.Goals as goal
 

@@ -1,4 +1,4 @@
-use Rattle.std.proofs.Common.{◌≡◌, ◌+◌, List, ℕ, length, Option, Some, None, map}
+use Rattle.std.proofs.Common.{◌≡◌, map}
 use Rattle.std.specs.List.{list_all}
 use Rattle.statements.specs.Operands.{are_operands, is_operand}
 use Rattle.statements.specs.Spelling.{pieces_behind, trimmed}

@@ -1,5 +1,4 @@
 use Rattle.std.specs.Option.{option_copied}
-use Rattle.std.proofs.Common.{sym, ◌∙◌}
 use Rattle.statements.proofs.Pieces.{copied_some, counted_more}
 use Rattle.statements.proofs.operands.counted.Goals as goal
 

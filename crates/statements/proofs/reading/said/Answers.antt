@@ -1,6 +1,6 @@
 use Rattle.std.proofs.Common.{◌≡◌, refl, ap, sym, subst, true, Some, None, ◌∙◌}
 use Rattle.statements.specs.Directives.{OrNoMemory}
-use Rattle.statements.specs.Operands.{are_operands, operands_in}
+use Rattle.statements.specs.Operands.{are_operands}
 use Rattle.statements.specs.Reading.{meaning, said, said_by}
 use Rattle.statements.specs.Words.{word_of}
 use Rattle.statements.proofs.Said.{said_named}

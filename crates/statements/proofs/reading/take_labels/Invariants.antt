@@ -1,4 +1,4 @@
-use Rattle.std.proofs.Common.{◌≡◌, List, ℕ, ◌++◌, length}
+use Rattle.std.proofs.Common.{◌≡◌, ◌++◌, length}
 use Rattle.statements.specs.Reading.{labels_of, rest_of}
 use Rattle.statements.specs.Spelling.{pieces}
 use Rattle.statements.proofs.reading.take_labels.Given as goal

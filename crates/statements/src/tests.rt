@@ -1,0 +1,5 @@
+//! Lines, and what they say.
+
+mod assembled;
+mod errors;
+mod forms;
