@@ -10,11 +10,11 @@ use Rattle.std.specs.Str.{bytes_eq, IsUtf8}
 use Rattle.std.proofs.lemmas.Str.{IsUtf8-from_ascii}
 use Rattle.statements.specs.Spelling.{begins_name, is_name, is_name_byte, named}
 
-and_left : (x y : Bool) → (x && y) ≡ true → x ≡ true
+pub and_left : (x y : Bool) → (x && y) ≡ true → x ≡ true
 and_left true y h = refl
 and_left false y h = h
 
-and_right : (x y : Bool) → (x && y) ≡ true → y ≡ true
+pub and_right : (x y : Bool) → (x && y) ≡ true → y ≡ true
 and_right true y h = h
 and_right false y h = cc
 

@@ -6,3 +6,5 @@ pub mod Words
 pub mod Instructions
 pub mod Directives
 pub mod Reading
+pub mod Grammar
+pub mod Laws

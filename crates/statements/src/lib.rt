@@ -7,6 +7,7 @@ mod error;
 mod forms;
 mod instructions;
 mod items;
+pub mod laws;
 mod line;
 mod name;
 mod number;

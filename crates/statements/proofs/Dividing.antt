@@ -1,0 +1,281 @@
+-- A line by the rules, and as it is read.
+use Rattle.std.proofs.Common.{◌≡◌, ℕ, ◌<◌, Bool, true, false, cond, not, ◌&&◌, ◌==◌, List, [], ◌∷◌, ◌++◌, length, take, drop, reverse, Option, Some, None, Err, refl, sym, ap, subst, ◌∙◌, ◌⊎◌, inl, inr, arith, append_assoc, get_or, zero, suc}
+use Rattle.std.specs.List.{list_all, join_with_byte, position}
+use Rattle.std.proofs.Math.Seq.{take-append_seam, drop-append_seam}
+use Rattle.std.proofs.lemmas.List.{append-nil, take-append-drop, reverse-append, length-reverse}
+use Rattle.std.proofs.lemmas.List.Folds.{list_all-append}
+use Rattle.std.proofs.lemmas.List.Splits.{join_with_byte-slice_split}
+use Rattle.std.proofs.lemmas.List.Quantifiers.{position-Some}
+use Rattle.std.proofs.lemmas.Bool.Decides.{nat_tests}
+use Rattle.statements.specs.Grammar.{AllBlank, BeginsWith, Division, IsLine, IsSpoken, IsStatement, Labelled, Spoken, means, says}
+use Rattle.statements.specs.Operands.{are_operands}
+use Rattle.statements.specs.Reading.{label_before, labels_of, labels_with, line_of, read, read_content, rest_of, rest_with, said, said_at, said_by, statement_in, stating, without_comment}
+use Rattle.statements.specs.Spelling.{is_blank, is_name, parted, pieces, trimmed, without_leading_blanks, without_trailing_blanks}
+use Rattle.statements.specs.Words.{word_of}
+use Rattle.statements.specs.declared.error.LineError.TheVariants.{Syntax}
+use Rattle.statements.proofs.Labelling.{no_colon, no_label, one_label}
+use Rattle.statements.proofs.Registers.{and_left, and_right}
+use Rattle.statements.proofs.Runs.{begins_so, blank_ends, blanks_not_colon, ends_so, goes_on, name_bytes, names_not_blank, names_not_colon, no_position, parted_joins, parts_join, position_at, runs}
+use Rattle.statements.proofs.Trimming.{all_append, all_gone, bare, begins_blank, between, blanks_go, led, others_stay, round, trimmed_bare, trimmed_ends}
+
+-- ---- what is read is divided by the rules
+
+abbrev some_or : List ℕ → Option (List ℕ) → List ℕ
+some_or d None = d
+some_or d (Some x) = x
+
+-- a piece before a colon that has a label
+has_label : (piece label : List ℕ) (t : Bool) → is_name (without_leading_blanks piece) ≡ t → cond t (Some (without_leading_blanks piece)) None ≡ Some label → (is_name (without_leading_blanks piece) ≡ true) × (without_leading_blanks piece ≡ label)
+has_label piece label true e h = (e, ap (some_or []) h)
+has_label piece label false e h = cc
+
+label_begins : (piece behind label : List ℕ) → label_before piece ≡ Some label → BeginsWith label (piece ++ 58 ∷ behind) behind
+label_begins piece behind label h =
+    let l = led piece in
+    let t = has_label piece label (is_name (without_leading_blanks piece)) refl h in
+    record {
+      before = l.blanks;
+      blank = l.all;
+      name = sym (ap is_name t.1) ∙ t.0;
+      spelled = ap (λ (x : List ℕ). x ++ 58 ∷ behind) (l.parted ∙ ap (λ (x : List ℕ). l.blanks ++ x) t.1);
+    }
+
+pub labels_divide : (list : List (List ℕ)) → Labelled (labels_of list) (join_with_byte 58 list) (rest_of list)
+labels_divide [] = refl
+labels_divide (piece ∷ []) = refl
+labels_divide (piece ∷ next ∷ list) =
+    let text : List ℕ = piece ++ 58 ∷ join_with_byte 58 (next ∷ list) in
+    let P : Option (List ℕ) → Type 0 = λ o. label_before piece ≡ o → Labelled (labels_with o (labels_of (next ∷ list))) text (rest_with o text (rest_of (next ∷ list))) in
+    let go : P (label_before piece) = elim (label_before piece) as P [
+      | None ↦ λ e. refl
+      | Some label ↦ λ e. (join_with_byte 58 (next ∷ list), (label_begins piece (join_with_byte 58 (next ∷ list)) label e, labels_divide (next ∷ list)))
+    ] in go refl
+
+-- a text of no length
+no_length : (text : List ℕ) → (length text == 0) ≡ true → text ≡ []
+no_length [] h = refl
+no_length (b ∷ text) h = absurd (let e : length (b ∷ text) ≡ 0 = grind (arith, nat_tests) in omega (arith, e))
+
+begins_at : (text : List ℕ) (i : ℕ) → i < length text → begins_blank (drop i text) ≡ is_blank (get_or text i 0)
+begins_at [] i h = absurd (omega arith)
+begins_at (b ∷ text) zero h = refl
+begins_at (b ∷ text) (suc i) h = begins_at text i (omega arith)
+
+regroup : (a w g o b c : List ℕ) → a ++ (w ++ (g ++ o ++ b)) ++ c ≡ a ++ w ++ g ++ o ++ (b ++ c)
+regroup a w g o b c = simp append_assoc refl
+
+-- the parts of a choice by two tests
+both_tests : (x y : Bool) → (x && y) ≡ true → (x ≡ true) × (y ≡ true)
+both_tests x y h = (and_left x y h, and_right x y h)
+
+abbrev pub Divides : List ℕ → Type 0
+Divides rest = ((s : Option Spoken) × (IsSpoken s rest × (statement_in (trimmed rest) ≡ says s))) ⊎ (statement_in (trimmed rest) ≡ Err Syntax)
+
+one_word : (rest : List ℕ) → (length (trimmed rest) == 0) ≡ false → position is_blank (trimmed rest) ≡ None → Divides rest
+one_word rest some none =
+    let r = trimmed rest in
+    let t = round rest in
+    let stated : statement_in r ≡ stating (said r []) = rw some (ap (λ p. stating (said_at r p)) none) in
+    let P : Bool → Type 0 = λ b. is_name r ≡ b → Divides rest in
+    let go : P (is_name r) = elim (is_name r) as P [
+      | true ↦ λ n.
+          let statement : IsStatement r [] rest = record {
+            before = t.before;
+            gap = [];
+            behind = t.behind;
+            blank_before = t.blank_before;
+            blank_gap = refl;
+            blank_behind = t.blank_behind;
+            name = n;
+            apart = λ h. absurd (omega (arith, h));
+            bare = refl;
+            each = refl;
+            spelled = t.parted ∙ ap (λ (l : List ℕ). l ++ t.behind) (sym (append-nil (t.before ++ r ++ []) ∙ append-nil (t.before ++ r)));
+          } in inl (Some (r, []), (statement, stated ∙ ap stating (rw n refl)))
+      | false ↦ λ n. let refused : said r [] ≡ Err Syntax = rw n refl in inr (stated ∙ ap stating refused)
+    ] in go refl
+
+more_words : (rest : List ℕ) (i : ℕ) → (length (trimmed rest) == 0) ≡ false → position is_blank (trimmed rest) ≡ Some i → Divides rest
+more_words rest i some at =
+    let r = trimmed rest in
+    let t = round rest in
+    let w = take i r in
+    let x = drop i r in
+    let o = trimmed x in
+    let u = round x in
+    let found = position-Some is_blank r i 0 at in
+    let stated : statement_in r ≡ stating (said w o) = rw some (ap (λ p. stating (said_at r p)) at) in
+    let P : Bool → Type 0 = λ b. (is_name w && are_operands o) ≡ b → Divides rest in
+    let go : P (is_name w && are_operands o) = elim (is_name w && are_operands o) as P [
+      | true ↦ λ n.
+          let whole : rest ≡ t.before ++ (w ++ (u.before ++ o ++ u.behind)) ++ t.behind =
+          t.parted ∙ ap (λ (l : List ℕ). t.before ++ l ++ t.behind) (sym (take-append-drop i r) ∙ ap (λ (l : List ℕ). w ++ l) u.parted) in
+          let statement : IsStatement w o rest = record {
+            before = t.before;
+            gap = u.before;
+            behind = u.behind ++ t.behind;
+            blank_before = t.blank_before;
+            blank_gap = u.blank_before;
+            blank_behind = all_append is_blank u.behind t.behind u.blank_behind t.blank_behind;
+            name = and_left (is_name w) _ n;
+            apart = λ h. u.some (begins_at r i found.0 ∙ found.1);
+            bare = trimmed_bare x;
+            each = and_right (is_name w) _ n;
+            spelled = whole ∙ regroup t.before w u.before o u.behind t.behind;
+          } in inl (Some (w, o), (statement, stated ∙ ap stating (rw n refl)))
+      | false ↦ λ n. let refused : said w o ≡ Err Syntax = rw n refl in inr (stated ∙ ap stating refused)
+    ] in go refl
+
+pub spoken_divides : (rest : List ℕ) → Divides rest
+spoken_divides rest =
+    let r = trimmed rest in
+    let t = round rest in
+    let P : Bool → Type 0 = λ b. (length r == 0) ≡ b → Divides rest in
+    let go : P (length r == 0) = elim (length r == 0) as P [
+      | true ↦ λ e.
+          let none : r ≡ [] = no_length r e in
+          let whole : rest ≡ t.before ++ t.behind = t.parted ∙ ap (λ (l : List ℕ). t.before ++ l ++ t.behind) none ∙ ap (λ (l : List ℕ). l ++ t.behind) (append-nil t.before) in
+          let blank : AllBlank rest = ap (list_all is_blank) whole ∙ all_append is_blank t.before t.behind t.blank_before t.blank_behind in
+          inl (None, (blank, rw e refl))
+      | false ↦ λ e.
+          let Q : Option ℕ → Type 0 = λ o. position is_blank r ≡ o → Divides rest in
+          let at : Q (position is_blank r) = elim (position is_blank r) as Q [
+            | None ↦ λ h. one_word rest e h
+            | Some i ↦ λ h. more_words rest i e h
+          ] in at refl
+    ] in go refl
+
+pub only_lines : (line : List ℕ) → (read line ≡ Err Syntax → ⊥) → (d : Division) × (IsLine (without_comment line) d × (read line ≡ means d))
+unfolding read
+only_lines line right =
+    let text = without_comment line in
+    let list = pieces 58 text in
+    let labelled : Labelled (labels_of list) text (rest_of list) = subst (λ x. Labelled (labels_of list) x (rest_of list)) (join_with_byte-slice_split 58 text) (labels_divide list) in
+    elim (spoken_divides (rest_of list)) as (λ _. (d : Division) × (IsLine text d × (read_content text ≡ means d))) [
+      | inl s ↦ (record { labels = labels_of list; spoken = s.0 }, (record { rest = rest_of list; labelled = labelled; spoken = s.1.0 }, ap (line_of (labels_of list)) s.1.1))
+      | inr e ↦ absurd (right (ap (line_of (labels_of list)) e))
+    ]
+
+-- ---- what the rules divide is read so
+
+name_begins : (name more : List ℕ) → is_name name ≡ true → begins_blank (name ++ more) ≡ false
+name_begins [] more h = cc
+name_begins (b ∷ name) more h = begins_so (b ∷ name) (name_bytes (b ∷ name) h)
+
+name_some : (name : List ℕ) → is_name name ≡ true → (length name == 0) ≡ false
+name_some [] h = cc
+name_some (b ∷ name) h = grind (arith, nat_tests)
+
+-- what stands behind a word: nothing, or a blank first
+behind_word : (gap operands behind : List ℕ) → AllBlank gap → AllBlank behind → (0 < length operands → 0 < length gap) → (gap ++ (operands ++ behind) ≡ []) ⊎ (begins_blank (gap ++ (operands ++ behind)) ≡ true)
+behind_word (g ∷ gap) operands behind a b apart = inr (and_left (is_blank g) _ a)
+behind_word [] [] [] a b apart = inl refl
+behind_word [] [] (c ∷ behind) a b apart = inr (and_left (is_blank c) _ b)
+behind_word [] (o ∷ operands) behind a b apart = absurd (let some : 0 < length (o ∷ operands) = omega arith in omega (arith, apart some))
+
+no_further : (text : List ℕ) → (text ≡ []) ⊎ (begins_blank text ≡ true) → goes_on text ≡ false
+no_further text (inl e) = ap goes_on e
+no_further text (inr t) = blank_ends text t
+
+no_colon_first : (text behind : List ℕ) → (text ≡ []) ⊎ (begins_blank text ≡ true) → 58 ∷ behind ≡ text → ⊥
+no_colon_first text behind (inl e) h = let none : 58 ∷ behind ≡ [] = h ∙ e in cc
+no_colon_first text behind (inr t) h = let blank : is_blank 58 ≡ true = ap begins_blank h ∙ t in cc
+
+-- a statement, and a line of blanks, begins with no label
+no_more : (rest label behind : List ℕ) (s : Option Spoken) → IsSpoken s rest → BeginsWith label rest behind → ⊥
+no_more rest label behind None blank b =
+    let all : list_all is_blank (b.before ++ label ++ 58 ∷ behind) ≡ true = sym (ap (list_all is_blank) b.spelled) ∙ blank in
+    let colon : list_all is_blank (58 ∷ behind) ≡ true = and_right (list_all is_blank (b.before ++ label)) _ (sym (list_all-append is_blank (b.before ++ label) (58 ∷ behind)) ∙ all) in
+    let no : is_blank 58 ≡ true = and_left (is_blank 58) (list_all is_blank behind) colon in cc
+no_more rest label behind (Some (word, operands)) st b =
+    let x : List ℕ = st.gap ++ (operands ++ st.behind) in
+    let ends = behind_word st.gap operands st.behind st.blank_gap st.blank_behind st.apart in
+    let one : without_leading_blanks rest ≡ label ++ 58 ∷ behind = ap without_leading_blanks (b.spelled ∙ append_assoc b.before label (58 ∷ behind)) ∙ blanks_go b.before (label ++ 58 ∷ behind) b.blank ∙ others_stay (label ++ 58 ∷ behind) (name_begins label (58 ∷ behind) b.name) in
+    let turned : rest ≡ st.before ++ (word ++ x) = st.spelled ∙ joined st.before word st.gap operands st.behind in
+    let other : without_leading_blanks rest ≡ word ++ x = ap without_leading_blanks turned ∙ blanks_go st.before (word ++ x) st.blank_before ∙ others_stay (word ++ x) (name_begins word x st.name) in
+    let r = runs label word (58 ∷ behind) x (name_bytes label b.name) (name_bytes word st.name) refl (no_further x ends) (sym one ∙ other) in
+    no_colon_first x behind ends r.1 where
+      joined : (a w g o b : List ℕ) → a ++ w ++ g ++ o ++ b ≡ a ++ (w ++ (g ++ (o ++ b)))
+      joined a w g o b = simp append_assoc refl
+
+pub labels_read : (labels : List (List ℕ)) (text rest : List ℕ) (s : Option Spoken) → Labelled labels text rest → IsSpoken s rest → (labels_of (pieces 58 text) ≡ labels) × (rest_of (pieces 58 text) ≡ rest)
+labels_read [] text rest s h spoken =
+    let P : Option (List ℕ × List ℕ) → Type 0 = λ o. parted 58 text ≡ o → (labels_of (pieces 58 text) ≡ []) × (rest_of (pieces 58 text) ≡ rest) in
+    let go : P (parted 58 text) = elim (parted 58 text) as P [
+      | None ↦ λ e. let n = no_colon text e in (n.0, n.1 ∙ h)
+      | Some p ↦ λ e.
+          let Q : Option (List ℕ) → Type 0 = λ l. label_before p.0 ≡ l → (labels_of (pieces 58 text) ≡ []) × (rest_of (pieces 58 text) ≡ rest) in
+          let at : Q (label_before p.0) = elim (label_before p.0) as Q [
+            | None ↦ λ l. let n = no_label text p.0 p.1 e l in (n.0, n.1 ∙ h)
+            | Some label ↦ λ l.
+                let begins : BeginsWith label text p.1 = subst (λ x. BeginsWith label x p.1) (sym (parted_joins 58 text p.0 p.1 e)) (label_begins p.0 p.1 label l) in
+                absurd (no_more rest label p.1 s spoken (subst (λ x. BeginsWith label x p.1) h begins))
+          ] in at refl
+    ] in go refl
+labels_read (label ∷ labels) text rest s (behind, (b, others)) spoken =
+    let front = b.before ++ label in
+    let no : list_all (λ c. not (c == 58)) front ≡ true = all_append (λ c. not (c == 58)) b.before label (blanks_not_colon b.before b.blank) (names_not_colon label (name_bytes label b.name)) in
+    let parts : parted 58 text ≡ Some (front, behind) = ap (parted 58) b.spelled ∙ parts_join 58 front behind no in
+    let bare : without_leading_blanks front ≡ label = blanks_go b.before label b.blank ∙ others_stay label (begins_so label (name_bytes label b.name)) in
+    let named : is_name (without_leading_blanks front) ≡ true = ap is_name bare ∙ b.name in
+    let found : label_before front ≡ Some label = rw named (ap (λ (l : List ℕ). Some l) bare) in
+    let one = one_label text front behind label parts found in
+    let more = labels_read labels behind rest s others spoken in
+    (one.0 ∙ ap (λ (l : List (List ℕ)). label ∷ l) more.0, one.1 ∙ more.1)
+
+begins_append : (a b : List ℕ) → 0 < length a → begins_blank (a ++ b) ≡ begins_blank a
+begins_append [] b h = absurd (omega arith)
+begins_append (c ∷ a) b h = refl
+
+-- what a word says of its operands, whatever they are
+said_so : (word operands : List ℕ) → is_name word ≡ true → are_operands operands ≡ true → said word operands ≡ said_by (word_of word) operands
+said_so word operands n e = rw (n, e) refl
+
+word_alone : (word : List ℕ) → is_name word ≡ true → statement_in word ≡ stating (said_by (word_of word) [])
+word_alone word n =
+    let none : position is_blank word ≡ None = no_position is_blank word (names_not_blank word (name_bytes word n)) in
+    rw (name_some word n) (ap (λ p. stating (said_at word p)) none ∙ ap stating (said_so word [] n refl))
+
+word_apart : (word gap operands : List ℕ) → is_name word ≡ true → AllBlank gap → 0 < length gap → trimmed operands ≡ operands → are_operands operands ≡ true → statement_in (word ++ (gap ++ operands)) ≡ stating (said_by (word_of word) operands)
+word_apart word [] operands n blank some b each = absurd (omega arith)
+word_apart word (g ∷ gap) operands n blank some b each =
+    let m : List ℕ = word ++ g ∷ (gap ++ operands) in
+    let at : position is_blank m ≡ Some (length word) = position_at is_blank word (gap ++ operands) g (names_not_blank word (name_bytes word n)) (and_left (is_blank g) _ blank) in
+    let w : take (length word) m ≡ word = take-append_seam word (g ∷ (gap ++ operands)) in
+    let x : drop (length word) m ≡ g ∷ (gap ++ operands) = drop-append_seam word (g ∷ (gap ++ operands)) in
+    let o : trimmed (g ∷ (gap ++ operands)) ≡ operands = sym (ap trimmed (append-nil (g ∷ (gap ++ operands)))) ∙ between (g ∷ gap) operands [] blank refl b in
+    let long : (length m == 0) ≡ false = longer word g (gap ++ operands) in
+    rw long (ap (λ p. stating (said_at m p)) at ∙ ap (λ (l : List ℕ). stating (said l (trimmed (drop (length word) m)))) w ∙ ap (λ (l : List ℕ). stating (said word l)) (ap trimmed x ∙ o) ∙ ap stating (said_so word operands n each)) where
+      longer : (a : List ℕ) (c : ℕ) (b : List ℕ) → (length (a ++ c ∷ b) == 0) ≡ false
+      longer [] c b = grind (arith, nat_tests)
+      longer (d ∷ a) c b = grind (arith, nat_tests)
+
+alone : (a w g b : List ℕ) → a ++ w ++ g ++ [] ++ b ≡ a ++ w ++ (g ++ b)
+alone a w g b = ap (λ (l : List ℕ). l ++ b) (append-nil (a ++ w ++ g)) ∙ append_assoc (a ++ w) g b
+
+inner : (a w g o b : List ℕ) → a ++ w ++ g ++ o ++ b ≡ a ++ (w ++ (g ++ o)) ++ b
+inner a w g o b = simp append_assoc refl
+
+pub spoken_read : (rest : List ℕ) (s : Option Spoken) → IsSpoken s rest → statement_in (trimmed rest) ≡ says s
+spoken_read rest None blank = ap statement_in (ap without_trailing_blanks (all_gone rest blank))
+spoken_read rest (Some (word, operands)) st = go operands refl where
+  go : (o : List ℕ) → operands ≡ o → statement_in (trimmed rest) ≡ stating (said_by (word_of word) operands)
+  go [] e =
+      let bytes = name_bytes word st.name in
+      let whole : rest ≡ st.before ++ word ++ (st.gap ++ st.behind) = st.spelled ∙ ap (λ (l : List ℕ). st.before ++ word ++ st.gap ++ l ++ st.behind) e ∙ alone st.before word st.gap st.behind in
+      let t : trimmed rest ≡ word = ap trimmed whole ∙ between st.before word (st.gap ++ st.behind) st.blank_before (all_append is_blank st.gap st.behind st.blank_gap st.blank_behind) (bare word (begins_so word bytes) (ends_so word bytes)) in
+      ap statement_in t ∙ word_alone word st.name ∙ ap (λ l. stating (said_by (word_of word) l)) (sym e)
+  go (c ∷ o) e =
+      let some : 0 < length operands = rw e (omega arith) in
+      let m : List ℕ = word ++ (st.gap ++ operands) in
+      let ends : begins_blank (reverse operands) ≡ false = sym (ap (λ l. begins_blank (reverse l)) st.bare) ∙ trimmed_ends operands in
+      let last : begins_blank (reverse m) ≡ false = ap (λ l. begins_blank (reverse l)) (sym (append_assoc word st.gap operands)) ∙ ap begins_blank (reverse-append (word ++ st.gap) operands) ∙ begins_append (reverse operands) (reverse (word ++ st.gap)) (rw (length-reverse operands) some) ∙ ends in
+      let whole : rest ≡ st.before ++ m ++ st.behind = st.spelled ∙ inner st.before word st.gap operands st.behind in
+      let t : trimmed rest ≡ m = ap trimmed whole ∙ between st.before m st.behind st.blank_before st.blank_behind (bare m (name_begins word (st.gap ++ operands) st.name) last) in
+      ap statement_in t ∙ word_apart word st.gap operands st.name st.blank_gap (st.apart some) st.bare st.each
+
+pub lines_read : (line : List ℕ) (d : Division) → IsLine (without_comment line) d → read line ≡ means d
+unfolding read
+lines_read line d h =
+    let l = labels_read d.labels (without_comment line) h.rest d.spoken h.labelled h.spoken in
+    ap (λ (x : List (List ℕ)). line_of x (statement_in (trimmed (rest_of (pieces 58 (without_comment line)))))) l.0 ∙ ap (λ t. line_of d.labels (statement_in (trimmed t))) l.1 ∙ ap (line_of d.labels) (spoken_read h.rest d.spoken h.spoken)

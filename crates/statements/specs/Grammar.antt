@@ -1,0 +1,70 @@
+-- What a line is made of, by rules.
+--
+-- A line, without its comment, is labels, and behind them a statement or blanks. A label is a name behind blanks, and its
+-- colon follows it. A statement is a word, which is a name, and behind one blank or more its operands, divided by commas,
+-- none of them blank; it may have no operands. Blanks may stand before and behind it.
+use Rattle.std.specs.Prelude.{◌≡◌, ℕ, ◌<◌, true, List, [], ◌∷◌, ◌++◌, length, Option, Some, None, Result, Ok}
+use Rattle.std.specs.List.{list_all}
+use Rattle.statements.specs.Spelling.{is_blank, is_name, trimmed}
+use Rattle.statements.specs.Operands.{are_operands}
+use Rattle.statements.specs.Reading.{line_of, said_by, stating}
+use Rattle.statements.specs.Words.{word_of}
+use Rattle.statements.specs.declared.error.LineError.{LineError}
+use Rattle.statements.specs.declared.line.Line.{Line}
+use Rattle.statements.specs.declared.statement.Statement.{Statement}
+
+-- a word, and the text of its operands without the blanks round it
+abbrev pub Spoken : Type 0
+Spoken = List ℕ × List ℕ
+
+-- what a line is divided into
+pub record Division : Type 0 where
+  pub labels : List (List ℕ)
+  pub spoken : Option Spoken
+
+abbrev pub AllBlank : List ℕ → Type 0
+AllBlank text = list_all is_blank text ≡ true
+
+-- a text begins with a label, and this stands behind its colon
+pub record BeginsWith (label text behind : List ℕ) : Type 0 where
+  pub before : List ℕ
+  pub blank : AllBlank before
+  pub name : is_name label ≡ true
+  pub spelled : text ≡ before ++ label ++ 58 ∷ behind
+
+-- a text begins with these labels, and this stands behind the last colon
+abbrev pub Labelled : List (List ℕ) → List ℕ → List ℕ → Type 0
+Labelled [] text rest = text ≡ rest
+Labelled (label ∷ labels) text rest = (behind : List ℕ) × (BeginsWith label text behind × Labelled labels behind rest)
+
+-- a text is a statement
+pub record IsStatement (word operands text : List ℕ) : Type 0 where
+  pub before : List ℕ
+  pub gap : List ℕ
+  pub behind : List ℕ
+  pub blank_before : AllBlank before
+  pub blank_gap : AllBlank gap
+  pub blank_behind : AllBlank behind
+  pub name : is_name word ≡ true
+  pub apart : 0 < length operands → 0 < length gap
+  pub bare : trimmed operands ≡ operands
+  pub each : are_operands operands ≡ true
+  pub spelled : text ≡ before ++ word ++ gap ++ operands ++ behind
+
+abbrev pub IsSpoken : Option Spoken → List ℕ → Type 0
+IsSpoken None text = AllBlank text
+IsSpoken (Some (word, operands)) text = IsStatement word operands text
+
+-- a text is divided so
+pub record IsLine (text : List ℕ) (d : Division) : Type 0 where
+  pub rest : List ℕ
+  pub labelled : Labelled d.labels text rest
+  pub spoken : IsSpoken d.spoken rest
+
+-- what a line says that is divided so
+abbrev pub says : Option Spoken → Result (Option Statement) LineError
+says None = Ok None
+says (Some (word, operands)) = stating (said_by (word_of word) operands)
+
+abbrev pub means : Division → Result Line LineError
+means d = line_of d.labels (says d.spoken)
