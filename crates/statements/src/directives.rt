@@ -5,12 +5,12 @@ ghost use Rattle.statements.specs.Directives as spec;
 ghost use Rattle.statements.specs.Instructions.{Said};
 ghost use Rattle.statements.specs.Spelling.{is_name, trimmed};
 
-use crate::blanks::trimmed;
 use crate::error::LineError;
 use crate::forms::{label_in, name_in};
 use crate::items::{Item, Items, Width};
 use crate::number::{bits_in, constant_in};
 use crate::operands::{Operands, first_piece};
+use crate::spelling::trimmed;
 use crate::statement::Statement;
 use std::alloc::Global;
 

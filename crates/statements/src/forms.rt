@@ -5,11 +5,11 @@ ghost use Rattle.statements.specs.Spelling.{is_name, named};
 ghost use Rattle.statements.specs.Numbers as numbers;
 ghost use Rattle.statements.specs.Operands as spec;
 
-use crate::blanks::{is_name, parted, stripped, trimmed, without_leading_blanks};
 use crate::error::LineError;
 use crate::name::Name;
 use crate::number::bits_in;
 use crate::operands::{Access, Low};
+use crate::spelling::{is_name, parted, stripped, trimmed, without_leading_blanks};
 use crate::statement::Target;
 use rv32i::{FenceSet, Imm, Reg, reg_of};
 

@@ -3,7 +3,6 @@ ghost use Rattle.std.specs.Prelude.{◌≡◌, ◌<◌, ◌≤◌, ◌+◌, ◌%
 ghost use Rattle.std.specs.Option.{option_copied};
 ghost use Rattle.statements.specs.Instructions as spec;
 
-use crate::blanks::stripped;
 use crate::error::LineError;
 use crate::forms::{access_in, label_in, low_in, part_in, register_in, set_in, target_in};
 use crate::number::{bits_in, constant_in};
@@ -12,6 +11,7 @@ use crate::operations::{
     Condition, ImmediateOperation, RegisterOperation, ShiftOperation, StoreOperation, lower_part,
     upper_part,
 };
+use crate::spelling::stripped;
 use crate::statement::Statement;
 use crate::words::{Fixed, Unary};
 use rv32i::{FenceSet, Imm, Instr, Reg, Shamt, Upper};

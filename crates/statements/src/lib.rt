@@ -1,7 +1,6 @@
 //! The assembly language of RV32I, line by line: what a line says, before any address is known.
 #![tactic(auto)]
 
-mod blanks;
 mod directives;
 mod error;
 mod forms;
@@ -14,6 +13,7 @@ mod number;
 mod operands;
 mod operations;
 mod reading;
+mod spelling;
 mod statement;
 mod words;
 

@@ -5,8 +5,8 @@ ghost use Rattle.std.specs.Char.{digit_value, is_digit};
 ghost use Rattle.std.specs.Str.Parse.{digits_value};
 ghost use Rattle.statements.specs.Numbers.{bits_in, bits_within, constant_in, magnitude, number_in, numeral, signed, within};
 
-use crate::blanks::stripped;
 use crate::error::LineError;
+use crate::spelling::stripped;
 
 /// The greatest magnitude of a number.
 const MOST: u32 = 4_294_967_295;

@@ -5,7 +5,6 @@ ghost use Rattle.statements.specs.Directives.{OrNoMemory};
 ghost use Rattle.statements.specs.Reading as spec;
 ghost use Rattle.statements.specs.Spelling.{is_blank, named, pieces};
 
-use crate::blanks::{is_blank, parted, trimmed, without_leading_blanks};
 use crate::directives::{align, data, global, section, space};
 use crate::error::LineError;
 use crate::forms::name_in;
@@ -17,6 +16,7 @@ use crate::instructions::{
 use crate::line::{Labels, Line};
 use crate::name::Name;
 use crate::operands::{Operands, operands_in};
+use crate::spelling::{is_blank, parted, trimmed, without_leading_blanks};
 use crate::statement::Statement;
 use crate::words::{Word, word_of};
 use std::alloc::Global;

@@ -1,6 +1,6 @@
 use Rattle.std.proofs.Common.{◌≡◌, ◌≤◌, length, take}
 use Rattle.statements.specs.Spelling.{without_trailing_blanks}
-use Rattle.statements.proofs.blanks.without_trailing_blanks.Given as goal
+use Rattle.statements.proofs.spelling.without_trailing_blanks.Given as goal
 
 abbrev pub invariant-loop-end : goal.invariant-loop-end
 invariant-loop-end l = record {

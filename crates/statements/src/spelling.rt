@@ -1,4 +1,4 @@
-//! Texts without the blanks round them, and names.
+//! How a line is spelled: blanks, names, and a text divided at a byte.
 ghost use Rattle.std.specs.Prelude.{◌≡◌, ◌<◌, ◌==◌, ◌∷◌, List, ℕ, length, IsTrue, IfSome, Option, position};
 ghost use Rattle.std.specs.List.{list_all};
 ghost use Rattle.std.specs.Option.{option_copied, option_map};
