@@ -1,0 +1,10 @@
+pub mod Telling
+pub mod Reading
+pub mod Labelled
+pub mod Written
+pub mod Padded
+pub mod Placing
+pub mod Filling
+pub mod Rising
+pub mod Only
+pub mod Done

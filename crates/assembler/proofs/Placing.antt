@@ -1,0 +1,32 @@
+-- Lines that are placed one by one.
+use Rattle.std.proofs.Common.{◌≡◌, ℕ, ◌≤◌, List, [], ◌++◌, drop, Option, refl, ap, ◌∙◌}
+use Rattle.image.specs.Memory.{first_address}
+use Rattle.image.specs.Lines.{Label, Row}
+use Rattle.assembler.specs.Errors.{Tells, told_at, told_kind}
+use Rattle.assembler.specs.Places.{end_of, error_at, labels_in, place_error, places, rows_in}
+use Rattle.assembler.specs.declared.error.AsmError.{AsmError}
+use Rattle.assembler.specs.declared.error.AsmErrorKind.{AsmErrorKind}
+use Rattle.assembler.specs.declared.error.AsmErrorKind.TheVariants as k
+use Rattle.assembler.specs.declared.program.Source.{Source}
+
+-- ---- lines so far
+
+pub record IsReached (limit : ℕ) (program : List Source) (count : ℕ) (labels : List Label) (rows : List Row) (address : ℕ) : Type 0 where
+  pub wrong : place_error limit [] (places first_address program) ≡ place_error limit labels (places address (drop count program))
+  pub labels_are : labels_in (places first_address program) ≡ labels ++ labels_in (places address (drop count program))
+  pub rows_are : rows_in (places first_address program) ≡ rows ++ rows_in (places address (drop count program))
+  pub end_is : end_of first_address program ≡ end_of address (drop count program)
+  pub from : first_address ≤ address
+  pub to : address ≤ limit
+
+-- what is wrong with a line is told of the lines from it on
+pub told_so : (kind : AsmErrorKind) (line : ℕ) (wrong : Option AsmErrorKind) (later found : Option AsmError) → told_kind kind wrong → found ≡ error_at line wrong later → Tells (told_at line kind) found
+told_so k.NoMemory line wrong later found h e = refl
+told_so k.NotUtf8 line wrong later found h e = e ∙ ap (λ w. error_at line w later) h
+told_so k.Syntax line wrong later found h e = e ∙ ap (λ w. error_at line w later) h
+told_so k.UnknownInstruction line wrong later found h e = e ∙ ap (λ w. error_at line w later) h
+told_so k.BadOperand line wrong later found h e = e ∙ ap (λ w. error_at line w later) h
+told_so k.OutOfRange line wrong later found h e = e ∙ ap (λ w. error_at line w later) h
+told_so k.TwiceDefined line wrong later found h e = e ∙ ap (λ w. error_at line w later) h
+told_so k.Undefined line wrong later found h e = e ∙ ap (λ w. error_at line w later) h
+told_so k.TooLarge line wrong later found h e = e ∙ ap (λ w. error_at line w later) h

@@ -1,0 +1,10 @@
+use Rattle.std.proofs.Common.{◌≡◌, ◌++◌, drop, map}
+use Rattle.image.specs.Lines.{labels_of}
+use Rattle.assembler.specs.Places.{defines_twice}
+use Rattle.assembler.proofs.layout.add_labels.Given as goal
+
+abbrev pub invariant-loop-name : goal.invariant-loop-name
+invariant-loop-name l = record {
+  twice : defines_twice l.address (labels_of l.initial.labels.entries) l.names ≡ defines_twice l.address (labels_of l.labels.entries) (drop l.name-index l.names);
+  labels : labels_of l.initial.labels.entries ++ map (λ name. (name, l.address)) l.names ≡ labels_of l.labels.entries ++ map (λ name. (name, l.address)) (drop l.name-index l.names);
+}

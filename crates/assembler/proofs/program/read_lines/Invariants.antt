@@ -1,0 +1,10 @@
+use Rattle.std.proofs.Common.{◌≡◌, ◌+◌, length, drop}
+use Rattle.std.specs.Str.Lines.{lines}
+use Rattle.assembler.specs.Program.{after, read_lines}
+use Rattle.assembler.proofs.program.read_lines.Given as goal
+
+abbrev pub invariant-loop-line : goal.invariant-loop-line
+invariant-loop-line l = record {
+  count : l.number ≡ length l.yielded;
+  left : read_lines 1 (lines l.text) ≡ after l.program.items (read_lines (l.number + 1) (drop l.number (lines l.text)));
+}

@@ -1,0 +1,203 @@
+-- What a statement puts into memory at its address.
+--
+-- A name stands for the address of its label; where no line defines it, that is wrong (Undefined). A jump and a branch hold
+-- the distance from their own address, as a signed number of 32 bits; it has to be even, and no more than its field takes
+-- (OutOfRange): -1,048,576 to 1,048,574 for JAL, -4,096 to 4,094 for a branch. `%hi` and `%lo` are the two parts of an
+-- address; `la` and `call` are the two parts of the distance from their first instruction. Data is little-endian, and as
+-- many of the lowest bytes of an item as it has.
+use Rattle.std.specs.Prelude.{◌≡◌, ℕ, ◌+◌, ◌-◌, ◌%◌, ◌^◌, ◌==◌, nat_lt, if◌then◌else◌, ◌&&◌, List, [], ◌∷◌, ◌++◌, take, replicate, Option, Some, None, Result, Ok, Err, ⊤}
+use Rattle.image.specs.Memory.{word_bytes}
+use Rattle.image.specs.Lines.{Label}
+use Rattle.rv32i.specs.Encoding.{Encodes}
+use Rattle.rv32i.specs.declared.instr.Instr.{Instr}
+use Rattle.rv32i.specs.declared.instr.Instr.TheVariants as i
+use Rattle.statements.specs.Operations.{branch_instruction, immediate_instruction, lower_part, store_instruction, upper_part}
+use Rattle.statements.specs.Spelling.{named}
+use Rattle.statements.specs.declared.items.Item.{Item}
+use Rattle.statements.specs.declared.items.Item.TheVariants.{Label as Named, Number}
+use Rattle.statements.specs.declared.items.Width.{Width}
+use Rattle.statements.specs.declared.operations.ImmediateOperation.{ImmediateOperation}
+use Rattle.statements.specs.declared.operations.StoreOperation.{StoreOperation}
+use Rattle.statements.specs.declared.operations.Condition.{Condition}
+use Rattle.statements.specs.declared.statement.Statement.{Statement}
+use Rattle.statements.specs.declared.statement.Statement.TheVariants as say
+use Rattle.statements.specs.declared.statement.Target.{Target}
+use Rattle.statements.specs.declared.statement.Target.TheVariants as t
+use Rattle.assembler.specs.declared.error.AsmError.{AsmError}
+use Rattle.assembler.specs.declared.error.AsmErrorKind.{AsmErrorKind}
+use Rattle.assembler.specs.declared.error.AsmErrorKind.TheVariants as k
+use Rattle.assembler.specs.Places.{bytes_in, error_at, padding, Place}
+
+-- a part, and then what stands on it, unless something is wrong with it
+abbrev pub and_then : {A B : Type 0} → Result A AsmErrorKind → (A → Result B AsmErrorKind) → Result B AsmErrorKind
+and_then (Ok a) next = next a
+and_then (Err kind) next = Err kind
+
+-- the address of a label
+abbrev pub defined : Option ℕ → Result ℕ AsmErrorKind
+defined None = Err k.Undefined
+defined (Some address) = Ok address
+
+abbrev pub place_of : List Label → List ℕ → Result ℕ AsmErrorKind
+place_of labels name = defined (named labels name)
+
+abbrev pub target_of : List Label → Target → Result ℕ AsmErrorKind
+target_of labels (t.Label name) = place_of labels name
+target_of labels (t.Address address) = Ok address
+
+-- how far a target is from an address, as a number of 32 bits
+abbrev pub distance : ℕ → ℕ → ℕ
+distance target address = (target + (2 ^ 32 - address)) % 2 ^ 32
+
+abbrev pub branch_offset : ℕ → Result ℕ AsmErrorKind
+branch_offset far = if nat_lt ((far + 4096) % 2 ^ 32) 8192 && (far % 2 == 0) then Ok far else Err k.OutOfRange
+
+abbrev pub jump_offset : ℕ → Result ℕ AsmErrorKind
+jump_offset far = if nat_lt ((far + 1048576) % 2 ^ 32) 2097152 && (far % 2 == 0) then Ok far else Err k.OutOfRange
+
+-- ---- instructions
+
+abbrev pub Coded : Type 0
+Coded = Result Instr AsmErrorKind
+
+abbrev pub jump : List Label → ℕ → ℕ → Target → Coded
+jump labels address rd target = and_then (target_of labels target) (λ to. and_then (jump_offset (distance to address)) (λ offset. Ok (i.Jal rd offset)))
+
+abbrev pub branch : List Label → ℕ → Condition → ℕ → ℕ → Target → Coded
+branch labels address condition rs1 rs2 target = and_then (target_of labels target) (λ to. and_then (branch_offset (distance to address)) (λ offset. Ok (branch_instruction condition rs1 rs2 offset)))
+
+abbrev pub upper : List Label → ℕ → List ℕ → Coded
+upper labels rd label = and_then (place_of labels label) (λ to. Ok (i.Lui rd (upper_part to)))
+
+abbrev pub lower : List Label → ImmediateOperation → ℕ → ℕ → List ℕ → Coded
+lower labels operation rd rs1 label = and_then (place_of labels label) (λ to. Ok (immediate_instruction operation rd rs1 (lower_part to)))
+
+abbrev pub store_lower : List Label → StoreOperation → ℕ → ℕ → List ℕ → Coded
+store_lower labels operation rs1 rs2 label = and_then (place_of labels label) (λ to. Ok (store_instruction operation rs1 rs2 (lower_part to)))
+
+-- how far a label is
+abbrev pub distance_of : List Label → ℕ → List ℕ → Result ℕ AsmErrorKind
+distance_of labels address label = and_then (place_of labels label) (λ to. Ok (distance to address))
+
+-- ---- data
+
+abbrev pub value_of : List Label → Item → Result ℕ AsmErrorKind
+value_of labels (Named name) = place_of labels name
+value_of labels (Number number) = Ok number
+
+abbrev pub item_bytes : Width → ℕ → List ℕ
+item_bytes width value = take (bytes_in width) (word_bytes value)
+
+-- bytes before others, unless something is wrong with those
+abbrev pub with_more : List ℕ → Result (List ℕ) AsmErrorKind → Result (List ℕ) AsmErrorKind
+with_more bytes (Ok more) = Ok (bytes ++ more)
+with_more bytes (Err kind) = Err kind
+
+abbrev pub items_bytes : List Label → Width → List Item → Result (List ℕ) AsmErrorKind
+items_bytes labels width [] = Ok []
+items_bytes labels width (item ∷ items) = and_then (value_of labels item) (λ value. with_more (item_bytes width value) (items_bytes labels width items))
+
+-- ---- statements
+
+-- what a statement puts into memory: instructions, or bytes as they are
+pub data Content : Type 0 where
+  Code : List Instr → Content
+  Plain : List ℕ → Content
+
+abbrev pub Contained : Type 0
+Contained = Result Content AsmErrorKind
+
+abbrev pub one : Coded → Contained
+one (Ok instruction) = Ok (Code (instruction ∷ []))
+one (Err kind) = Err kind
+
+-- la d, label is auipc d, upper; addi d, d, lower
+abbrev pub load_address : ℕ → Result ℕ AsmErrorKind → Contained
+load_address rd (Ok far) = Ok (Code (i.Auipc rd (upper_part far) ∷ i.Addi rd rd (lower_part far) ∷ []))
+load_address rd (Err kind) = Err kind
+
+-- call label is auipc x1, upper; jalr x1, lower(x1)
+abbrev pub call : Result ℕ AsmErrorKind → Contained
+call (Ok far) = Ok (Code (i.Auipc 1 (upper_part far) ∷ i.Jalr 1 1 (lower_part far) ∷ []))
+call (Err kind) = Err kind
+
+abbrev pub plain : Result (List ℕ) AsmErrorKind → Contained
+plain (Ok bytes) = Ok (Plain bytes)
+plain (Err kind) = Err kind
+
+abbrev pub content_of : List Label → ℕ → Statement → Contained
+content_of labels address (say.One instruction) = Ok (Code (instruction ∷ []))
+content_of labels address (say.Two first second) = Ok (Code (first ∷ second ∷ []))
+content_of labels address (say.Jump rd target) = one (jump labels address rd target)
+content_of labels address (say.Branch condition rs1 rs2 target) = one (branch labels address condition rs1 rs2 target)
+content_of labels address (say.Upper rd label) = one (upper labels rd label)
+content_of labels address (say.Lower operation rd rs1 label) = one (lower labels operation rd rs1 label)
+content_of labels address (say.StoreLower operation rs1 rs2 label) = one (store_lower labels operation rs1 rs2 label)
+content_of labels address (say.LoadAddress rd label) = load_address rd (distance_of labels address label)
+content_of labels address (say.Call label) = call (distance_of labels address label)
+content_of labels address (say.Data width items) = plain (items_bytes labels width items)
+content_of labels address (say.Space count) = Ok (Plain (replicate count 0))
+content_of labels address (say.Align power) = Ok (Plain (replicate (padding (2 ^ power) address) 0))
+content_of labels address say.Nothing = Ok (Plain [])
+
+abbrev pub content_at : List Label → ℕ → Option Statement → Contained
+content_at labels address None = Ok (Plain [])
+content_at labels address (Some statement) = content_of labels address statement
+
+-- ---- bytes
+
+-- The bytes of instructions: for each its word, which encodes it, the least byte first.
+pub record IsWord (instruction : Instr) (bytes : List ℕ) : Type 0 where
+  pub word : ℕ
+  pub encodes : Encodes instruction word
+  pub low_first : bytes ≡ word_bytes word
+
+abbrev pub AreWords : List Instr → List ℕ → Type 0
+AreWords [] bytes = bytes ≡ []
+AreWords (instruction ∷ others) bytes = (word : List ℕ) × (rest : List ℕ) × IsWord instruction word × AreWords others rest × (bytes ≡ word ++ rest)
+
+abbrev pub IsContent : Content → List ℕ → Type 0
+IsContent (Code instructions) bytes = AreWords instructions bytes
+IsContent (Plain plain) bytes = bytes ≡ plain
+
+-- bytes that are right for what a statement puts there, with which nothing is wrong
+abbrev pub IsPart : Contained → List ℕ → Type 0
+IsPart (Ok content) bytes = IsContent content bytes
+IsPart (Err kind) bytes = ⊥
+
+-- The parts of memory: one for each line, in order.
+abbrev pub AreParts : List Label → List Place → List ℕ → Type 0
+AreParts labels [] bytes = bytes ≡ []
+AreParts labels (place ∷ others) bytes = (part : List ℕ) × (rest : List ℕ) × IsPart (content_at labels place.address place.source.line.statement) part × AreParts labels others rest × (bytes ≡ part ++ rest)
+
+-- the first line with whose content something is wrong
+abbrev pub wrong_in : Contained → Option AsmErrorKind
+wrong_in (Ok content) = None
+wrong_in (Err kind) = Some kind
+
+abbrev pub content_error : List Label → List Place → Option AsmError
+content_error labels [] = None
+content_error labels (place ∷ others) = error_at place.source.number (wrong_in (content_at labels place.address place.source.line.statement)) (content_error labels others)
+
+-- ---- what is told of one statement
+
+-- what is wrong with it, or want of memory
+abbrev pub TellsKind : AsmErrorKind → Contained → Type 0
+TellsKind k.NoMemory contained = ⊤
+TellsKind k.NotUtf8 contained = contained ≡ Err k.NotUtf8
+TellsKind k.Syntax contained = contained ≡ Err k.Syntax
+TellsKind k.UnknownInstruction contained = contained ≡ Err k.UnknownInstruction
+TellsKind k.BadOperand contained = contained ≡ Err k.BadOperand
+TellsKind k.OutOfRange contained = contained ≡ Err k.OutOfRange
+TellsKind k.TwiceDefined contained = contained ≡ Err k.TwiceDefined
+TellsKind k.Undefined contained = contained ≡ Err k.Undefined
+TellsKind k.TooLarge contained = contained ≡ Err k.TooLarge
+
+-- bytes with a part behind them
+abbrev pub Appends : Content → List ℕ → List ℕ → Type 0
+Appends content before after = (part : List ℕ) × IsContent content part × (after ≡ before ++ part)
+
+-- bytes with a part behind them, or what is told
+abbrev pub Writes : Result (Unit {0}) AsmErrorKind → Contained → List ℕ → List ℕ → Type 0
+Writes (Ok done) contained before after = (part : List ℕ) × IsPart contained part × (after ≡ before ++ part)
+Writes (Err kind) contained before after = TellsKind kind contained

@@ -1,0 +1,5 @@
+pub mod Errors
+pub mod Program
+pub mod Places
+pub mod Contents
+pub mod Placed

@@ -1,0 +1,64 @@
+-- A text as a program: the lines that say something, each with its number.
+--
+-- A text is UTF-8 and has at most 1,048,576 bytes. Its lines end at line feeds, and a carriage return before a line feed
+-- is dropped; the last line may lack its line feed, and then a carriage return at its end stays. Behind a line feed at the
+-- end of the text there is no further line; an empty one would say nothing. Lines count from 1.
+--
+-- What is wrong with a text before any address is known is the first of these: it is too long (TooLarge, at line 0); it
+-- is no UTF-8 (NotUtf8, at the line of the first byte that belongs to no character); a line is wrong as it stands, and
+-- then the first such line is told.
+use Rattle.std.specs.Prelude.{ℕ, ◌+◌, Bool, ◌==◌, nat_lt, ◌&&◌, if◌then◌else◌, List, [], ◌∷◌, ◌++◌, length, take, count_by, is_none, Result, Ok, Err}
+use Rattle.std.specs.Str.{is_utf8}
+use Rattle.std.specs.Str.Lines.{lines}
+use Rattle.std.specs.Str.Lossy.{utf8_valid_len}
+use Rattle.statements.specs.Reading.{read}
+use Rattle.statements.specs.declared.error.LineError.{LineError}
+use Rattle.statements.specs.declared.line.Line.{Line}
+use Rattle.assembler.specs.declared.error.AsmError.{AsmError}
+use Rattle.assembler.specs.declared.error.AsmErrorKind.TheVariants as k
+use Rattle.assembler.specs.declared.program.Source.{Source}
+use Rattle.assembler.specs.Errors.{at, of_line}
+
+abbrev pub text_limit : ℕ
+text_limit = 1048576
+
+-- the line on which the byte at a place stands
+abbrev pub line_at : List ℕ → ℕ → ℕ
+line_at text place = count_by (λ b. b == 10) (take place text) + 1
+
+-- a line with no label and no statement says nothing, and is left out
+abbrev pub says_nothing : Line → Bool
+says_nothing line = (length line.labels == 0) && is_none line.statement
+
+abbrev pub source : ℕ → Line → Source
+source number line = record { number = number; line = line }
+
+abbrev pub kept : ℕ → Line → List Source → List Source
+kept number line others = if says_nothing line then others else source number line ∷ others
+
+-- a line before others, unless something is wrong with them
+abbrev pub with_others : ℕ → Line → Result (List Source) AsmError → Result (List Source) AsmError
+with_others number line (Ok others) = Ok (kept number line others)
+with_others number line (Err error) = Err error
+
+abbrev pub line_then : ℕ → Result Line LineError → Result (List Source) AsmError → Result (List Source) AsmError
+line_then number (Ok line) others = with_others number line others
+line_then number (Err error) others = Err (of_line number error)
+
+-- what one line makes, and lines before what others make
+abbrev pub said : ℕ → Result Line LineError → Result (List Source) AsmError
+said number line = line_then number line (Ok [])
+
+abbrev pub after : List Source → Result (List Source) AsmError → Result (List Source) AsmError
+after list (Ok more) = Ok (list ++ more)
+after list (Err error) = Err error
+
+-- lines from a number on
+abbrev pub read_lines : ℕ → List (List ℕ) → Result (List Source) AsmError
+read_lines number [] = Ok []
+read_lines number (line ∷ others) = line_then number (read line) (read_lines (number + 1) others)
+
+unfoldable pub read_text : List ℕ → Result (List Source) AsmError
+read_text text = if nat_lt text_limit (length text) then Err (at 0 k.TooLarge)
+    else if is_utf8 text then read_lines 1 (lines text)
+    else Err (at (line_at text (utf8_valid_len text)) k.NotUtf8)

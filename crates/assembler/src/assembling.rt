@@ -1,0 +1,74 @@
+//! A text to an image.
+ghost use Rattle.std.specs.Prelude.{◌≡◌, ◌≤◌, MatchResult};
+ghost use Rattle.image.specs.Lines.{labels_of, RowsRise};
+ghost use Rattle.assembler.specs.Errors.{Tells};
+ghost use Rattle.assembler.specs.Placed.{error_of, Placed};
+ghost use Rattle.assembler.specs.Places as spec;
+
+use crate::error::AsmError;
+use crate::fill::fill;
+use crate::layout::{BASE, Layout, lay_out};
+use crate::program::read_program;
+use image::{Bytes, Image, LineTable};
+use std::alloc::Global;
+
+/// The image of a text, for a memory of so many bytes from 0x00010000 on, at most 16,777,216; or what is
+/// wrong with the text. The passes go over all lines, one behind the other, and the first line in error of
+/// the first pass that has one is told.
+///
+/// - First: `TooLarge` at line 0 for a text of more than 1,048,576 bytes; then `NotUtf8`.
+/// - Second: `Syntax`, `UnknownInstruction`, `BadOperand`, or `OutOfRange` for a number that needs no
+///   address.
+/// - Third: `TwiceDefined`; then `OutOfRange` for an instruction, or the label `_start`, at an address that is
+///   no multiple of 4; then `TooLarge` for a line that ends behind the end of memory.
+/// - Fourth: `Undefined`; then `OutOfRange` for a distance.
+///
+/// In place of any answer it may tell `NoMemory`, at line 0.
+pub fn assemble(alloc: Global, text: &[u8], size: u32) -> Result<Image, AsmError>
+    requires { size ≤ 16777216 }
+    ensures { MatchResult result (λ image. Placed text.now size image) (λ error. Tells error (error_of text.now size)) }
+{
+    let limit = BASE + size;
+    let program = match read_program(alloc, text) {
+        Ok(program) => program,
+        Err(error) => return Err(error),
+    };
+    let layout = match lay_out(alloc, program.as_slice(), limit) {
+        Ok(layout) => layout,
+        Err(error) => return Err(error),
+    };
+    match fill(alloc, program.as_slice(), &layout.labels, limit) {
+        Ok(bytes) => Ok(image_of(layout, bytes)),
+        Err(error) => Err(error),
+    }
+}
+
+// Where the program starts.
+fn entry_of(layout: &Layout) -> u32
+    ensures { result ≡ spec.entry_of (labels_of layout.now.labels.entries) layout.now.rows.items }
+{
+    if let Some(start) = layout.labels.get("_start") {
+        return *start;
+    }
+    match layout.rows.as_slice() {
+        [] => BASE,
+        [row, ..] => row.1,
+    }
+}
+
+fn image_of(layout: Layout, bytes: Vec<u8>) -> Image
+    requires { RowsRise layout.rows.items layout.end }
+    ensures bytes { result.bytes ≡ bytes.items }
+    ensures entry { result.entry ≡ spec.entry_of (labels_of layout.labels.entries) layout.rows.items }
+    ensures rows { result.lines.rows ≡ layout.rows.items }
+    ensures labels { result.lines.labels ≡ labels_of layout.labels.entries }
+    ensures end { result.lines.end ≡ layout.end }
+{
+    let entry = entry_of(&layout);
+    let Layout { labels, rows, end } = layout;
+    Image {
+        bytes: Bytes::from_vec(bytes),
+        entry,
+        lines: LineTable::new(rows, labels, end),
+    }
+}

@@ -1,0 +1,95 @@
+//! Why a text has no image.
+ghost use Rattle.std.specs.Prelude.{◌≡◌};
+ghost use Rattle.assembler.specs.Errors as spec;
+
+use statements::LineError;
+use thiserror::Error;
+
+/// What is wrong with a line.
+#[derive(Clone, Copy, Debug, PartialEq, Eq, Error)]
+pub enum AsmErrorKind {
+    /// The text is no UTF-8; the line is that of the first byte that is none.
+    #[error("NotUtf8")]
+    NotUtf8,
+    /// The line is no labels followed by a word and operands.
+    #[error("Syntax")]
+    Syntax,
+    /// Its word names no instruction and no directive.
+    #[error("UnknownInstruction")]
+    UnknownInstruction,
+    /// Its word takes operands of another number or form.
+    #[error("BadOperand")]
+    BadOperand,
+    /// A number, a distance or an address in it is outside its range.
+    #[error("OutOfRange")]
+    OutOfRange,
+    /// It defines a label that is defined before.
+    #[error("TwiceDefined")]
+    TwiceDefined,
+    /// It names a label that no line defines.
+    #[error("Undefined")]
+    Undefined,
+    /// It ends behind the end of memory; or the text is too long, and then the line is 0.
+    #[error("TooLarge")]
+    TooLarge,
+    /// No memory was left; the line is 0.
+    #[error("NoMemory")]
+    NoMemory,
+}
+
+/// Why a text has no image: the line, counted from 1, and what is wrong with it.
+#[derive(Clone, Copy, Debug, PartialEq, Eq, Error)]
+#[error("line {line}: {kind}")]
+pub struct AsmError {
+    /// The line, counted from 1; 0 where it is the text as a whole, or want of memory.
+    pub line: u32,
+    /// What is wrong with it.
+    pub kind: AsmErrorKind,
+}
+
+impl AsmError {
+    /// Want of memory.
+    pub(crate) fn no_memory() -> AsmError
+        ensures { result ≡ spec.no_memory }
+    {
+        AsmError {
+            line: 0,
+            kind: AsmErrorKind::NoMemory,
+        }
+    }
+
+    /// What is wrong with a line, or want of memory.
+    pub(crate) fn told_at(line: u32, kind: AsmErrorKind) -> AsmError
+        ensures { result ≡ spec.told_at line kind }
+    {
+        match kind {
+            AsmErrorKind::NoMemory => AsmError::no_memory(),
+            _ => AsmError { line, kind },
+        }
+    }
+
+    /// What is wrong with a line before any address is known.
+    pub(crate) fn of_line(line: u32, error: LineError) -> AsmError
+        ensures { result ≡ spec.of_line line error }
+    {
+        match error {
+            LineError::Syntax => AsmError {
+                line,
+                kind: AsmErrorKind::Syntax,
+            },
+            LineError::UnknownInstruction => AsmError {
+                line,
+                kind: AsmErrorKind::UnknownInstruction,
+            },
+            LineError::BadOperand => AsmError {
+                line,
+                kind: AsmErrorKind::BadOperand,
+            },
+            LineError::OutOfRange => AsmError {
+                line,
+                kind: AsmErrorKind::OutOfRange,
+            },
+            LineError::NoMemory => AsmError::no_memory(),
+        }
+    }
+}

@@ -1,0 +1,94 @@
+//! A text to the lines that say something.
+ghost use Rattle.std.specs.Prelude.{◌≡◌, ◌≤◌, ◌<◌, ◌+◌, ◌^◌, ◌++◌, [], Ok, Err, Result, length, MatchResult, OnOk, IfErr};
+ghost use Rattle.std.specs.Str.Lines.{lines};
+ghost use Rattle.statements.specs.Reading.{read};
+ghost use Rattle.assembler.specs.Errors.{error_in, no_memory, Tells};
+ghost use Rattle.assembler.specs.Program as spec;
+
+use crate::error::{AsmError, AsmErrorKind};
+use statements::{Line, read_line};
+use std::alloc::Global;
+
+/// How many bytes a text may have.
+const TEXT_LIMIT: usize = 1_048_576;
+
+/// A line that says something.
+#[derive(Debug, Drop)]
+pub(crate) struct Source<'a> {
+    /// Its number, from 1 on.
+    pub number: u32,
+    /// What it says.
+    pub line: Line<'a>,
+}
+
+/// The lines of a text that say something.
+pub(crate) fn read_program<'a>(alloc: Global, text: &'a [u8]) -> Result<Vec<Source<'a>>, AsmError>
+    ensures { MatchResult result (λ p. spec.read_text text.now ≡ Ok p.items) (λ e. Tells e (error_in (spec.read_text text.now))) }
+{
+    if text.len() > TEXT_LIMIT {
+        return Err(AsmError {
+            line: 0,
+            kind: AsmErrorKind::TooLarge,
+        });
+    }
+    match str::from_utf8(text) {
+        Ok(text) => read_lines(alloc, text),
+        Err(error) => Err(AsmError {
+            line: line_at(text, error.valid_up_to()),
+            kind: AsmErrorKind::NotUtf8,
+        }),
+    }
+}
+
+// The line on which the byte at a place stands.
+fn line_at(text: &[u8], place: usize) -> u32
+    requires within { place ≤ length text.now }
+    requires few { length text.now ≤ 1048576 }
+    ensures { result ≡ spec.line_at text.now place }
+{
+    let before = &text[..place];
+    before.iter().filter(|b| **b == b'\n').count() as u32 + 1
+}
+
+fn read_lines<'a>(alloc: Global, text: &'a str) -> Result<Vec<Source<'a>>, AsmError>
+    requires { length text.now ≤ 1048576 }
+    ensures { MatchResult result (λ p. spec.read_lines 1 (lines text.now) ≡ Ok p.items) (λ e. Tells e (error_in (spec.read_lines 1 (lines text.now)))) }
+{
+    let mut program = Vec::new(alloc);
+    let mut number = 0;
+    for line in text.lines() {
+        number += 1;
+        if let Err(error) = read_one(alloc, &mut program, number, line.as_bytes()) {
+            return Err(error);
+        }
+    }
+    Ok(program)
+}
+
+// One line more.
+fn read_one<'a>(
+    alloc: Global,
+    program: &mut Vec<Source<'a>>,
+    number: u32,
+    text: &'a [u8],
+) -> Result<(), AsmError>
+    ensures { MatchResult result (λ _. spec.after program.old.items (spec.said number (read text.now)) ≡ Ok program.new.items) (λ e. Tells e (error_in (spec.said number (read text.now)))) }
+{
+    match read_line(alloc, text) {
+        Ok(line) => keep(program, number, line),
+        Err(error) => Err(AsmError::of_line(number, error)),
+    }
+}
+
+fn keep<'a>(program: &mut Vec<Source<'a>>, number: u32, line: Line<'a>) -> Result<(), AsmError>
+    ensures ok { OnOk result (program.new.items ≡ program.old.items ++ spec.kept number line.entry []) }
+    ensures err { IfErr result (λ e. e ≡ no_memory) }
+{
+    if line.labels.as_slice().is_empty() && line.statement.is_none() {
+        return Ok(());
+    }
+    match program.push(Source { number, line }) {
+        Ok(()) => Ok(()),
+        Err(_) => Err(AsmError::no_memory()),
+    }
+}
