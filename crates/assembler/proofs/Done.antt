@@ -6,9 +6,10 @@ use Rattle.image.specs.declared.Image.{Image}
 use Rattle.assembler.specs.Contents.{AreParts, content_error}
 use Rattle.assembler.specs.Errors.{first_of}
 use Rattle.assembler.specs.Placed.{error_by, Placed, placed}
-use Rattle.assembler.specs.Places.{entry_of, IsLayout, labels_in, places}
+use Rattle.assembler.specs.Places.{entry_of, labels_in, places}
 use Rattle.assembler.specs.Program.{read_text}
 use Rattle.assembler.specs.declared.program.Source.{Source}
+use Rattle.assembler.specs.Steps.{IsLayout}
 use Rattle.assembler.proofs.Filling.{parts_length, parts_right}
 
 pub placed_so : (text : List ℕ) (size : ℕ) (image : Image) (program : List Source) (labels : List Label) (rows : List Row) (end : ℕ) (bytes : List ℕ) → read_text text ≡ Ok program → IsLayout (first_address + size) program labels rows end → AreParts labels (places first_address program) bytes → image.bytes ≡ bytes → image.entry ≡ entry_of labels rows → image.lines.rows ≡ rows → image.lines.labels ≡ labels → image.lines.end ≡ end → Placed text size image

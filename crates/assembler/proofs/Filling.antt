@@ -11,12 +11,13 @@ use Rattle.statements.specs.declared.items.Width.{Width}
 use Rattle.statements.specs.declared.items.Width.TheVariants.{Byte, Half, Word}
 use Rattle.statements.specs.declared.statement.Statement.{Statement}
 use Rattle.statements.specs.declared.statement.Statement.TheVariants as say
-use Rattle.assembler.specs.Contents.{and_then, AreParts, AreWords, branch, call, Coded, Contained, content_at, content_error, content_of, distance_of, IsPart, IsWord, item_bytes, items_bytes, jump, load_address, lower, one, plain, store_lower, TellsKind, upper, value_of, with_more, wrong_in, Writes}
-use Rattle.assembler.specs.Errors.{Tells, told_at, told_kind}
+use Rattle.assembler.specs.Contents.{and_then, AreParts, AreWords, branch, call, Coded, Contained, content_at, content_error, content_of, distance_of, IsPart, IsWord, item_bytes, items_bytes, jump, load_address, lower, one, plain, store_lower, upper, value_of, with_more, wrong_in}
+use Rattle.assembler.specs.Errors.{Tells}
 use Rattle.assembler.specs.Places.{behind, bytes_in, end_of, error_at, padding, Place, place, places, size_at, size_of}
 use Rattle.assembler.specs.declared.error.AsmErrorKind.{AsmErrorKind}
 use Rattle.assembler.specs.declared.error.AsmErrorKind.TheVariants as k
 use Rattle.assembler.specs.declared.program.Source.{Source}
+use Rattle.assembler.specs.Steps.{TellsKind, Writes, told_at, told_kind}
 use Rattle.assembler.proofs.Placing.{told_so}
 
 -- no line ends behind the last

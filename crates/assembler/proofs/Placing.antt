@@ -2,12 +2,13 @@
 use Rattle.std.proofs.Common.{◌≡◌, ℕ, ◌≤◌, List, [], ◌++◌, drop, Option, refl, ap, ◌∙◌}
 use Rattle.image.specs.Memory.{first_address}
 use Rattle.image.specs.Lines.{Label, Row}
-use Rattle.assembler.specs.Errors.{Tells, told_at, told_kind}
+use Rattle.assembler.specs.Errors.{Tells}
 use Rattle.assembler.specs.Places.{end_of, error_at, labels_in, place_error, places, rows_in}
 use Rattle.assembler.specs.declared.error.AsmError.{AsmError}
 use Rattle.assembler.specs.declared.error.AsmErrorKind.{AsmErrorKind}
 use Rattle.assembler.specs.declared.error.AsmErrorKind.TheVariants as k
 use Rattle.assembler.specs.declared.program.Source.{Source}
+use Rattle.assembler.specs.Steps.{told_at, told_kind}
 
 -- ---- lines so far
 

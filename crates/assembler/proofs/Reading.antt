@@ -12,10 +12,11 @@ use Rattle.std.proofs.lemmas.Bool.{false_from_ne_true}
 use Rattle.std.proofs.lemmas.Bool.Decides.{nat_tests}
 use Rattle.std.proofs.lemmas.Str.{IsUtf8-from_is_utf8, is_utf8-from_IsUtf8}
 use Rattle.assembler.specs.Errors.{at, error_in, Tells}
-use Rattle.assembler.specs.Program.{after, kept, line_at, line_then, read_lines, read_text, said, says_nothing, text_limit}
+use Rattle.assembler.specs.Program.{kept, line_at, line_then, read_lines, read_text, says_nothing, text_limit}
 use Rattle.assembler.specs.declared.error.AsmErrorKind.TheVariants as k
 use Rattle.assembler.specs.declared.error.AsmError.{AsmError}
 use Rattle.assembler.specs.declared.program.Source.{Source}
+use Rattle.assembler.specs.Steps.{after, said}
 use Rattle.assembler.proofs.Telling.{tells_weaker}
 
 kept_before : (number : ℕ) (line : Line) (others : List Source) → kept number line others ≡ kept number line [] ++ others

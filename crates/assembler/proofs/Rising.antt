@@ -12,11 +12,12 @@ use Rattle.statements.specs.declared.error.LineError.{LineError}
 use Rattle.statements.specs.declared.line.Line.{Line}
 use Rattle.statements.specs.declared.statement.Statement.{Statement}
 use Rattle.statements.specs.declared.statement.Statement.TheVariants as say
-use Rattle.assembler.specs.Places.{behind, defines_twice, end_of, error_at, is_aligned, IsLayout, labels_at, misplaced, Place, place, place_error, places, row_of, rows_in, size_at, size_of, words_at, words_of}
+use Rattle.assembler.specs.Places.{behind, defines_twice, end_of, error_at, is_aligned, labels_at, misplaced, Place, place, place_error, places, row_of, rows_in, size_at, size_of, words_at, words_of}
 use Rattle.assembler.specs.Program.{kept, line_then, read_lines, read_text, says_nothing, text_limit}
 use Rattle.assembler.specs.declared.error.AsmError.{AsmError}
 use Rattle.assembler.specs.declared.error.AsmErrorKind.{AsmErrorKind}
 use Rattle.assembler.specs.declared.program.Source.{Source}
+use Rattle.assembler.specs.Steps.{IsLayout}
 use Rattle.assembler.proofs.Filling.{end_of_le}
 
 -- ---- the lines' numbers rise

@@ -3,9 +3,10 @@ use Rattle.std.proofs.Common.{◌≡◌, ℕ, List, [], ◌∷◌, ◌++◌, Err
 use Rattle.image.specs.Memory.{word_bytes}
 use Rattle.rv32i.specs.Encoding.{Encodes}
 use Rattle.rv32i.specs.declared.instr.Instr.{Instr}
-use Rattle.assembler.specs.Contents.{Appends, Code, Contained, TellsKind}
+use Rattle.assembler.specs.Contents.{Code, Contained}
 use Rattle.assembler.specs.declared.error.AsmErrorKind.{AsmErrorKind}
 use Rattle.assembler.specs.declared.error.AsmErrorKind.TheVariants as k
+use Rattle.assembler.specs.Steps.{Appends, TellsKind}
 
 pub itself : (kind : AsmErrorKind) (contained : Contained) → contained ≡ Err kind → TellsKind kind contained
 itself k.NoMemory contained same = tt

@@ -5,7 +5,7 @@
 -- (OutOfRange): -1,048,576 to 1,048,574 for JAL, -4,096 to 4,094 for a branch. `%hi` and `%lo` are the two parts of an
 -- address; `la` and `call` are the two parts of the distance from their first instruction. Data is little-endian, and as
 -- many of the lowest bytes of an item as it has.
-use Rattle.std.specs.Prelude.{◌≡◌, ℕ, ◌+◌, ◌-◌, ◌%◌, ◌^◌, ◌==◌, nat_lt, if◌then◌else◌, ◌&&◌, List, [], ◌∷◌, ◌++◌, take, replicate, Option, Some, None, Result, Ok, Err, ⊤}
+use Rattle.std.specs.Prelude.{◌≡◌, ℕ, ◌+◌, ◌-◌, ◌%◌, ◌^◌, ◌==◌, nat_lt, if◌then◌else◌, ◌&&◌, List, [], ◌∷◌, ◌++◌, take, replicate, Option, Some, None, Result, Ok, Err, codes, refl}
 use Rattle.image.specs.Memory.{word_bytes}
 use Rattle.image.specs.Lines.{Label}
 use Rattle.rv32i.specs.Encoding.{Encodes}
@@ -16,6 +16,7 @@ use Rattle.statements.specs.Spelling.{named}
 use Rattle.statements.specs.declared.items.Item.{Item}
 use Rattle.statements.specs.declared.items.Item.TheVariants.{Label as Named, Number}
 use Rattle.statements.specs.declared.items.Width.{Width}
+use Rattle.statements.specs.declared.items.Width.TheVariants.{Word}
 use Rattle.statements.specs.declared.operations.ImmediateOperation.{ImmediateOperation}
 use Rattle.statements.specs.declared.operations.StoreOperation.{StoreOperation}
 use Rattle.statements.specs.declared.operations.Condition.{Condition}
@@ -49,8 +50,17 @@ target_of labels (t.Address address) = Ok address
 abbrev pub distance : ℕ → ℕ → ℕ
 distance target address = (target + (2 ^ 32 - address)) % 2 ^ 32
 
+back_4 : distance 65540 65544 ≡ 0xfffffffc
+back_4 = refl
+
 abbrev pub branch_offset : ℕ → Result ℕ AsmErrorKind
 branch_offset far = if nat_lt ((far + 4096) % 2 ^ 32) 8192 && (far % 2 == 0) then Ok far else Err k.OutOfRange
+
+farthest_back : branch_offset 0xfffff000 ≡ Ok 0xfffff000
+farthest_back = refl
+
+too_far : branch_offset 4096 ≡ Err k.OutOfRange
+too_far = refl
 
 abbrev pub jump_offset : ℕ → Result ℕ AsmErrorKind
 jump_offset far = if nat_lt ((far + 1048576) % 2 ^ 32) 2097152 && (far % 2 == 0) then Ok far else Err k.OutOfRange
@@ -144,6 +154,16 @@ abbrev pub content_at : List Label → ℕ → Option Statement → Contained
 content_at labels address None = Ok (Plain [])
 content_at labels address (Some statement) = content_of labels address statement
 
+-- `la a0, d` behind `d: .word d`: the AUIPC adds 0, and the ADDI goes 4 back
+address_of_d : content_of ((codes "d", 65536) ∷ []) 65540 (say.LoadAddress 10 (codes "d")) ≡ Ok (Code (i.Auipc 10 0 ∷ i.Addi 10 10 0xfffffffc ∷ []))
+address_of_d = refl
+
+bytes_of_d : content_of ((codes "d", 65536) ∷ []) 65536 (say.Data Word (Named (codes "d") ∷ [])) ≡ Ok (Plain (0 ∷ 0 ∷ 1 ∷ 0 ∷ []))
+bytes_of_d = refl
+
+unknown_x : content_of [] 65536 (say.Jump 0 (t.Label (codes "x"))) ≡ Err k.Undefined
+unknown_x = refl
+
 -- ---- bytes
 
 -- The bytes of instructions: for each its word, which encodes it, the least byte first.
@@ -178,26 +198,3 @@ wrong_in (Err kind) = Some kind
 abbrev pub content_error : List Label → List Place → Option AsmError
 content_error labels [] = None
 content_error labels (place ∷ others) = error_at place.source.number (wrong_in (content_at labels place.address place.source.line.statement)) (content_error labels others)
-
--- ---- what is told of one statement
-
--- what is wrong with it, or want of memory
-abbrev pub TellsKind : AsmErrorKind → Contained → Type 0
-TellsKind k.NoMemory contained = ⊤
-TellsKind k.NotUtf8 contained = contained ≡ Err k.NotUtf8
-TellsKind k.Syntax contained = contained ≡ Err k.Syntax
-TellsKind k.UnknownInstruction contained = contained ≡ Err k.UnknownInstruction
-TellsKind k.BadOperand contained = contained ≡ Err k.BadOperand
-TellsKind k.OutOfRange contained = contained ≡ Err k.OutOfRange
-TellsKind k.TwiceDefined contained = contained ≡ Err k.TwiceDefined
-TellsKind k.Undefined contained = contained ≡ Err k.Undefined
-TellsKind k.TooLarge contained = contained ≡ Err k.TooLarge
-
--- bytes with a part behind them
-abbrev pub Appends : Content → List ℕ → List ℕ → Type 0
-Appends content before after = (part : List ℕ) × IsContent content part × (after ≡ before ++ part)
-
--- bytes with a part behind them, or what is told
-abbrev pub Writes : Result (Unit {0}) AsmErrorKind → Contained → List ℕ → List ℕ → Type 0
-Writes (Ok done) contained before after = (part : List ℕ) × IsPart contained part × (after ≡ before ++ part)
-Writes (Err kind) contained before after = TellsKind kind contained

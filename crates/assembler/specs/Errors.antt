@@ -1,6 +1,6 @@
 -- What is told of a text that has no image: a line, counted from 1, and what is wrong with it. What is wrong with the text
 -- as a whole is told at line 0. Where no memory is left, that is told in place of an answer, at line 0 too.
-use Rattle.std.specs.Prelude.{◌≡◌, ℕ, Option, Some, None, Result, Ok, Err, ⊤}
+use Rattle.std.specs.Prelude.{◌≡◌, ℕ, Option, Some, None, Result, Ok, Err}
 use Rattle.assembler.specs.declared.error.AsmError.{AsmError}
 use Rattle.assembler.specs.declared.error.AsmErrorKind.{AsmErrorKind}
 use Rattle.assembler.specs.declared.error.AsmErrorKind.TheVariants as k
@@ -45,27 +45,3 @@ told k.TooLarge error found = found ≡ Some error
 
 abbrev pub Tells : AsmError → Option AsmError → Type 0
 Tells error found = told error.kind error found
-
--- What is told of a line: what is wrong with it, or want of memory.
-abbrev pub told_kind : AsmErrorKind → Option AsmErrorKind → Type 0
-told_kind k.NoMemory found = ⊤
-told_kind k.NotUtf8 found = found ≡ Some k.NotUtf8
-told_kind k.Syntax found = found ≡ Some k.Syntax
-told_kind k.UnknownInstruction found = found ≡ Some k.UnknownInstruction
-told_kind k.BadOperand found = found ≡ Some k.BadOperand
-told_kind k.OutOfRange found = found ≡ Some k.OutOfRange
-told_kind k.TwiceDefined found = found ≡ Some k.TwiceDefined
-told_kind k.Undefined found = found ≡ Some k.Undefined
-told_kind k.TooLarge found = found ≡ Some k.TooLarge
-
--- want of memory is told at line 0
-abbrev pub told_at : ℕ → AsmErrorKind → AsmError
-told_at line k.NoMemory = no_memory
-told_at line k.NotUtf8 = at line k.NotUtf8
-told_at line k.Syntax = at line k.Syntax
-told_at line k.UnknownInstruction = at line k.UnknownInstruction
-told_at line k.BadOperand = at line k.BadOperand
-told_at line k.OutOfRange = at line k.OutOfRange
-told_at line k.TwiceDefined = at line k.TwiceDefined
-told_at line k.Undefined = at line k.Undefined
-told_at line k.TooLarge = at line k.TooLarge

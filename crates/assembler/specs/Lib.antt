@@ -3,3 +3,4 @@ pub mod Program
 pub mod Places
 pub mod Contents
 pub mod Placed
+pub mod Steps

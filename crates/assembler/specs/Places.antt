@@ -8,7 +8,7 @@
 -- What is wrong with a line at its address is the first of these: it defines a label that an earlier line, or an earlier
 -- label of its own, defines (TwiceDefined); it has an instruction, or the label `_start`, at an address that is no
 -- multiple of 4 (OutOfRange); it ends behind the end of memory (TooLarge).
-use Rattle.std.specs.Prelude.{◌≡◌, ℕ, ◌+◌, ◌-◌, ◌*◌, ◌%◌, ◌^◌, ◌≤◌, Bool, true, false, ◌==◌, nat_le, if◌then◌else◌, ◌&&◌, ◌||◌, not, List, [], ◌∷◌, ◌++◌, length, map, is_some, Option, Some, None, Result, Ok, Err, ⊤, codes, refl}
+use Rattle.std.specs.Prelude.{◌≡◌, ℕ, ◌+◌, ◌-◌, ◌*◌, ◌%◌, ◌^◌, Bool, false, ◌==◌, nat_le, if◌then◌else◌, ◌&&◌, ◌||◌, not, List, [], ◌∷◌, ◌++◌, length, map, is_some, Option, Some, None, codes, refl}
 use Rattle.std.specs.List.{flat_map, list_any}
 use Rattle.std.specs.Str.{bytes_eq}
 use Rattle.image.specs.Memory.{first_address}
@@ -162,39 +162,3 @@ error_at line (Some kind) later = Some (at line kind)
 abbrev pub place_error : ℕ → List Label → List Place → Option AsmError
 place_error limit before [] = None
 place_error limit before (place ∷ others) = error_at place.source.number (misplaced limit before place) (place_error limit (before ++ labels_at place) others)
-
--- ---- the steps
-
--- an address, if it is no more than a limit
-abbrev pub up_to : ℕ → ℕ → Option ℕ
-up_to limit address = if nat_le address limit then Some address else None
-
--- what is told where a label is defined twice, or memory is wanting
-abbrev pub TellsTwice : AsmErrorKind → Bool → Type 0
-TellsTwice k.TwiceDefined twice = twice ≡ true
-TellsTwice k.NoMemory twice = ⊤
-TellsTwice k.NotUtf8 twice = ⊥
-TellsTwice k.Syntax twice = ⊥
-TellsTwice k.UnknownInstruction twice = ⊥
-TellsTwice k.BadOperand twice = ⊥
-TellsTwice k.OutOfRange twice = ⊥
-TellsTwice k.Undefined twice = ⊥
-TellsTwice k.TooLarge twice = ⊥
-
--- what is added of one name, or why nothing is; want of memory may be told in place of it
-abbrev pub AddsOne : Result (Unit {0}) AsmErrorKind → ℕ → List Label → List ℕ → List Label → Type 0
-AddsOne (Ok done) address before name after = (is_some (named before name) ≡ false) × (after ≡ before ++ (name, address) ∷ [])
-AddsOne (Err kind) address before name after = TellsTwice kind (is_some (named before name))
-
--- the same of names
-abbrev pub Adds : Result (Unit {0}) AsmErrorKind → ℕ → List Label → List (List ℕ) → List Label → Type 0
-Adds (Ok done) address before names after = (defines_twice address before names ≡ false) × (after ≡ before ++ map (λ name. (name, address)) names)
-Adds (Err kind) address before names after = TellsTwice kind (defines_twice address before names)
-
--- where everything stands, in a program with no line of which anything is wrong at its address
-pub record IsLayout (limit : ℕ) (program : List Source) (labels : List Label) (rows : List Row) (end : ℕ) : Type 0 where
-  pub fits : place_error limit [] (places first_address program) ≡ None
-  pub labels_are : labels ≡ labels_in (places first_address program)
-  pub rows_are : rows ≡ rows_in (places first_address program)
-  pub end_is : end ≡ end_of first_address program
-  pub within : end ≤ limit

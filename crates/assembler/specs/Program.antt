@@ -7,7 +7,7 @@
 -- What is wrong with a text before any address is known is the first of these: it is too long (TooLarge, at line 0); it
 -- is no UTF-8 (NotUtf8, at the line of the first byte that belongs to no character); a line is wrong as it stands, and
 -- then the first such line is told.
-use Rattle.std.specs.Prelude.{ℕ, ◌+◌, Bool, ◌==◌, nat_lt, ◌&&◌, if◌then◌else◌, List, [], ◌∷◌, ◌++◌, length, take, count_by, is_none, Result, Ok, Err}
+use Rattle.std.specs.Prelude.{ℕ, ◌+◌, Bool, ◌==◌, nat_lt, ◌&&◌, if◌then◌else◌, List, [], ◌∷◌, length, take, count_by, is_none, Result, Ok, Err}
 use Rattle.std.specs.Str.{is_utf8}
 use Rattle.std.specs.Str.Lines.{lines}
 use Rattle.std.specs.Str.Lossy.{utf8_valid_len}
@@ -44,14 +44,6 @@ with_others number line (Err error) = Err error
 abbrev pub line_then : ℕ → Result Line LineError → Result (List Source) AsmError → Result (List Source) AsmError
 line_then number (Ok line) others = with_others number line others
 line_then number (Err error) others = Err (of_line number error)
-
--- what one line makes, and lines before what others make
-abbrev pub said : ℕ → Result Line LineError → Result (List Source) AsmError
-said number line = line_then number line (Ok [])
-
-abbrev pub after : List Source → Result (List Source) AsmError → Result (List Source) AsmError
-after list (Ok more) = Ok (list ++ more)
-after list (Err error) = Err error
 
 -- lines from a number on
 abbrev pub read_lines : ℕ → List (List ℕ) → Result (List Source) AsmError

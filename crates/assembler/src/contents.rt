@@ -3,8 +3,9 @@ ghost use Rattle.std.specs.Prelude.{◌≡◌, ◌+◌, ◌++◌, ◌<◌, ◌^�
 ghost use Rattle.image.specs.Lines.{labels_of};
 ghost use Rattle.image.specs.Memory.{word_bytes};
 ghost use Rattle.assembler.specs.Contents as spec;
-ghost use Rattle.assembler.specs.Contents.{Code, Plain, TellsKind, Writes};
+ghost use Rattle.assembler.specs.Contents.{Code, Plain};
 ghost use Rattle.assembler.specs.Places.{size_of};
+ghost use Rattle.assembler.specs.Steps.{Appends, TellsKind, Writes};
 
 use crate::error::AsmErrorKind;
 use indexmap::IndexMap;
@@ -213,7 +214,7 @@ fn push_all(bytes: &mut Vec<u8>, more: &[u8]) -> Result<(), AsmErrorKind>
 
 #[tactic(auto, using(crate::proofs::Written::one_word))]
 fn put_word(bytes: &mut Vec<u8>, instr: Instr) -> Result<(), AsmErrorKind>
-    ensures ok { OnOk result (spec.Appends (Code (instr ∷ [])) bytes.old.items bytes.new.items) }
+    ensures ok { OnOk result (Appends (Code (instr ∷ [])) bytes.old.items bytes.new.items) }
     ensures err { IfErr result (λ kind. kind ≡ AsmErrorKind.NoMemory) }
 {
     push_all(bytes, &encode(instr).to_le_bytes())

@@ -1,6 +1,7 @@
 //! Why a text has no image.
 ghost use Rattle.std.specs.Prelude.{◌≡◌};
 ghost use Rattle.assembler.specs.Errors as spec;
+ghost use Rattle.assembler.specs.Steps as steps;
 
 use statements::LineError;
 use thiserror::Error;
@@ -60,7 +61,7 @@ impl AsmError {
 
     /// What is wrong with a line, or want of memory.
     pub(crate) fn told_at(line: u32, kind: AsmErrorKind) -> AsmError
-        ensures { result ≡ spec.told_at line kind }
+        ensures { result ≡ steps.told_at line kind }
     {
         match kind {
             AsmErrorKind::NoMemory => AsmError::no_memory(),

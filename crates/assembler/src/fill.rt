@@ -2,9 +2,10 @@
 ghost use Rattle.std.specs.Prelude.{◌≡◌, ◌≤◌, ◌<◌, MatchResult};
 ghost use Rattle.image.specs.Lines.{labels_of};
 ghost use Rattle.image.specs.Memory.{first_address};
-ghost use Rattle.assembler.specs.Contents.{content_at, content_error, AreParts, Writes};
+ghost use Rattle.assembler.specs.Contents.{content_at, content_error, AreParts};
 ghost use Rattle.assembler.specs.Errors.{Tells};
 ghost use Rattle.assembler.specs.Places as spec;
+ghost use Rattle.assembler.specs.Steps.{Writes};
 
 use crate::contents::write;
 use crate::error::{AsmError, AsmErrorKind};

@@ -4,8 +4,9 @@ ghost use Rattle.std.specs.List.{list_any};
 ghost use Rattle.std.specs.Str.{bytes_eq};
 ghost use Rattle.image.specs.Lines.{labels_of};
 ghost use Rattle.image.specs.Memory.{first_address};
-ghost use Rattle.assembler.specs.Errors.{told_kind, Tells};
+ghost use Rattle.assembler.specs.Errors.{Tells};
 ghost use Rattle.assembler.specs.Places as spec;
+ghost use Rattle.assembler.specs.Steps.{Adds, AddsOne, IsLayout, told_kind, up_to};
 
 use crate::error::{AsmError, AsmErrorKind};
 use crate::program::Source;
@@ -32,7 +33,7 @@ pub(crate) struct Layout {
 // An address, if it is no more than the limit.
 fn at_most(address: u32, size: u32, limit: u32) -> Option<u32>
     requires { address ≤ limit }
-    ensures { result ≡ spec.up_to limit (address + size) }
+    ensures { result ≡ up_to limit (address + size) }
 {
     if size <= limit - address {
         Some(address + size)
@@ -43,7 +44,7 @@ fn at_most(address: u32, size: u32, limit: u32) -> Option<u32>
 
 fn behind_items(width: Width, items: &Items, address: u32, limit: u32) -> Option<u32>
     requires { address ≤ limit }
-    ensures { result ≡ spec.up_to limit (address + length items.now * spec.bytes_in width) }
+    ensures { result ≡ up_to limit (address + length items.now * spec.bytes_in width) }
 {
     let count = items.as_slice().len();
     let room = (limit - address) as usize;
@@ -75,7 +76,7 @@ fn behind_items(width: Width, items: &Items, address: u32, limit: u32) -> Option
 fn behind_padding(power: u32, address: u32, limit: u32) -> Option<u32>
     requires some { 0 < address }
     requires within { address ≤ limit }
-    ensures { result ≡ spec.up_to limit (address + spec.padding (2 ^ power) address) }
+    ensures { result ≡ up_to limit (address + spec.padding (2 ^ power) address) }
 {
     if power >= 32 {
         return None;
@@ -91,7 +92,7 @@ fn behind_padding(power: u32, address: u32, limit: u32) -> Option<u32>
 pub(crate) fn behind_statement(statement: &Statement, address: u32, limit: u32) -> Option<u32>
     requires some { 0 < address }
     requires within { address ≤ limit }
-    ensures { result ≡ spec.up_to limit (address + spec.size_of statement.now address) }
+    ensures { result ≡ up_to limit (address + spec.size_of statement.now address) }
 {
     match statement {
         Statement::One(_) => at_most(address, 4, limit),
@@ -114,7 +115,7 @@ pub(crate) fn behind_statement(statement: &Statement, address: u32, limit: u32) 
 pub(crate) fn behind(source: &Source, address: u32, limit: u32) -> Option<u32>
     requires some { 0 < address }
     requires within { address ≤ limit }
-    ensures { result ≡ spec.up_to limit (spec.behind source.now address) }
+    ensures { result ≡ up_to limit (spec.behind source.now address) }
 {
     match &source.line.statement {
         Some(statement) => behind_statement(statement, address, limit),
@@ -179,7 +180,7 @@ fn add_labels(
     address: u32,
     names: &[Name],
 ) -> Result<(), AsmErrorKind>
-    ensures { spec.Adds result address (labels_of labels.old.entries) names.now (labels_of labels.new.entries) }
+    ensures { Adds result address (labels_of labels.old.entries) names.now (labels_of labels.new.entries) }
 {
     for name in names {
         if let Err(kind) = add_label(alloc, labels, address, name.as_str()) {
@@ -195,7 +196,7 @@ fn add_label(
     address: u32,
     name: &str,
 ) -> Result<(), AsmErrorKind>
-    ensures { spec.AddsOne result address (labels_of labels.old.entries) name.now (labels_of labels.new.entries) }
+    ensures { AddsOne result address (labels_of labels.old.entries) name.now (labels_of labels.new.entries) }
 {
     if labels.contains_key(name) {
         return Err(AsmErrorKind::TwiceDefined);
@@ -214,7 +215,7 @@ fn add_label(
 /// Where the lines of a program stand, if each ends at the limit or before it.
 pub(crate) fn lay_out(alloc: Global, program: &[Source], limit: u32) -> Result<Layout, AsmError>
     requires { first_address ≤ limit }
-    ensures { MatchResult result (λ l. spec.IsLayout limit program.now (labels_of l.labels.entries) l.rows.items l.end) (λ e. Tells e (spec.place_error limit [] (spec.places first_address program.now))) }
+    ensures { MatchResult result (λ l. IsLayout limit program.now (labels_of l.labels.entries) l.rows.items l.end) (λ e. Tells e (spec.place_error limit [] (spec.places first_address program.now))) }
 {
     let mut layout = Layout {
         labels: IndexMap::new(alloc),

@@ -4,6 +4,7 @@ ghost use Rattle.std.specs.Str.Lines.{lines};
 ghost use Rattle.statements.specs.Reading.{read};
 ghost use Rattle.assembler.specs.Errors.{error_in, no_memory, Tells};
 ghost use Rattle.assembler.specs.Program as spec;
+ghost use Rattle.assembler.specs.Steps.{after, said};
 
 use crate::error::{AsmError, AsmErrorKind};
 use statements::{Line, read_line};
@@ -72,7 +73,7 @@ fn read_one<'a>(
     number: u32,
     text: &'a [u8],
 ) -> Result<(), AsmError>
-    ensures { MatchResult result (λ _. spec.after program.old.items (spec.said number (read text.now)) ≡ Ok program.new.items) (λ e. Tells e (error_in (spec.said number (read text.now)))) }
+    ensures { MatchResult result (λ _. after program.old.items (said number (read text.now)) ≡ Ok program.new.items) (λ e. Tells e (error_in (said number (read text.now)))) }
 {
     match read_line(alloc, text) {
         Ok(line) => keep(program, number, line),
