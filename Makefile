@@ -4,9 +4,10 @@ PROGRAM = crates/rvdap/out/rvdap
 
 .PHONY: run build test bench install clean
 
-# Plays the first session into the program and prints each message on a line of its own.
+# Plays the first session into the program and prints each message on a line of its own; then lists an example.
 run: build
 	@examples/play examples/first-session $(PROGRAM)
+	@$(PROGRAM) asm examples/increment.s
 
 # Proves the program and builds it: $(PROGRAM).
 build:

@@ -1,18 +1,18 @@
 -- What has been read, placed and filled is placed as a whole.
-use Rattle.std.proofs.Common.{◌≡◌, ℕ, ◌+◌, List, length, Ok, sym, ap, subst, ◌∙◌}
+use Rattle.std.proofs.Common.{◌≡◌, ℕ, ◌+◌, ◌≤◌, arith, List, length, Ok, sym, ap, subst, ◌∙◌}
 use Rattle.image.specs.Lines.{Label, Row}
 use Rattle.image.specs.Memory.{first_address}
 use Rattle.image.specs.declared.Image.{Image}
 use Rattle.assembler.specs.Contents.{AreParts, content_error}
 use Rattle.assembler.specs.Errors.{first_of}
-use Rattle.assembler.specs.Placed.{error_by, Placed, placed}
+use Rattle.assembler.specs.Placed.{error_by, memory_end, Placed, placed}
 use Rattle.assembler.specs.Places.{entry_of, labels_in, places}
 use Rattle.assembler.specs.Program.{read_text}
 use Rattle.assembler.specs.declared.program.Source.{Source}
 use Rattle.assembler.specs.Steps.{IsLayout}
 use Rattle.assembler.proofs.Filling.{parts_length, parts_right}
 
-pub placed_so : (text : List ℕ) (size : ℕ) (image : Image) (program : List Source) (labels : List Label) (rows : List Row) (end : ℕ) (bytes : List ℕ) → read_text text ≡ Ok program → IsLayout (first_address + size) program labels rows end → AreParts labels (places first_address program) bytes → image.bytes ≡ bytes → image.entry ≡ entry_of labels rows → image.lines.rows ≡ rows → image.lines.labels ≡ labels → image.lines.end ≡ end → Placed text size image
+pub placed_so : (text : List ℕ) (size : ℕ) (image : Image) (program : List Source) (labels : List Label) (rows : List Row) (end : ℕ) (bytes : List ℕ) → read_text text ≡ Ok program → IsLayout (memory_end size) program labels rows end → AreParts labels (places first_address program) bytes → image.bytes ≡ bytes → image.entry ≡ entry_of labels rows → image.lines.rows ≡ rows → image.lines.labels ≡ labels → image.lines.end ≡ end → Placed text size image
 placed_so text size image program labels rows end bytes h l parts b e r a z =
     let all : AreParts (labels_in (placed program)) (placed program) bytes = subst (λ (s : List Label). AreParts s (placed program) bytes) l.labels_are parts in
     record {
@@ -25,3 +25,12 @@ placed_so text size image program labels rows end bytes h l parts b e r a z =
       labels = a ∙ l.labels_are;
       end = z ∙ l.end_is ∙ sym (parts_length (labels_in (placed program)) first_address program bytes all) ∙ ap (λ (s : List ℕ). first_address + length s) (sym b);
     }
+
+-- what lies below the end of memory is no longer than memory
+pub fits_so : (size : ℕ) (image : Image) (program : List Source) (labels : List Label) (rows : List Row) (end : ℕ) (bytes : List ℕ) → IsLayout (memory_end size) program labels rows end → AreParts labels (places first_address program) bytes → image.bytes ≡ bytes → length image.bytes ≤ size
+fits_so size image program labels rows end bytes l parts b =
+    let e = parts_length labels first_address program bytes parts in
+    let at = l.end_is in
+    let within = l.within in
+    let same = ap length b in
+    omega (arith, e, at, within, same)

@@ -6,7 +6,10 @@
 -- "Placed text size image" is a check of a finished image, without regard to how it was made: no pass finds anything wrong,
 -- and the image's bytes are parts, one for each line in order, each right for what the line states at its address. The words
 -- of instructions are related to these by the table of encodings.
-use Rattle.std.specs.Prelude.{◌≡◌, ℕ, ◌+◌, List, [], length, Option, Some, None, Result, Ok, Err}
+--
+-- Memory of some size ends as far behind the first address. An address is a number of 32 bits, and so is the end of memory: a
+-- size that would put the end beyond the greatest such number puts it there.
+use Rattle.std.specs.Prelude.{◌≡◌, ℕ, ◌+◌, ◌-◌, ◌^◌, min, List, [], length, Option, Some, None, Result, Ok, Err}
 use Rattle.image.specs.Memory.{first_address}
 use Rattle.image.specs.declared.Image.{Image}
 use Rattle.assembler.specs.declared.error.AsmError.{AsmError}
@@ -20,10 +23,14 @@ use Rattle.assembler.specs.Program.{read_text}
 abbrev pub placed : List Source → List Place
 placed program = places first_address program
 
+-- where memory of a size ends
+abbrev pub memory_end : ℕ → ℕ
+memory_end size = min (first_address + size) (2 ^ 32 - 1)
+
 -- what is wrong with a text that was read, for a size of memory
 abbrev pub error_by : ℕ → Result (List Source) AsmError → Option AsmError
 error_by size (Err error) = Some error
-error_by size (Ok program) = first_of (place_error (first_address + size) [] (placed program)) (content_error (labels_in (placed program)) (placed program))
+error_by size (Ok program) = first_of (place_error (memory_end size) [] (placed program)) (content_error (labels_in (placed program)) (placed program))
 
 -- what is wrong with a text, if anything
 abbrev pub error_of : List ℕ → ℕ → Option AsmError

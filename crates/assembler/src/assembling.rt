@@ -1,5 +1,5 @@
 //! A text to an image.
-ghost use Rattle.std.specs.Prelude.{◌≡◌, ◌≤◌, MatchResult};
+ghost use Rattle.std.specs.Prelude.{◌≡◌, ◌≤◌, length, IfOk, MatchResult};
 ghost use Rattle.image.specs.Lines.{labels_of, RowsRise};
 ghost use Rattle.assembler.specs.Errors.{Tells};
 ghost use Rattle.assembler.specs.Placed.{error_of, Placed};
@@ -12,9 +12,9 @@ use crate::program::read_program;
 use image::{Bytes, Image, LineTable};
 use std::alloc::Global;
 
-/// The image of a text, for a memory of so many bytes from 0x00010000 on, at most 16,777,216; or what is
-/// wrong with the text. The passes go over all lines, one behind the other, and the first line in error of
-/// the first pass that has one is told.
+/// The image of a text, for a memory of so many bytes from 0x00010000 on; or what is wrong with the text.
+/// The image is no longer than that, and lies below 0xffffffff whatever the size. The passes go over all
+/// lines, one behind the other, and the first line in error of the first pass that has one is told.
 ///
 /// - First: `TooLarge` at line 0 for a text of more than 1,048,576 bytes; then `NotUtf8`.
 /// - Second: `Syntax`, `UnknownInstruction`, `BadOperand`, or `OutOfRange` for a number that needs no
@@ -25,10 +25,10 @@ use std::alloc::Global;
 ///
 /// In place of any answer it may tell `NoMemory`, at line 0.
 pub fn assemble(alloc: Global, text: &[u8], size: u32) -> Result<Image, AsmError>
-    requires { size ≤ 16777216 }
-    ensures { MatchResult result (λ image. Placed text.now size image) (λ error. Tells error (error_of text.now size)) }
+    ensures answers { MatchResult result (λ image. Placed text.now size image) (λ error. Tells error (error_of text.now size)) }
+    ensures fits { IfOk result (λ image. length image.bytes ≤ size) }
 {
-    let limit = BASE + size;
+    let limit = BASE.saturating_add(size);
     let program = match read_program(alloc, text) {
         Ok(program) => program,
         Err(error) => return Err(error),

@@ -1,6 +1,4 @@
 //! Texts and their images.
-ghost use Rattle.std.specs.Prelude.{◌≤◌};
-
 use super::*;
 use std::alloc::Global;
 use std::test::Fail;
@@ -10,9 +8,7 @@ fn bytes_of(alloc: Global, text: &[u8]) -> Result<Vec<u8>, AsmError> {
     Ok(image.bytes.into_vec())
 }
 
-fn error_of(alloc: Global, text: &[u8], size: u32) -> (u32, Option<AsmErrorKind>)
-    requires { size ≤ 16777216 }
-{
+fn error_of(alloc: Global, text: &[u8], size: u32) -> (u32, Option<AsmErrorKind>) {
     match assemble(alloc, text, size) {
         Ok(_) => (0, None),
         Err(error) => (error.line, Some(error.kind)),

@@ -8,7 +8,7 @@
 use Rattle.std.specs.Prelude.{◌≡◌, ℕ, ◌+◌, ◌/◌, ◌%◌, ◌^◌, Bool, nat_lt, not, if◌then◌else◌, ◌==◌, ◌&&◌, false, List, [], ◌∷◌, ◌++◌, codes, decimal, refl}
 use Rattle.std.specs.Bool.{MatchBool}
 use Rattle.std.specs.Fmt.{signed_decimal, digits}
-use Rattle.rv32i.specs.Encoding.{Encodes}
+use Rattle.rv32i.specs.Encoding.{Encodes, IsIllegal}
 use Rattle.rv32i.specs.Names.{name_of}
 use Rattle.rv32i.specs.Machine.{signed, sum}
 use Rattle.rv32i.specs.declared.instr.Instr.{Instr}
@@ -114,3 +114,8 @@ HasText (Fence fm before after rd rs1) pc text =
     MatchBool (is_plain_fence fm before after rd rs1) (text ≡ with_two (codes "fence") (set_text before) (set_text after)) ((word : ℕ) → Encodes (Fence fm before after rd rs1) word → text ≡ word_text word)
 HasText Ecall pc text = text ≡ codes "ecall"
 HasText Ebreak pc text = text ≡ codes "ebreak"
+
+-- The text of a word at an address: that of its instruction; a word that is illegal is written as it stands.
+pub data IsTextOf (word pc : ℕ) (text : List ℕ) : Type 0 where
+  Coded : (instruction : Instr) → Encodes instruction word → HasText instruction pc text → IsTextOf word pc text
+  Illegal : IsIllegal word → text ≡ word_text word → IsTextOf word pc text

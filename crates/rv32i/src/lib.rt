@@ -13,6 +13,7 @@ mod parts;
 mod perform;
 mod stepped;
 mod text;
+mod word_text;
 
 pub use decoding::decode;
 pub use encoding::encode;
@@ -21,7 +22,8 @@ pub use hart::Hart;
 pub use instr::Instr;
 pub use names::{reg_name, reg_of};
 pub use stepped::{Cause, Stepped};
-pub use text::text_of;
+pub use text::{push_digits, text_of};
+pub use word_text::text_of_word;
 
 #[cfg(test)]
 mod tests;

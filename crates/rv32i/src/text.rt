@@ -219,8 +219,9 @@ fn digit(value: u32) -> char
     }
 }
 
-// Appends the eight digits of a word.
-fn push_digits(text: &mut String, word: u32) -> Result<(), AllocError>
+/// Appends the eight hexadecimal digits of a word, small ones. `Err`: no memory was left, and the text may
+/// have some of them.
+pub fn push_digits(text: &mut String, word: u32) -> Result<(), AllocError>
     ensures { OnOk result (string_bytes text.new ≡ string_bytes text.old ++ eight_digits word) }
 {
     text.push(digit(word >> 28))?;

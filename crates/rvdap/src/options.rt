@@ -1,8 +1,8 @@
 //! The command line.
 
-use clap::Command;
 use clap::error::ErrorKind;
-use std::alloc::Global;
+use clap::{Arg, ArgMatches, Command};
+use std::alloc::{AllocError, Global};
 use std::rt::Env;
 use std::{env, io};
 
@@ -10,14 +10,17 @@ use std::{env, io};
 pub(crate) enum Words {
     /// An editor is to be served over standard streams.
     Serve,
+    /// The text in this file is to be listed.
+    List(String),
     /// Something was printed, and the program ends with this status.
     Told(u8),
     /// No memory was left.
     NoMemory,
 }
 
-/// Reads the words of the process. `--help` and `--version` are answered on standard output, with
-/// status 0; any other word is a fault of usage, told on standard error, with status 2.
+/// Reads the words of the process: none, or `asm FILE`. `--help` and `--version` are answered on
+/// standard output, with status 0; other words are a fault of usage, told on standard error, with
+/// status 2.
 pub(crate) fn read_words<R: Env + AllocGlobal + Print + Eprint>(rt: &R) -> Words {
     match words_of(rt) {
         Ok(words) => asked(rt, words.as_slice()),
@@ -26,9 +29,27 @@ pub(crate) fn read_words<R: Env + AllocGlobal + Print + Eprint>(rt: &R) -> Words
 }
 
 fn asked<R: AllocGlobal + Print + Eprint>(rt: &R, words: &[String]) -> Words {
-    match command(rt.alloc()).try_get_matches_from(words) {
-        Ok(_matches) => Words::Serve,
+    match matched(rt.alloc(), words) {
+        Ok(matches) => mode_of(rt.alloc(), &matches),
         Err(error) => told(rt, &error),
+    }
+}
+
+fn matched<'a>(alloc: Global, words: &'a [String]) -> Result<ArgMatches<'a>, clap::Error> {
+    command(alloc)?.try_get_matches_from(words)
+}
+
+// What is asked for, by words that are taken.
+fn mode_of(alloc: Global, matches: &ArgMatches) -> Words {
+    let Some(matches) = matches.subcommand_matches("asm") else {
+        return Words::Serve;
+    };
+    let Some(file) = matches.get_str("FILE") else {
+        return Words::Serve;
+    };
+    match String::from_str(alloc, file) {
+        Ok(file) => Words::List(file),
+        Err(_) => Words::NoMemory,
     }
 }
 
@@ -58,8 +79,19 @@ fn unreadable<R: Eprint>(rt: &R, error: &io::Error) -> Words {
     Words::Told(2)
 }
 
-fn command<'a>(alloc: Global) -> Command<'a> {
-    Command::new(alloc, "rvdap").version("0.1.0").about(
-        "A debug adapter for assembly programs on one simulated RISC-V hart",
-    )
+fn command<'a>(alloc: Global) -> Result<Command<'a>, AllocError> {
+    Command::new(alloc, "rvdap")
+        .version("0.1.0")
+        .about("A debug adapter for assembly programs on one simulated RISC-V hart")
+        .disable_help_subcommand(true)
+        .subcommand(asm(alloc)?)
+}
+
+fn asm<'a>(alloc: Global) -> Result<Command<'a>, AllocError> {
+    let file = Arg::new(alloc, "FILE")
+        .required(true)
+        .help("A text of assembly, of at most 1,048,576 bytes");
+    Command::new(alloc, "asm")
+        .about("Assembles FILE and lists its instructions")
+        .arg(file)
 }

@@ -1,0 +1,46 @@
+//! A text to its listing.
+ghost use Rattle.std.specs.Prelude.{◌≡◌, OnOk, IfErr};
+ghost use Rattle.listing.specs.Listing as spec;
+ghost use Rattle.listing.specs.Listing.{Faults, Lists};
+
+use crate::entries::entries_of;
+use crate::fault::ListFault;
+use assembler::{AsmError, AsmErrorKind, assemble};
+use std::alloc::Global;
+use std::io::Write;
+
+/// How many bytes the memory has that a text is assembled for.
+const MEMORY_SIZE: u32 = 1_048_576;
+
+/// Assembles a text for a memory of 1 MiB, and writes its listing: a line for each instruction, in the
+/// order of their addresses, with the address and the word in eight hexadecimal digits each and the text
+/// that stands for the instruction there.
+///
+/// - `Assembly`: something is wrong with the text, and nothing was written.
+/// - `Write`: the writer failed; it may have taken a part of the listing.
+/// - `NoMemory`: no memory was left, and nothing was written.
+pub fn listing<W: Write>(alloc: Global, text: &[u8], writer: &mut W) -> Result<(), ListFault>
+    ensures ok { OnOk result (Lists text.now (W.contents writer.old) (W.contents writer.new)) }
+    ensures err { IfErr result (λ fault. Faults fault text.now (W.contents writer.old) (W.contents writer.new)) }
+{
+    let image = match assemble(alloc, text, MEMORY_SIZE) {
+        Ok(image) => image,
+        Err(error) => return Err(fault_of(error)),
+    };
+    let Ok(lines) = entries_of(alloc, &image) else {
+        return Err(ListFault::NoMemory);
+    };
+    match writer.write_all(lines.as_bytes()) {
+        Ok(()) => Ok(()),
+        Err(_) => Err(ListFault::Write),
+    }
+}
+
+fn fault_of(error: AsmError) -> ListFault
+    ensures { result ≡ spec.fault_of error.kind error }
+{
+    match error.kind {
+        AsmErrorKind::NoMemory => ListFault::NoMemory,
+        _ => ListFault::Assembly(error),
+    }
+}

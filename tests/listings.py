@@ -1,0 +1,131 @@
+"""The built program's `asm FILE`: listings on standard output, and what is told where there is none."""
+import os
+import subprocess
+import tempfile
+
+from program import PROGRAM, TOP, expect
+from refusals import each_refusal
+
+INCREMENT = os.path.join(TOP, "examples", "increment.s")
+INCREMENT_LISTING = b"""\
+00010000 00500513 addi a0, zero, 5
+00010004 00000097 auipc ra, 0x0
+00010008 010080e7 jalr ra, 16(ra)
+0001000c 05d00893 addi a7, zero, 93
+00010010 00000073 ecall
+00010014 00150513 addi a0, a0, 1
+00010018 00008067 jalr zero, 0(ra)
+"""
+LONGEST = 1048576
+
+
+def listed(*words, environment=None, output=subprocess.PIPE):
+    """Runs `rvdap asm` with these words, and answers its output, its standard error and its status."""
+    ran = subprocess.run([PROGRAM, "asm", *words], stdin=subprocess.DEVNULL, stdout=output, stderr=subprocess.PIPE,
+                         env=environment, timeout=60)
+    return ran.stdout, ran.stderr, ran.returncode
+
+
+def with_file(text, check):
+    """Calls check(path) with a file that holds the text (bytes)."""
+    with tempfile.TemporaryDirectory() as folder:
+        path = os.path.join(folder, "text.s")
+        with open(path, "wb") as file:
+            file.write(text)
+        check(path)
+
+
+def expect_listing(text, lines):
+    with_file(text, lambda path: expect(listed(path), (lines, b"", 0), "a listing"))
+
+
+def expect_fault(text, reason):
+    with_file(text, lambda path: expect(listed(path), (b"", b"rvdap: %s: %s\n" % (path.encode(), reason), 1), reason))
+
+
+def the_example_is_listed():
+    expect(listed(INCREMENT), (INCREMENT_LISTING, b"", 0), "the listing of examples/increment.s")
+
+
+def a_text_on_six_lines_has_the_same_listing():
+    expect_listing(b"_start: li a0, 5\ncall f\nli a7, 93\necall\nf: addi a0, a0, 1\nret", INCREMENT_LISTING)
+
+
+def a_listing_is_assembled_to_the_same_words():
+    texts = b"".join(line.split(b" ", 2)[2] + b"\n" for line in INCREMENT_LISTING.splitlines())
+    expect_listing(texts, INCREMENT_LISTING)
+
+
+def data_is_left_out():
+    expect_listing(b".word 1\nnop\n.byte 2\n", b"00010004 00000013 addi zero, zero, 0\n")
+    expect_listing(b"", b"")
+
+
+def an_error_is_told_at_its_line():
+    for text, reason in (
+        (b"nop\naddi a0, a0, 2048\n", b"line 2: OutOfRange"),
+        (b"nop nop\nf: nop\nf: nop\n", b"line 1: BadOperand"),
+        (b"f: nop\nf: nop\n", b"line 2: TwiceDefined"),
+        (b"j g\n", b"line 1: Undefined"),
+        (b"nop\nmul a0, a0, a0\n", b"line 2: UnknownInstruction"),
+        (b"\n\n1: nop\n", b"line 3: Syntax"),
+        (b"nop\n# \xff\n", b"line 2: NotUtf8"),
+        (b".space 1048576\n.byte 0\n", b"line 2: TooLarge"),
+    ):
+        expect_fault(text, reason)
+
+
+def a_file_of_the_greatest_length_is_listed():
+    expect_listing(b"nop\n" + b"#" * (LONGEST - 4), b"00010000 00000013 addi zero, zero, 0\n")
+
+
+def a_file_that_is_too_long_is_not_read():
+    expect_fault(b"nop\n" + b"#" * (LONGEST - 3), b"cannot read")
+
+
+def a_file_that_is_not_there_is_not_read():
+    with tempfile.TemporaryDirectory() as folder:
+        for path in (os.path.join(folder, "absent.s"), folder, ""):
+            expect(listed(path), (b"", b"rvdap: %s: cannot read\n" % path.encode(), 1), "no such file")
+
+
+def a_listing_that_is_not_taken_is_a_fault():
+    with open("/dev/full", "wb") as full:
+        expect(listed(INCREMENT, output=full), (None, b"rvdap: read or write fault\n", 1), "a full device")
+
+
+def words_that_are_not_taken():
+    for words in ((), (INCREMENT, INCREMENT), (INCREMENT, "--bad"), ("--version",)):
+        out, err, status = listed(*words)
+        expect((out, status, bool(err)), (b"", 2, True), "asm with %d words" % len(words))
+
+
+def help_of_asm():
+    out, err, status = listed("--help")
+    expect((err, status, b"FILE" in out), (b"", 0, True), "help")
+
+
+def a_listing_ends_well_without_memory():
+    def once(environment):
+        got = listed(INCREMENT, environment=environment)
+        expect(got in ((INCREMENT_LISTING, b"", 0), (b"", b"rvdap: no memory\n", 1)), True, "a listing, or no memory: %r" % (got,))
+
+    expect(each_refusal(once) > 20, True, "some allocations were refused")
+
+
+def checks():
+    """Each check with its name."""
+    return [(check.__name__.replace("_", " "), check) for check in (
+        the_example_is_listed,
+        a_text_on_six_lines_has_the_same_listing,
+        a_listing_is_assembled_to_the_same_words,
+        data_is_left_out,
+        an_error_is_told_at_its_line,
+        a_file_of_the_greatest_length_is_listed,
+        a_file_that_is_too_long_is_not_read,
+        a_file_that_is_not_there_is_not_read,
+        a_listing_that_is_not_taken_is_a_fault,
+        words_that_are_not_taken,
+        help_of_asm,
+        a_listing_ends_well_without_memory,
+    )]
