@@ -1,8 +1,12 @@
 pub mod Values
 pub mod Pieces
+pub mod Below
 pub mod Registers
 pub mod Said
 pub mod Labelling
 pub mod Trimming
 pub mod Runs
 pub mod Dividing
+pub mod Solid
+pub mod Numerals
+pub mod Texts

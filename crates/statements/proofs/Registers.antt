@@ -9,6 +9,7 @@ use Rattle.statements.specs.Operands.{place_of, register_of}
 use Rattle.std.specs.Str.{bytes_eq, IsUtf8}
 use Rattle.std.proofs.lemmas.Str.{IsUtf8-from_ascii}
 use Rattle.statements.specs.Spelling.{begins_name, is_name, is_name_byte, named}
+use Rattle.statements.proofs.Below.{all_below, all_below_at}
 
 pub and_left : (x y : Bool) → (x && y) ≡ true → x ≡ true
 and_left true y h = refl
@@ -37,21 +38,6 @@ name_small (b ∷ text) h (suc i) = name_bytes_small text (and_right (begins_nam
 -- a name is UTF-8
 pub name_is_utf8 : (text : List ℕ) → is_name text ≡ true → IsUtf8 text
 name_is_utf8 text h = IsUtf8-from_ascii text (name_small text h)
-
--- a test of each number below another
-all_below : ℕ → (ℕ → Bool) → Bool
-all_below zero p = true
-all_below (suc k) p = p k && all_below k p
-
-all_below_at : (p : ℕ → Bool) (k n : ℕ) → all_below k p ≡ true → n < k → p n ≡ true
-unfolding all_below
-all_below_at p zero n h l = absurd (omega arith)
-all_below_at p (suc k) n h l =
-    let P : Bool → Type 0 = λ t. (n == k) ≡ t → p n ≡ true in
-    let go : P (n == k) = elim (n == k) as P [
-      | true ↦ λ t. let e : n ≡ k = grind (arith, nat_tests) in ap p e ∙ and_left (p k) _ h
-      | false ↦ λ t. let l : n < k = grind (arith, nat_tests) in all_below_at p k n (and_right (p k) _ h) l
-    ] in go refl
 
 is_place : Option ℕ → ℕ → Bool
 is_place None n = false

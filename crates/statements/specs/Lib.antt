@@ -7,4 +7,5 @@ pub mod Instructions
 pub mod Directives
 pub mod Reading
 pub mod Grammar
+pub mod Texts
 pub mod Laws

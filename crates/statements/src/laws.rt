@@ -1,6 +1,6 @@
 //! What holds of every line: each law is the contract of a function that does nothing.
 
-ghost use Rattle.statements.specs.Laws.{LinesAreRead, OnlyLinesAreRead};
+ghost use Rattle.statements.specs.Laws.{LinesAreRead, OnlyLinesAreRead, TextsAreRead};
 
 /// A line that the rules of the grammar divide is read as what it is divided into says. So the rules
 /// divide it in one way only, as far as what it says goes.
@@ -11,4 +11,11 @@ pub fn lines_are_read()
 /// What is read as a line, and not refused for its form, is one that the rules divide.
 pub fn only_lines_are_read()
     ensures { OnlyLinesAreRead }
+{}
+
+/// The text of an instruction at an address is read as its statement: as the instruction itself, as a
+/// jump or a branch to the address that it goes to, or, for a FENCE that no statement of its own stands
+/// for, as data with its word.
+pub fn texts_are_read()
+    ensures { TextsAreRead }
 {}
