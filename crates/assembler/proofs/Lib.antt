@@ -8,3 +8,4 @@ pub mod Filling
 pub mod Rising
 pub mod Only
 pub mod Done
+pub mod Texts

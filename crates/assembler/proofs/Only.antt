@@ -17,7 +17,7 @@ words_only : (list : List Instr) (a b : List ℕ) → AreWords list a → AreWor
 words_only [] a b h g = h ∙ sym g
 words_only (i ∷ list) a b (w, r, p, q, e) (v, s, t, u, f) = e ∙ ap (λ (l : List ℕ). l ++ r) (word_only i w v p t) ∙ ap (λ (l : List ℕ). v ++ l) (words_only list r s q u) ∙ sym f
 
-part_only : (contained : Contained) (a b : List ℕ) → IsPart contained a → IsPart contained b → a ≡ b
+pub part_only : (contained : Contained) (a b : List ℕ) → IsPart contained a → IsPart contained b → a ≡ b
 part_only (Ok (Code list)) a b h g = words_only list a b h g
 part_only (Ok (Plain bytes)) a b h g = h ∙ sym g
 part_only (Err kind) a b h g = absurd h
