@@ -7,3 +7,4 @@ pub mod Moves
 pub mod Texts
 pub mod Keeps
 pub mod Only
+pub mod Candidates

@@ -1,10 +1,8 @@
 -- Texts that are compared, and the names of the registers.
-use Rattle.std.proofs.Common.{◌≡◌, ℕ, ◌<◌, true, false, List, [], ◌∷◌, refl, ap, ◌∙◌, inl, inr, eqb}
-use Rattle.std.specs.Prelude.{codes}
+use Rattle.std.proofs.Common.{◌≡◌, ℕ, true, false, List, [], ◌∷◌, refl, ap, ◌∙◌, eqb}
 use Rattle.std.specs.Cmp.Lexicographic.{pointwise}
 use Rattle.std.proofs.lemmas.Bool.{eq-eqb}
 use Rattle.rv32i.specs.Texts.{with_two, with_three}
-use Rattle.rv32i.specs.Names.{Names, name_of, numbered_name_of}
 
 same_text : (xs : List ℕ) → pointwise eqb xs xs ≡ true
 same_text [] = refl
@@ -12,12 +10,6 @@ same_text (x ∷ xs) = rw (eq-eqb x x refl) (same_text xs)
 
 pub differ : (xs ys : List ℕ) → false ≡ pointwise eqb xs ys → xs ≡ ys → ⊥
 differ xs ys other e = let s = same_text xs in let t : pointwise eqb xs xs ≡ pointwise eqb xs ys = ap (λ l. pointwise eqb xs l) e in cc
-
-pub names_none : (name : List ℕ) → (name ≡ codes "fp" → ⊥) → ((k : ℕ) → k < 32 → (name ≡ name_of k → ⊥) × (name ≡ numbered_name_of k → ⊥)) → (number : ℕ) → Names name number → ⊥
-names_none name fp others number n = elim n.1 [
-  | inl a ↦ (others number n.0).0 a
-  | inr b ↦ (elim b [ inl a ↦ (others number n.0).1 a | inr p ↦ fp p.0 ])
-]
 
 pub joined_two : (name a b p q text : List ℕ) → text ≡ with_two name a b → a ≡ p → b ≡ q → text ≡ with_two name p q
 joined_two name a b p q text e f g = e ∙ ap (λ x. with_two name x b) f ∙ ap (λ x. with_two name p x) g

@@ -5,3 +5,4 @@ pub mod Machine
 pub mod Texts
 pub mod Steps
 pub mod Laws
+pub mod Candidates

@@ -2,6 +2,7 @@
 //! Programmer's Handbook").
 
 ghost use Rattle.std.specs.Prelude.{◌≡◌, ◌<◌};
+ghost use Rattle.rv32i.specs.Candidates.{candidate, digit, numbered, of_three, of_two};
 ghost use Rattle.rv32i.specs.Names.{name_of, numbered_name_of, NamesOrNot};
 
 /// The name of the register of a number from 0 to 31.
@@ -94,10 +95,66 @@ pub fn reg_of(name: &str) -> Option<u32>
     if name == "fp" {
         return Some(8);
     }
-    for number in 0..32 {
-        if name == reg_name(number) || name == numbered_name(number) {
-            return Some(number);
-        }
+    let number = candidate(name.as_bytes()) % 32;
+    if name == reg_name(number) || name == numbered_name(number) {
+        return Some(number);
     }
     None
+}
+
+// The one register that a text can name.
+fn candidate(text: &[u8]) -> u32
+    ensures { result ≡ candidate text.now }
+{
+    match text {
+        [kind, byte] => of_two(*kind, *byte),
+        [kind, tens, ones] => of_three(*kind, *tens, *ones),
+        _ => 0,
+    }
+}
+
+fn digit(byte: u8) -> u32
+    ensures value { result ≡ digit byte }
+    ensures small { result < 10 }
+{
+    u32::from(byte.wrapping_sub(b'0') % 10)
+}
+
+fn of_two(kind: u8, byte: u8) -> u32
+    ensures { result ≡ of_two kind byte }
+{
+    match kind {
+        b'x' => digit(byte),
+        b'a' => 10 + digit(byte),
+        b's' if byte == b'p' => 2,
+        b's' => numbered(2, 8, 16, byte),
+        b't' if byte == b'p' => 4,
+        b't' => numbered(3, 5, 25, byte),
+        b'g' => 3,
+        _ => 1,
+    }
+}
+
+// The registers of a kind have two runs of numbers: the first few, and the others.
+fn numbered(few: u32, low: u32, high: u32, byte: u8) -> u32
+    requires low { low < 32 }
+    requires high { high < 32 }
+    ensures { result ≡ numbered few low high byte }
+{
+    let digit = digit(byte);
+    if digit < few {
+        low + digit
+    } else {
+        high + digit
+    }
+}
+
+fn of_three(kind: u8, tens: u8, ones: u8) -> u32
+    ensures { result ≡ of_three kind tens ones }
+{
+    if kind == b's' {
+        26 + digit(ones)
+    } else {
+        digit(tens) * 10 + digit(ones)
+    }
 }
