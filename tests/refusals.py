@@ -1,6 +1,7 @@
 """Each allocation refused in turn: of the program, and of the tests of each crate that are named refused_..."""
 import glob
 import os
+import re
 import shutil
 import subprocess
 import tempfile
@@ -63,8 +64,18 @@ def refused_test(binary, name):
     return check
 
 
-def the_gate_left_tests_of_refusals():
-    expect(len(refused_tests()) > 0, True, "there are tests named refused_..")
+def written_tests():
+    """The crate and the name of each test named refused_.. in the sources."""
+    for path in glob.glob(os.path.join(TOP, "crates", "*", "src", "**", "*.rt"), recursive=True):
+        crate = os.path.relpath(path, os.path.join(TOP, "crates")).split(os.sep)[0]
+        with open(path, encoding="utf-8") as source:
+            for name in re.findall(r"#\[test\]\s+fn (refused_\w+)\(", source.read()):
+                yield crate, name
+
+
+def the_gate_left_each_test_of_refusals():
+    left = [(os.path.basename(binary).removesuffix("_tests"), name.split("::")[-1]) for binary, name in refused_tests()]
+    expect(sorted(left), sorted(written_tests()), "the tests named refused_..")
 
 
 def refused_tests():
@@ -74,6 +85,6 @@ def refused_tests():
 
 def checks():
     """Each check with its name."""
-    of_the_program = [(check.__name__.replace("_", " "), check) for check in (the_program_ends_well_without_memory, the_gate_left_tests_of_refusals)]
+    of_the_program = [(check.__name__.replace("_", " "), check) for check in (the_program_ends_well_without_memory, the_gate_left_each_test_of_refusals)]
     of_the_crates = [("each allocation of %s refused" % name, refused_test(binary, name)) for binary, name in refused_tests()]
     return of_the_program + of_the_crates
