@@ -24,7 +24,7 @@ pub(crate) fn error_of(alloc: Global, text: &[u8]) -> (u32, Option<AsmErrorKind>
 }
 
 /// Each kind but `NoMemory`, and what causes it.
-const KINDS: [Row; 49] = [
+const KINDS: [Row; 57] = [
     // The line of the first byte that belongs to no character: a stray one, one of a character that is cut off by a
     // line feed or by the end, a surrogate, and one that is written with too many bytes.
     (b"nop\n.byte 1 \xff\n", 2, AsmErrorKind::NotUtf8),
@@ -48,6 +48,13 @@ const KINDS: [Row; 49] = [
     (b"x: lw a0, % lo(x)(a0)\n", 1, AsmErrorKind::BadOperand),
     (b"lw a0, 8 8(sp)\n", 1, AsmErrorKind::BadOperand),
     (b"lw a0, 8(s p)\n", 1, AsmErrorKind::BadOperand),
+    // A part or a sum where a number or a label stands, and a number where a label stands.
+    (b"x: lw a0, %hi(x)(a0)\n", 1, AsmErrorKind::BadOperand),
+    (b"x: lw a0, x\n", 1, AsmErrorKind::BadOperand),
+    (b"x: .word %lo(x)\n", 1, AsmErrorKind::BadOperand),
+    (b"x: j x+4\n", 1, AsmErrorKind::BadOperand),
+    (b"la a0, 65536\n", 1, AsmErrorKind::BadOperand),
+    (b"call 65536\n", 1, AsmErrorKind::BadOperand),
     // Data with no item.
     (b".half\n", 1, AsmErrorKind::BadOperand),
     (b".byte \t\n", 1, AsmErrorKind::BadOperand),
@@ -80,6 +87,8 @@ const KINDS: [Row; 49] = [
     // Each word that names a label.
     (b"j x\n", 1, AsmErrorKind::Undefined),
     (b"bnez a0, x\n", 1, AsmErrorKind::Undefined),
+    (b"jal ra\n", 1, AsmErrorKind::Undefined),
+    (b".word 1, ra\n", 1, AsmErrorKind::Undefined),
     (b"la a0, x\n", 1, AsmErrorKind::Undefined),
     (b"call x\n", 1, AsmErrorKind::Undefined),
     (b"lui a0, %hi(x)\n", 1, AsmErrorKind::Undefined),
