@@ -1,7 +1,5 @@
 //! What is wrong with a text, and the line that it is told of.
 
-ghost use Rattle.std.specs.Prelude.{◌≤◌};
-
 use crate::{AsmErrorKind, assemble};
 use std::alloc::Global;
 
@@ -9,9 +7,7 @@ use std::alloc::Global;
 type Row = (&'static [u8], u32, AsmErrorKind);
 
 /// The line and the kind of a text's error, for so many bytes of memory. Line 0 and `None`: it has an image.
-pub(crate) fn error_in(alloc: Global, text: &[u8], size: u32) -> (u32, Option<AsmErrorKind>)
-    requires { size ≤ 16777216 }
-{
+pub(crate) fn error_in(alloc: Global, text: &[u8], size: u32) -> (u32, Option<AsmErrorKind>) {
     match assemble(alloc, text, size) {
         Ok(_) => (0, None),
         Err(error) => (error.line, Some(error.kind)),

@@ -53,6 +53,7 @@ fn a_text_that_fits_is_as_long_as_memory(rt: HostRuntime) {
         (2, Some(AsmErrorKind::TooLarge))
     );
     assert_eq!(rt; error_in(rt.alloc(), b"a: .text", 0), (0, None));
+    assert_eq!(rt; error_in(rt.alloc(), b"nop", 4_294_967_295), (0, None));
     assert_eq!(rt;
         error_in(rt.alloc(), b".space 16777216\nnop", 16_777_216),
         (2, Some(AsmErrorKind::TooLarge))
