@@ -59,3 +59,22 @@ fn a_text_that_fits_is_as_long_as_memory(rt: HostRuntime) {
         (2, Some(AsmErrorKind::TooLarge))
     );
 }
+
+/// A line, so many times.
+fn repeated(alloc: Global, line: &[u8], count: usize) -> Result<Vec<u8>, AllocError> {
+    let mut text = Vec::new(alloc);
+    for _ in 0..count {
+        text.extend_from_slice(line)?;
+    }
+    Ok(text)
+}
+
+#[test]
+fn an_address_has_32_bits_whatever_the_size(rt: HostRuntime) -> Result<(), Fail> {
+    let text = repeated(rt.alloc(), b".space 16777216\n", 256)?;
+    assert_eq!(rt;
+        error_in(rt.alloc(), text.as_slice(), u32::MAX),
+        (256, Some(AsmErrorKind::TooLarge))
+    );
+    Ok(())
+}
