@@ -1,5 +1,4 @@
 use Rattle.image.specs.Lines.{labels_of}
-use Rattle.assembler.specs.Placed.{memory_end}
 use Rattle.assembler.proofs.Done.{fits_so, placed_so}
 use Rattle.assembler.proofs.Rising.{rows_rise}
 use Rattle.assembler.proofs.assembling.assemble.Goals as goal
