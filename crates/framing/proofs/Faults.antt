@@ -4,7 +4,8 @@ use Rattle.std.specs.List.{list_all}
 use Rattle.std.proofs.lemmas.Bool.Decides.{nat_tests}
 use Rattle.framing.specs.Headers.{Field, SaysLength, end_of, header_of, is_field, length_fields}
 use Rattle.framing.specs.Frames.{HasHeader, HasFields, Fault}
-use Rattle.framing.specs.Reading.{size_of, size_by, start_by, start_at, start_of, content_length, length_by, length_among, length_or_fault, number_in, trimmed, fields_in, lines_of}
+use Rattle.framing.specs.Reading.{size_of, size_by, start_by, start_at, start_of, content_length, length_by, length_among, length_or_fault, number_in, fields_in, lines_of}
+use Rattle.byte_strings.specs.Blanks.{trimmed}
 use Rattle.framing.specs.declared.error.FrameError.{FrameError}
 use Rattle.framing.specs.declared.error.FrameError.TheVariants.{Header, NoLength, TwoLengths, BadLength, TooLong, HeaderTooLong, NoMemory}
 use Rattle.framing.specs.declared.start.Start.TheVariants.{Waits, Breaks, Begins}

@@ -2,7 +2,8 @@
 use Rattle.std.proofs.Common.{◌≡◌, ℕ, ◌-◌, ◌⊎◌, inl, inr, Bool, true, false, cond, ltb, leb, List, [], ◌∷◌, ◌++◌, length, take, drop, Option, Some, None, IsSome, Result, Ok, Err, refl, sym, ap, ◌∙◌}
 use Rattle.std.proofs.lemmas.List.{append-nil}
 use Rattle.framing.specs.Headers.{Field, length_fields}
-use Rattle.framing.specs.Reading.{Reading, Tail, size_of, start_by, start_at, start_of, content_length, length_by, length_among, length_or_fault, number_in, trimmed, fields_in, lines_of, reading_of}
+use Rattle.framing.specs.Reading.{Reading, Tail, size_of, start_by, start_at, start_of, content_length, length_by, length_among, length_or_fault, number_in, fields_in, lines_of, reading_of}
+use Rattle.byte_strings.specs.Blanks.{trimmed}
 use Rattle.framing.specs.Reading.Tail.{Partial, Faulty}
 use Rattle.framing.specs.Parts.{Parts, tail_by, is_broken}
 use Rattle.framing.specs.Streams.{Before, Unframed, fed, fault_of, Feeds}

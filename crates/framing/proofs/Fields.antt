@@ -6,8 +6,8 @@ use Rattle.std.proofs.lemmas.List.{take_at, drop_at, drop_more, take-append-drop
 use Rattle.std.proofs.lemmas.Bool.Decides.{nat_tests}
 use Rattle.framing.specs.Headers.{Field, end_of_line, line_of, header_of, is_name_byte, is_value_byte, is_name, is_field, begins_with_end, end_of}
 use Rattle.framing.specs.Reading.{field_of, field_at, field_in, with_field, fields_in, onto_first, lines_of}
-use Rattle.framing.proofs.Digits.{and_left, and_right}
-use Rattle.framing.proofs.Values.{and_both, all_append}
+use Rattle.byte_strings.proofs.Conjunctions.{and_left, and_right}
+use Rattle.byte_strings.proofs.Conjunctions.{and_both, all_append}
 
 -- the text of a field, without the end of its line
 abbrev pub text_of_field : Field → List ℕ

@@ -5,7 +5,8 @@ use Rattle.std.proofs.lemmas.List.{take_at, drop_more, take-append-drop, length-
 use Rattle.std.proofs.lemmas.Bool.Decides.{nat_tests}
 use Rattle.framing.specs.Headers.{Field, Head, end_of, header_of, is_field, length_fields}
 use Rattle.framing.specs.Frames.{HasHeader, HasFields}
-use Rattle.framing.specs.Reading.{size_of, start_by, start_at, start_of, length_by, length_among, length_or_fault, number_in, trimmed, fields_in, lines_of}
+use Rattle.framing.specs.Reading.{size_of, start_by, start_at, start_of, length_by, length_among, length_or_fault, number_in, fields_in, lines_of}
+use Rattle.byte_strings.specs.Blanks.{trimmed}
 use Rattle.framing.specs.declared.error.FrameError.{FrameError}
 use Rattle.framing.specs.declared.error.FrameError.TheVariants.{Header, NoLength, TwoLengths, BadLength, TooLong}
 use Rattle.framing.specs.declared.start.Start.TheVariants.{Begins}

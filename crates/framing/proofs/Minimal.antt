@@ -9,8 +9,9 @@ use Rattle.std.proofs.lemmas.Bool.Decides.{nat_tests}
 use Rattle.framing.specs.Headers.{Field, Head, end_of_line, header_of, is_value_byte}
 use Rattle.framing.specs.Frames.{Frame, minimal_frame}
 use Rattle.framing.specs.Reading.{reading_of, with_body}
-use Rattle.framing.proofs.Digits.{digit_range, and_left, and_right}
-use Rattle.framing.proofs.Values.{and_both}
+use Rattle.framing.proofs.Digits.{digit_range}
+use Rattle.byte_strings.proofs.Conjunctions.{and_left, and_right}
+use Rattle.byte_strings.proofs.Conjunctions.{and_both}
 use Rattle.framing.proofs.Framing.{frame_first}
 
 -- the digits of a length

@@ -12,6 +12,7 @@ use Rattle.std.specs.Option.{option_map}
 use Rattle.std.specs.Char.{is_ascii_digit}
 use Rattle.std.specs.Str.{str_eq_ignore_ascii_case}
 use Rattle.std.specs.Str.Parse.{digits_value}
+use Rattle.byte_strings.specs.Blanks.{is_blank}
 
 -- the end of a line: CR LF
 abbrev pub end_of_line : List ℕ
@@ -40,10 +41,6 @@ is_name_byte b = nat_le 33 b && nat_le b 126 && not (b == 58)
 -- an ASCII character from the space on, or a tab
 abbrev pub is_value_byte : ℕ → Bool
 is_value_byte b = (nat_le 32 b && nat_le b 126) || (b == 9)
-
--- a space or a tab
-abbrev pub is_blank : ℕ → Bool
-is_blank b = (b == 32) || (b == 9)
 
 -- what can be a field's name, and its value
 abbrev pub is_name : List ℕ → Bool

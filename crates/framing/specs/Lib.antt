@@ -1,3 +1,4 @@
+pub use Rattle.byte_strings.specs.Blanks
 pub mod Headers
 pub mod Frames
 pub mod Reading

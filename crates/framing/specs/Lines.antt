@@ -1,7 +1,8 @@
 -- How the code goes over the lines of a header part.
 use Rattle.std.specs.Prelude.{◌≡◌, ℕ, ◌<◌, List, [], Option, Some, None, Result, Err, if◌then◌else◌}
 use Rattle.framing.specs.Headers.{Field, names_length, end_of}
-use Rattle.framing.specs.Reading.{lines_of, number_in, trimmed, length_or_fault}
+use Rattle.framing.specs.Reading.{lines_of, number_in, length_or_fault}
+use Rattle.byte_strings.specs.Blanks.{trimmed}
 use Rattle.framing.specs.declared.error.FrameError.{FrameError}
 use Rattle.framing.specs.declared.error.FrameError.TheVariants.{NoLength, TwoLengths}
 use Rattle.framing.specs.declared.header.Lengths.{Lengths}

@@ -3,11 +3,12 @@
 -- `Frames` says what frames are, as statements. Here the same is computed, for layers that go on from the
 -- bodies: a stream has one reading, which is its whole bodies in order and its tail. The tail is what has come
 -- of the next frame, or the fault that the stream has there.
-use Rattle.std.specs.Prelude.{◌≡◌, ℕ, zero, suc, ◌+◌, ◌-◌, ◌==◌, nat_lt, nat_le, if◌then◌else◌, ◌&&◌, not, List, [], ◌∷◌, ◌++◌, length, take, drop, reverse, position, Option, Some, None, Result, Ok, Err, codes, refl}
+use Rattle.std.specs.Prelude.{◌≡◌, ℕ, zero, suc, ◌+◌, ◌-◌, ◌==◌, nat_lt, nat_le, if◌then◌else◌, ◌&&◌, not, List, [], ◌∷◌, ◌++◌, length, take, drop, position, Option, Some, None, Result, Ok, Err, codes, refl}
 use Rattle.std.specs.List.{list_all}
 use Rattle.std.specs.Char.{is_ascii_digit}
 use Rattle.std.specs.Str.Parse.{digits_value}
-use Rattle.framing.specs.Headers.{Field, is_name, is_value, is_blank, length_fields, end_of, end_of_line}
+use Rattle.framing.specs.Headers.{Field, is_name, is_value, length_fields, end_of, end_of_line}
+use Rattle.byte_strings.specs.Blanks.{trimmed}
 use Rattle.framing.specs.declared.error.FrameError.{FrameError}
 use Rattle.framing.specs.declared.error.FrameError.TheVariants.{Header, NoLength, TwoLengths, BadLength, TooLong, HeaderTooLong}
 use Rattle.framing.specs.declared.start.Start.{Start}
@@ -46,17 +47,6 @@ abbrev pub lines_of : List ℕ → List (List ℕ)
 lines_of [] = [] ∷ []
 lines_of (c ∷ []) = (c ∷ []) ∷ []
 lines_of (c ∷ d ∷ text) = if (c == 13) && (d == 10) then [] ∷ lines_of text else onto_first c (lines_of (d ∷ text))
-
--- a value without the blanks round it
-abbrev pub without_leading_blanks : List ℕ → List ℕ
-without_leading_blanks [] = []
-without_leading_blanks (b ∷ value) = if is_blank b then without_leading_blanks value else b ∷ value
-
-abbrev pub without_trailing_blanks : List ℕ → List ℕ
-without_trailing_blanks value = reverse (without_leading_blanks (reverse value))
-
-abbrev pub trimmed : List ℕ → List ℕ
-trimmed value = without_trailing_blanks (without_leading_blanks value)
 
 -- the number that 1 to 10 digits are
 abbrev pub number_in : List ℕ → Option ℕ

@@ -5,8 +5,11 @@ ghost use Rattle.std.specs.List.{list_all};
 ghost use Rattle.std.specs.Option.{option_map};
 ghost use Rattle.std.specs.Char.{is_ascii_digit};
 ghost use Rattle.std.specs.Str.Parse.{digits_value};
-ghost use Rattle.framing.specs.Headers.{is_blank, is_name, is_name_byte, is_value, names_length};
-ghost use Rattle.framing.specs.Reading.{field_in, number_in, trimmed, without_leading_blanks, without_trailing_blanks};
+ghost use Rattle.framing.specs.Headers.{is_name, is_name_byte, is_value, names_length};
+ghost use Rattle.framing.specs.Reading.{field_in, number_in};
+ghost use Rattle.byte_strings.specs.Blanks.{trimmed};
+
+use byte_strings::trimmed;
 
 /// A field: its name, and its value with the blanks round it.
 #[derive(Clone, Copy)]
@@ -73,41 +76,6 @@ fn is_value(value: &[u8]) -> bool
     value
         .iter()
         .all(|b| *b >= 0x20 && *b <= 0x7e || *b == b'\t')
-}
-
-/// Whether a byte is a space or a tab.
-fn is_blank(byte: u8) -> bool
-    ensures { result ≡ is_blank byte }
-{
-    byte == b' ' || byte == b'\t'
-}
-
-/// The value without the blanks round it.
-fn trimmed(value: &[u8]) -> &[u8]
-    ensures { result.now ≡ trimmed value.now }
-{
-    without_trailing_blanks(without_leading_blanks(value))
-}
-
-fn without_leading_blanks(value: &[u8]) -> &[u8]
-    ensures { result.now ≡ without_leading_blanks value.now }
-{
-    for i in 0..value.len() {
-        if !is_blank(value[i]) {
-            return &value[i..];
-        }
-    }
-    b""
-}
-
-fn without_trailing_blanks(value: &[u8]) -> &[u8]
-    ensures { result.now ≡ without_trailing_blanks value.now }
-{
-    let mut end = value.len();
-    while end > 0 && is_blank(value[end - 1]) {
-        end -= 1;
-    }
-    &value[..end]
 }
 
 /// The number that 1 to 10 decimal digits are.

@@ -2,13 +2,12 @@
 //! with, and where its lines and labels are.
 #![tactic(auto)]
 
-mod bytes;
 mod fault;
 pub mod laws;
 mod lines;
 mod memory;
 
-pub use bytes::Bytes;
+pub use byte_strings::Bytes;
 pub use fault::MemFault;
 pub use lines::LineTable;
 pub use memory::Memory;

@@ -23,6 +23,7 @@ pub use cancel::CancelArguments;
 pub use command::Command;
 pub use disconnect::DisconnectArguments;
 pub use initialize::InitializeArguments;
+pub use properties::LAST_SEQ;
 pub use refusal::Refusal;
 pub use request::{Incoming, MessageError, Request, read_request};
 pub use text::Text;

@@ -7,8 +7,8 @@ ghost use Rattle.protocol.specs.Properties as properties;
 
 use serde_json::{Map, Value};
 
-/// The greatest number of a message.
-const MAX_SEQ: u32 = 2_147_483_647;
+/// The greatest number that a message may have (`ProtocolMessage.seq`).
+pub const LAST_SEQ: u32 = 2_147_483_647;
 
 /// The member of that name.
 fn member<'v>(members: &'v Map<String, Value>, name: &str) -> Option<&'v Value>
@@ -41,7 +41,7 @@ pub(crate) fn sequence_number(members: &Map<String, Value>, name: &str) -> Optio
         (properties.property name.now (members_view members.now.entries)) }
 {
     let number = property(members, name)?.as_u64()?;
-    if number <= u64::from(MAX_SEQ) {
+    if number <= u64::from(LAST_SEQ) {
         Some(number as u32)
     } else {
         None

@@ -2,43 +2,16 @@
 //! `rvdap asm FILE` it lists the instructions of a file.
 #![tactic(auto)]
 
-mod answers;
-mod arrivals;
 mod asm;
-mod buffer;
-mod bytes;
-mod end;
-mod event;
-mod feeding;
-mod inbox;
-mod laws;
-mod limits;
-mod link;
 mod options;
-mod outbox;
-mod pending;
-mod phase;
-mod requests;
-mod room;
-mod serve;
-mod server;
-mod session;
-mod state;
-#[cfg(test)]
-mod tests;
 
 use asm::{AsmFault, list_file};
-use end::StreamEnd;
-use limits::Limits;
 use listing::ListFault;
 use options::{Words, read_words};
-use serve::serve_streams;
-use session::Session;
+use session::{Limits, Session};
 use std::fmt::Display;
 use std::process::ExitCode;
-
-/// The greatest length of a body, in bytes.
-pub const BODY_LIMIT: u32 = 1_048_576;
+use transport::{StreamEnd, serve_streams};
 
 /// Status 0 where the input ended or a `disconnect` succeeded, where a file was listed, and where help or
 /// the version was asked; 1 with one line on standard error where serving or listing failed; 2 where the

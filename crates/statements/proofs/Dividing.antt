@@ -10,13 +10,15 @@ use Rattle.std.proofs.lemmas.Bool.Decides.{nat_tests}
 use Rattle.statements.specs.Grammar.{AllBlank, BeginsWith, Division, IsLine, IsSpoken, IsStatement, Labelled, Spoken, means, says}
 use Rattle.statements.specs.Operands.{are_operands}
 use Rattle.statements.specs.Reading.{label_before, labels_of, labels_with, line_of, read, read_content, rest_of, rest_with, said, said_at, said_by, statement_in, stating, without_comment}
-use Rattle.statements.specs.Spelling.{is_blank, is_name, parted, pieces, trimmed, without_leading_blanks, without_trailing_blanks}
+use Rattle.statements.specs.Spelling.{is_name, parted, pieces}
+use Rattle.byte_strings.specs.Blanks.{is_blank, trimmed, without_leading_blanks, without_trailing_blanks}
 use Rattle.statements.specs.Words.{word_of}
 use Rattle.statements.specs.declared.error.LineError.TheVariants.{Syntax}
 use Rattle.statements.proofs.Labelling.{no_colon, no_label, one_label}
-use Rattle.statements.proofs.Registers.{and_left, and_right}
+use Rattle.byte_strings.proofs.Conjunctions.{and_left, and_right}
 use Rattle.statements.proofs.Runs.{begins_so, blank_ends, blanks_not_colon, ends_so, goes_on, name_bytes, names_not_blank, names_not_colon, no_position, parted_joins, parts_join, position_at, runs}
-use Rattle.statements.proofs.Trimming.{all_append, all_gone, bare, begins_blank, between, blanks_go, led, others_stay, round, trimmed_bare, trimmed_ends}
+use Rattle.byte_strings.proofs.Trimming.{all_gone, bare, begins_blank, between, blanks_go, led, others_stay, round, trimmed_bare, trimmed_ends}
+use Rattle.byte_strings.proofs.Conjunctions.{all_append}
 
 -- ---- what is read is divided by the rules
 

@@ -4,7 +4,6 @@ pub mod Below
 pub mod Registers
 pub mod Said
 pub mod Labelling
-pub mod Trimming
 pub mod Runs
 pub mod Dividing
 pub mod Solid

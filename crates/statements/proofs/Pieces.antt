@@ -5,7 +5,8 @@ use Rattle.std.proofs.lemmas.List.Splits.{slice_split_first, length-slice_split}
 use Rattle.std.specs.List.{count_by, slice_split, onto_first, position_or_len}
 use Rattle.std.specs.Option.{is_some, option_map}
 use Rattle.statements.specs.Operands.{counted, operands_in}
-use Rattle.statements.specs.Spelling.{parted, parted_at, pieces, pieces_behind, trimmed}
+use Rattle.statements.specs.Spelling.{parted, parted_at, pieces, pieces_behind}
+use Rattle.byte_strings.specs.Blanks.{trimmed}
 use Rattle.statements.specs.declared.error.LineError.{LineError}
 use Rattle.statements.specs.declared.operands.Operands.TheVariants.{More}
 

@@ -4,10 +4,12 @@ use Rattle.std.specs.List.{list_all, join_with_byte, position, position_or_len}
 use Rattle.std.proofs.Math.Seq.{take-append_seam, drop-append-add}
 use Rattle.std.proofs.lemmas.List.Splits.{join_with_byte-slice_split}
 use Rattle.std.proofs.lemmas.Bool.Decides.{nat_tests}
-use Rattle.statements.specs.Spelling.{begins_name, is_blank, is_name, is_name_byte, parted, parted_at, pieces}
+use Rattle.statements.specs.Spelling.{begins_name, is_name, is_name_byte, parted, parted_at, pieces}
+use Rattle.byte_strings.specs.Blanks.{is_blank}
 use Rattle.statements.proofs.Pieces.{pieces_some, shape}
-use Rattle.statements.proofs.Registers.{and_left, and_right}
-use Rattle.statements.proofs.Trimming.{all_reverse, begins_blank}
+use Rattle.byte_strings.proofs.Conjunctions.{and_left, and_right}
+use Rattle.byte_strings.proofs.Trimming.{begins_blank}
+use Rattle.byte_strings.proofs.Conjunctions.{all_reverse}
 
 -- the first element that passes, behind some that do not
 pub place_at : (p : ℕ → Bool) (xs ys : List ℕ) (y : ℕ) → list_all (λ x. not (p x)) xs ≡ true → p y ≡ true → position_or_len p (xs ++ y ∷ ys) ≡ length xs

@@ -4,7 +4,8 @@ use Rattle.statements.specs.Operands.{are_operands}
 use Rattle.statements.specs.Reading.{labels_of, line_of, read, read_content, rest_of, said, said_by, statement_in, without_comment}
 use Rattle.statements.specs.declared.line.Line.{Line}
 use Rattle.statements.specs.declared.statement.Statement.{Statement}
-use Rattle.statements.specs.Spelling.{is_name, pieces, trimmed}
+use Rattle.statements.specs.Spelling.{is_name, pieces}
+use Rattle.byte_strings.specs.Blanks.{trimmed}
 use Rattle.statements.specs.Words.{word_of}
 use Rattle.statements.proofs.Registers.{named_text}
 use Rattle.statements.specs.Directives.{OrNoMemory}

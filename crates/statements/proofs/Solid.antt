@@ -6,14 +6,16 @@ use Rattle.std.proofs.lemmas.Bool.Decides.{nat_tests}
 use Rattle.statements.specs.Grammar.{Division, IsLine, IsStatement}
 use Rattle.statements.specs.Operands.{counted, is_operand, operand_list}
 use Rattle.statements.specs.Reading.{content_by, line_of, meaning, read, said_by, stating, without_comment}
-use Rattle.statements.specs.Spelling.{is_blank, is_name, is_name_byte, parted, parted_at, pieces, trimmed}
+use Rattle.statements.specs.Spelling.{is_name, is_name_byte, parted, parted_at, pieces}
+use Rattle.byte_strings.specs.Blanks.{is_blank, trimmed}
 use Rattle.statements.specs.Words.{word_of}
 use Rattle.statements.specs.declared.words.Word.{Word}
 use Rattle.statements.proofs.Dividing.{lines_read}
 use Rattle.statements.proofs.Pieces.{pieces_none, pieces_some}
-use Rattle.statements.proofs.Registers.{and_left, and_right}
+use Rattle.byte_strings.proofs.Conjunctions.{and_left, and_right}
 use Rattle.statements.proofs.Runs.{name_bytes, no_position, parts_join}
-use Rattle.statements.proofs.Trimming.{all_append, all_reverse, and_both, bare, begins_blank, between}
+use Rattle.byte_strings.proofs.Trimming.{bare, begins_blank, between}
+use Rattle.byte_strings.proofs.Conjunctions.{all_append, all_reverse, and_both}
 
 -- ---- bytes
 

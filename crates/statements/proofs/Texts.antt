@@ -19,7 +19,8 @@ use Rattle.statements.specs.Numbers.{bits_in, constant_in}
 use Rattle.statements.specs.Operands.{access_by, access_in, access_with, address_target, base_by, bits_low, closed, is_operand, low_by, low_in, offset_in, or_bad, plain_access, register_in, set_in, target_in}
 use Rattle.statements.specs.Operations.{immediate_instruction, register_instruction, shift_instruction, store_instruction}
 use Rattle.statements.specs.Reading.{line_of, meaning, read, stating}
-use Rattle.statements.specs.Spelling.{is_name, pieces, stripped, trimmed}
+use Rattle.statements.specs.Spelling.{is_name, pieces, stripped}
+use Rattle.byte_strings.specs.Blanks.{trimmed}
 use Rattle.statements.specs.Texts.{data_word, stated_alone, statement_of}
 use Rattle.statements.specs.Words.{word_of}
 use Rattle.statements.specs.declared.error.LineError.{LineError}
@@ -44,10 +45,11 @@ use Rattle.statements.specs.declared.words.Word.{Word}
 use Rattle.statements.specs.declared.words.Word.TheVariants.{Registers, Immediate, Shift, Load, Store, Branch, LoadUpper, AddUpper, JumpAndLink, JumpAndLinkRegister, Fence, Data}
 use Rattle.statements.proofs.Below.{all_below, all_below_at}
 use Rattle.statements.proofs.Numerals.{High, IsImmediate, decimal_read, hex_high, hex_read, high_front, high_no_bracket, high_solid, immediate_is, is_high, turned_down, writes_decimal, writes_eight, writes_hex, writes_high}
-use Rattle.statements.proofs.Registers.{and_left, and_right, register_named}
+use Rattle.statements.proofs.Registers.{register_named}
+use Rattle.byte_strings.proofs.Conjunctions.{and_left, and_right}
 use Rattle.statements.proofs.Runs.{parts_join}
 use Rattle.statements.proofs.Solid.{Solid, is_solid, one_listed, one_piece, solid_trimmed, spoken_alone, three_listed, two_listed}
-use Rattle.statements.proofs.Trimming.{all_append}
+use Rattle.byte_strings.proofs.Conjunctions.{all_append}
 
 -- ---- results
 

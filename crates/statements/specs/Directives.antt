@@ -5,7 +5,8 @@
 -- `.globl` and `.global` have no effect.
 use Rattle.std.specs.Prelude.{◌≡◌, ℕ, Bool, true, false, ◌==◌, if◌then◌else◌, ◌||◌, not, List, [], ◌∷◌, length, map, Result, Ok, Err, ⊤}
 use Rattle.std.specs.List.{list_all}
-use Rattle.statements.specs.Spelling.{is_name, pieces, trimmed}
+use Rattle.statements.specs.Spelling.{is_name, pieces}
+use Rattle.byte_strings.specs.Blanks.{trimmed}
 use Rattle.statements.specs.Numbers.{bits_in, constant_in}
 use Rattle.statements.specs.Operands.{label_in}
 use Rattle.statements.specs.Instructions.{Said, and_then}

@@ -5,7 +5,8 @@
 -- none of them blank; it may have no operands. Blanks may stand before and behind it.
 use Rattle.std.specs.Prelude.{◌≡◌, ℕ, ◌<◌, true, List, [], ◌∷◌, ◌++◌, length, Option, Some, None, Result, Ok}
 use Rattle.std.specs.List.{list_all}
-use Rattle.statements.specs.Spelling.{is_blank, is_name, trimmed}
+use Rattle.statements.specs.Spelling.{is_name}
+use Rattle.byte_strings.specs.Blanks.{is_blank, trimmed}
 use Rattle.statements.specs.Operands.{are_operands}
 use Rattle.statements.specs.Reading.{line_of, said_by, stating}
 use Rattle.statements.specs.Words.{word_of}

@@ -7,7 +7,8 @@ use Rattle.std.specs.Prelude.{◌≡◌, ℕ, ◌-◌, Bool, ◌==◌, if◌then
 use Rattle.std.specs.List.{list_all}
 use Rattle.std.specs.Str.{bytes_eq}
 use Rattle.rv32i.specs.Names.{names, numbered_names}
-use Rattle.statements.specs.Spelling.{is_name, named, trimmed, without_leading_blanks, parted, pieces, stripped}
+use Rattle.statements.specs.Spelling.{is_name, named, parted, pieces, stripped}
+use Rattle.byte_strings.specs.Blanks.{trimmed, without_leading_blanks}
 use Rattle.statements.specs.Numbers.{bits_in}
 use Rattle.statements.specs.declared.error.LineError.{LineError}
 use Rattle.statements.specs.declared.error.LineError.TheVariants.{BadOperand}

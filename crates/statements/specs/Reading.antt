@@ -8,7 +8,8 @@
 -- the range of its place (OutOfRange).
 use Rattle.std.specs.Prelude.{ℕ, ◌==◌, if◌then◌else◌, ◌&&◌, List, [], ◌∷◌, length, take, drop, position, Option, Some, None, Result, Ok, Err}
 use Rattle.std.specs.List.{join_with_byte}
-use Rattle.statements.specs.Spelling.{is_blank, is_name, parted, pieces, trimmed, without_leading_blanks}
+use Rattle.statements.specs.Spelling.{is_name, parted, pieces}
+use Rattle.byte_strings.specs.Blanks.{is_blank, trimmed, without_leading_blanks}
 use Rattle.statements.specs.Operands.{are_operands, operands_in}
 use Rattle.statements.specs.Words.{word_of}
 use Rattle.statements.specs.Instructions.{Said, against_zero, add_upper, branch, call, fence, fixed, immediate, jump, jump_and_link, jump_and_link_register, jump_register, load, load_address, load_immediate, load_upper, of_register, registers, shift, store, swapped, unary, with_zero, zero_against}

@@ -1,26 +1,11 @@
--- How a line is spelled: blanks, names, and a text divided at a byte.
+-- How a line is spelled: names, and a text divided at a byte.
 --
--- Blanks are the space and the tab. A name is a letter, `_` or `.`, and then letters, digits, `_`, `.` and `$`. Labels
+-- A name is a letter, `_` or `.`, and then letters, digits, `_`, `.` and `$`. Labels
 -- are names, and so are the words of instructions and directives.
-use Rattle.std.specs.Prelude.{◌≡◌, ℕ, ◌+◌, Bool, false, ◌==◌, if◌then◌else◌, ◌&&◌, ◌||◌, List, [], ◌∷◌, length, take, drop, reverse, position, Option, Some, None, codes, refl}
+use Rattle.std.specs.Prelude.{◌≡◌, ℕ, ◌+◌, Bool, false, ◌==◌, if◌then◌else◌, ◌&&◌, ◌||◌, List, [], ◌∷◌, length, take, drop, position, Option, Some, None, codes, refl}
 use Rattle.std.specs.List.{list_all, slice_split}
 use Rattle.std.specs.Str.{bytes_eq}
 use Rattle.std.specs.Char.{is_ascii_digit, is_ascii_alphabetic}
-
--- a space or a tab
-abbrev pub is_blank : ℕ → Bool
-is_blank b = (b == 32) || (b == 9)
-
--- the text without the blanks round it
-abbrev pub without_leading_blanks : List ℕ → List ℕ
-without_leading_blanks [] = []
-without_leading_blanks (b ∷ text) = if is_blank b then without_leading_blanks text else b ∷ text
-
-abbrev pub without_trailing_blanks : List ℕ → List ℕ
-without_trailing_blanks text = reverse (without_leading_blanks (reverse text))
-
-abbrev pub trimmed : List ℕ → List ℕ
-trimmed text = without_trailing_blanks (without_leading_blanks text)
 
 -- the bytes of a name
 abbrev pub begins_name : ℕ → Bool
@@ -51,9 +36,6 @@ stripped front text = if bytes_eq (take (length front) text) front then Some (dr
 
 pieces_of : pieces 44 (codes "a,,b") ≡ codes "a" ∷ [] ∷ codes "b" ∷ []
 pieces_of = refl
-
-trimmed_of : trimmed (codes "  a b ") ≡ codes "a b"
-trimmed_of = refl
 
 -- the pieces behind the first
 abbrev pub pieces_behind : ℕ → Option (List ℕ) → List (List ℕ)

@@ -3,14 +3,15 @@ ghost use Rattle.std.specs.Prelude.{◌≡◌, ◌<◌, length, Option, List, �
 ghost use Rattle.std.specs.List.{list_all};
 ghost use Rattle.statements.specs.Directives as spec;
 ghost use Rattle.statements.specs.Instructions.{Said};
-ghost use Rattle.statements.specs.Spelling.{is_name, trimmed};
+ghost use Rattle.statements.specs.Spelling.{is_name};
+ghost use Rattle.byte_strings.specs.Blanks.{trimmed};
 
+use byte_strings::trimmed;
 use crate::error::LineError;
 use crate::forms::{label_in, name_in};
 use crate::items::{Item, Items, Width};
 use crate::number::{bits_in, constant_in};
 use crate::operands::{Operands, first_piece};
-use crate::spelling::trimmed;
 use crate::statement::Statement;
 use std::alloc::Global;
 

@@ -2,14 +2,16 @@
 ghost use Rattle.std.specs.Prelude.{◌≡◌, ◌≤◌, ◌<◌, ◌+◌, ◌%◌, ◌^◌, ◌∷◌, ◌↔◌, [], true, IsSome, List, ℕ, length, Option, Some, None, Ok, IfOk, IfSome, if◌then◌else◌};
 ghost use Rattle.std.specs.List.{list_all};
 ghost use Rattle.std.specs.Option.{option_copied};
-ghost use Rattle.statements.specs.Spelling.{is_name, pieces, pieces_behind, trimmed};
+ghost use Rattle.statements.specs.Spelling.{is_name, pieces, pieces_behind};
+ghost use Rattle.byte_strings.specs.Blanks.{trimmed};
 ghost use Rattle.statements.specs.Numbers.{bits_in};
 ghost use Rattle.statements.specs.Operands as spec;
 
+use byte_strings::trimmed;
 use crate::error::LineError;
 use crate::name::Name;
 use crate::number::bits_in;
-use crate::spelling::{is_name, parted, stripped, trimmed, without_leading_blanks};
+use crate::spelling::{is_name, parted, stripped};
 use crate::statement::Target;
 use rv32i::{FenceSet, Imm, Reg, reg_of};
 use std::marker::Model;

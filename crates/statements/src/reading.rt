@@ -3,8 +3,10 @@ ghost use Rattle.std.specs.Prelude.{◌≡◌, ◌<◌, length, position, Option
 ghost use Rattle.std.specs.Option.{option_copied};
 ghost use Rattle.statements.specs.Directives.{OrNoMemory};
 ghost use Rattle.statements.specs.Reading as spec;
-ghost use Rattle.statements.specs.Spelling.{is_blank, named, pieces};
+ghost use Rattle.statements.specs.Spelling.{named, pieces};
+ghost use Rattle.byte_strings.specs.Blanks.{is_blank};
 
+use byte_strings::{is_blank, trimmed, without_leading_blanks};
 use crate::directives::{align, data, global, section, space};
 use crate::error::LineError;
 use crate::forms::name_in;
@@ -16,7 +18,7 @@ use crate::instructions::{
 use crate::line::{Labels, Line};
 use crate::name::Name;
 use crate::operands::{Operands, operands_in};
-use crate::spelling::{is_blank, parted, trimmed, without_leading_blanks};
+use crate::spelling::parted;
 use crate::statement::Statement;
 use crate::words::{Word, word_of};
 use std::alloc::Global;

@@ -1,45 +1,8 @@
-//! How a line is spelled: blanks, names, and a text divided at a byte.
+//! How a line is spelled: names, and a text divided at a byte.
 ghost use Rattle.std.specs.Prelude.{◌≡◌, ◌<◌, ◌==◌, ◌∷◌, List, ℕ, length, IsTrue, IfSome, Option, position};
 ghost use Rattle.std.specs.List.{list_all};
 ghost use Rattle.std.specs.Option.{option_copied, option_map};
-ghost use Rattle.statements.specs.Spelling.{begins_name, stripped, is_blank, is_name, is_name_byte, parted, trimmed, without_leading_blanks, without_trailing_blanks};
-
-/// Whether a byte is a space or a tab.
-#[inline]
-pub(crate) fn is_blank(byte: u8) -> bool
-    ensures { result ≡ is_blank byte }
-{
-    byte == b' ' || byte == b'\t'
-}
-
-/// The text without the blanks round it.
-pub(crate) fn trimmed(text: &[u8]) -> &[u8]
-    ensures { result.now ≡ trimmed text.now }
-{
-    without_trailing_blanks(without_leading_blanks(text))
-}
-
-/// The text without the blanks before it.
-pub(crate) fn without_leading_blanks(text: &[u8]) -> &[u8]
-    ensures { result.now ≡ without_leading_blanks text.now }
-{
-    for i in 0..text.len() {
-        if !is_blank(text[i]) {
-            return &text[i..];
-        }
-    }
-    b""
-}
-
-fn without_trailing_blanks(text: &[u8]) -> &[u8]
-    ensures { result.now ≡ without_trailing_blanks text.now }
-{
-    let mut end = text.len();
-    while end > 0 && is_blank(text[end - 1]) {
-        end -= 1;
-    }
-    &text[..end]
-}
+ghost use Rattle.statements.specs.Spelling.{begins_name, stripped, is_name, is_name_byte, parted};
 
 fn begins_name(byte: u8) -> bool
     ensures { result ≡ begins_name byte }

@@ -2,7 +2,8 @@ use Rattle.std.proofs.Common.{◌≡◌, map}
 use Rattle.std.specs.List.{list_all}
 use Rattle.std.specs.Option.{option_copied}
 use Rattle.statements.specs.Directives.{are_formed, is_formed}
-use Rattle.statements.specs.Spelling.{pieces_behind, trimmed}
+use Rattle.statements.specs.Spelling.{pieces_behind}
+use Rattle.byte_strings.specs.Blanks.{trimmed}
 use Rattle.statements.proofs.Pieces.{left}
 use Rattle.statements.proofs.directives.are_formed.Given as goal
 

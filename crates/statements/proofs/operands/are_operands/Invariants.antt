@@ -1,7 +1,8 @@
 use Rattle.std.proofs.Common.{◌≡◌, map}
 use Rattle.std.specs.List.{list_all}
 use Rattle.statements.specs.Operands.{are_operands, is_operand}
-use Rattle.statements.specs.Spelling.{pieces_behind, trimmed}
+use Rattle.statements.specs.Spelling.{pieces_behind}
+use Rattle.byte_strings.specs.Blanks.{trimmed}
 use Rattle.std.specs.Option.{option_copied}
 use Rattle.statements.proofs.Pieces.{left}
 use Rattle.statements.proofs.operands.are_operands.Given as goal

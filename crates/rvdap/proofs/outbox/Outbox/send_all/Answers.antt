@@ -1,5 +1,0 @@
-use Rattle.rvdap.proofs.Sending.{sends_on}
-use Rattle.rvdap.proofs.outbox.Outbox.send_all.Goals as goal
-
-pub sending-preserved : goal.sending-preserved
-sending-preserved g c = sends_on _ _ _ c.args.self.now c.sending.self c.send.new.self c.send.result c.sending.invariant c.send.ensures

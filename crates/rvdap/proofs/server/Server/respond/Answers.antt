@@ -1,8 +1,0 @@
-use Rattle.std.proofs.Common.{refl}
-use Rattle.rvdap.proofs.Sending.{sent_whole}
-use Rattle.rvdap.proofs.server.Server.respond.Goals as goal
-
-pub returns-then-send_all-clause-responds : goal.returns-then-send_all-clause-responds
-returns-then-send_all-clause-responds g c sound nothing =
-    let w = sent_whole _ _ c.args.self.now.outbox c.queue.new.self c.send_all.new.self _ nothing c.in-Ok.ensures.ok c.if-send_all.ensures.front (c.if-send_all.ensures.all refl) in
-    (w.0, w.1, sound)

@@ -1,0 +1,14 @@
+pub mod Firsts
+pub mod Arriving
+pub mod Simulation
+pub mod Standing
+pub mod Happening
+pub mod Reaching
+pub mod Answering
+pub mod Order
+pub mod Once
+pub mod Telling
+pub mod Reading
+pub mod Cuts
+pub mod Proper
+pub mod Refusing

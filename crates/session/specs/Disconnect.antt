@@ -1,0 +1,16 @@
+-- `disconnect`: the end of the session (DAP specification, `DisconnectRequest`).
+use Rattle.std.specs.Prelude.{Bool, true, false}
+use Rattle.replies.specs.declared.response.ResponseBody.TheVariants as body
+use Rattle.session.specs.declared.phase.Phase.{Phase}
+use Rattle.session.specs.declared.phase.Phase.TheVariants.{Fresh, Initialized, Left}
+use Rattle.session.specs.declared.requests.Success.{Success}
+
+-- the phases in which it is taken
+abbrev pub is_taken_in : Phase → Bool
+is_taken_in Fresh = true
+is_taken_in Initialized = true
+is_taken_in Left = false
+
+-- what comes of it
+abbrev pub success : Phase → Success
+success phase = record { body = body.Empty; phase = Left }

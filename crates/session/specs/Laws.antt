@@ -1,0 +1,117 @@
+-- What holds of a session after any list of events, in the words of requests, answers and bytes.
+--
+-- A list of events is any: requests cut anywhere, repeated or cancelled, turns and bytes taken in between, connections
+-- that end and others that follow, and events that are refused.
+use Rattle.std.specs.Prelude.{◌≡◌, ℕ, ◌+◌, ◌<◌, ◌≤◌, List, [], ◌∷◌, ◌++◌, map, All, Option, Some, None, Result, Ok, Err, ◌⊎◌}
+use Rattle.framing.specs.Reading.{reading_of}
+use Rattle.replies.specs.declared.message.Message.{Message}
+use Rattle.replies.specs.declared.message.Message.TheVariants.{Response as IsResponse}
+use Rattle.replies.specs.declared.response.Outcome.{Outcome}
+use Rattle.replies.specs.declared.response.Outcome.TheVariants.{Done}
+use Rattle.replies.specs.declared.response.ResponseBody.TheVariants.{Initialize}
+use Rattle.replies.specs.Responses.{IsProperResponse}
+use Rattle.session.specs.declared.TheConstants.{BODY_LIMIT}
+use Rattle.session.specs.declared.event.Applied.TheVariants.{Recv as Received}
+use Rattle.session.specs.declared.event.Event.{Event}
+use Rattle.session.specs.declared.event.Event.TheVariants.{Recv}
+use Rattle.session.specs.declared.event.EventError.{EventError}
+use Rattle.session.specs.declared.event.EventError.TheVariants.{Closing}
+use Rattle.session.specs.declared.limits.Limits.{Limits}
+use Rattle.session.specs.declared.link.Link.{Link}
+use Rattle.session.specs.declared.pending.Ask.{Ask}
+use Rattle.session.specs.declared.pending.Pending.{Pending}
+use Rattle.session.specs.Arrivals.{number_of, name_asked, asks_of}
+use Rattle.session.specs.Fronts.{IsFrontOf}
+use Rattle.session.specs.Outcomes.{Numbered}
+use Rattle.session.specs.Sessions.{Session, On, on_connection, bytes_of, taken_of, waiting_of, After, Effect, Answer}
+
+-- ---- bytes
+
+-- What was taken of a connection is a front of its bytes; on the present connection the bytes that wait are the rest.
+pub record EveryByteIsTakenOrWaits (s : Session) : Type 0 where
+  pub fronts : (c : ℕ) → IsFrontOf (taken_of c s.taken) (bytes_of c s.queued)
+  pub rest : (link : Link) → s.now.link ≡ Some link → bytes_of s.now.connections s.queued ≡ taken_of s.now.connections s.taken ++ waiting_of s
+
+-- the messages of a connection have the numbers 1, 2, 3 and so on
+abbrev pub AreNumberedFrom : ℕ → List Numbered → Type 0
+AreNumberedFrom n [] = Unit {0}
+AreNumberedFrom n (m ∷ messages) = (m.seq ≡ n) × AreNumberedFrom (n + 1) messages
+
+abbrev pub NumbersRise : Session → Type 0
+NumbersRise s = (c : ℕ) → AreNumberedFrom 1 (on_connection c s.queued)
+
+-- ---- requests and answers
+
+-- a request, or the one that an answer names: its number and its name
+pub record Named : Type 0 where
+  pub number : ℕ
+  pub name : List ℕ
+
+abbrev pub asked_as : Ask → Named
+asked_as ask = record { number = number_of ask; name = name_asked ask }
+
+abbrev pub names : Message → Named
+names (IsResponse r) = record { number = r.request_seq; name = r.command }
+
+abbrev pub answered_as : Numbered → Named
+answered_as m = names m.message
+
+abbrev pub asked_on : ℕ → Session → List Named
+asked_on c s = map asked_as (on_connection c s.asked)
+
+abbrev pub answered_on : ℕ → Session → List Named
+answered_on c s = map answered_as (on_connection c s.queued)
+
+abbrev pub pending_as : List Pending → List Named
+pending_as pending = map (λ p. asked_as p.ask) pending
+
+-- The requests of a connection have one answer each, in the order in which they came, for a front of them; on the
+-- present connection, as long as there are numbers for answers, the others are those that wait.
+pub record AnswersInOrder (s : Session) : Type 0 where
+  pub fronts : (c : ℕ) → IsFrontOf (answered_on c s) (asked_on c s)
+  pub rest : (link : Link) → s.now.link ≡ Some link → link.seq < s.now.limits.last_seq
+      → asked_on s.now.connections s ≡ answered_on s.now.connections s ++ pending_as s.now.arrivals.pending
+
+-- The requests that came on the present connection are those of the bytes that were accepted on it: of the bodies of
+-- its frames, in order, up to the first that is no message.
+abbrev pub RequestsAreRead : Session → Type 0
+RequestsAreRead s = (link : Link) → s.now.link ≡ Some link → on_connection s.now.connections s.asked ≡ asks_of (reading_of BODY_LIMIT s.accepted).bodies
+
+-- Two pieces, one after the other, leave what they leave as one: where all three are accepted, or where the first
+-- closes the connection.
+abbrev pub IsTaken : Session → List ℕ → Type 0
+IsTaken s piece = Answer s (Recv piece) ≡ Ok Received
+
+abbrev pub CutsDoNotMatter : Session → Type 0
+CutsDoNotMatter s = (front behind : List ℕ) → IsTaken s front → IsTaken s (front ++ behind)
+    → IsTaken (Effect s (Recv front)) behind ⊎ (Answer (Effect s (Recv front)) (Recv behind) ≡ Err Closing)
+    → Effect (Effect s (Recv front)) (Recv behind) ≡ Effect s (Recv (front ++ behind))
+
+-- An event that is refused changes nothing.
+abbrev pub RefusedChangesNothing : Session → Type 0
+RefusedChangesNothing s = (e : Event) (error : EventError) → Answer s e ≡ Err error → Effect s e ≡ s
+
+-- each answer is one that an adapter may send: a success has the body of its request, and a refusal a text exactly if
+-- it is of the kind that has one
+abbrev pub IsProper : Message → Type 0
+IsProper (IsResponse r) = IsProperResponse r
+
+abbrev pub AnswersAreProper : Session → Type 0
+AnswersAreProper s = All (λ (m : On Numbered). IsProper m.is.message) s.queued
+
+-- one for a success of `initialize`, and none for another answer
+abbrev pub initializes : Outcome → ℕ
+initializes (Done Initialize) = 1
+initializes outcome = 0
+
+abbrev pub initializes_by : Message → ℕ
+initializes_by (IsResponse r) = initializes r.outcome
+
+-- how often `initialize` succeeded
+abbrev pub times_initialized : List Numbered → ℕ
+times_initialized [] = 0
+times_initialized (m ∷ messages) = initializes_by m.message + times_initialized messages
+
+-- `initialize` succeeds once at most on a connection (`InitializeRequest`).
+abbrev pub InitializesOnce : Session → Type 0
+InitializesOnce s = (c : ℕ) → times_initialized (on_connection c s.queued) ≤ 1

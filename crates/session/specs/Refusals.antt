@@ -1,0 +1,86 @@
+-- What is answered to a request (DAP specification, `Request`, `Response`, `ErrorResponse`).
+--
+-- Each request has one answer. It is refused for the first reason of a list that applies, and then only its answer is
+-- sent: a refused request changes nothing. One that no reason applies to succeeds: its answer has the body of that
+-- request, and the connection goes on in the phase that the request leads to.
+use Rattle.std.specs.Prelude.{ℕ, Bool, true, false, not, List, [], ◌∷◌, Option, Some, None, if◌then◌else◌}
+use Rattle.protocol.specs.declared.refusal.Refusal.{Refusal}
+use Rattle.protocol.specs.declared.refusal.Refusal.TheVariants.{RepeatedSequence, Cancelled as IsCancelled, WrongPhase, RequestGone}
+use Rattle.protocol.specs.declared.request.Request.{Request as ARequest}
+use Rattle.replies.specs.declared.response.Outcome.TheVariants.{Done, Refused}
+use Rattle.replies.specs.declared.response.Outcome.{Outcome}
+use Rattle.replies.specs.declared.response.Response.{Response}
+use Rattle.session.specs.declared.refusals.Answer.{Answer}
+use Rattle.session.specs.declared.phase.Phase.{Phase}
+use Rattle.session.specs.declared.pending.Ask.{Ask}
+use Rattle.session.specs.declared.pending.Ask.TheVariants.{Request, Bad}
+use Rattle.session.specs.declared.pending.Fate.{Fate}
+use Rattle.session.specs.declared.pending.Fate.TheVariants.{Waits, Repeated, Cancelled, NamesNone}
+use Rattle.session.specs.declared.pending.Pending.{Pending}
+use Rattle.session.specs.Arrivals.{number_of, name_asked, is_repeat}
+use Rattle.session.specs.Requests.{is_taken_in, success_of}
+
+abbrev pub is_cancelled : Fate → Bool
+is_cancelled Waits = false
+is_cancelled Repeated = false
+is_cancelled Cancelled = true
+is_cancelled NamesNone = false
+
+abbrev pub names_none : Fate → Bool
+names_none Waits = false
+names_none Repeated = false
+names_none Cancelled = false
+names_none NamesNone = true
+
+-- the refusal, where the reason for it applies
+abbrev pub where_so : Bool → Refusal → Option Refusal
+where_so reason refusal = if reason then Some refusal else None
+
+-- why the request could not be read as one that the adapter has
+abbrev pub misread : Ask → Option Refusal
+misread (Request r) = None
+misread (Bad seq command refusal) = Some refusal
+
+-- whether the phase does not take it
+abbrev pub comes_wrong : Phase → Ask → Bool
+comes_wrong phase (Request r) = not (is_taken_in phase r.command)
+comes_wrong phase (Bad seq command refusal) = false
+
+-- The reasons, in their order.
+abbrev pub refusals : Phase → Pending → List (Option Refusal)
+refusals phase p = where_so (is_repeat p.fate) RepeatedSequence
+    ∷ where_so (is_cancelled p.fate) IsCancelled
+    ∷ misread p.ask
+    ∷ where_so (comes_wrong phase p.ask) WrongPhase
+    ∷ where_so (names_none p.fate) RequestGone
+    ∷ []
+
+-- those of them that the request itself gives
+abbrev pub as_it_stands : Phase → Ask → List (Option Refusal)
+as_it_stands phase ask = misread ask ∷ where_so (comes_wrong phase ask) WrongPhase ∷ []
+
+-- the first that applies, if one does
+abbrev pub first_refusal : List (Option Refusal) → Option Refusal
+first_refusal [] = None
+first_refusal (None ∷ rest) = first_refusal rest
+first_refusal (Some refusal ∷ rest) = Some refusal
+
+-- A refused request changes nothing.
+abbrev pub refused : Phase → Refusal → Answer
+refused phase refusal = record { outcome = Refused refusal None; phase = phase }
+
+abbrev pub succeeded : Phase → ARequest → Answer
+succeeded phase r = record { outcome = Done (success_of phase r.command).body; phase = (success_of phase r.command).phase }
+
+abbrev pub answer_by : Option Refusal → Phase → Ask → Answer
+answer_by (Some refusal) phase ask = refused phase refusal
+answer_by None phase (Request r) = succeeded phase r
+answer_by None phase (Bad seq command refusal) = refused phase refusal
+
+-- what becomes of a request, and how far the connection has come then
+abbrev pub answer_to : Phase → Pending → Answer
+answer_to phase p = answer_by (first_refusal (refusals phase p)) phase p.ask
+
+-- the response that says so: it names the request by its number and its name
+abbrev pub response_to : Ask → Outcome → Response
+response_to ask outcome = record { request_seq = number_of ask; command = name_asked ask; outcome = outcome }

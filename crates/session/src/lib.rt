@@ -1,0 +1,28 @@
+//! A debug session: what an editor sends and what it is answered, one event after another.
+#![tactic(auto)]
+
+mod arrivals;
+mod buffer;
+mod event;
+mod feeding;
+pub mod laws;
+mod limits;
+mod link;
+mod pending;
+mod phase;
+mod refusals;
+mod requests;
+mod session;
+mod state;
+mod writing;
+
+pub use buffer::Buffer;
+pub use byte_strings::Bytes;
+pub use event::{Applied, Event, EventError, LinkFault, Turned};
+pub use feeding::feed;
+pub use limits::{ConfigError, Limits};
+pub use session::Session;
+pub use writing::framed;
+
+/// The greatest length of a body, in bytes.
+pub const BODY_LIMIT: u32 = 1_048_576;

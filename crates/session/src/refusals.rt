@@ -1,0 +1,98 @@
+//! What is answered to a request.
+ghost use Rattle.std.specs.Prelude.{◌≡◌, None, IfOk};
+ghost use Rattle.session.specs.Refusals as spec;
+
+use crate::pending::{Ask, Fate, Pending};
+use crate::phase::Phase;
+use crate::requests::{is_taken_in, success_of};
+use protocol::Refusal;
+use replies::{Outcome, Response};
+use std::alloc::{AllocError, Global};
+
+/// What becomes of a request, and how far the connection has come then.
+#[derive(Debug, Drop)]
+pub struct Answer {
+    /// What becomes of the request.
+    pub outcome: Outcome,
+    /// How far the connection has come.
+    pub phase: Phase,
+}
+
+/// What becomes of a request in a phase.
+pub(crate) fn answer_to(phase: Phase, pending: &Pending) -> Answer
+    ensures { result ≡ spec.answer_to phase pending.now }
+{
+    match refusal_of(phase, pending) {
+        Some(refusal) => refused(phase, refusal),
+        None => taken(phase, &pending.ask),
+    }
+}
+
+// The first reason for a refusal that applies.
+fn refusal_of(phase: Phase, pending: &Pending) -> Option<Refusal>
+    ensures { result ≡ spec.first_refusal (spec.refusals phase pending.now) }
+{
+    match pending.fate {
+        Fate::Repeated => Some(Refusal::RepeatedSequence),
+        Fate::Cancelled => Some(Refusal::Cancelled),
+        Fate::Waits => refusal_as_it_stands(phase, &pending.ask),
+        Fate::NamesNone => match refusal_as_it_stands(phase, &pending.ask) {
+            Some(refusal) => Some(refusal),
+            None => Some(Refusal::RequestGone),
+        },
+    }
+}
+
+fn refusal_as_it_stands(phase: Phase, ask: &Ask) -> Option<Refusal>
+    ensures { result ≡ spec.first_refusal (spec.as_it_stands phase ask.now) }
+{
+    match ask {
+        Ask::Request(request) => {
+            if is_taken_in(phase, &request.command) {
+                None
+            } else {
+                Some(Refusal::WrongPhase)
+            }
+        }
+        Ask::Bad { refusal, .. } => Some(*refusal),
+    }
+}
+
+fn taken(phase: Phase, ask: &Ask) -> Answer
+    ensures { result ≡ spec.answer_by None phase ask.now }
+{
+    match ask {
+        Ask::Request(request) => {
+            let success = success_of(phase, &request.command);
+            Answer {
+                outcome: Outcome::Done(success.body),
+                phase: success.phase,
+            }
+        }
+        Ask::Bad { refusal, .. } => refused(phase, *refusal),
+    }
+}
+
+fn refused(phase: Phase, refusal: Refusal) -> Answer
+    ensures { result ≡ spec.refused phase refusal }
+{
+    Answer {
+        outcome: Outcome::Refused(refusal, None),
+        phase,
+    }
+}
+
+/// The response that says what became of a request.
+pub(crate) fn response_to(
+    alloc: Global,
+    ask: &Ask,
+    outcome: Outcome,
+) -> Result<Response, AllocError>
+    ensures { IfOk result (λ r. r ≡ spec.response_to ask.now outcome) }
+{
+    Ok(Response {
+        request_seq: ask.number(),
+        command: ask.name(alloc)?,
+        outcome,
+    })
+}

@@ -1,0 +1,28 @@
+//! `cancel`: a request is not to be answered as it stands. It acts when it comes; this is its answer.
+ghost use Rattle.std.specs.Prelude.{◌≡◌};
+ghost use Rattle.session.specs.Cancel as spec;
+
+use super::Success;
+use crate::phase::Phase;
+use replies::ResponseBody;
+
+/// Whether the request is taken in the phase.
+pub(crate) fn is_taken_in(phase: Phase) -> bool
+    ensures { result ≡ spec.is_taken_in phase }
+{
+    match phase {
+        Phase::Fresh => true,
+        Phase::Initialized => true,
+        Phase::Left => false,
+    }
+}
+
+/// What comes of it.
+pub(crate) fn success(phase: Phase) -> Success
+    ensures { result ≡ spec.success phase }
+{
+    Success {
+        body: ResponseBody::Empty,
+        phase,
+    }
+}

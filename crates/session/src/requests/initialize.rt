@@ -1,0 +1,28 @@
+//! `initialize`: taken until one was answered with success, and not again.
+ghost use Rattle.std.specs.Prelude.{◌≡◌};
+ghost use Rattle.session.specs.Initialize as spec;
+
+use super::Success;
+use crate::phase::Phase;
+use replies::ResponseBody;
+
+/// Whether the request is taken in the phase.
+pub(crate) fn is_taken_in(phase: Phase) -> bool
+    ensures { result ≡ spec.is_taken_in phase }
+{
+    match phase {
+        Phase::Fresh => true,
+        Phase::Initialized => false,
+        Phase::Left => false,
+    }
+}
+
+/// What comes of it.
+pub(crate) fn success(_phase: Phase) -> Success
+    ensures { result ≡ spec.success _phase }
+{
+    Success {
+        body: ResponseBody::Initialize,
+        phase: Phase::Initialized,
+    }
+}

@@ -1,0 +1,170 @@
+//! A session: one event after another.
+ghost use Rattle.std.specs.Prelude.{◌≡◌, ◌↔◌, true, length, IsOk, IfOk, OnErr, Result, Err};
+ghost use Rattle.std.specs.Option.{option_copied};
+ghost use Rattle.session.specs.declared.event.Event.TheVariants as event;
+ghost use Rattle.session.specs.declared.event.Applied.TheVariants as applied;
+ghost use Rattle.session.specs.Limits.{are_limits};
+ghost use Rattle.session.specs.Outcomes.{is_finished};
+ghost use Rattle.session.specs.Sessions.{start, waiting_of, histories};
+ghost use Rattle.session.specs.Kept.{Happens, OfEach, Stands, answered, see_kept};
+
+use crate::event::{Applied, Event, EventError, LinkFault, Turned};
+use crate::limits::{ConfigError, Limits};
+use crate::state::State;
+use std::alloc::Global;
+use std::marker::Model;
+
+/// A debug session: at most one editor is connected at a time, one after the other.
+///
+/// Whatever happens to it is one event: a call of `connect`, `recv`, `turn`, `sent` or
+/// `drop_connection`. An event that is refused changes nothing, and neither does one that finds no
+/// memory, so that it can be given again. A contract sees what the session is now and the bytes that
+/// wait; what it stands for is a session with all of its past.
+#[derive(Drop)]
+pub struct Session {
+    state: State,
+}
+
+impl Model for Session {
+    ghost use Rattle.session.specs.Kept.{Kept};
+
+    ghost Value = { Kept };
+
+    ghost view = { λ s. s.state };
+}
+
+#[tactic(auto, using(crate::proofs::Happening::happening, crate::proofs::Standing::begins))]
+impl Session {
+    /// A session to which nothing happened, with these limits. `BadLimit` where one of them is 0 or
+    /// above its greatest value. It takes no memory; the allocator is kept for later.
+    pub fn new(alloc: Global, limits: Limits) -> Result<Session, ConfigError>
+        ensures right { IsOk result ↔ (are_limits limits ≡ true) }
+        ensures stands { IfOk result (λ s. Stands s (start limits)) }
+    {
+        if !limits.are_right() {
+            return Err(ConfigError::BadLimit);
+        }
+        Ok(Session {
+            state: State::new(alloc, limits),
+        })
+    }
+
+    /// An editor connects. Answers the connection's number: 1, 2 and so on.
+    ///
+    /// `AlreadyConnected` where an editor is connected; `Spent` where 4,294,967,295 were. It takes no
+    /// memory.
+    pub fn connect(&mut self) -> Result<u32, EventError>
+        ensures stands { Happens self.old event.Connect (answered applied.Connect result) self.new }
+        ensures err { OnErr result (self.new ≡ self.old) }
+        ensures takes_none { result ≡ Err EventError.NoMemory → ⊥ }
+    {
+        self.state.connect()
+    }
+
+    /// A piece of what the editor sends comes: up to 65,536 bytes, cut anywhere. Each request that it
+    /// makes whole waits for its answer, and a `cancel` acts at once. What is no frame or no message
+    /// closes the connection: what comes behind it is dropped, and what came before it is still
+    /// answered (base protocol).
+    ///
+    /// The errors apply in this order. `NotConnected`: no editor is connected. `Closing`: the
+    /// connection takes nothing more. `PieceTooLong`: the piece has more than 65,536 bytes. `Busy`: 256
+    /// requests or more wait. `NoMemory`: no memory was left.
+    pub fn recv(&mut self, piece: &[u8]) -> Result<(), EventError>
+        ensures stands { Happens self.old (event.Recv piece.now) (answered (λ _. applied.Recv) result) self.new }
+        ensures err { OnErr result (self.new ≡ self.old) }
+    {
+        self.state.recv(piece)
+    }
+
+    /// Answers the first request that waits. `file` is not looked at yet: no request asks for one.
+    ///
+    /// `Full` where more than 65,536 bytes wait to be sent, and else `Nothing` where no request waits;
+    /// neither changes anything. The errors are `NotConnected` and `NoMemory`.
+    pub fn turn(&mut self, file: Option<&[u8]>) -> Result<Turned, EventError>
+        ensures stands { Happens self.old (event.Turn (option_copied file.entry)) (answered applied.Turn result) self.new }
+        ensures err { OnErr result (self.new ≡ self.old) }
+    {
+        let _ = file;
+        self.state.turn()
+    }
+
+    /// The first `count` of the waiting bytes were sent, and wait no more.
+    ///
+    /// `NotConnected` where no editor is connected, and else `SentTooMuch` where fewer bytes wait. It
+    /// takes no memory.
+    pub fn sent(&mut self, count: usize) -> Result<(), EventError>
+        ensures stands { Happens self.old (event.Sent count) (answered (λ _. applied.Sent) result) self.new }
+        ensures err { OnErr result (self.new ≡ self.old) }
+        ensures takes_none { result ≡ Err EventError.NoMemory → ⊥ }
+    {
+        self.state.sent(count)
+    }
+
+    /// The connection ends: what waits, requests and bytes, is dropped.
+    ///
+    /// `NotConnected` where no editor is connected. It takes no memory.
+    pub fn drop_connection(&mut self) -> Result<(), EventError>
+        ensures stands { Happens self.old event.DropConnection (answered (λ _. applied.DropConnection) result) self.new }
+        ensures err { OnErr result (self.new ≡ self.old) }
+        ensures takes_none { result ≡ Err EventError.NoMemory → ⊥ }
+    {
+        self.state.drop_connection()
+    }
+
+    /// Does the event named: the call of that name, with its arguments and its errors.
+    pub fn apply(&mut self, event: &Event) -> Result<Applied, EventError>
+        ensures stands { Happens self.old event.now result self.new }
+        ensures err { OnErr result (self.new ≡ self.old) }
+    {
+        Ok(match event {
+            Event::Connect => Applied::Connect(self.connect()?),
+            Event::Recv(piece) => {
+                self.recv(piece.as_slice())?;
+                Applied::Recv
+            }
+            Event::Turn(file) => Applied::Turn(self.turn(file.as_ref().map(|f| f.as_slice()))?),
+            Event::Sent(count) => {
+                self.sent(*count)?;
+                Applied::Sent
+            }
+            Event::DropConnection => {
+                self.drop_connection()?;
+                Applied::DropConnection
+            }
+        })
+    }
+
+    /// The bytes that wait to be sent. Without a connection none does.
+    pub fn waiting(&self) -> &[u8]
+        ensures now { result.now ≡ self.now.waiting }
+        ensures stands { OfEach self.now (λ s. result.now ≡ waiting_of s) }
+    {
+        self.state.waiting()
+    }
+
+    /// How many requests wait for their answers.
+    pub fn pending(&self) -> usize
+        ensures now { result ≡ length self.now.now.arrivals.pending }
+        ensures stands { OfEach self.now (λ s. result ≡ length s.now.arrivals.pending) }
+    {
+        self.state.pending()
+    }
+
+    /// Whether all is said on the connection: it takes nothing more, no request waits for its answer,
+    /// and no byte waits to be sent. Without a connection it is not.
+    pub fn finished(&self) -> bool
+        ensures now { result ≡ is_finished (see_kept self.now) }
+        ensures stands { OfEach self.now (λ s. result ≡ is_finished (histories.see s)) }
+    {
+        self.state.finished()
+    }
+
+    /// What closed the connection, if what came on it was no frame or no message. It is kept after the
+    /// connection ended, until the next one.
+    pub fn link_fault(&self) -> Option<LinkFault>
+        ensures now { result ≡ self.now.now.fault }
+        ensures stands { OfEach self.now (λ s. result ≡ s.now.fault) }
+    {
+        self.state.link_fault()
+    }
+}

@@ -1,0 +1,3 @@
+pub mod Serving
+pub mod ServerLemmas
+pub mod Sending

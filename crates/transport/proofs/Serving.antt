@@ -1,0 +1,154 @@
+-- Round by round, until serving ends.
+use Rattle.std.proofs.Common.{◌≡◌, ℕ, zero, suc, ◌+◌, ◌≤◌, ◌<◌, List, [], ◌∷◌, ◌++◌, length, take, drop, Option, Some, None, Result, Ok, Err, refl, sym, ap, ◌∙◌, subst, arith, append-nil, append_assoc, inl, inr}
+use Rattle.std.specs.Io.KnownBytes.{Consumes, Appends, IsAtEnd}
+use Rattle.std.proofs.KnownBytes.{Consumes-nil, Appends-nil, Consumes-trans, Appends-trans}
+use Rattle.std.proofs.lemmas.List.{length-append}
+use Rattle.transport.specs.declared.end.StreamEnd.{StreamEnd}
+use Rattle.transport.specs.declared.end.StreamEnd.TheVariants.{Turns, NoMemory as OutOfMemory}
+use Rattle.session.specs.declared.event.Applied.{Applied}
+use Rattle.session.specs.declared.event.Event.{Event}
+use Rattle.session.specs.declared.event.Event.TheVariants.{Recv, Turn, Sent, DropConnection}
+use Rattle.session.specs.declared.event.EventError.{EventError}
+use Rattle.session.specs.declared.event.EventError.TheVariants.{NotConnected, AlreadyConnected, Busy, SentTooMuch, PieceTooLong, Closing, NoMemory, Spent}
+use Rattle.session.specs.Effects.{Ends, effect, answer}
+use Rattle.session.specs.Sessions.{Session, Effect, histories, waiting_of}
+use Rattle.session.specs.Kept.{Kept, Stands, Happens, answered, see_kept}
+use Rattle.transport.specs.Rounds.{Due, Send, Leave, Answer, Receive, due, due_in, Round, Did, Interrupted, DoesWhatIsDue, IsRound, AreRounds, after_round, after_rounds, received_in, received, sent_in, sent, EndsAs, Served, GoesOn, Stops, Serving}
+use Rattle.session.proofs.Standing.{standing}
+
+-- an event that found memory happened, or was refused
+pub happened : (old : Kept) (e : Event) (result : Result Applied EventError) (new : Kept) (s : Session) → Happens old e result new → (result ≡ Err NoMemory → ⊥) → Stands old s → Stands new (Effect s e)
+happened old e (Ok x) new s h n st = (h.to_each s st).1
+happened old e (Err NoMemory) new s h n st = absurd (n refl)
+happened old e (Err NotConnected) new s h n st = (h.to_each s st).1
+happened old e (Err AlreadyConnected) new s h n st = (h.to_each s st).1
+happened old e (Err Busy) new s h n st = (h.to_each s st).1
+happened old e (Err SentTooMuch) new s h n st = (h.to_each s st).1
+happened old e (Err PieceTooLong) new s h n st = (h.to_each s st).1
+happened old e (Err Closing) new s h n st = (h.to_each s st).1
+happened old e (Err Spent) new s h n st = (h.to_each s st).1
+
+-- a call that found memory, among all calls
+pub found : {X : Type 0} (f : X → Applied) (r : Result X EventError) → (r ≡ Err NoMemory → ⊥) → answered f r ≡ Err NoMemory → ⊥
+found f (Ok x) n h = cc
+found f (Err e) n h = n (ap (λ x. Err x) (same h)) where
+  same : {Y : Type 0} → (let r : Result Y EventError = Err e in r) ≡ Err NoMemory → e ≡ NoMemory
+  same h = cc
+
+pub found_ok : {X : Type 0} (f : X → Applied) (r : Result X EventError) (x : X) → r ≡ Ok x → answered f r ≡ Err NoMemory → ⊥
+found_ok f r x e h = not_both (sym (ap (answered f) e) ∙ h) where
+  not_both : (let r : Result Applied EventError = Ok (f x) in r) ≡ Err NoMemory → ⊥
+  not_both h = cc
+
+pub found_err : {X : Type 0} (f : X → Applied) (r : Result X EventError) (error : EventError) → r ≡ Err error → (error ≡ NoMemory → ⊥) → answered f r ≡ Err NoMemory → ⊥
+found_err f r error e n h = n (same (sym (ap (answered f) e) ∙ h)) where
+  same : (let r : Result Applied EventError = Err error in r) ≡ Err NoMemory → error ≡ NoMemory
+  same h = cc
+
+-- what is due is the same for what is kept and for what it stands for
+pub due_there : (k : Kept) (s : Session) (d : Due) → Stands k s → due (see_kept k) ≡ d → due_in s ≡ d
+due_there k s d st e = sym (ap due (standing.sees k s st)) ∙ e
+
+-- ---- one round
+
+pub above_zero : (n : ℕ) → (n ≡ 0 → ⊥) → 1 ≤ n
+above_zero zero h = absurd (h refl)
+above_zero (suc n) h = omega arith
+
+-- bytes were sent
+pub sends : (left held held' : Option (List ℕ)) (k new : Kept) (n : ℕ) (result : Result Applied EventError) → due (see_kept k) ≡ Send → Happens k (Sent n) result new → (result ≡ Err NoMemory → ⊥) → (n ≡ 0 → ⊥) → n ≤ length k.waiting
+    → Appends held held' (take n k.waiting) → (s : Session) → Stands k s → GoesOn left left held held' s new
+sends left held held' k new n result d h ok some most a s st = record {
+  round = Did (Sent n);
+  is_round = subst (λ x. DoesWhatIsDue x (length (waiting_of s)) (Sent n)) (sym (due_there k s Send st d)) (above_zero n some, subst (λ (w : List ℕ). n ≤ length w) st.waiting most);
+  consumed = Consumes-nil left;
+  appended = subst (λ w. Appends held held' (take n w)) st.waiting a;
+  stands = happened k (Sent n) result new s h ok st;
+}
+
+-- a request was answered
+pub answers : (left held : Option (List ℕ)) (k new : Kept) (result : Result Applied EventError) → due (see_kept k) ≡ Answer → Happens k (Turn None) result new → (result ≡ Err NoMemory → ⊥) → (s : Session) → Stands k s → GoesOn left left held held s new
+answers left held k new result d h ok s st = record {
+  round = Did (Turn None);
+  is_round = subst (λ x. DoesWhatIsDue x (length (waiting_of s)) (Turn None)) (sym (due_there k s Answer st d)) tt;
+  consumed = Consumes-nil left;
+  appended = Appends-nil held;
+  stands = happened k (Turn None) result new s h ok st;
+}
+
+-- a piece was received
+pub receives : (left left' held : Option (List ℕ)) (k new : Kept) (piece : List ℕ) (result : Result Applied EventError) → due (see_kept k) ≡ Receive → Happens k (Recv piece) result new → (result ≡ Err NoMemory → ⊥) → 1 ≤ length piece
+    → Consumes left left' piece → (s : Session) → Stands k s → GoesOn left left' held held s new
+receives left left' held k new piece result d h ok some c s st = record {
+  round = Did (Recv piece);
+  is_round = subst (λ x. DoesWhatIsDue x (length (waiting_of s)) (Recv piece)) (sym (due_there k s Receive st d)) some;
+  consumed = c;
+  appended = Appends-nil held;
+  stands = happened k (Recv piece) result new s h ok st;
+}
+
+-- ---- rounds after rounds
+
+after_rounds-append : (s : Session) (xs ys : List Round) → after_rounds s (xs ++ ys) ≡ after_rounds (after_rounds s xs) ys
+after_rounds-append s [] ys = refl
+after_rounds-append s (x ∷ xs) ys = after_rounds-append (after_round s x) xs ys
+
+received-append : (xs ys : List Round) → received (xs ++ ys) ≡ received xs ++ received ys
+received-append [] ys = refl
+received-append (x ∷ xs) ys = ap (λ l. received_in x ++ l) (received-append xs ys) ∙ sym (append_assoc (received_in x) (received xs) (received ys))
+
+sent-append : (s : Session) (xs ys : List Round) → sent s (xs ++ ys) ≡ sent s xs ++ sent (after_rounds s xs) ys
+sent-append s [] ys = refl
+sent-append s (x ∷ xs) ys = ap (λ l. sent_in s x ++ l) (sent-append (after_round s x) xs ys) ∙ sym (append_assoc (sent_in s x) (sent (after_round s x) xs) (sent (after_rounds (after_round s x) xs) ys))
+
+AreRounds-append : (s : Session) (xs ys : List Round) → AreRounds s xs → AreRounds (after_rounds s xs) ys → AreRounds s (xs ++ ys)
+AreRounds-append s [] ys a b = b
+AreRounds-append s (x ∷ xs) ys a b = (a.0, AreRounds-append (after_round s x) xs ys a.1 b)
+
+-- ---- the loop
+
+pub begins_serving : (left held : Option (List ℕ)) (k : Kept) (s : Session) → Stands k s → Serving left left held held 0 s k
+begins_serving left held k s st = record { rounds = []; are_rounds = tt; count = refl; consumed = Consumes-nil left; appended = Appends-nil held; stands = st }
+
+pub goes_on_serving : (left left' left'' held held' held'' : Option (List ℕ)) (made : ℕ) (s : Session) (k new : Kept) → ((t : Session) → Stands k t → GoesOn left' left'' held' held'' t new)
+    → Serving left left' held held' made s k → Serving left left'' held held'' (made + 1) s new
+goes_on_serving left left' left'' held held' held'' made s k new g v =
+    let t = after_rounds s v.rounds in
+    let w : GoesOn left' left'' held' held'' t new = g t v.stands in
+    record {
+      rounds = v.rounds ++ w.round ∷ [];
+      are_rounds = AreRounds-append s v.rounds (w.round ∷ []) v.are_rounds (w.is_round, tt);
+      count = length-append v.rounds (w.round ∷ []) ∙ ap (λ n. n + 1) v.count;
+      consumed = subst (Consumes left left'') (sym (received-append v.rounds (w.round ∷ []) ∙ ap (λ l. received v.rounds ++ l) (append-nil (received_in w.round)))) (Consumes-trans left left' left'' (received v.rounds) (received_in w.round) v.consumed w.consumed);
+      appended = subst (Appends held held'') (sym (sent-append s v.rounds (w.round ∷ []) ∙ ap (λ l. sent s v.rounds ++ l) (append-nil (sent_in t w.round)))) (Appends-trans held held' held'' (sent s v.rounds) (sent_in t w.round) v.appended w.appended);
+      stands = subst (Stands new) (sym (after_rounds-append s v.rounds (w.round ∷ []))) w.stands;
+    }
+
+pub ends_serving : (left left' left'' held held' held'' : Option (List ℕ)) (made turns : ℕ) (s : Session) (k new : Kept) (end : StreamEnd) → ((t : Session) → Stands k t → Stops end left' left'' held' held'' t new)
+    → Serving left left' held held' made s k → Served left left'' held held'' turns s new end
+ends_serving left left' left'' held held' held'' made turns s k new end g v =
+    let t = after_rounds s v.rounds in
+    let w : Stops end left' left'' held' held'' t new = g t v.stands in
+    record {
+      rounds = v.rounds;
+      lost = w.lost;
+      are_rounds = v.are_rounds;
+      consumed = Consumes-trans left left' left'' (received v.rounds) w.lost v.consumed w.consumed;
+      appended = subst (Appends held held'') (append-nil (sent s v.rounds)) (Appends-trans held held' held'' (sent s v.rounds) [] v.appended w.appended);
+      ends = w.ends turns (length v.rounds);
+    }
+
+-- without room for a piece no round is made
+pub no_room : (left held : Option (List ℕ)) (turns : ℕ) (s : Session) (k : Kept) → Stands k s → Served left left held held turns s k OutOfMemory
+no_room left held turns s k st = record { rounds = []; lost = []; are_rounds = tt; consumed = Consumes-nil left; appended = Appends-nil held; ends = inl (st, refl, inr refl) }
+
+-- all turns were made
+pub stops_serving : (left left' held held' : Option (List ℕ)) (turns : ℕ) (s : Session) (k : Kept) → Serving left left' held held' turns s k → Served left left' held held' turns s k Turns
+stops_serving left left' held held' turns s k v = record {
+  rounds = v.rounds;
+  lost = [];
+  are_rounds = v.are_rounds;
+  consumed = subst (Consumes left left') (sym (append-nil (received v.rounds))) v.consumed;
+  appended = v.appended;
+  ends = (v.stands, refl, v.count);
+}

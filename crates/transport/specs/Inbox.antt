@@ -1,0 +1,49 @@
+-- What a server keeps of what it read, step by step.
+--
+-- These are the words of private clauses. What a server promises is in `Servers`.
+use Rattle.std.specs.Prelude.{◌≡◌, ℕ, Bool, true, false, List, [], Option, Some, None, Result, Ok, Err}
+use Rattle.std.specs.Io.KnownBytes.{Consumes, IsAtEnd}
+use Rattle.framing.specs.Streams.{Unframed}
+use Rattle.protocol.specs.declared.request.Incoming.{Incoming}
+use Rattle.protocol.specs.declared.request.MessageError.{MessageError}
+use Rattle.protocol.specs.declared.request.MessageError.TheVariants.{NotJson, NotAMessage, BadSeq, NoMemory}
+use Rattle.transport.specs.Heard.{Heard, HasHeard, and_gave, NextFails, Unread, HasRead, and_read}
+use Rattle.transport.specs.declared.server.ServerError.{ServerError}
+use Rattle.transport.specs.declared.server.ServerError.TheVariants.{Frame, Message, Read, Write, TooManyReads, NoMemory as NoMemoryLeft, SeqSpent}
+
+-- What is taken of the bodies that are whole.
+abbrev pub Takes : Heard → Result (Option Incoming) MessageError → Unframed → Type 0
+Takes heard (Ok (Some incoming)) new = HasHeard new (and_gave heard incoming)
+Takes heard (Ok None) new = HasHeard new heard × (new.waiting ≡ [])
+Takes heard (Err NoMemory) new = HasHeard new heard
+Takes heard (Err NotJson) new = HasHeard new heard × NextFails heard NotJson
+Takes heard (Err NotAMessage) new = HasHeard new heard × NextFails heard NotAMessage
+Takes heard (Err BadSeq) new = HasHeard new heard × NextFails heard BadSeq
+
+-- which answer that is, for what was taken and whether the stream has a fault
+abbrev pub polled_of : Result (Option Incoming) MessageError → Bool → Result (Option Incoming) ServerError
+polled_of (Ok (Some incoming)) faulty = Ok (Some incoming)
+polled_of (Ok None) true = Err Frame
+polled_of (Ok None) false = Ok None
+polled_of (Err NotJson) faulty = Err Message
+polled_of (Err NotAMessage) faulty = Err Message
+polled_of (Err BadSeq) faulty = Err Message
+polled_of (Err NoMemory) faulty = Err NoMemoryLeft
+
+-- What a read gives is pending.
+abbrev pub Reads : Option (List ℕ) → Option (List ℕ) → Heard → Result Bool ServerError → Unread → Type 0
+Reads left left' heard (Ok true) new = (piece : List ℕ) × Consumes left left' piece × HasRead new (and_read heard piece)
+Reads left left' heard (Ok false) new = Consumes left left' [] × IsAtEnd left' × HasRead new heard × (new.pending ≡ [])
+Reads left left' heard (Err Frame) new = ⊥
+Reads left left' heard (Err Message) new = ⊥
+Reads left left' heard (Err Read) new = Consumes left left' [] × HasRead new heard
+Reads left left' heard (Err Write) new = ⊥
+Reads left left' heard (Err TooManyReads) new = ⊥
+Reads left left' heard (Err NoMemoryLeft) new = Consumes left left' [] × HasRead new heard
+Reads left left' heard (Err SeqSpent) new = ⊥
+
+-- Some bytes are read, and no message is given yet.
+pub record Listens (left_before left : Option (List ℕ)) (heard : Heard) (new : Unread) : Type 0 where
+  pub read : List ℕ
+  pub consumed : Consumes left_before left read
+  pub has_read : HasRead new (and_read heard read)

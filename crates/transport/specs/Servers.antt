@@ -1,0 +1,73 @@
+-- What a server gives of what it reads, and what it writes.
+--
+-- A server is asked for the next request, and reads until it has one. Whatever pieces the reader gives, and however
+-- often the server is asked, it gives the messages of the stream one after the other, and none twice. Where it finds no
+-- memory it has lost nothing. A fault of the stream, or a body that is no message, comes behind all the messages before
+-- it, and stays.
+use Rattle.std.specs.Prelude.{◌≡◌, ℕ, ◌+◌, List, [], Option, Some, None, Result, Ok, Err}
+use Rattle.std.specs.Io.KnownBytes.{Consumes, Appends, IsAtEnd}
+use Rattle.framing.specs.Reading.{reading_of}
+use Rattle.protocol.specs.declared.request.Incoming.{Incoming}
+use Rattle.session.specs.declared.TheConstants.{BODY_LIMIT}
+use Rattle.transport.specs.Heard.{Heard, and_gave, Unread, HasRead, and_read, AllGiven, IsUnfinished, IsNoMessage}
+use Rattle.replies.specs.declared.response.Response.{Response}
+use Rattle.replies.specs.declared.message.Message.TheVariants.{Response as IsResponse}
+use Rattle.transport.specs.Outbox.{Queued}
+use Rattle.session.specs.Writing.{frame_of}
+use Rattle.session.specs.Fronts.{IsFrontOf}
+use Rattle.transport.specs.declared.server.ServerError.{ServerError}
+use Rattle.transport.specs.declared.server.ServerError.TheVariants.{Frame, Message, Read, Write, TooManyReads, NoMemory as NoMemoryLeft, SeqSpent}
+
+-- What a server answers, for what it has heard.
+abbrev pub Polled : Heard → Result (Option Incoming) ServerError → Unread → Type 0
+Polled heard (Ok (Some incoming)) new = HasRead new (and_gave heard incoming)
+Polled heard (Ok None) new = HasRead new heard × AllGiven heard × IsUnfinished (reading_of BODY_LIMIT heard.read).tail
+Polled heard (Err Frame) new = HasRead new heard × AllGiven heard × (IsUnfinished (reading_of BODY_LIMIT heard.read).tail → ⊥)
+Polled heard (Err Message) new = HasRead new heard × IsNoMessage heard
+Polled heard (Err Read) new = ⊥
+Polled heard (Err Write) new = ⊥
+Polled heard (Err TooManyReads) new = ⊥
+Polled heard (Err NoMemoryLeft) new = HasRead new heard
+Polled heard (Err SeqSpent) new = ⊥
+
+-- What polling gives, where left is what the reader still has.
+abbrev pub Gave : Option (List ℕ) → Heard → Result (Option Incoming) ServerError → Unread → Type 0
+Gave left heard (Ok (Some incoming)) new = Polled heard (Ok (Some incoming)) new
+Gave left heard (Ok None) new = Polled heard (Ok None) new × IsAtEnd left
+Gave left heard (Err Frame) new = Polled heard (Err Frame) new
+Gave left heard (Err Message) new = Polled heard (Err Message) new
+Gave left heard (Err Read) new = HasRead new heard × AllGiven heard × IsUnfinished (reading_of BODY_LIMIT heard.read).tail
+Gave left heard (Err Write) new = ⊥
+Gave left heard (Err TooManyReads) new = HasRead new heard × AllGiven heard × IsUnfinished (reading_of BODY_LIMIT heard.read).tail
+Gave left heard (Err NoMemoryLeft) new = HasRead new heard
+Gave left heard (Err SeqSpent) new = ⊥
+
+-- Some bytes are read, and then what was heard before and with them decides.
+pub record Polls (left_before left : Option (List ℕ)) (heard : Heard) (result : Result (Option Incoming) ServerError) (new : Unread) : Type 0 where
+  pub read : List ℕ
+  pub consumed : Consumes left_before left read
+  pub gave : Gave left (and_read heard read) result new
+
+-- the error that a server answers from then on
+abbrev pub lasting : Result (Option Incoming) ServerError → Option ServerError
+lasting (Ok polled) = None
+lasting (Err Frame) = Some Frame
+lasting (Err Message) = Some Message
+lasting (Err Read) = Some Read
+lasting (Err Write) = Some Write
+lasting (Err TooManyReads) = None
+lasting (Err NoMemoryLeft) = None
+lasting (Err SeqSpent) = None
+
+-- ---- writing
+
+-- What a response comes to: its frame, with the next number, is written, or nothing of it, or after a fault a front of it.
+abbrev pub Responds : Option (List ℕ) → Option (List ℕ) → Queued → Response → Result (Unit {0}) ServerError → Queued → Option ServerError → Type 0
+Responds held holds old r (Ok x) new fault = Appends held holds (frame_of (old.count + 1) (IsResponse r)) × (new ≡ record { count = old.count + 1; waiting = [] }) × (fault ≡ None)
+Responds held holds old r (Err Write) new fault = (front : List ℕ) × Appends held holds front × IsFrontOf front (frame_of (old.count + 1) (IsResponse r)) × (fault ≡ Some Write)
+Responds held holds old r (Err NoMemoryLeft) new fault = Appends held holds [] × (new ≡ old) × (fault ≡ None)
+Responds held holds old r (Err SeqSpent) new fault = Appends held holds [] × (new ≡ old) × (fault ≡ None)
+Responds held holds old r (Err Frame) new fault = ⊥
+Responds held holds old r (Err Message) new fault = ⊥
+Responds held holds old r (Err Read) new fault = ⊥
+Responds held holds old r (Err TooManyReads) new fault = ⊥

@@ -1,0 +1,13 @@
+//! A session or a server over a reader and a writer.
+#![tactic(auto)]
+
+mod end;
+mod inbox;
+mod outbox;
+mod room;
+pub mod serve;
+pub mod server;
+
+pub use end::StreamEnd;
+pub use serve::serve_streams;
+pub use server::{Server, ServerError};

@@ -1,0 +1,110 @@
+//! What waits to be written: numbered messages, framed.
+ghost use Rattle.std.specs.Prelude.{◌≡◌, ◌+◌, ◌==◌, ◌<◌, ◌≤◌, ◌++◌, ◌↔◌, [], List, ℕ, IsOk, OnOk, OnErr, IfOk, IsErrOf, IsTrue, drop, length};
+ghost use Rattle.std.specs.Io.KnownBytes.{Keeps, Appends};
+ghost use Rattle.transport.specs.Outbox.{queued, Sends, SendsFront};
+
+use protocol::LAST_SEQ;
+use replies::Message;
+use session::{Buffer, framed};
+use std::alloc::Global;
+use std::io;
+use std::io::{ErrorKind, Write};
+use std::marker::Model;
+
+/// Why a message was not queued.
+#[derive(Clone, Copy, Debug, PartialEq, Eq)]
+pub enum QueueError {
+    /// All numbers are used.
+    SeqSpent,
+    /// No memory was left.
+    NoMemory,
+}
+
+/// The messages of a connection as they are written: each framed, with the number after that of the
+/// one before, from 1. A contract sees how many there were, and the bytes that still wait.
+#[derive(Drop)]
+pub struct Outbox {
+    alloc: Global,
+    count: u32,
+    buffer: Buffer,
+}
+
+impl Model for Outbox {
+    ghost use Rattle.std.specs.Prelude.{◌≤◌};
+    ghost use Rattle.transport.specs.Outbox.{Queued};
+    ghost use Rattle.protocol.specs.declared.properties.TheConstants.{LAST_SEQ};
+
+    ghost Value = { Queued };
+
+    ghost view = { λ o. record { count = o.count; waiting = o.buffer } };
+
+    ghost invariant = { λ o. o.count ≤ LAST_SEQ };
+}
+
+impl Outbox {
+    /// No message yet.
+    pub(crate) fn new(alloc: Global) -> Outbox
+        ensures { result ≡ record { count = 0; waiting = [] } }
+    {
+        Outbox {
+            alloc,
+            count: 0,
+            buffer: Buffer::new(alloc),
+        }
+    }
+
+    /// Whether nothing waits.
+    pub(crate) fn is_empty(&self) -> bool
+        ensures { result ≡ (length self.now.waiting == 0) }
+    {
+        self.buffer.len() == 0
+    }
+
+    /// Puts the frame of a message, with the next number, behind what waits.
+    pub(crate) fn queue(&mut self, message: &Message) -> Result<(), QueueError>
+        ensures ok { OnOk result (self.new ≡ queued self.old message.now) }
+        ensures err { OnErr result (self.new ≡ self.old) }
+        ensures spent { IsErrOf result QueueError.SeqSpent ↔ (self.old.count ≡ LAST_SEQ) }
+    {
+        if self.count >= LAST_SEQ {
+            return Err(QueueError::SeqSpent);
+        }
+        let Ok(framed) = framed(self.alloc, self.count + 1, message) else {
+            return Err(QueueError::NoMemory);
+        };
+        if self.buffer.push(&framed).is_err() {
+            return Err(QueueError::NoMemory);
+        }
+        self.count += 1;
+        Ok(())
+    }
+
+    /// Writes what waits, or a front of it, by one call of the writer.
+    pub(crate) fn send<W: Write>(&mut self, writer: &mut W) -> io::Result<usize>
+        ensures { Sends (W.contents writer.old) (W.contents writer.new) self.old result self.new }
+    {
+        let count = writer.write(self.buffer.as_slice())?;
+        self.buffer.take(count);
+        Ok(count)
+    }
+
+    /// Writes what waits, by as many calls of the writer as it takes, and answers whether all was
+    /// written. A call that a signal interrupted is made again.
+    pub(crate) fn send_all<W: Write>(&mut self, writer: &mut W) -> bool
+        ensures front { SendsFront (W.contents writer.old) (W.contents writer.new) self.old self.new }
+        ensures all { IsTrue result → self.new.waiting ≡ [] }
+    {
+        'sending: for _ in 0..u64::MAX {
+            if self.is_empty() {
+                return true;
+            }
+            match self.send(writer) {
+                Ok(0) => return false,
+                Ok(_) => {}
+                Err(e) if e.kind() == ErrorKind::Interrupted => {}
+                Err(_) => return false,
+            }
+        }
+        false
+    }
+}
