@@ -7,9 +7,9 @@ ghost use Rattle.assembler.specs.Places as spec;
 
 use crate::error::AsmError;
 use crate::fill::fill;
-use crate::layout::{BASE, Layout, lay_out};
+use crate::layout::{Layout, lay_out};
 use crate::program::read_program;
-use image::{Bytes, Image, LineTable};
+use image::{Bytes, FIRST_ADDRESS, Image, LineTable};
 use std::alloc::Global;
 
 /// The image of a text, for a memory of so many bytes from 0x00010000 on; or what is wrong with the text.
@@ -28,7 +28,7 @@ pub fn assemble(alloc: Global, text: &[u8], size: u32) -> Result<Image, AsmError
     ensures answers { MatchResult result (λ image. Placed text.now size image) (λ error. Tells error (error_of text.now size)) }
     ensures fits { IfOk result (λ image. length image.bytes ≤ size) }
 {
-    let limit = BASE.saturating_add(size);
+    let limit = FIRST_ADDRESS.saturating_add(size);
     let program = match read_program(alloc, text) {
         Ok(program) => program,
         Err(error) => return Err(error),
@@ -51,7 +51,7 @@ fn entry_of(layout: &Layout) -> u32
         return *start;
     }
     match layout.rows.as_slice() {
-        [] => BASE,
+        [] => FIRST_ADDRESS,
         [row, ..] => row.1,
     }
 }

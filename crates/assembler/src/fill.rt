@@ -9,8 +9,9 @@ ghost use Rattle.assembler.specs.Steps.{Writes};
 
 use crate::contents::write;
 use crate::error::{AsmError, AsmErrorKind};
-use crate::layout::{BASE, behind};
+use crate::layout::behind;
 use crate::program::Source;
+use image::FIRST_ADDRESS;
 use indexmap::IndexMap;
 use std::alloc::Global;
 
@@ -25,7 +26,7 @@ pub(crate) fn fill(
     ensures { MatchResult result (λ b. AreParts (labels_of labels.now.entries) (spec.places first_address program.now) b.items) (λ e. Tells e (content_error (labels_of labels.now.entries) (spec.places first_address program.now))) }
 {
     let mut bytes = Vec::new(alloc);
-    let mut address = BASE;
+    let mut address = FIRST_ADDRESS;
     for source in program {
         let Some(end) = behind(source, address, limit) else {
             unreachable!();

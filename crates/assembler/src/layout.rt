@@ -10,12 +10,10 @@ ghost use Rattle.assembler.specs.Steps.{Adds, AddsOne, IsLayout, told_kind, up_t
 
 use crate::error::{AsmError, AsmErrorKind};
 use crate::program::Source;
+use image::FIRST_ADDRESS;
 use indexmap::IndexMap;
 use statements::{Items, Line, Name, Statement, Width};
 use std::alloc::Global;
-
-/// The lowest address of an image.
-pub(crate) const BASE: u32 = 0x0001_0000;
 
 /// Where everything stands.
 #[derive(Drop)]
@@ -220,7 +218,7 @@ pub(crate) fn lay_out(alloc: Global, program: &[Source], limit: u32) -> Result<L
     let mut layout = Layout {
         labels: IndexMap::new(alloc),
         rows: Vec::new(alloc),
-        end: BASE,
+        end: FIRST_ADDRESS,
     };
     for source in program {
         if let Err(kind) = place(alloc, &mut layout, source, limit) {

@@ -11,6 +11,7 @@ mod program;
 
 pub use assembling::assemble;
 pub use error::{AsmError, AsmErrorKind};
+pub use program::TEXT_LIMIT;
 
 #[cfg(test)]
 mod tests;

@@ -11,7 +11,7 @@ use statements::{Line, read_line};
 use std::alloc::Global;
 
 /// How many bytes a text may have.
-const TEXT_LIMIT: usize = 1_048_576;
+pub const TEXT_LIMIT: usize = 1_048_576;
 
 /// A line that says something.
 #[derive(Debug, Drop)]

@@ -5,15 +5,13 @@
 
 mod programs;
 
-use image::Memory;
+use image::{FIRST_ADDRESS, Memory};
 use programs::{FIB, SORT, TIGHT};
 use rv32i::{Hart, Stepped};
 use std::alloc::AllocError;
 use std::process::ExitCode;
 use std::rt::Env;
 use std::{env, io};
-
-const BASE: u32 = 0x0001_0000;
 
 const SIZE: u32 = 0x0010_0000;
 
@@ -30,7 +28,7 @@ fn main(rt: HostRuntime) -> io::Result<ExitCode> {
         eprintln!(rt; "usage: bench_hart tight|sort|fib ARGUMENT")?;
         return Ok(ExitCode::from(2));
     };
-    let mut memory = Memory::new(rt.alloc(), BASE, SIZE)?;
+    let mut memory = Memory::new(rt.alloc(), FIRST_ADDRESS, SIZE)?;
     place(&mut memory, program);
     let ending = run(&mut memory, argument)?;
     let retired = ending.retired;
@@ -55,7 +53,7 @@ fn load_of(words: &[String]) -> Option<(&'static [u32], u32)> {
 }
 
 fn place(memory: &mut Memory, program: &[u32]) {
-    let mut at = BASE;
+    let mut at = FIRST_ADDRESS;
     for word in program {
         let _ = memory.write_word(at, *word);
         at = at.wrapping_add(4);
@@ -64,7 +62,7 @@ fn place(memory: &mut Memory, program: &[u32]) {
 
 /// A hart at the program's start, with the argument in a0.
 fn hart_with(argument: u32) -> Hart {
-    let mut hart = Hart::new(BASE, BASE + SIZE);
+    let mut hart = Hart::new(FIRST_ADDRESS, FIRST_ADDRESS + SIZE);
     hart.x[10] = argument;
     hart
 }

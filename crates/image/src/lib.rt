@@ -6,11 +6,13 @@ mod fault;
 pub mod laws;
 mod lines;
 mod memory;
+mod words;
 
 pub use byte_strings::Bytes;
 pub use fault::MemFault;
 pub use lines::LineTable;
-pub use memory::Memory;
+pub use memory::{FIRST_ADDRESS, Memory};
+pub use words::word_at_index;
 
 /// What an assembler makes of a text, and what a machine starts with.
 #[derive(Debug, Drop)]

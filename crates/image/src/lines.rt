@@ -31,11 +31,9 @@ ghost use Rattle.image.specs.Lines.{
 };
 ghost use Rattle.image.specs.Orders.{NeverFall};
 
+use crate::FIRST_ADDRESS;
 use indexmap::IndexMap;
 use std::marker::Model;
-
-/// The lowest address of an image.
-const BASE: u32 = 0x0001_0000;
 
 /// Whether the addresses of labels ever fall in the order of the text.
 #[derive(Clone, Copy, Debug, PartialEq, Eq)]
@@ -127,7 +125,7 @@ impl LineTable {
     pub fn label_at(&self, addr: u32) -> Option<(&str, u32)>
         ensures { option_map (λ found. (found.0.now, found.1)) result ≡ label_at self.now addr }
     {
-        if addr < BASE || addr >= self.end {
+        if addr < FIRST_ADDRESS || addr >= self.end {
             return None;
         }
         let place = self.nearest_label(addr)?;

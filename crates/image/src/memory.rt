@@ -27,12 +27,12 @@ ghost use Rattle.image.specs.Memory.{
   Writes,
 };
 
-use crate::MemFault;
+use crate::{MemFault, word_at_index};
 use std::alloc::{AllocError, Global};
 use std::marker::Model;
 
 /// The lowest address that has a byte.
-const BASE: u32 = 0x0001_0000;
+pub const FIRST_ADDRESS: u32 = 0x0001_0000;
 
 /// Memory of a fixed size, from 0x00010000 on (RISC-V Unprivileged ISA 20191213, section 1.4). A
 /// contract sees its bytes in the order of their addresses.
@@ -61,7 +61,7 @@ impl Memory {
         requires few { size ≤ 16777216 }
         ensures { IfOk result (λ memory. memory ≡ replicate size 0) }
     {
-        prove!(base == BASE);
+        prove!(base == FIRST_ADDRESS);
         let bytes = vec![in alloc; 0u8; size as usize]?;
         Ok(Memory { bytes })
     }
@@ -71,7 +71,7 @@ impl Memory {
         ensures { result ≡ byte_at self.now addr }
     {
         let bytes = self.bytes.as_slice();
-        let place = addr.wrapping_sub(BASE) as usize;
+        let place = addr.wrapping_sub(FIRST_ADDRESS) as usize;
         if place < bytes.len() {
             Some(bytes[place])
         } else {
@@ -89,16 +89,11 @@ impl Memory {
             return Err(MemFault::Misaligned);
         }
         let bytes = self.bytes.as_slice();
-        let place = addr.wrapping_sub(BASE) as usize;
+        let place = addr.wrapping_sub(FIRST_ADDRESS) as usize;
         if place + 4 > bytes.len() {
             return Err(MemFault::Outside);
         }
-        Ok(u32::from_le_bytes([
-            bytes[place],
-            bytes[place + 1],
-            bytes[place + 2],
-            bytes[place + 3],
-        ]))
+        Ok(word_at_index(bytes, place))
     }
 
     /// Copies the bytes from an address on into `into`, as many as it has room for. `Outside`: one of
@@ -111,7 +106,7 @@ impl Memory {
             return Ok(());
         }
         let bytes = self.bytes.as_slice();
-        let place = addr.wrapping_sub(BASE) as usize;
+        let place = addr.wrapping_sub(FIRST_ADDRESS) as usize;
         let end = place + into.len();
         if end > bytes.len() {
             return Err(MemFault::Outside);
@@ -125,7 +120,7 @@ impl Memory {
     pub fn write_byte(&mut self, addr: u32, value: u8) -> Result<(), MemFault>
         ensures { Writes 1 self.old addr (value ∷ []) result self.new }
     {
-        let place = addr.wrapping_sub(BASE) as usize;
+        let place = addr.wrapping_sub(FIRST_ADDRESS) as usize;
         if place >= self.bytes.len() {
             return Err(MemFault::Outside);
         }
@@ -142,7 +137,7 @@ impl Memory {
         if addr % 2 != 0 {
             return Err(MemFault::Misaligned);
         }
-        let place = addr.wrapping_sub(BASE) as usize;
+        let place = addr.wrapping_sub(FIRST_ADDRESS) as usize;
         if place + 2 > self.bytes.len() {
             return Err(MemFault::Outside);
         }
@@ -159,7 +154,7 @@ impl Memory {
         if addr % 4 != 0 {
             return Err(MemFault::Misaligned);
         }
-        let place = addr.wrapping_sub(BASE) as usize;
+        let place = addr.wrapping_sub(FIRST_ADDRESS) as usize;
         if place + 4 > self.bytes.len() {
             return Err(MemFault::Outside);
         }
@@ -175,7 +170,7 @@ impl Memory {
         if bytes.is_empty() {
             return Ok(());
         }
-        let place = addr.wrapping_sub(BASE) as usize;
+        let place = addr.wrapping_sub(FIRST_ADDRESS) as usize;
         let end = place + bytes.len();
         if end > self.bytes.len() {
             return Err(MemFault::Outside);

@@ -3,12 +3,9 @@ ghost use Rattle.std.specs.Prelude.{◌≡◌, ◌+◌, ◌≤◌, ◌++◌, ◌
 ghost use Rattle.image.specs.Memory.{first_address};
 ghost use Rattle.listing.specs.Entries.{entry, listed, word_in, AreEntries, IsEntry, IsListing};
 
-use image::Image;
+use image::{FIRST_ADDRESS, Image, word_at_index};
 use rv32i::{push_digits, text_of_word};
 use std::alloc::{AllocError, Global};
-
-/// The lowest address of an image.
-const BASE: u32 = 0x0001_0000;
 
 /// The listing of an image of at most 1 MiB.
 pub(crate) fn entries_of(alloc: Global, image: &Image) -> Result<String, AllocError>
@@ -18,7 +15,7 @@ pub(crate) fn entries_of(alloc: Global, image: &Image) -> Result<String, AllocEr
     let count = image.bytes.as_slice().len() / 4;
     let mut lines = String::new(alloc);
     for index in 0..count {
-        push_listed(alloc, &mut lines, image, BASE + 4 * index as u32)?;
+        push_listed(alloc, &mut lines, image, FIRST_ADDRESS + 4 * index as u32)?;
     }
     Ok(lines)
 }
@@ -75,11 +72,5 @@ fn word_at(bytes: &[u8], address: u32) -> u32
     requires whole { address + 4 ≤ first_address + length bytes.now }
     ensures { result ≡ word_in bytes.now address }
 {
-    let place = (address - BASE) as usize;
-    u32::from_le_bytes([
-        bytes[place],
-        bytes[place + 1],
-        bytes[place + 2],
-        bytes[place + 3],
-    ])
+    word_at_index(bytes, (address - FIRST_ADDRESS) as usize)
 }

@@ -1,12 +1,10 @@
 //! `rvdap asm FILE`: the listing of a file on standard output.
 
+use assembler::TEXT_LIMIT;
 use listing::{ListFault, listing};
 use std::fs::File;
 use std::io;
 use std::io::Read;
-
-/// The greatest length of a file, in bytes.
-const FILE_LIMIT: usize = 1_048_576;
 
 /// Why a file was not listed.
 pub(crate) enum AsmFault {
@@ -22,7 +20,7 @@ pub(crate) fn list_file(rt: &HostRuntime, file: &str) -> Result<(), AsmFault> {
         Ok(text) => text,
         Err(error) => return Err(unread(&error)),
     };
-    if text.len() > FILE_LIMIT {
+    if text.len() > TEXT_LIMIT {
         return Err(AsmFault::Unreadable);
     }
     match listing(rt.alloc(), text.as_slice(), &mut rt.stdout()) {
@@ -34,7 +32,7 @@ pub(crate) fn list_file(rt: &HostRuntime, file: &str) -> Result<(), AsmFault> {
 // A file's bytes, up to one more than a text may have.
 fn read_some(rt: &HostRuntime, file: &str) -> io::Result<Vec<u8>> {
     let mut bytes = Vec::new(rt.alloc());
-    let mut file = File::open(rt, file)?.take(FILE_LIMIT as u64 + 1);
+    let mut file = File::open(rt, file)?.take(TEXT_LIMIT as u64 + 1);
     file.read_to_end(&mut bytes)?;
     Ok(bytes)
 }

@@ -19,4 +19,4 @@ overflow_sub-result c = found_below c.args.self.now.labels c.args.addr (string_b
 pub returns : goal.returns
 returns c =
     let end : c.args.self.now.end ≡ c.self.inside.end = ap (λ (t : Table). t.end) (sym c.self.view_is) in
-    rw c.as_str.ensures.value (sym (named c.args.self.now c.args.addr (string_bytes c.in_ok-name.name.now, c.in_ok-name.address.now) (found (goal.at.returns c).After-as_str) c.if-addr-lt-BASE.false (rw end c.if-addr-self.false)))
+    rw c.as_str.ensures.value (sym (named c.args.self.now c.args.addr (string_bytes c.in_ok-name.name.now, c.in_ok-name.address.now) (found (goal.at.returns c).After-as_str) c.if-addr-lt-FIRST_ADDRESS.false (rw end c.if-addr-self.false)))
