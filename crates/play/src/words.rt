@@ -1,0 +1,40 @@
+//! The words of commands and of answers.
+ghost use Rattle.std.specs.Prelude.{◌≡◌, IfOk, string_bytes};
+ghost use Rattle.hex.specs.Hex.{decode_of, encode_lower};
+
+use crate::Fault;
+use std::alloc::{AllocError, Global};
+use std::fmt::Display;
+use std::str::FromStr;
+
+/// The bytes that a word gives as pairs of hexadecimal digits.
+pub fn bytes_of(alloc: Global, word: &str) -> Result<Vec<u8>, Fault>
+    ensures { IfOk result (λ bytes. decode_of word.now ≡ Ok bytes.items) }
+{
+    Ok(hex::decode(alloc, word)?)
+}
+
+/// The value that a word gives: a number in decimal digits, or `true` or `false`.
+pub fn parsed<T: FromStr>(word: &str) -> Result<T, Fault>
+where
+    T::Err: Drop,
+{
+    word.parse::<T>().map_err(|_| Fault::NoCommand)
+}
+
+/// The answer that bytes are, as pairs of hexadecimal digits in lower case.
+pub fn hexadecimal(alloc: Global, bytes: &[u8]) -> Result<String, Fault>
+    ensures { IfOk result (λ text. string_bytes text ≡ encode_lower bytes.now) }
+{
+    Ok(hex::encode(alloc, bytes)?)
+}
+
+/// The answer that a value is, as it is displayed.
+pub fn told<D: Display + Drop>(alloc: Global, value: D) -> Result<String, Fault> {
+    Ok(value.to_string(alloc)?)
+}
+
+/// What a call answered that fails only where no memory was left.
+pub fn called<T: Drop>(answer: Result<T, AllocError>) -> Result<T, Fault> {
+    answer.map_err(|_| Fault::NoMemoryInCall)
+}

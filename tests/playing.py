@@ -1,0 +1,107 @@
+"""The tables in tests/rows, played: for each row what a layer is asked, command by command, and what it has to answer.
+
+A table is a module with PLAYER, the crate of the program that plays it, and ROWS. A player reads commands, each of them a line of
+words, and prints for each a line with what the layer answered; it expects nothing.
+"""
+import glob
+import importlib
+import os
+import subprocess
+from dataclasses import dataclass
+from functools import partial
+from itertools import zip_longest
+
+from program import TOP, expect
+from refusals import each_refusal
+
+SECONDS = 120
+NO_MEMORY = "NoMemory"
+
+
+@dataclass
+class Row:
+    """Commands and their answers, from a fresh start of the layer.
+
+    steps: pairs of a command and the answer that is expected. source: where the expected answers come from. refused: whether the
+    row is also played with each allocation refused in turn. otherwise: the answers that may come then in place of those of the
+    steps, where a command that is not made again found no memory."""
+    name: str
+    steps: list
+    source: str
+    refused: bool = False
+    otherwise: tuple = ()
+
+
+def play(player, lines, environment=None):
+    """Plays the commands, and answers the lines that come and the status."""
+    program = os.path.join(TOP, "crates", player, "out", player)
+    ran = subprocess.run([program], input="".join(line + "\n" for line in lines), env=environment, stdout=subprocess.PIPE,
+                         encoding="utf-8", timeout=SECONDS)
+    return ran.stdout.splitlines(), ran.returncode
+
+
+def shown(line):
+    """A line as a message shows it, without the middle of a long one."""
+    return repr(line) if line is None or len(line) <= 200 else "%r .. %r (%d characters)" % (line[:80], line[-80:], len(line))
+
+
+def expect_answers(lines, row):
+    """Fails at the first answer that differs from the expected one, is missing, or is one too many."""
+    for number, (answer, step) in enumerate(zip_longest(lines, row.steps), 1):
+        command, wanted = step or (None, None)
+        if answer != wanted:
+            raise AssertionError("%s: command %d, %s, was answered with %s, and not with %s (%s)"
+                                 % (row.name, number, shown(command), shown(answer), shown(wanted), row.source))
+
+
+def is_played(player, row):
+    lines, status = play(player, [command for command, _ in row.steps])
+    expect_answers(lines, row)
+    expect(status, 0, "%s: the status" % row.name)
+    expect(bool(row.steps), True, "%s: there are steps" % row.name)
+
+
+def without_the_line(lines):
+    """The lines without the first that tells that a call found no memory and was made again."""
+    at = lines.index(NO_MEMORY) if NO_MEMORY in lines else len(lines)
+    return lines[:at] + lines[at + 1:]
+
+
+def is_played_without_memory(player, row):
+    """Each allocation refused in turn: the answers are the same, with a line where a call found no memory. Where the player itself
+    found none, it ends with status 3, and the answers so far are the first ones."""
+    commands = [command for command, _ in row.steps]
+
+    def once(environment):
+        which = "%s, allocation %s refused" % (row.name, environment["REFUSE_ALLOC"])
+        lines, status = play(player, commands, environment)
+        expect(status in (0, 3), True, "%s: the status %d is right" % (which, status))
+        if row.otherwise and lines == first_of(row.otherwise, lines, status):
+            return
+        lines = without_the_line(lines)
+        expect_answers(lines, Row(which, first_of(row.steps, lines, status), row.source))
+
+    expect(each_refusal(once) > 0, True, "%s: some allocation was refused" % row.name)
+
+
+def first_of(wanted, lines, status):
+    """What is wanted of a run: all, or where the player found no memory as much as there are lines."""
+    return list(wanted) if status == 0 else list(wanted)[:len(lines)]
+
+
+def tables():
+    """The name and the module of each table."""
+    for path in sorted(glob.glob(os.path.join(TOP, "tests", "rows", "[!_]*.py"))):
+        name = os.path.splitext(os.path.basename(path))[0]
+        yield name, importlib.import_module("rows." + name)
+
+
+def checks():
+    """Each check with its name: a row played, and where it says so played with each allocation refused."""
+    found = []
+    for table, module in tables():
+        for row in module.ROWS:
+            found.append(("%s: %s" % (table, row.name), partial(is_played, module.PLAYER, row)))
+            if row.refused:
+                found.append(("%s: %s, each allocation refused" % (table, row.name), partial(is_played_without_memory, module.PLAYER, row)))
+    return found
