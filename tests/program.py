@@ -6,7 +6,7 @@ import subprocess
 import time
 
 TOP = os.path.dirname(os.path.dirname(os.path.abspath(__file__)))
-PROGRAM = os.path.join(TOP, "crates", "rvdap", "out", "rvdap")
+PROGRAM = os.path.join(TOP, "build", "rvdap")
 SECONDS = 20
 
 

@@ -1,13 +1,11 @@
-"""Each allocation refused in turn: of the program, and of the tests of each crate that are named refused_..."""
-import glob
+"""Each allocation refused in turn."""
 import os
-import re
 import shutil
 import subprocess
 import tempfile
 
 from program import PROGRAM, TOP, expect, run
-from sessions import ANSWERS, SESSION
+from texts import ANSWERS, SESSION
 
 MOST = 100000
 
@@ -46,45 +44,6 @@ def the_program_ends_well_without_memory():
     expect(each_refusal(once) > 5, True, "some allocations were refused")
 
 
-def tests_of(binary):
-    """The names of a test program's tests of refusals; it lists each test on a line, as `NAME: test`."""
-    listed = subprocess.run([binary, "--list"], capture_output=True, text=True, timeout=60).stdout.splitlines()
-    names = [line.partition(": ")[0] for line in listed]
-    return [name for name in names if name.split("::")[-1].startswith("refused_")]
-
-
-def refused_test(binary, name):
-    def check():
-        def once(environment):
-            ran = subprocess.run([binary, name], env=environment, capture_output=True, timeout=60)
-            expect(ran.returncode, 0, "allocation %s refused: %r" % (environment["REFUSE_ALLOC"], ran.stderr[-600:]))
-
-        expect(each_refusal(once) > 0, True, "some allocation was refused")
-
-    return check
-
-
-def written_tests():
-    """The crate and the name of each test named refused_.. in the sources."""
-    for path in glob.glob(os.path.join(TOP, "crates", "*", "src", "**", "*.rt"), recursive=True):
-        crate = os.path.relpath(path, os.path.join(TOP, "crates")).split(os.sep)[0]
-        with open(path, encoding="utf-8") as source:
-            for name in re.findall(r"#\[test\]\s+fn (refused_\w+)\(", source.read()):
-                yield crate, name
-
-
-def the_gate_left_each_test_of_refusals():
-    left = [(os.path.basename(binary).removesuffix("_tests"), name.split("::")[-1]) for binary, name in refused_tests()]
-    expect(sorted(left), sorted(written_tests()), "the tests named refused_..")
-
-
-def refused_tests():
-    binaries = sorted(glob.glob(os.path.join(TOP, "crates", "*", "out", "*_tests")))
-    return [(binary, name) for binary in binaries for name in tests_of(binary)]
-
-
 def checks():
     """Each check with its name."""
-    of_the_program = [(check.__name__.replace("_", " "), check) for check in (the_program_ends_well_without_memory, the_gate_left_each_test_of_refusals)]
-    of_the_crates = [("each allocation of %s refused" % name, refused_test(binary, name)) for binary, name in refused_tests()]
-    return of_the_program + of_the_crates
+    return [(check.__name__.replace("_", " "), check) for check in (the_program_ends_well_without_memory,)]

@@ -1,0 +1,149 @@
+//! Plays `session`: the events of a session, and what it says of itself.
+#![tactic(auto)]
+
+use play::{Fault, Player, bytes_of, hexadecimal, parsed, play, told};
+use session::{Applied, Bytes, ConfigError, Event, EventError, Limits, LinkFault, Session};
+use std::alloc::Global;
+use std::process::ExitCode;
+
+/// What is played. The first session has the greatest limits.
+#[derive(Drop)]
+struct Events {
+    session: Session,
+}
+
+fn main(rt: HostRuntime) -> ExitCode {
+    match Session::new(rt.alloc(), Limits::greatest()) {
+        Ok(session) => play(&rt, &mut Events { session }),
+        Err(_) => ExitCode::from(1),
+    }
+}
+
+impl Player for Events {
+    fn answer(&mut self, alloc: Global, words: &[&str]) -> Result<String, Fault> {
+        match words {
+            ["new", last_seq, last_ref, last_retired] => {
+                let limits = Limits {
+                    last_seq: parsed(last_seq)?,
+                    last_ref: parsed(last_ref)?,
+                    last_retired: parsed(last_retired)?,
+                };
+                self.begin(alloc, limits)
+            }
+            ["greatest"] => Ok(format!(in alloc; "{:?}", Limits::greatest())?),
+            ["text", name] => text_of(alloc, name),
+            ["apply", event @ ..] => applied(alloc, self.session.apply(&event_of(alloc, event)?)),
+            [name] => self.call(alloc, name),
+            [name, word] => self.call_with(alloc, name, word),
+            _ => Err(Fault::NoCommand),
+        }
+    }
+}
+
+impl Events {
+    fn begin(&mut self, alloc: Global, limits: Limits) -> Result<String, Fault> {
+        match Session::new(alloc, limits) {
+            Ok(session) => {
+                self.session = session;
+                told(alloc, "ok")
+            }
+            Err(error) => Ok(format!(in alloc; "{error:?}")?),
+        }
+    }
+
+    /// A call without arguments.
+    fn call(&mut self, alloc: Global, name: &str) -> Result<String, Fault> {
+        match name {
+            "connect" => match self.session.connect() {
+                Ok(number) => told(alloc, number),
+                Err(error) => error_of(alloc, error),
+            },
+            "turn" => match self.session.turn(None) {
+                Ok(turned) => Ok(format!(in alloc; "{turned:?}")?),
+                Err(error) => error_of(alloc, error),
+            },
+            "drop" => done(alloc, self.session.drop_connection()),
+            "waiting" => hexadecimal(alloc, self.session.waiting()),
+            "pending" => told(alloc, self.session.pending()),
+            "finished" => told(alloc, self.session.finished()),
+            "link_fault" => link_fault_of(alloc, self.session.link_fault()),
+            _ => Err(Fault::NoCommand),
+        }
+    }
+
+    fn call_with(&mut self, alloc: Global, name: &str, word: &str) -> Result<String, Fault> {
+        match name {
+            "recv" => {
+                let piece = bytes_of(alloc, word)?;
+                done(alloc, self.session.recv(&piece))
+            }
+            "sent" => {
+                let count = parsed(word)?;
+                done(alloc, self.session.sent(count))
+            }
+            "bytes" => {
+                let bytes = Bytes::from_vec(bytes_of(alloc, word)?);
+                let text = hexadecimal(alloc, bytes.as_slice())?;
+                let held = bytes.into_vec();
+                Ok(format!(in alloc; "{text} {}", held.len())?)
+            }
+            _ => Err(Fault::NoCommand),
+        }
+    }
+}
+
+fn done(alloc: Global, answer: Result<(), EventError>) -> Result<String, Fault> {
+    match answer {
+        Ok(()) => told(alloc, "ok"),
+        Err(error) => error_of(alloc, error),
+    }
+}
+
+fn applied(alloc: Global, answer: Result<Applied, EventError>) -> Result<String, Fault> {
+    match answer {
+        Ok(applied) => Ok(format!(in alloc; "{applied:?}")?),
+        Err(error) => error_of(alloc, error),
+    }
+}
+
+fn error_of(alloc: Global, error: EventError) -> Result<String, Fault> {
+    match error {
+        EventError::NoMemory => Err(Fault::NoMemoryInCall),
+        error => Ok(format!(in alloc; "{error:?}")?),
+    }
+}
+
+fn link_fault_of(alloc: Global, fault: Option<LinkFault>) -> Result<String, Fault> {
+    match fault {
+        Some(fault) => Ok(format!(in alloc; "{fault:?}")?),
+        None => told(alloc, "none"),
+    }
+}
+
+fn event_of(alloc: Global, words: &[&str]) -> Result<Event, Fault> {
+    match words {
+        ["connect"] => Ok(Event::Connect),
+        ["recv", piece] => Ok(Event::Recv(Bytes::from_vec(bytes_of(alloc, piece)?))),
+        ["turn"] => Ok(Event::Turn(None)),
+        ["turn", file] => Ok(Event::Turn(Some(Bytes::from_vec(bytes_of(alloc, file)?)))),
+        ["sent", count] => Ok(Event::Sent(parsed(count)?)),
+        ["drop"] => Ok(Event::DropConnection),
+        _ => Err(Fault::NoCommand),
+    }
+}
+
+/// The text of the error of this name.
+fn text_of(alloc: Global, name: &str) -> Result<String, Fault> {
+    match name {
+        "NotConnected" => told(alloc, EventError::NotConnected),
+        "AlreadyConnected" => told(alloc, EventError::AlreadyConnected),
+        "Busy" => told(alloc, EventError::Busy),
+        "SentTooMuch" => told(alloc, EventError::SentTooMuch),
+        "PieceTooLong" => told(alloc, EventError::PieceTooLong),
+        "Closing" => told(alloc, EventError::Closing),
+        "NoMemory" => told(alloc, EventError::NoMemory),
+        "Spent" => told(alloc, EventError::Spent),
+        "BadLimit" => told(alloc, ConfigError::BadLimit),
+        _ => Err(Fault::NoCommand),
+    }
+}

@@ -1,0 +1,154 @@
+//! Plays `transport`: a session and a server over streams that give and take a few bytes at a time,
+//! are interrupted, and fail.
+#![tactic(auto)]
+
+mod polling;
+mod streams;
+
+use play::{Fault, Player, bytes_of, hexadecimal, parsed, play, told};
+use polling::polled;
+use session::{EventError, Limits, Session};
+use std::alloc::Global;
+use std::process::ExitCode;
+use streams::{Drip, Pace, Sink};
+use transport::{ServerError, StreamEnd, serve_streams};
+
+/// What is played. The first session is not connected; the first streams give and take all at once.
+#[derive(Drop)]
+struct Connection {
+    session: Session,
+    reader: Drip,
+    writer: Sink,
+}
+
+fn main(rt: HostRuntime) -> ExitCode {
+    let alloc = rt.alloc();
+    let Ok(session) = Session::new(alloc, Limits::greatest()) else {
+        return ExitCode::from(1);
+    };
+    let Ok(writer) = Sink::new(alloc) else {
+        return ExitCode::from(Fault::NoMemory.status());
+    };
+    let reader = Drip::new(Vec::new(alloc));
+    let mut connection = Connection {
+        session,
+        reader,
+        writer,
+    };
+    play(&rt, &mut connection)
+}
+
+impl Player for Connection {
+    fn answer(&mut self, alloc: Global, words: &[&str]) -> Result<String, Fault> {
+        match words {
+            ["input", bytes] => {
+                self.reader = Drip::new(bytes_of(alloc, bytes)?);
+                told(alloc, "ok")
+            }
+            ["reader", most, calls, interruptions] => {
+                self.reader.pace = pace_of(most, calls, interruptions)?;
+                told(alloc, "ok")
+            }
+            ["writer", most, calls, interruptions] => {
+                self.writer.pace = pace_of(most, calls, interruptions)?;
+                told(alloc, "ok")
+            }
+            ["whole", input] => whole(alloc, &bytes_of(alloc, input)?),
+            ["server", calls @ ..] => polled(alloc, &mut self.reader, &mut self.writer, calls),
+            ["text", name] => text_of(alloc, name),
+            ["serve", turns] => {
+                let turns = parsed(turns)?;
+                let end = self.serve(alloc, turns);
+                Ok(format!(in alloc; "{end:?}")?)
+            }
+            ["recv", piece] => {
+                let piece = bytes_of(alloc, piece)?;
+                done(alloc, self.session.recv(&piece))
+            }
+            [name] => self.look(alloc, name),
+            _ => Err(Fault::NoCommand),
+        }
+    }
+}
+
+impl Connection {
+    fn serve(&mut self, alloc: Global, turns: u64) -> StreamEnd {
+        serve_streams(
+            alloc,
+            &mut self.session,
+            &mut self.reader,
+            &mut self.writer,
+            turns,
+        )
+    }
+
+    fn look(&mut self, alloc: Global, name: &str) -> Result<String, Fault> {
+        match name {
+            "connect" => match self.session.connect() {
+                Ok(number) => told(alloc, number),
+                Err(error) => done(alloc, Err(error)),
+            },
+            "turn" => match self.session.turn(None) {
+                Ok(turned) => Ok(format!(in alloc; "{turned:?}")?),
+                Err(error) => done(alloc, Err(error)),
+            },
+            "waiting" => hexadecimal(alloc, self.session.waiting()),
+            "pending" => told(alloc, self.session.pending()),
+            "link_fault" => match self.session.link_fault() {
+                Some(fault) => Ok(format!(in alloc; "{fault:?}")?),
+                None => told(alloc, "none"),
+            },
+            "written" => hexadecimal(alloc, self.writer.bytes.as_slice()),
+            "left" => hexadecimal(alloc, self.reader.left()),
+            _ => Err(Fault::NoCommand),
+        }
+    }
+}
+
+fn pace_of(most: &str, calls: &str, interruptions: &str) -> Result<Pace, Fault> {
+    Ok(Pace {
+        most: parsed(most)?,
+        calls_left: parsed(calls)?,
+        interruptions: parsed(interruptions)?,
+        interrupted: 0,
+    })
+}
+
+fn done(alloc: Global, answer: Result<(), EventError>) -> Result<String, Fault> {
+    match answer {
+        Ok(()) => told(alloc, "ok"),
+        Err(EventError::NoMemory) => Err(Fault::NoMemoryInCall),
+        Err(error) => Ok(format!(in alloc; "{error:?}")?),
+    }
+}
+
+/// A session from its first byte to its end: how it ended, and what was written.
+fn whole(alloc: Global, input: &[u8]) -> Result<String, Fault> {
+    let Ok(mut session) = Session::new(alloc, Limits::greatest()) else {
+        return Err(Fault::NoCommand);
+    };
+    let _ = session.connect();
+    let mut reader = input;
+    let mut writer = Sink::new(alloc)?;
+    match serve_streams(alloc, &mut session, &mut reader, &mut writer, u64::MAX) {
+        StreamEnd::NoMemory => Err(Fault::NoMemoryInCall),
+        end => {
+            let written = hexadecimal(alloc, writer.bytes.as_slice())?;
+            Ok(format!(in alloc; "{end:?} {written}")?)
+        }
+    }
+}
+
+/// The text of the error of this name.
+fn text_of(alloc: Global, name: &str) -> Result<String, Fault> {
+    match name {
+        "Frame" => told(alloc, ServerError::Frame),
+        "Message" => told(alloc, ServerError::Message),
+        "Read" => told(alloc, ServerError::Read),
+        "Write" => told(alloc, ServerError::Write),
+        "TooManyReads" => told(alloc, ServerError::TooManyReads),
+        "NoMemory" => told(alloc, ServerError::NoMemory),
+        "SeqSpent" => told(alloc, ServerError::SeqSpent),
+        _ => Err(Fault::NoCommand),
+    }
+}

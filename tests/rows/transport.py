@@ -1,0 +1,133 @@
+"""Whole connections and servers over streams that give and take a few bytes at a time, are interrupted, and fail."""
+from playing import Row
+from program import frame
+from texts import ANSWERS, FIRST, FIRST_ANSWER, SESSION, THREADS, refused, request
+
+PLAYER = "play_transport"
+PROFILE = "docs/PROTOCOL.md, worked by hand"
+EVERY = (1 << 64) - 1
+TURNS = 1 << 60
+
+EVENT = frame('{"type":"event","event":"x"}')
+NO_FRAME = b"X: 1\r\n\r\n"
+HARTS = request(2, "threads")
+HARTS_ANSWER = frame(THREADS % (2, 2))
+TOO_EARLY = refused("wrongPhase", 3, "threads", 2, 1)
+FIRST_HARTS_ANSWER = frame(THREADS % (2, 1))
+
+CONNECT = ("connect", "1")
+NO_FAULT = ("link_fault", "none")
+# The session has no connection, and the next one begins anew.
+ENDED = [("turn", "NotConnected"), ("waiting", ""), ("pending", "0"), ("connect", "2"), ("waiting", ""), ("pending", "0"), NO_FAULT]
+
+
+def given(data):
+    return "input " + data.hex(), "ok"
+
+
+def reads(most=EVERY, calls=EVERY, interruptions=0):
+    """So many bytes a read, so many reads before they fail, so many interruptions before each."""
+    return "reader %d %d %d" % (most, calls, interruptions), "ok"
+
+
+def writes(most=EVERY, calls=EVERY, interruptions=0):
+    return "writer %d %d %d" % (most, calls, interruptions), "ok"
+
+
+def serves(end, turns=TURNS):
+    return "serve %d" % turns, end
+
+
+def written(data):
+    return "written", data.hex()
+
+
+def left(data):
+    return "left", data.hex()
+
+
+def faulty(fault):
+    return "link_fault", fault
+
+
+def server(*calls):
+    """Calls of one server, each with its answer."""
+    return "server " + " ".join(call for call, _ in calls), " ".join(answer for _, answer in calls)
+
+
+def text(error, wanted):
+    return "text " + error, wanted
+
+
+def cut(most, interruptions):
+    return [given(FIRST + HARTS + EVENT + request(3, "disconnect")), reads(most, interruptions=interruptions),
+            writes(most, interruptions=interruptions), CONNECT, serves("Closed"), written(ANSWERS), NO_FAULT] + ENDED
+
+
+def ends(data, answers, fault="none"):
+    """What is read in one piece, what is answered, and what closed the connection."""
+    return [given(data), CONNECT, serves("Closed"), faulty(fault), written(answers)] + ENDED
+
+
+# One read, three answers and three writes are seven turns, and one more finds the end.
+WRITTEN_AFTER = [b"", b"", b"", FIRST_ANSWER, FIRST_ANSWER, FIRST_ANSWER + HARTS_ANSWER, FIRST_ANSWER + HARTS_ANSWER, ANSWERS]
+
+
+def stops_after(turns):
+    """Serving that ends for its turns goes on where it stopped."""
+    return [given(SESSION), CONNECT, serves("Turns", turns), written(WRITTEN_AFTER[turns]), serves("Closed", 8 - turns), written(ANSWERS)] + ENDED
+
+
+def closes_within(turns):
+    return [given(SESSION), CONNECT, serves("Closed", turns), written(ANSWERS)] + ENDED
+
+
+def fails(reads_made, writes_made, most, count):
+    """How many reads and writes succeed, how many bytes a write takes, and how many bytes were written."""
+    return [given(SESSION), reads(120, reads_made, 1), writes(most, writes_made, 1), CONNECT, serves("Fault"), written(ANSWERS[:count]),
+            NO_FAULT] + ENDED
+
+
+POLLED = ("poll", "2:threads")
+NO_MORE = ("poll", "none")
+
+
+def stays_faulty(data, fault):
+    return [given(data), server(POLLED, ("poll", fault), ("poll", fault), ("ack=2", fault)), written(b"")]
+
+
+ROWS = [Row("the first session is answered however it is cut: %d bytes at a time" % most, cut(most, interruptions), PROFILE)
+        for most, interruptions in ((1, 0), (2, 1), (7, 0), (83, 3), (1000, 2))] + [
+    Row("a connection without input ends", ends(b"", b""), PROFILE),
+    Row("a request that comes too early is refused", ends(HARTS, TOO_EARLY), PROFILE),
+    Row("an unfinished frame is dropped", ends(FIRST + HARTS + b"Content-Len", FIRST_ANSWER + HARTS_ANSWER), PROFILE),
+    Row("what is no message ends a connection", ends(FIRST + frame("{}") + HARTS, FIRST_ANSWER, "Message(NotAMessage)"), PROFILE),
+    Row("what is no frame ends a connection", ends(FIRST + HARTS + NO_FRAME, FIRST_ANSWER + HARTS_ANSWER, "Frame(NoLength)"), PROFILE),
+    Row("a disconnect ends a connection", ends(SESSION, ANSWERS), PROFILE),
+    Row("what is no frame in the piece of a disconnect is met", ends(SESSION + NO_FRAME, ANSWERS, "Frame(NoLength)"), PROFILE),
+    Row("what is no message in the piece of a disconnect is met", ends(SESSION + frame("{"), ANSWERS, "Message(NotJson)"), PROFILE),
+    Row("an event is passed over, and an empty body is no message", ends(FIRST + EVENT + frame(""), FIRST_ANSWER, "Message(NotJson)"), PROFILE),
+    Row("what comes in a piece after a disconnect is not read", [
+        given(SESSION + NO_FRAME), reads(len(SESSION)), CONNECT, serves("Closed"), NO_FAULT, written(ANSWERS), left(NO_FRAME)] + ENDED, PROFILE),
+    Row("where all is said nothing is read", [
+        given(FIRST), CONNECT, ("recv " + NO_FRAME.hex(), "ok"), serves("Closed", 1), faulty("Frame(NoLength)"), left(FIRST), written(b"")] + ENDED,
+        PROFILE),
+    Row("a server polls requests and writes responses", [
+        given(EVENT + HARTS + EVENT), server(POLLED, ("threads=2", "ok"), NO_MORE, NO_MORE), written(FIRST_HARTS_ANSWER)], PROFILE),
+    Row("a fault of a frame stays with a server", stays_faulty(HARTS + NO_FRAME, "Frame"), PROFILE),
+    Row("a fault of a message stays with a server", stays_faulty(HARTS + frame("{}") + HARTS, "Message"), PROFILE),
+    Row("an empty body is no message for a server", stays_faulty(HARTS + frame(""), "Message"), PROFILE),
+    Row("a server goes on after it found no memory", [
+        given(HARTS + EVENT + HARTS), server(POLLED, POLLED, ("threads=2", "ok"), NO_MORE), written(FIRST_HARTS_ANSWER)], PROFILE, refused=True),
+    Row("a session over streams is served again after it found no memory", [
+        ("whole " + SESSION.hex(), "Closed " + ANSWERS.hex())], PROFILE, refused=True),
+    Row("texts of errors", [
+        text("Frame", "not a frame"), text("Message", "not a message"), text("Read", "read fault"), text("Write", "write fault"),
+        text("TooManyReads", "too many reads"), text("NoMemory", "no memory"), text("SeqSpent", "no sequence number is left"),
+    ], "the doc comments of the errors"),
+] + [Row("%d turns end with a prefix of the answers" % turns, stops_after(turns), PROFILE) for turns in range(8)] \
+  + [Row("%d turns are enough for a whole session" % turns, closes_within(turns), PROFILE) for turns in (8, 9)] \
+  + [Row("a fault of a stream after %d reads and %d writes of %d bytes" % (reads_made, writes_made, most), fails(reads_made, writes_made, most, count),
+         PROFILE)
+     for reads_made, writes_made, most, count in (
+         (0, 9, 1000, 0), (1, 9, 1000, 619), (9, 0, 1000, 0), (9, 1, 1000, 619), (9, 2, 1000, 766), (9, 2, 100, 200), (9, 9, 0, 0))]
