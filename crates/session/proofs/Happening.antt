@@ -1,10 +1,11 @@
 -- What goes so on what is kept happens so to whatever it stood for.
-use Rattle.std.proofs.Common.{◌≡◌, Result, Ok, Err, sym, ◌∙◌, subst}
+use Rattle.std.proofs.Common.{◌≡◌, Result, Ok, Err, sym, ap, ◌∙◌, subst}
 use Rattle.session.specs.declared.event.Applied.{Applied}
 use Rattle.session.specs.declared.event.Event.{Event}
 use Rattle.session.specs.declared.event.EventError.{EventError}
 use Rattle.session.specs.declared.event.EventError.TheVariants.{NotConnected, AlreadyConnected, Busy, SentTooMuch, PieceTooLong, Closing, NoMemory, Spent}
 use Rattle.session.specs.Effects.{Ends, effect, answer}
+use Rattle.session.specs.Outcomes.{outcome, needs_memory}
 use Rattle.session.specs.Sessions.{Session, histories}
 use Rattle.session.specs.Kept.{Kept, Stands, Goes, Happens, keepings}
 use Rattle.session.proofs.Simulation.{effect_keeps, answer_keeps}
@@ -21,7 +22,10 @@ ended old e result new s st h = (
 
 by_result : (old : Kept) (e : Event) (result : Result Applied EventError) (new : Kept) → Goes old e result new → (s : Session) → Stands old s → Ends histories s e result (λ t. Stands new t)
 by_result old e (Ok x) new h s st = ended old e (Ok x) new s st h
-by_result old e (Err NoMemory) new h s st = stands_here new old s h st
+by_result old e (Err NoMemory) new h s st = (
+  sym (ap (λ seen. needs_memory (outcome seen e).acts) (standing.sees old s st)) ∙ h.0,
+  stands_here new old s h.1 st,
+)
 by_result old e (Err NotConnected) new h s st = ended old e (Err NotConnected) new s st h
 by_result old e (Err AlreadyConnected) new h s st = ended old e (Err AlreadyConnected) new s st h
 by_result old e (Err Busy) new h s st = ended old e (Err Busy) new s st h

@@ -3,12 +3,12 @@
 -- A session is seen in two ways: with all of its past, and as what the code keeps. Both are worlds in which events
 -- happen, and what an event is (`Outcomes`) is said once for both: a world is what is seen of a session, and what an
 -- act makes of it.
-use Rattle.std.specs.Prelude.{◌≡◌, List, [], ◌∷◌, Result, Ok, Err}
+use Rattle.std.specs.Prelude.{◌≡◌, true, List, [], ◌∷◌, Result, Ok, Err}
 use Rattle.session.specs.declared.event.Applied.{Applied}
 use Rattle.session.specs.declared.event.Event.{Event}
 use Rattle.session.specs.declared.event.EventError.{EventError}
 use Rattle.session.specs.declared.event.EventError.TheVariants.{NotConnected, AlreadyConnected, Busy, SentTooMuch, PieceTooLong, Closing, NoMemory, Spent}
-use Rattle.session.specs.Outcomes.{Seen, Act, outcome}
+use Rattle.session.specs.Outcomes.{Seen, Act, outcome, needs_memory}
 
 pub record World (S : Type 0) : Type 0 where
   pub see : S → Seen
@@ -30,10 +30,11 @@ abbrev pub after_all : {S : Type 0} → World S → List Event → S → S
 after_all w [] s = s
 after_all w (e ∷ es) s = after_all w es (effect w e s)
 
--- The answer is the event's, and P holds of what the event leaves. Where memory ran out, nothing happened.
+-- The answer is the event's, and P holds of what the event leaves. Memory runs out only where the event would be done and needs
+-- some; then nothing happened.
 abbrev pub Ends : {S : Type 0} → World S → S → Event → Result Applied EventError → (S → Type 0) → Type 0
 Ends w s e (Ok x) P = (answer w e s ≡ Ok x) × P (effect w e s)
-Ends w s e (Err NoMemory) P = P s
+Ends w s e (Err NoMemory) P = (needs_memory (outcome (w.see s) e).acts ≡ true) × P s
 Ends w s e (Err NotConnected) P = (answer w e s ≡ Err NotConnected) × P (effect w e s)
 Ends w s e (Err AlreadyConnected) P = (answer w e s ≡ Err AlreadyConnected) × P (effect w e s)
 Ends w s e (Err Busy) P = (answer w e s ≡ Err Busy) × P (effect w e s)

@@ -10,6 +10,7 @@
 -- it is still answered. When the last number was given, nothing can be answered any more, and the requests that wait
 -- are dropped.
 use Rattle.std.specs.Prelude.{◌≡◌, refl, ℕ, ◌+◌, ◌==◌, ◌<◌, ◌≤◌, nat_lt, nat_le, Bool, true, false, ◌&&◌, if◌then◌else◌, List, [], ◌∷◌, ◌++◌, length, Option, Some, None, is_some, option_map, Result, Ok, Err}
+use Rattle.std.specs.List.{list_any}
 use Rattle.framing.specs.Reading.{Tail, Reading}
 use Rattle.framing.specs.Reading.Tail.{Partial}
 use Rattle.framing.specs.Streams.{fault_of, reading_after}
@@ -82,6 +83,19 @@ pub data Act : Type 0 where
   HangUp : Act
   -- the first of the waiting bytes were sent
   Take : ℕ → Act
+
+-- taking a piece and queueing an answer need memory, and nothing else does
+abbrev pub grows : Act → Bool
+grows Open = false
+grows Close = false
+grows (Accept piece) = true
+grows (Enter phase) = false
+grows (Reply outcome) = true
+grows HangUp = false
+grows (Take n) = false
+
+abbrev pub needs_memory : List Act → Bool
+needs_memory acts = list_any grows acts
 
 pub record Outcome : Type 0 where
   pub answer : Result Applied EventError

@@ -22,6 +22,7 @@ pub use event::{Applied, Event, EventError, LinkFault, Turned};
 pub use feeding::feed;
 pub use limits::{ConfigError, Limits};
 pub use session::Session;
+pub use state::MOST_PIECE;
 pub use writing::framed;
 
 /// The greatest length of a body, in bytes.

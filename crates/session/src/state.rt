@@ -1,5 +1,5 @@
 //! What a session keeps.
-ghost use Rattle.std.specs.Prelude.{◌≡◌, [], Option, Some, Ok, Err, IfOk, OnOk, OnErr, IsSome, ◌++◌, ◌∷◌, List, ℕ, length};
+ghost use Rattle.std.specs.Prelude.{◌≡◌, true, [], Option, Some, Ok, Err, IfOk, OnOk, OnErr, IsSome, ◌++◌, ◌∷◌, List, ℕ, length};
 ghost use Rattle.std.specs.Option.{option_map};
 ghost use Rattle.session.specs.declared.event.Event.TheVariants as event;
 ghost use Rattle.session.specs.declared.event.Applied.TheVariants as applied;
@@ -178,6 +178,7 @@ impl State {
         ensures ok { OnOk result (self.new
             ≡ performed keepings (spec.next_turn link (first_pending self.old.now.arrivals.pending)).acts self.old) }
         ensures err { OnErr result (self.new ≡ self.old) }
+        ensures needs { OnErr result (spec.needs_memory (spec.next_turn link (first_pending self.old.now.arrivals.pending)).acts ≡ true) }
     {
         let Some(first) = self.arrivals.first() else {
             return Ok(Turned::Nothing);

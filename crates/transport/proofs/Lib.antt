@@ -1,3 +1,4 @@
+pub mod Taking
 pub mod Serving
 pub mod ServerLemmas
 pub mod Sending

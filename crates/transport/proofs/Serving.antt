@@ -1,10 +1,13 @@
 -- Round by round, until serving ends.
-use Rattle.std.proofs.Common.{◌≡◌, ℕ, zero, suc, ◌+◌, ◌≤◌, ◌<◌, List, [], ◌∷◌, ◌++◌, length, take, drop, Option, Some, None, Result, Ok, Err, refl, sym, ap, ◌∙◌, subst, arith, append-nil, append_assoc, inl, inr}
-use Rattle.std.specs.Io.KnownBytes.{Consumes, Appends, IsAtEnd}
-use Rattle.std.proofs.KnownBytes.{Consumes-nil, Appends-nil, Consumes-trans, Appends-trans}
-use Rattle.std.proofs.lemmas.List.{length-append}
+use Rattle.std.proofs.Common.{◌≡◌, ℕ, zero, suc, ◌+◌, ◌≤◌, ◌<◌, List, [], ◌∷◌, ◌++◌, length, take, Bool, true, false, cond, eqb, Option, Some, None, Result, Ok, Err, refl, sym, ap, ◌∙◌, subst, arith, append-nil, append_assoc, inl, inr}
+use Rattle.std.specs.Io.KnownBytes.{Consumes, Appends, Keeps, ReadConsumes, WriteAppends}
+use Rattle.std.specs.IoError.{error_kind}
+use Rattle.std.specs.declared.io.Error.{Error}
+use Rattle.std.proofs.KnownBytes.{Consumes-nil, Appends-nil, Consumes-kept, Appends-kept, Consumes-trans, Appends-trans}
+use Rattle.std.proofs.lemmas.List.{length-append, length-take-le}
+use Rattle.std.proofs.lemmas.Bool.Decides.{nat_tests}
 use Rattle.transport.specs.declared.end.StreamEnd.{StreamEnd}
-use Rattle.transport.specs.declared.end.StreamEnd.TheVariants.{Turns, NoMemory as OutOfMemory}
+use Rattle.transport.specs.declared.end.StreamEnd.TheVariants.{Closed, Fault, Turns, NoMemory as OutOfMemory}
 use Rattle.session.specs.declared.event.Applied.{Applied}
 use Rattle.session.specs.declared.event.Event.{Event}
 use Rattle.session.specs.declared.event.Event.TheVariants.{Recv, Turn, Sent, DropConnection}
@@ -13,7 +16,9 @@ use Rattle.session.specs.declared.event.EventError.TheVariants.{NotConnected, Al
 use Rattle.session.specs.Effects.{Ends, effect, answer}
 use Rattle.session.specs.Sessions.{Session, Effect, histories, waiting_of}
 use Rattle.session.specs.Kept.{Kept, Stands, Happens, answered, see_kept}
-use Rattle.transport.specs.Rounds.{Due, Send, Leave, Answer, Receive, due, due_in, Round, Did, Interrupted, DoesWhatIsDue, IsRound, AreRounds, after_round, after_rounds, received_in, received, sent_in, sent, EndsAs, Served, GoesOn, Stops, Serving}
+use Rattle.transport.specs.Ends.{is_interrupted, end_of_error, end_of_read, end_of_write}
+use Rattle.transport.proofs.Taking.{takes_sent, takes_turn, takes_received}
+use Rattle.transport.specs.Rounds.{UsesStream, Took, Went, Due, Send, Leave, Answer, Receive, due, due_in, Round, Did, Interrupted, DoesWhatIsDue, IsRound, AreRounds, after_round, after_rounds, received_in, received, sent_in, sent, EndsAs, Served, GoesOn, Stops, Serving}
 use Rattle.session.proofs.Standing.{standing}
 
 -- an event that found memory happened, or was refused
@@ -58,34 +63,152 @@ above_zero (suc n) h = omega arith
 -- bytes were sent
 pub sends : (left held held' : Option (List ℕ)) (k new : Kept) (n : ℕ) (result : Result Applied EventError) → due (see_kept k) ≡ Send → Happens k (Sent n) result new → (result ≡ Err NoMemory → ⊥) → (n ≡ 0 → ⊥) → n ≤ length k.waiting
     → Appends held held' (take n k.waiting) → (s : Session) → Stands k s → GoesOn left left held held' s new
-sends left held held' k new n result d h ok some most a s st = record {
-  round = Did (Sent n);
-  is_round = subst (λ x. DoesWhatIsDue x (length (waiting_of s)) (Sent n)) (sym (due_there k s Send st d)) (above_zero n some, subst (λ (w : List ℕ). n ≤ length w) st.waiting most);
-  consumed = Consumes-nil left;
-  appended = subst (λ w. Appends held held' (take n w)) st.waiting a;
-  stands = happened k (Sent n) result new s h ok st;
-}
+sends left held held' k new n result d h ok some most a s st =
+    let few : n ≤ length (waiting_of s) = subst (λ (w : List ℕ). n ≤ length w) st.waiting most in record {
+      round = Did (Sent n);
+      is_round = (subst (λ x. DoesWhatIsDue x (length (waiting_of s)) (Sent n)) (sym (due_there k s Send st d)) (above_zero n some, few), takes_sent (histories.see s) n few);
+      consumed = Consumes-nil left;
+      appended = subst (λ w. Appends held held' (take n w)) st.waiting a;
+      stands = happened k (Sent n) result new s h ok st;
+    }
 
 -- a request was answered
 pub answers : (left held : Option (List ℕ)) (k new : Kept) (result : Result Applied EventError) → due (see_kept k) ≡ Answer → Happens k (Turn None) result new → (result ≡ Err NoMemory → ⊥) → (s : Session) → Stands k s → GoesOn left left held held s new
 answers left held k new result d h ok s st = record {
   round = Did (Turn None);
-  is_round = subst (λ x. DoesWhatIsDue x (length (waiting_of s)) (Turn None)) (sym (due_there k s Answer st d)) tt;
+  is_round = (subst (λ x. DoesWhatIsDue x (length (waiting_of s)) (Turn None)) (sym (due_there k s Answer st d)) tt, takes_turn (histories.see s));
   consumed = Consumes-nil left;
   appended = Appends-nil held;
   stands = happened k (Turn None) result new s h ok st;
 }
 
--- a piece was received
-pub receives : (left left' held : Option (List ℕ)) (k new : Kept) (piece : List ℕ) (result : Result Applied EventError) → due (see_kept k) ≡ Receive → Happens k (Recv piece) result new → (result ≡ Err NoMemory → ⊥) → 1 ≤ length piece
-    → Consumes left left' piece → (s : Session) → Stands k s → GoesOn left left' held held s new
-receives left left' held k new piece result d h ok some c s st = record {
-  round = Did (Recv piece);
-  is_round = subst (λ x. DoesWhatIsDue x (length (waiting_of s)) (Recv piece)) (sym (due_there k s Receive st d)) some;
+-- a piece was received, and taken
+pub receives : (left left' held : Option (List ℕ)) (k new : Kept) (piece : List ℕ) → due (see_kept k) ≡ Receive → 1 ≤ length piece → length piece ≤ 65536
+    → Consumes left left' piece → (s : Session) → Stands k s → Stands new (Effect s (Recv piece)) → GoesOn left left' held held s new
+receives left left' held k new piece d some few c s st taken =
+    let there = due_there k s Receive st d in record {
+      round = Did (Recv piece);
+      is_round = (subst (λ x. DoesWhatIsDue x (length (waiting_of s)) (Recv piece)) (sym there) some, takes_received (histories.see s) piece there few);
+      consumed = c;
+      appended = Appends-nil held;
+      stands = taken;
+    }
+
+-- a piece was received, and no memory was left for it
+pub loses : (left left' held : Option (List ℕ)) (k new : Kept) (piece : List ℕ) (end : StreamEnd) → due (see_kept k) ≡ Receive → 1 ≤ length piece → Consumes left left' piece → (s : Session) → Stands k s → end ≡ OutOfMemory
+    → Stands new (Effect s DropConnection) → Stops end left left' held held s new
+loses left left' held k new piece end d some c s st e dropped = record {
+  lost = piece;
   consumed = c;
   appended = Appends-nil held;
-  stands = happened k (Recv piece) result new s h ok st;
+  ends = λ turns made. subst (λ (x : StreamEnd). EndsAs x left' turns made piece s new) (sym e) (inr (dropped, some, due_there k s Receive st d));
 }
+
+-- whatever becomes of a piece
+pub came_in : (left left' held : Option (List ℕ)) (k new : Kept) (piece : List ℕ) (result : Option StreamEnd) → due (see_kept k) ≡ Receive → 1 ≤ length piece → length piece ≤ 65536 → Consumes left left' piece
+    → ((s : Session) → Stands k s → Took result piece s new) → (s : Session) → Stands k s → Went result left left' held held s new
+came_in left left' held k new piece None d some few c took s st = receives left left' held k new piece d some few c s st (took s st)
+came_in left left' held k new piece (Some end) d some few c took s st = loses left left' held k new piece end d some c s st (took s st).0 (took s st).1
+
+-- ---- what a stream answered
+
+some_is : (a b : StreamEnd) → (let o : Option StreamEnd = Some a in o) ≡ Some b → a ≡ b
+some_is a b h = cc
+
+none_is : (b : StreamEnd) → (let o : Option StreamEnd = None in o) ≡ Some b → ⊥
+none_is b h = cc
+
+some_is_not : (a : StreamEnd) → (let o : Option StreamEnd = Some a in o) ≡ None → ⊥
+some_is_not a h = cc
+
+-- an error ends serving as a fault
+error_ends : (e : Error) (end : StreamEnd) → end_of_error e ≡ Some end → end ≡ Fault
+error_ends e end h = go (is_interrupted (error_kind e)) h where
+  go : (t : Bool) → cond t None (Some Fault) ≡ Some end → end ≡ Fault
+  go true h = absurd (none_is end h)
+  go false h = sym (some_is Fault end h)
+
+-- a call that moved bytes and does not end serving moved some
+moved_some : (n : ℕ) (end : StreamEnd) → cond (eqb n 0) (Some end) None ≡ None → n ≡ 0 → ⊥
+moved_some n end h e = some_is_not end (sym (rw e refl) ∙ h)
+
+moved_none : (n : ℕ) (a end : StreamEnd) → cond (eqb n 0) (Some a) None ≡ Some end → (n ≡ 0) × (end ≡ a)
+moved_none n a end h =
+    let P : Bool → Type 0 = λ t. eqb n 0 ≡ t → cond t (Some a) None ≡ Some end → (n ≡ 0) × (end ≡ a) in
+    let go : P (eqb n 0) = elim (eqb n 0) as P [
+      | true ↦ λ t h. (grind (arith, nat_tests), sym (some_is a end h))
+      | false ↦ λ t h. absurd (none_is end h)
+    ] in go refl h
+
+-- the connection ends with a fault of a stream that was to be used
+faults : (left left' held held' : Option (List ℕ)) (k new : Kept) (end : StreamEnd) (d : Due) → due (see_kept k) ≡ d → UsesStream d → end ≡ Fault → Consumes left left' [] → Appends held held' [] → (s : Session) → Stands k s
+    → Stands new (Effect s DropConnection) → Stops end left left' held held' s new
+faults left left' held held' k new end d due_now uses e c a s st dropped = record {
+  lost = [];
+  consumed = c;
+  appended = a;
+  ends = λ turns made. subst (λ (x : StreamEnd). EndsAs x left' turns made [] s new) (sym e) (dropped, refl, subst UsesStream (sym (due_there k s d st due_now)) uses);
+}
+
+-- a call that was interrupted is made again
+again : (left left' held held' : Option (List ℕ)) (k : Kept) (d : Due) → due (see_kept k) ≡ d → UsesStream d → Consumes left left' [] → Appends held held' [] → (s : Session) → Stands k s → GoesOn left left' held held' s k
+again left left' held held' k d due_now uses c a s st = record {
+  round = Interrupted;
+  is_round = subst UsesStream (sym (due_there k s d st due_now)) uses;
+  consumed = c;
+  appended = a;
+  stands = st;
+}
+
+reads_none : (left left' : Option (List ℕ)) → Keeps left left' → Consumes left left' []
+reads_none left left' h = Consumes-kept left left left' [] (Consumes-nil left) h
+
+writes_none : (held held' : Option (List ℕ)) → Keeps held held' → Appends held held' []
+writes_none held held' h = Appends-kept held held held' [] (Appends-nil held) h
+
+-- the answer of a read ends serving
+pub read_ends : (left left' held : Option (List ℕ)) (k new : Kept) (room : List ℕ) (answer : Result ℕ Error) (end : StreamEnd) → end_of_read answer ≡ Some end → 0 < length room → due (see_kept k) ≡ Receive → ReadConsumes left left' answer room
+    → ((s : Session) → Stands k s → Stands new (Effect s DropConnection)) → (s : Session) → Stands k s → Stops end left left' held held s new
+read_ends left left' held k new room (Ok n) end h some d c dropped s st =
+    let m = moved_none n Closed end h in
+    let none : Consumes left left' [] = subst (λ n. Consumes left left' (take n room)) m.0 c.0 in record {
+      lost = [];
+      consumed = none;
+      appended = Appends-nil held;
+      ends = λ turns made. subst (λ (x : StreamEnd). EndsAs x left' turns made [] s new) (sym m.1) (dropped s st, refl, inr (due_there k s Receive st d, c.1 m.0 some));
+    }
+read_ends left left' held k new room (Err e) end h some d c dropped s st =
+    faults left left' held held k new end Receive d tt (error_ends e end h) (reads_none left left' c) (Appends-nil held) s st (dropped s st)
+
+-- it was interrupted
+pub read_again : (left left' held : Option (List ℕ)) (k : Kept) (e : Error) → due (see_kept k) ≡ Receive → Keeps left left' → (s : Session) → Stands k s → GoesOn left left' held held s k
+read_again left left' held k e d c s st = again left left' held held k Receive d tt (reads_none left left' c) (Appends-nil held) s st
+
+-- or it gave a piece
+pub read_some : (n : ℕ) (room : List ℕ) → end_of_read (Ok n) ≡ None → n ≤ length room → 1 ≤ length (take n room)
+read_some n room h few =
+    let some : 1 ≤ n = above_zero n (moved_some n Closed h) in
+    rw (length-take-le n room few) some
+
+pub read_few : (n : ℕ) (room : List ℕ) → n ≤ length room → length room ≤ 65536 → length (take n room) ≤ 65536
+read_few n room few most = rw (length-take-le n room few) (omega arith)
+
+-- the answer of a write ends serving
+pub write_ends : (left held held' : Option (List ℕ)) (k new : Kept) (answer : Result ℕ Error) (end : StreamEnd) → end_of_write answer ≡ Some end → due (see_kept k) ≡ Send → WriteAppends held held' answer k.waiting
+    → ((s : Session) → Stands k s → Stands new (Effect s DropConnection)) → (s : Session) → Stands k s → Stops end left left held held' s new
+write_ends left held held' k new (Ok n) end h d a dropped s st =
+    let m = moved_none n Fault end h in
+    faults left left held held' k new end Send d tt m.1 (Consumes-nil left) (subst (λ n. Appends held held' (take n k.waiting)) m.0 a) s st (dropped s st)
+write_ends left held held' k new (Err e) end h d a dropped s st =
+    faults left left held held' k new end Send d tt (error_ends e end h) (Consumes-nil left) (writes_none held held' a) s st (dropped s st)
+
+-- it was interrupted
+pub write_again : (left held held' : Option (List ℕ)) (k : Kept) → due (see_kept k) ≡ Send → Keeps held held' → (s : Session) → Stands k s → GoesOn left left held held' s k
+write_again left held held' k d a s st = again left left held held' k Send d tt (Consumes-nil left) (writes_none held held' a) s st
+
+-- or it took some
+pub write_some : (n : ℕ) → end_of_write (Ok n) ≡ None → n ≡ 0 → ⊥
+write_some n h = moved_some n Fault h
 
 -- ---- rounds after rounds
 

@@ -2,6 +2,7 @@ pub use Rattle.session.specs.Sessions
 pub use Rattle.session.specs.Kept
 pub use Rattle.session.specs.Writing
 pub mod Outbox
+pub mod Ends
 pub mod Rounds
 pub mod Heard
 pub mod Servers

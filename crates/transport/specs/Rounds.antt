@@ -7,7 +7,7 @@
 --
 -- A reader may say which bytes it has left, and a writer which bytes it holds (`Rattle.std.specs.Io.KnownBytes`); what
 -- is said here of bytes read and written is held against both.
-use Rattle.std.specs.Prelude.{◌≡◌, ℕ, ◌<◌, ◌≤◌, nat_lt, if◌then◌else◌, List, [], ◌∷◌, ◌++◌, length, take, Option, Some, None, ◌⊎◌}
+use Rattle.std.specs.Prelude.{◌≡◌, ℕ, ◌<◌, ◌≤◌, nat_lt, if◌then◌else◌, List, [], ◌∷◌, ◌++◌, length, take, Option, Some, None, IsOk, ◌⊎◌}
 use Rattle.std.specs.Io.KnownBytes.{Consumes, Appends, IsAtEnd}
 use Rattle.transport.specs.declared.end.StreamEnd.{StreamEnd}
 use Rattle.transport.specs.declared.end.StreamEnd.TheVariants.{Closed, Fault, Turns, NoMemory}
@@ -15,7 +15,7 @@ use Rattle.session.specs.declared.event.Event.{Event}
 use Rattle.session.specs.declared.event.Event.TheVariants.{Connect, Recv, Turn, Sent, DropConnection}
 use Rattle.session.specs.Kept.{Kept, Stands}
 use Rattle.session.specs.Outcomes.{Seen, is_finished}
-use Rattle.session.specs.Sessions.{Session, Effect, histories, waiting_of}
+use Rattle.session.specs.Sessions.{Session, Effect, Answer as answer_of, histories, waiting_of}
 
 -- what is to be done next
 pub data Due : Type 0 where
@@ -54,8 +54,12 @@ UsesStream Leave = ⊥
 UsesStream Answer = ⊥
 UsesStream Receive = Unit {0}
 
+-- The event is one that the session takes; without a connection there is none.
+abbrev pub IsTaken : Session → Event → Type 0
+IsTaken s e = (s.now.link ≡ None) ⊎ IsOk (answer_of s e)
+
 abbrev pub IsRound : Session → Round → Type 0
-IsRound s (Did e) = DoesWhatIsDue (due_in s) (length (waiting_of s)) e
+IsRound s (Did e) = DoesWhatIsDue (due_in s) (length (waiting_of s)) e × IsTaken s e
 IsRound s Interrupted = UsesStream (due_in s)
 
 abbrev pub after_round : Session → Round → Session
@@ -114,7 +118,8 @@ abbrev pub EndsAs : StreamEnd → Option (List ℕ) → ℕ → ℕ → List ℕ
 EndsAs Closed left turns made lost s new = Stands new (Effect s DropConnection) × (lost ≡ []) × ((due_in s ≡ Leave) ⊎ ((due_in s ≡ Receive) × IsAtEnd left))
 EndsAs Fault left turns made lost s new = Stands new (Effect s DropConnection) × (lost ≡ []) × UsesStream (due_in s)
 EndsAs NoMemory left turns made lost s new =
-    (Stands new s × (lost ≡ []) × ((due_in s ≡ Answer) ⊎ (made ≡ 0))) ⊎ (Stands new (Effect s DropConnection) × (due_in s ≡ Receive))
+    (Stands new s × (lost ≡ []) × ((due_in s ≡ Answer) ⊎ (made ≡ 0)))
+    ⊎ (Stands new (Effect s DropConnection) × (1 ≤ length lost) × (due_in s ≡ Receive))
 EndsAs Turns left turns made lost s new = Stands new s × (lost ≡ []) × (made ≡ turns)
 
 -- There are rounds, each of which does what is due; the pieces that they received are what the reader gave, but for a
@@ -128,6 +133,11 @@ pub record Served (left_before left held_before held : Option (List ℕ)) (turns
   pub ends : EndsAs end left turns (length rounds) lost (after_rounds s rounds) new
 
 -- ---- one turn of the loop
+
+-- What a piece leaves: the session takes it, or no memory was left for it and the connection has ended.
+abbrev pub Took : Option StreamEnd → List ℕ → Session → Kept → Type 0
+Took None piece s new = Stands new (Effect s (Recv piece))
+Took (Some end) piece s new = (end ≡ NoMemory) × Stands new (Effect s DropConnection)
 
 -- It makes one round, and then serving goes on.
 pub record GoesOn (left_before left held_before held : Option (List ℕ)) (s : Session) (new : Kept) : Type 0 where

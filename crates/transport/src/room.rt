@@ -1,22 +1,19 @@
 //! Room for the pieces that are read.
-ghost use Rattle.std.specs.Prelude.{◌<◌, IfOk, vec_len};
+ghost use Rattle.std.specs.Prelude.{◌≡◌, ◌<◌, IfOk, vec_len};
 
+use session::MOST_PIECE;
 use std::alloc::{AllocError, Global};
 
-// How many bytes one read may give.
-const PIECE: usize = 65_536;
-
-/// Room for the bytes of one read.
+/// Room for the bytes of one read: as many as a piece may have.
 pub(crate) fn room_of(alloc: Global) -> Result<Vec<u8>, AllocError>
-    ensures { IfOk result (λ room. 0 < vec_len room) }
+    ensures { IfOk result (λ room. vec_len room ≡ 65536) }
 {
-    zeros(alloc, PIECE)
+    zeros(alloc, MOST_PIECE)
 }
 
 // So many bytes. Their number is not looked at, which keeps the proof from writing them out.
 fn zeros(alloc: Global, count: usize) -> Result<Vec<u8>, AllocError>
-    requires { 0 < count }
-    ensures { IfOk result (λ bytes. 0 < vec_len bytes) }
+    ensures { IfOk result (λ bytes. vec_len bytes ≡ count) }
 {
     vec![in alloc; 0u8; count]
 }

@@ -1,16 +1,19 @@
 //! A session over a reader and a writer.
-ghost use Rattle.std.specs.Prelude.{◌≡◌, ◌<◌, length, Some, Option, List, ℕ};
+ghost use Rattle.std.specs.Prelude.{◌≡◌, ◌<◌, ◌≤◌, length, Some, Option, IfOk, IfSome, List, ℕ};
+ghost use Rattle.std.specs.Io.KnownBytes.{ReadConsumes, WriteAppends};
 ghost use Rattle.session.specs.declared.event.Event.TheVariants as event;
 ghost use Rattle.session.specs.Kept.{OfEach, Stands, see_kept};
 ghost use Rattle.session.specs.Sessions.{Effect};
 ghost use Rattle.transport.specs.Rounds as spec;
-ghost use Rattle.transport.specs.Rounds.{Served, Went, due};
+ghost use Rattle.transport.specs.Ends.{end_of_read, end_of_write};
+ghost use Rattle.transport.specs.Rounds.{Served, Took, Went, due};
 
-use crate::end::StreamEnd;
+use crate::end::{StreamEnd, end_of_read, end_of_write};
 use crate::room::room_of;
 use session::{EventError, Session};
 use std::alloc::Global;
-use std::io::{ErrorKind, Read, Write};
+use std::io;
+use std::io::{Read, Write};
 
 /// Serves the editor that is connected: reads what it sends from `reader`, and writes what waits to
 /// be sent to `writer`. When it ends other than by `Turns` and `NoMemory`, the connection has ended
@@ -54,7 +57,8 @@ fn turn<R: Read, W: Write>(
     writer: &mut W,
     room: &mut [u8],
 ) -> Option<StreamEnd>
-    requires { 0 < length room.old }
+    requires room { 0 < length room.old }
+    requires piece { length room.old ≤ 65536 }
     ensures { OfEach session.old (λ s. Went result (R.remaining reader.old) (R.remaining reader.new)
         (W.contents writer.old) (W.contents writer.new) s session.new) }
 {
@@ -75,15 +79,25 @@ fn send<W: Write>(session: &mut Session, writer: &mut W) -> Option<StreamEnd>
     ensures { (left : Option (List ℕ)) → OfEach session.old (λ s. Went result left left
         (W.contents writer.old) (W.contents writer.new) s session.new) }
 {
-    match writer.write(session.waiting()) {
-        Ok(0) => leave(session, StreamEnd::Fault),
-        Ok(count) => {
-            let _ = session.sent(count);
-            None
-        }
-        Err(e) if e.kind() == ErrorKind::Interrupted => None,
-        Err(_) => leave(session, StreamEnd::Fault),
+    let answer = writer.write(session.waiting());
+    wrote(session, answer)
+}
+
+// Goes on as the answer of a write says.
+fn wrote(session: &mut Session, answer: io::Result<usize>) -> Option<StreamEnd>
+    requires due { due (see_kept session.old) ≡ spec.Due.Send }
+    requires bound { IfOk answer (λ n. n ≤ length session.old.waiting) }
+    ensures end { result ≡ end_of_write answer }
+    ensures went { (left held held' : Option (List ℕ)) → WriteAppends held held' answer session.old.waiting
+        → OfEach session.old (λ s. Went result left left held held' s session.new) }
+{
+    if let Some(end) = end_of_write(answer) {
+        return leave(session, end);
     }
+    if let Ok(count) = answer {
+        let _ = session.sent(count);
+    }
+    None
 }
 
 fn answer(session: &mut Session) -> Option<StreamEnd>
@@ -101,21 +115,45 @@ fn answer(session: &mut Session) -> Option<StreamEnd>
 
 fn receive<R: Read>(session: &mut Session, reader: &mut R, room: &mut [u8]) -> Option<StreamEnd>
     requires room { 0 < length room.old }
+    requires piece { length room.old ≤ 65536 }
     requires due { due (see_kept session.old) ≡ spec.Due.Receive }
     ensures { (held : Option (List ℕ)) → OfEach session.old (λ s. Went result (R.remaining reader.old)
         (R.remaining reader.new) held held s session.new) }
 {
-    match reader.read(room) {
-        Ok(0) => leave(session, StreamEnd::Closed),
-        Ok(count) => match session.recv(&room[..count]) {
-            Ok(()) => None,
-            Err(error) => match error {
-                EventError::NoMemory => leave(session, StreamEnd::NoMemory),
-                _ => None,
-            },
+    let answer = reader.read(room);
+    came(session, room, answer)
+}
+
+// Goes on as the answer of a read into the room says.
+fn came(session: &mut Session, room: &[u8], answer: io::Result<usize>) -> Option<StreamEnd>
+    requires room { 0 < length room.now }
+    requires piece { length room.now ≤ 65536 }
+    requires due { due (see_kept session.old) ≡ spec.Due.Receive }
+    requires bound { IfOk answer (λ n. n ≤ length room.now) }
+    ensures end { IfSome (end_of_read answer) (λ end. result ≡ Some end) }
+    ensures went { (left left' held : Option (List ℕ)) → ReadConsumes left left' answer room.now
+        → OfEach session.old (λ s. Went result left left' held held s session.new) }
+{
+    if let Some(end) = end_of_read(answer) {
+        return leave(session, end);
+    }
+    match answer {
+        Ok(count) => take(session, &room[..count]),
+        Err(_) => None,
+    }
+}
+
+// Takes a piece.
+fn take(session: &mut Session, piece: &[u8]) -> Option<StreamEnd>
+    requires due { due (see_kept session.old) ≡ spec.Due.Receive }
+    ensures { OfEach session.old (λ s. Took result piece.now s session.new) }
+{
+    match session.recv(piece) {
+        Ok(()) => None,
+        Err(error) => match error {
+            EventError::NoMemory => leave(session, StreamEnd::NoMemory),
+            _ => None,
         },
-        Err(e) if e.kind() == ErrorKind::Interrupted => None,
-        Err(_) => leave(session, StreamEnd::Fault),
     }
 }
 

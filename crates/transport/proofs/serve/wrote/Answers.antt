@@ -1,0 +1,11 @@
+use Rattle.std.proofs.Common.{◌≤◌, length, Ok, None, IfOk, ap, sym, subst, ◌∙◌, ◌≡◌}
+use Rattle.std.specs.Io.KnownBytes.{WriteAppends}
+use Rattle.transport.specs.Ends.{end_of_write}
+use Rattle.transport.proofs.Serving.{found, sends, write_some}
+use Rattle.transport.proofs.serve.wrote.Goals as goal
+
+pub returns-in-Ok-clause-went : goal.returns-in-Ok-clause-went
+returns-in-Ok-clause-went c left held held' h =
+    let none : end_of_write (Ok c.in-Ok.count) ≡ None = sym (ap end_of_write c.in-Ok.is) ∙ sym c.end_of_write.ensures ∙ c.in_default.is in
+    let bound : c.in-Ok.count ≤ length c.args.session.now.waiting = subst (λ r. IfOk r (λ n. n ≤ length c.args.session.now.waiting)) c.in-Ok.is c.requires.bound in
+    sends left held held' c.args.session.now c.sent.new.self c.in-Ok.count _ c.requires.due c.sent.ensures.stands (found _ c.sent.result c.sent.ensures.takes_none) (write_some c.in-Ok.count none) bound (subst (λ r. WriteAppends held held' r c.args.session.now.waiting) c.in-Ok.is h)
