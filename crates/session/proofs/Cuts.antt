@@ -25,12 +25,12 @@ use Rattle.session.specs.Arrivals.{Arrivals, joined, all_joined, first_pending, 
 use Rattle.session.specs.Effects.{performed}
 use Rattle.session.specs.Outcomes.{Now, Outcome, Act, Open, Close, Accept, Take, refused, done, outcome, outcome_at, answering, to_link, read_on, accepted, fault_or, fault_of_reading, tail_kept}
 use Rattle.session.specs.Sessions.{Session, On, Effect, Answer, on_connection, performed_on, histories, start, After, up_to_fault, is_faulty}
-use Rattle.session.specs.Laws.{RequestsAreRead, IsTaken, CutsDoNotMatter, RefusedChangesNothing}
+use Rattle.session.specs.Laws.{RequestsAreRead, FaultIsOfTheBytes, IsTaken, CutsDoNotMatter, RefusedChangesNothing}
 use Rattle.session.proofs.Standing.{none_later}
 use Rattle.session.proofs.Reaching.{KeptByEvents, reached}
 use Rattle.session.proofs.Answering.{Answered, answered_by}
 use Rattle.session.proofs.Order.{put, more_on, none_is, some_is, by_now_same, all_by_now, accepting}
-use Rattle.session.proofs.Reading.{asks_of-append, message_fault_of-append, fault_stays, asks_up_to, up_to_fault_all, up_to_fault-append, ends_at_fault, reading_after-append, no_message_fault, none_if}
+use Rattle.session.proofs.Reading.{asks_of-append, message_fault_of-append, fault_stays, asks_up_to, fault_up_to, up_to_fault_all, up_to_fault-append, ends_at_fault, reading_after-append, no_message_fault, none_if}
 
 -- ---- the requests of a connection are those of its bytes
 
@@ -38,12 +38,14 @@ pub record Reads (s : Session) : Type 0 where
   pub asked : (l : Link) → s.now.link ≡ Some l → on_connection s.now.connections s.asked ≡ asks_of (reading_of BODY_LIMIT s.accepted).bodies
   pub goes_on : (l : Link) → s.now.link ≡ Some l → l.is_closing ≡ false → ((reading_of BODY_LIMIT s.accepted).tail ≡ s.now.tail) × (fault_of_reading (reading_of BODY_LIMIT s.accepted) ≡ None)
   pub asked_by_now : All (λ (a : On Ask). a.connection ≤ s.now.connections) s.asked
+  pub fault : (l : Link) → s.now.link ≡ Some l → s.now.fault ≡ fault_of_reading (reading_of BODY_LIMIT s.accepted)
 
 reads_opens : (s : Session) → s.now.link ≡ None → Reads s → Reads (performed_on Open s)
 reads_opens s e h = record {
   asked = λ l f. none_later s.now.connections s.asked h.asked_by_now ∙ sym (ap (λ (r : Reading). asks_of r.bodies) (nothing_stands BODY_LIMIT).reads);
   goes_on = λ l f g. (ap (λ (r : Reading). r.tail) (nothing_stands BODY_LIMIT).reads, ap fault_of_reading (nothing_stands BODY_LIMIT).reads);
   asked_by_now = All-weaker (λ (a : On Ask). a.connection ≤ s.now.connections) (λ (a : On Ask). a.connection ≤ s.now.connections + 1) (λ a b. omega (arith, b)) s.asked h.asked_by_now;
+  fault = λ l f. sym (ap fault_of_reading (nothing_stands BODY_LIMIT).reads);
 }
 
 -- what a stream and a piece are read as
@@ -75,6 +77,7 @@ reads_accepts s l piece e n h =
             ap (λ x. fault_of_reading (reading_of BODY_LIMIT x)) same ∙ whole_fault s piece so.0 so.1 ∙ none,
           );
       asked_by_now = all_by_now c (asks_of r.bodies) s.asked h.asked_by_now;
+      fault = λ k f. sym (fault_up_to s.accepted piece ∙ whole_fault s piece so.0 so.1);
     })
 
 reads_answers : (s : Session) (l : Link) (p : Pending) → s.now.link ≡ Some l → first_pending s.now.arrivals.pending ≡ Some p → Reads s → Reads (performed histories (answering l p) s)
@@ -87,22 +90,26 @@ reads_answers s l p e f h =
           let so = h.goes_on l e (w.closes (ap (λ (x : Link). x.is_closing) (some_is _ k (sym w.is ∙ g)) ∙ i)) in
           (ap (λ x. (reading_of BODY_LIMIT x).tail) w.accepted ∙ so.0 ∙ sym w.tail, ap (λ x. fault_of_reading (reading_of BODY_LIMIT x)) w.accepted ∙ so.1);
       asked_by_now = by_now_same s.now.connections t.now.connections s.asked t.asked (sym w.connections) (sym w.asked) h.asked_by_now;
+      fault = λ k g. w.fault ∙ h.fault l e ∙ sym (ap (λ x. fault_of_reading (reading_of BODY_LIMIT x)) w.accepted);
     }
 
 reads : KeptByEvents Reads
 reads = record {
   opens = reads_opens;
-  closes = λ s h. record { asked = λ l e. absurd (none_is l e); goes_on = λ l e. absurd (none_is l e); asked_by_now = h.asked_by_now };
+  closes = λ s h. record { asked = λ l e. absurd (none_is l e); goes_on = λ l e. absurd (none_is l e); asked_by_now = h.asked_by_now; fault = λ l e. absurd (none_is l e) };
   accepts = reads_accepts;
   answers = reads_answers;
-  takes = λ s l n e h. record { asked = h.asked; goes_on = h.goes_on; asked_by_now = h.asked_by_now };
+  takes = λ s l n e h. record { asked = h.asked; goes_on = h.goes_on; asked_by_now = h.asked_by_now; fault = h.fault };
 }
 
 reads_start : (limits : Limits) → Reads (start limits)
-reads_start limits = record { asked = λ l e. absurd (none_is l e); goes_on = λ l e. absurd (none_is l e); asked_by_now = All-nil (λ (a : On Ask). a.connection ≤ 0) }
+reads_start limits = record { asked = λ l e. absurd (none_is l e); goes_on = λ l e. absurd (none_is l e); asked_by_now = All-nil (λ (a : On Ask). a.connection ≤ 0); fault = λ l e. absurd (none_is l e) }
 
 pub requests_are_read : (limits : Limits) (events : List Event) → RequestsAreRead (After limits events)
 requests_are_read limits events = (reached Reads reads limits (reads_start limits) events).asked
+
+pub fault_is_of_the_bytes : (limits : Limits) (events : List Event) → FaultIsOfTheBytes (After limits events)
+fault_is_of_the_bytes limits events = (reached Reads reads limits (reads_start limits) events).fault
 
 -- ---- a piece that is taken
 

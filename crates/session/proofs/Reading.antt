@@ -104,6 +104,9 @@ faulty_more stream more h =
 asks_more : (stream more : List ℕ) → is_faulty stream ≡ true → asks_of (reading_of BODY_LIMIT (stream ++ more)).bodies ≡ asks_of (reading_of BODY_LIMIT stream).bodies
 asks_more stream more h = ap (λ (r : Reading). asks_of r.bodies) (reading_of-append BODY_LIMIT stream more) ∙ (fault_stays (reading_of BODY_LIMIT stream) more h).asks
 
+fault_more : (stream more : List ℕ) → is_faulty stream ≡ true → fault_of_reading (reading_of BODY_LIMIT (stream ++ more)) ≡ fault_of_reading (reading_of BODY_LIMIT stream)
+fault_more stream more h = ap fault_of_reading (reading_of-append BODY_LIMIT stream more) ∙ (fault_stays (reading_of BODY_LIMIT stream) more h).fault
+
 -- ---- up to a fault
 
 abbrev up_to_fault_by : List ℕ → ℕ → List ℕ → List ℕ
@@ -117,6 +120,16 @@ asks_up_to stream (b ∷ piece) =
       by_test : (t : Bool) → is_faulty stream ≡ t → asks_of (reading_of BODY_LIMIT (up_to_fault_by stream b piece)).bodies ≡ asks_of (reading_of BODY_LIMIT (stream ++ b ∷ piece)).bodies
           → asks_of (reading_of BODY_LIMIT (cond t stream (up_to_fault_by stream b piece))).bodies ≡ asks_of (reading_of BODY_LIMIT (stream ++ b ∷ piece)).bodies
       by_test true e h = sym (asks_more stream (b ∷ piece) e)
+      by_test false e h = h
+
+-- and the fault is the same
+pub fault_up_to : (stream piece : List ℕ) → fault_of_reading (reading_of BODY_LIMIT (up_to_fault stream piece)) ≡ fault_of_reading (reading_of BODY_LIMIT (stream ++ piece))
+fault_up_to stream [] = sym (ap (λ l. fault_of_reading (reading_of BODY_LIMIT l)) (append-nil stream))
+fault_up_to stream (b ∷ piece) =
+    by_test (is_faulty stream) refl (fault_up_to (stream ++ b ∷ []) piece ∙ ap (λ l. fault_of_reading (reading_of BODY_LIMIT l)) (append_assoc stream (b ∷ []) piece)) where
+      by_test : (t : Bool) → is_faulty stream ≡ t → fault_of_reading (reading_of BODY_LIMIT (up_to_fault_by stream b piece)) ≡ fault_of_reading (reading_of BODY_LIMIT (stream ++ b ∷ piece))
+          → fault_of_reading (reading_of BODY_LIMIT (cond t stream (up_to_fault_by stream b piece))) ≡ fault_of_reading (reading_of BODY_LIMIT (stream ++ b ∷ piece))
+      by_test true e h = sym (fault_more stream (b ∷ piece) e)
       by_test false e h = h
 
 -- a faulty stream takes nothing more

@@ -22,7 +22,7 @@ use Rattle.session.specs.declared.pending.Ask.{Ask}
 use Rattle.session.specs.declared.pending.Pending.{Pending}
 use Rattle.session.specs.Arrivals.{number_of, name_asked, asks_of}
 use Rattle.session.specs.Fronts.{IsFrontOf}
-use Rattle.session.specs.Outcomes.{Numbered}
+use Rattle.session.specs.Outcomes.{Numbered, fault_of_reading}
 use Rattle.session.specs.Sessions.{Session, On, on_connection, bytes_of, taken_of, waiting_of, After, Effect, Answer}
 
 -- ---- bytes
@@ -76,6 +76,11 @@ pub record AnswersInOrder (s : Session) : Type 0 where
 -- its frames, in order, up to the first that is no message.
 abbrev pub RequestsAreRead : Session → Type 0
 RequestsAreRead s = (link : Link) → s.now.link ≡ Some link → on_connection s.now.connections s.asked ≡ asks_of (reading_of BODY_LIMIT s.accepted).bodies
+
+-- What closed the present connection is the fault of the bytes that were accepted on it, if they have one: its first body
+-- that is no message, or the frame that cannot go on.
+abbrev pub FaultIsOfTheBytes : Session → Type 0
+FaultIsOfTheBytes s = (link : Link) → s.now.link ≡ Some link → s.now.fault ≡ fault_of_reading (reading_of BODY_LIMIT s.accepted)
 
 -- Two pieces, one after the other, leave what they leave as one: where all three are accepted, or where the first
 -- closes the connection.

@@ -29,6 +29,12 @@ pub fn requests_are_read()
     ensures { (limits : TheLimits) (events : List AnEvent) → law.RequestsAreRead (After limits events) }
 {}
 
+/// Whatever happens, what closed the present connection is the fault of the bytes that were accepted on
+/// it, if they have one.
+pub fn fault_is_of_the_bytes()
+    ensures { (limits : TheLimits) (events : List AnEvent) → law.FaultIsOfTheBytes (After limits events) }
+{}
+
 /// Whatever happened, two pieces leave what they leave as one.
 pub fn cuts_do_not_matter()
     ensures { (limits : TheLimits) (events : List AnEvent) → law.CutsDoNotMatter (After limits events) }
