@@ -32,10 +32,13 @@ class Row:
     otherwise: list = None
 
 
+def program_of(player):
+    return os.path.join(TOP, "crates", player, "out", player)
+
+
 def play(player, lines, environment=None):
     """Plays the commands, and answers the lines that come and the status."""
-    program = os.path.join(TOP, "crates", player, "out", player)
-    ran = subprocess.run([program], input="".join(line + "\n" for line in lines), env=environment, stdout=subprocess.PIPE,
+    ran = subprocess.run([program_of(player)], input="".join(line + "\n" for line in lines), env=environment, stdout=subprocess.PIPE,
                          encoding="utf-8", timeout=SECONDS)
     return ran.stdout.splitlines(), ran.returncode
 
@@ -87,6 +90,17 @@ def first_of(wanted, lines, status):
     return wanted if status == 0 else wanted[:len(lines)]
 
 
+def what_is_no_command_ends_a_run():
+    for line in ("fed 00", "feed", "feed 00 00", "feed 0", "feed 0g", "new", "new x", "new 4294967296", "next ", " next", ""):
+        expect(play("play_framing", ["new 5", line, "next"]), (["ok", "?"], 2), "the answers with the line %r" % line)
+
+
+def an_answer_that_is_not_taken_ends_a_run():
+    with open("/dev/full", "wb") as full:
+        ran = subprocess.run([program_of("play_framing")], input=b"new 5\nnext\n", stdout=full, timeout=SECONDS)
+    expect(ran.returncode, 1, "the status with a full device")
+
+
 def tables():
     """The name and the module of each table."""
     for path in sorted(glob.glob(os.path.join(TOP, "tests", "rows", "[!_]*.py"))):
@@ -95,8 +109,8 @@ def tables():
 
 
 def checks():
-    """Each check with its name: a row played, and where it says so played with each allocation refused."""
-    found = []
+    """Each check with its name: of the players, and a row played, where it says so with each allocation refused too."""
+    found = [(check.__name__.replace("_", " "), check) for check in (what_is_no_command_ends_a_run, an_answer_that_is_not_taken_ends_a_run)]
     for table, module in tables():
         for row in module.ROWS:
             found.append(("%s: %s" % (table, row.name), partial(is_played, module.PLAYER, row)))

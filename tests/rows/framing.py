@@ -57,6 +57,12 @@ def pieces_of(stream, size):
     return [stream[i:i + size] for i in range(0, len(stream), size)]
 
 
+def header_part_of(size):
+    """A header part of so many bytes, of a frame whose body has two."""
+    field = b"Content-Length: 2\r\nX: "
+    return field + b"x" * (size - len(field) - 4) + b"\r\n\r\n"
+
+
 NUMBERED = [b"%d" % i for i in range(10000)]
 NUMBERED_STREAM = b"".join(map(framed, NUMBERED))
 
@@ -101,6 +107,22 @@ ROWS = [
         (b"a" * 4095, "ok"),
         (b"a" * 4096, "HeaderTooLong"),
     ), PROFILE),
+    Row("a header part has up to 4,096 bytes", faults(
+        (header_part_of(4095) + b"{}", "ok"),
+        (header_part_of(4096) + b"{}", "ok"),
+        (header_part_of(4097) + b"{}", "HeaderTooLong"),
+        (header_part_of(4097)[:4095], "ok"),
+        (header_part_of(4097)[:4096], "HeaderTooLong"),
+    ) + [new(), feed(header_part_of(4096) + b"{}"), lends(b"{}"), NONE_WAITS], PROFILE),
+    Row("the limit is any that 32 bits hold", [
+        new(0),
+        feed(b"Content-Length: 0\r\n\r\n"), lends(b""),
+        feed(b"Content-Length: 1\r\n\r\n", "TooLong"),
+        new(4294967295),
+        feed(b"Content-Length: 4294967295\r\n\r\n"), NONE_WAITS,
+        new(4294967295),
+        feed(b"Content-Length: 4294967296\r\n\r\n", "TooLong"),
+    ], BY_HAND),
     Row("a fault stays and the bodies before it too", [
         new(),
         feed(b"Content-Length: 2\r\n\r\n{}Content-Length: 3\r\n\r\n[1]X: 1\r\n\r\n", "NoLength"),

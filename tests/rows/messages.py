@@ -1,4 +1,6 @@
 """Bodies and the requests that they are read as; responses as they are made, written and read; the texts of errors."""
+from json import dumps
+
 from playing import Row
 from sessions import CANCELLED, CAPABILITIES, DISCONNECTED, REFUSED, THREADS
 from sessions import INITIALIZE as FIRST
@@ -322,6 +324,10 @@ RESPONSES = [
         write(4, '{"body":{"error":{"format":"no such request","id":1}},"command":"quit",'
                  '"message":"unknownCommand","request_seq":5,"seq":4,"success":false,"type":"response"}'),
     ], PROFILE),
+    Row("a name is escaped as the profile says", [
+        step for name in (*map(chr, range(32)), '"', "\\", "/", "\x7f", "\u00e9", "\u20ac", "\u2028", "\U0001f600", 'a"\\\n\x1f\u00e9/')
+        for step in written(1, refused(1, name, "UnknownCommand"), refusal_text("unknownCommand", 1, dumps(name, ensure_ascii=False)[1:-1], 1, 1))
+    ], "docs/PROTOCOL.md, as Python's json.dumps spells it"),
     Row("a message that found no memory can be made, written and read again", [
         *written(1, success(1, "initialize", "Initialize"), INITIALIZE_TEXT),
         *written(1, refuse(1, "threads", "WrongPhase"), REFUSED_TEXT),
@@ -366,8 +372,15 @@ def members(names):
 
 NAMES = ["%06d" % i for i in range(90000)]
 
+LONG_TEXT = ('{"body":{"error":{"format":"%s","id":1}},"command":"quit","message":"unknownCommand",'
+             '"request_seq":%d,"seq":%d,"success":false,"type":"response"}' % ("y" * LIMIT, GREATEST, GREATEST))
+
 GREATEST_SIZES = [
     *(Row("a name as long as a body lets it be, of " + what, long_name(*letters), PROFILE) for what, letters in LONG_NAMES.items()),
+    Row("a refusal's text is written whole, and not read", [
+        refused(GREATEST, "quit", "UnknownCommand", spelled("y" * LIMIT)),
+        write(GREATEST, LONG_TEXT), no_message(LONG_TEXT),
+    ], PROFILE),
     Row("requests of the greatest length", requests(
         (filled('{"seq":2147483647,"type":"request","command":"initialize","arguments":{"adapterID":"', '"}}'), is_initialize(GREATEST, True, True)),
         (filled('{"seq":2147483647,"type":"request","command":"threads","x":"', '"}'), is_threads(GREATEST)),
