@@ -29,13 +29,16 @@ class Row:
     steps: list
     source: str
     refused: bool = False
-    otherwise: tuple = ()
+    otherwise: list = None
+
+
+def program_of(player):
+    return os.path.join(TOP, "crates", player, "out", player)
 
 
 def play(player, lines, environment=None):
     """Plays the commands, and answers the lines that come and the status."""
-    program = os.path.join(TOP, "crates", player, "out", player)
-    ran = subprocess.run([program], input="".join(line + "\n" for line in lines), env=environment, stdout=subprocess.PIPE,
+    ran = subprocess.run([program_of(player)], input="".join(line + "\n" for line in lines), env=environment, stdout=subprocess.PIPE,
                          encoding="utf-8", timeout=SECONDS)
     return ran.stdout.splitlines(), ran.returncode
 
@@ -70,23 +73,32 @@ def without_the_line(lines):
 def is_played_without_memory(player, row):
     """Each allocation refused in turn: the answers are the same, with a line where a call found no memory. Where the player itself
     found none, it ends with status 3, and the answers so far are the first ones."""
-    commands = [command for command, _ in row.steps]
-
-    def once(environment):
-        which = "%s, allocation %s refused" % (row.name, environment["REFUSE_ALLOC"])
-        lines, status = play(player, commands, environment)
+    runs = []
+    each_refusal(lambda environment: runs.append(play(player, [command for command, _ in row.steps], environment)))
+    for number, (lines, status) in enumerate(runs, 1):
+        which = "%s, allocation %d refused" % (row.name, number)
         expect(status in (0, 3), True, "%s: the status %d is right" % (which, status))
-        if row.otherwise and lines == first_of(row.otherwise, lines, status):
-            return
-        lines = without_the_line(lines)
-        expect_answers(lines, Row(which, first_of(row.steps, lines, status), row.source))
-
-    expect(each_refusal(once) > 0, True, "%s: some allocation was refused" % row.name)
+        if not row.otherwise or lines != first_of(row.otherwise, lines, status):
+            lines = without_the_line(lines)
+            expect_answers(lines, Row(which, first_of(row.steps, lines, status), row.source))
+    expect(any(NO_MEMORY in lines and status == 0 for lines, status in runs), True, "%s: a call found no memory" % row.name)
+    expect(not row.otherwise or (row.otherwise, 0) in runs, True, "%s: the other answers came" % row.name)
 
 
 def first_of(wanted, lines, status):
     """What is wanted of a run: all, or where the player found no memory as much as there are lines."""
-    return list(wanted) if status == 0 else list(wanted)[:len(lines)]
+    return wanted if status == 0 else wanted[:len(lines)]
+
+
+def what_is_no_command_ends_a_run():
+    for line in ("fed 00", "feed", "feed 00 00", "feed 0", "feed 0g", "new", "new x", "new 4294967296", "next ", " next", ""):
+        expect(play("play_framing", ["new 5", line, "next"]), (["ok", "?"], 2), "the answers with the line %r" % line)
+
+
+def an_answer_that_is_not_taken_ends_a_run():
+    with open("/dev/full", "wb") as full:
+        ran = subprocess.run([program_of("play_framing")], input=b"new 5\nnext\n", stdout=full, timeout=SECONDS)
+    expect(ran.returncode, 1, "the status with a full device")
 
 
 def tables():
@@ -97,8 +109,8 @@ def tables():
 
 
 def checks():
-    """Each check with its name: a row played, and where it says so played with each allocation refused."""
-    found = []
+    """Each check with its name: of the players, and a row played, where it says so with each allocation refused too."""
+    found = [(check.__name__.replace("_", " "), check) for check in (what_is_no_command_ends_a_run, an_answer_that_is_not_taken_ends_a_run)]
     for table, module in tables():
         for row in module.ROWS:
             found.append(("%s: %s" % (table, row.name), partial(is_played, module.PLAYER, row)))

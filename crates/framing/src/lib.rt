@@ -15,6 +15,3 @@ mod writing;
 pub use error::FrameError;
 pub use unframer::Unframer;
 pub use writing::frame;
-
-#[cfg(test)]
-mod tests;

@@ -18,7 +18,7 @@ pub trait Player {
 /// once more.
 ///
 /// Status 0 where all lines were played, 1 where a read or a write failed, 2 with the line `?` where
-/// a line was no command, and 3 where the player itself found no memory.
+/// a line was no command, and 3 where the player itself found no memory, or a call found none twice.
 pub fn play<P: Player>(rt: &HostRuntime, player: &mut P) -> ExitCode {
     match play_input(rt, player) {
         Ok(()) => ExitCode::SUCCESS,

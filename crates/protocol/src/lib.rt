@@ -14,8 +14,6 @@ pub mod members;
 mod properties;
 pub mod refusal;
 pub mod request;
-#[cfg(test)]
-mod tests;
 pub mod text;
 pub mod threads;
 

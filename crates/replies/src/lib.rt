@@ -17,6 +17,3 @@ mod writing;
 
 pub use message::{Message, read_message, write_message};
 pub use response::{Outcome, Response, ResponseBody};
-
-#[cfg(test)]
-mod tests;

@@ -1,0 +1,117 @@
+//! Plays `protocol` and `replies`: bodies that are read as requests, and responses that are made, written and read.
+#![tactic(auto)]
+
+mod errors;
+mod requests;
+mod responses;
+
+use play::{Fault, Player, bytes_of, called, hexadecimal, parsed, play, told};
+use protocol::json::json_value;
+use protocol::{MessageError, Text, read_request};
+use replies::{Message, Response, read_message, write_message};
+use requests::{incoming_words, request_named};
+use responses::{body_named, done, refused, response_words};
+use std::alloc::Global;
+use std::process::ExitCode;
+
+/// What is played: the message that was made or read last.
+#[derive(Drop)]
+struct Messages {
+    last: Option<Message>,
+}
+
+fn main(rt: HostRuntime) -> ExitCode {
+    play(&rt, &mut Messages { last: None })
+}
+
+impl Player for Messages {
+    fn answer(&mut self, alloc: Global, words: &[&str]) -> Result<String, Fault> {
+        match words {
+            ["request", body] => request(alloc, &bytes_of(alloc, body)?),
+            ["json", body] => json(alloc, &bytes_of(alloc, body)?),
+            ["text", bytes] => text(alloc, responses::text_of(alloc, bytes)?),
+            ["refusal", name] => errors::refusal_words(alloc, errors::refusal_named(name)?),
+            ["error", name] => told(alloc, errors::error_named(name)?),
+            ["write", seq] => self.write(alloc, parsed(seq)?),
+            ["read", body] => self.read(alloc, &bytes_of(alloc, body)?),
+            _ => {
+                let response = response(alloc, words)?;
+                self.keep(alloc, response)
+            }
+        }
+    }
+}
+
+impl Messages {
+    /// Keeps the response, and tells what it is.
+    fn keep(&mut self, alloc: Global, response: Response) -> Result<String, Fault> {
+        let words = response_words(alloc, &response)?;
+        self.last = Some(Message::Response(response));
+        Ok(words)
+    }
+
+    fn write(&self, alloc: Global, seq: u32) -> Result<String, Fault> {
+        let Some(message) = &self.last else {
+            return Err(Fault::NoCommand);
+        };
+        hexadecimal(alloc, &called(write_message(alloc, seq, message))?)
+    }
+
+    fn read(&mut self, alloc: Global, body: &[u8]) -> Result<String, Fault> {
+        match read_message(alloc, body) {
+            Ok((seq, Message::Response(response))) => {
+                let words = self.keep(alloc, response)?;
+                Ok(format!(in alloc; "{seq} {words}")?)
+            }
+            Err(error) => fault(alloc, error),
+        }
+    }
+}
+
+fn request(alloc: Global, body: &[u8]) -> Result<String, Fault> {
+    match read_request(alloc, body) {
+        Ok(incoming) => incoming_words(alloc, incoming),
+        Err(error) => fault(alloc, error),
+    }
+}
+
+/// The JSON value of a body, as its compact text.
+fn json(alloc: Global, body: &[u8]) -> Result<String, Fault> {
+    match json_value(alloc, body) {
+        Ok(value) => hexadecimal(alloc, &value.to_vec(alloc)?),
+        Err(error) => fault(alloc, error),
+    }
+}
+
+/// A text as it is lent, and as the `String` that it holds.
+fn text(alloc: Global, text: Text) -> Result<String, Fault> {
+    let lent = hexadecimal(alloc, text.as_str().as_bytes())?;
+    let held = hexadecimal(alloc, text.into_string().as_bytes())?;
+    Ok(format!(in alloc; "{lent} {held}")?)
+}
+
+/// What a call answered that a body is no message to.
+fn fault(alloc: Global, error: MessageError) -> Result<String, Fault> {
+    match error {
+        MessageError::NoMemory => Err(Fault::NoMemoryInCall),
+        error => Ok(format!(in alloc; "{error:?}")?),
+    }
+}
+
+/// The response that a command makes: to a request, or of its parts.
+fn response(alloc: Global, words: &[&str]) -> Result<Response, Fault> {
+    match words {
+        ["success", seq, name, body] => {
+            let request = request_named(seq, name)?;
+            called(Response::success(alloc, &request, body_named(body)?))
+        }
+        ["refuse", seq, name, refusal] => {
+            let request = request_named(seq, name)?;
+            called(Response::error(alloc, &request, errors::refusal_named(refusal)?))
+        }
+        ["ack", seq, name] => called(Response::ack(alloc, &request_named(seq, name)?)),
+        ["done", seq, name, body] => done(alloc, seq, name, body),
+        ["refused", seq, name, refusal, text] => refused(alloc, seq, name, refusal, text),
+        _ => Err(Fault::NoCommand),
+    }
+}
