@@ -52,6 +52,10 @@ most_that_wait = refl
 full : FULL ≡ 65536
 full = refl
 
+-- so many connections may be made
+last_connection : LAST_CONNECTION ≡ 4294967295
+last_connection = refl
+
 -- What a session is now, as far as no past is needed to say it: its limits; how many connections were made; the present
 -- one, if there is one; the requests that came on it and wait for their answers; what has come of the next frame; and
 -- what closed the present connection or the last one, if something did.

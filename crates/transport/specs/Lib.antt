@@ -7,3 +7,4 @@ pub mod Rounds
 pub mod Heard
 pub mod Servers
 pub mod Inbox
+pub mod Laws

@@ -4,7 +4,7 @@
 -- often the server is asked, it gives the messages of the stream one after the other, and none twice. Where it finds no
 -- memory it has lost nothing. A fault of the stream, or a body that is no message, comes behind all the messages before
 -- it, and stays.
-use Rattle.std.specs.Prelude.{◌≡◌, ℕ, ◌+◌, List, [], Option, Some, None, Result, Ok, Err}
+use Rattle.std.specs.Prelude.{◌≡◌, refl, ℕ, ◌+◌, List, [], ◌++◌, Option, Some, None, Result, Ok, Err}
 use Rattle.std.specs.Io.KnownBytes.{Consumes, Appends, IsAtEnd}
 use Rattle.framing.specs.Reading.{reading_of}
 use Rattle.protocol.specs.declared.request.Incoming.{Incoming}
@@ -14,9 +14,13 @@ use Rattle.replies.specs.declared.response.Response.{Response}
 use Rattle.replies.specs.declared.message.Message.TheVariants.{Response as IsResponse}
 use Rattle.transport.specs.Outbox.{Queued}
 use Rattle.session.specs.Writing.{frame_of}
-use Rattle.session.specs.Fronts.{IsFrontOf}
+use Rattle.transport.specs.declared.server.TheConstants.{MOST_READS}
 use Rattle.transport.specs.declared.server.ServerError.{ServerError}
 use Rattle.transport.specs.declared.server.ServerError.TheVariants.{Frame, Message, Read, Write, TooManyReads, NoMemory as NoMemoryLeft, SeqSpent}
+
+-- one call makes so many reads at most
+most_reads : MOST_READS ≡ 2097152
+most_reads = refl
 
 -- What a server answers, for what it has heard.
 abbrev pub Polled : Heard → Result (Option Incoming) ServerError → Unread → Type 0
@@ -61,10 +65,11 @@ lasting (Err SeqSpent) = None
 
 -- ---- writing
 
--- What a response comes to: its frame, with the next number, is written, or nothing of it, or after a fault a front of it.
+-- What a response comes to: its frame, with the next number, is written, or nothing of it, or after a fault a part of it: then
+-- it is counted, and the rest of it still waits.
 abbrev pub Responds : Option (List ℕ) → Option (List ℕ) → Queued → Response → Result (Unit {0}) ServerError → Queued → Option ServerError → Type 0
 Responds held holds old r (Ok x) new fault = Appends held holds (frame_of (old.count + 1) (IsResponse r)) × (new ≡ record { count = old.count + 1; waiting = [] }) × (fault ≡ None)
-Responds held holds old r (Err Write) new fault = (front : List ℕ) × Appends held holds front × IsFrontOf front (frame_of (old.count + 1) (IsResponse r)) × (fault ≡ Some Write)
+Responds held holds old r (Err Write) new fault = (sent : List ℕ) × Appends held holds sent × (frame_of (old.count + 1) (IsResponse r) ≡ sent ++ new.waiting) × (new.count ≡ old.count + 1) × (fault ≡ Some Write)
 Responds held holds old r (Err NoMemoryLeft) new fault = Appends held holds [] × (new ≡ old) × (fault ≡ None)
 Responds held holds old r (Err SeqSpent) new fault = Appends held holds [] × (new ≡ old) × (fault ≡ None)
 Responds held holds old r (Err Frame) new fault = ⊥

@@ -71,6 +71,7 @@ impl Inbox {
         requires { self.old.pending ≡ [] }
         ensures polled { (heard : Heard) → HasRead self.old heard → Polled heard result self.new }
         ensures all_fed { self.new.pending ≡ [] }
+        ensures patient { result ≡ Err ServerError.TooManyReads → ⊥ }
     {
         let taken = take_message(self.alloc, &mut self.unframer);
         polled(taken, self.is_faulty)
@@ -80,6 +81,7 @@ impl Inbox {
     pub(crate) fn next(&mut self) -> Result<Option<Incoming>, ServerError>
         ensures polled { (heard : Heard) → HasRead self.old heard → Polled heard result self.new }
         ensures all_fed { OnOk result (self.new.pending ≡ []) }
+        ensures patient { result ≡ Err ServerError.TooManyReads → ⊥ }
     {
         match self.feed() {
             Ok(()) => self.take(),
@@ -90,8 +92,9 @@ impl Inbox {
     /// Reads one piece, and answers whether there was one; else the input has ended.
     pub(crate) fn read<R: Read>(&mut self, reader: &mut R) -> Result<bool, ServerError>
         requires { self.old.pending ≡ [] }
-        ensures { (heard : Heard) → HasRead self.old heard → Reads (R.remaining reader.old)
+        ensures reads { (heard : Heard) → HasRead self.old heard → Reads (R.remaining reader.old)
             (R.remaining reader.new) heard result self.new }
+        ensures patient { result ≡ Err ServerError.TooManyReads → ⊥ }
     {
         if self.room.is_empty() {
             match room_of(self.alloc) {

@@ -3,6 +3,7 @@
 
 mod end;
 mod inbox;
+pub mod laws;
 mod outbox;
 mod room;
 pub mod serve;

@@ -4,6 +4,7 @@ ghost use Rattle.std.specs.Io.KnownBytes.{Appends};
 ghost use Rattle.replies.specs.declared.message.Message.TheVariants as messages;
 ghost use Rattle.session.specs.Writing.{frame_of};
 ghost use Rattle.transport.specs.Heard.{Heard, HasRead};
+ghost use Rattle.transport.specs.Laws.{Polled, Responded};
 ghost use Rattle.transport.specs.Servers.{Polls, Responds, lasting};
 
 use crate::inbox::Inbox;
@@ -78,11 +79,14 @@ impl<R: Read, W: Write> Server<R, W> {
             → Polls (R.remaining self.old.reader) (R.remaining self.new.reader) heard result self.new.inbox }
         ensures fault { self.old.fault ≡ None → self.new.fault ≡ lasting result }
         ensures writes_nothing { (self.new.writer ≡ self.old.writer) × (self.new.outbox ≡ self.old.outbox) }
+        ensures did { Polled (record { fault = self.old.fault; outbox = self.old.outbox; held = W.contents self.old.writer }) result
+            (record { fault = self.new.fault; outbox = self.new.outbox; held = W.contents self.new.writer }) }
     {
         if let Some(fault) = self.fault {
             return Err(fault);
         }
-        let polled = poll(&mut self.inbox, &mut self.reader);
+        let mut reads = 0;
+        let polled = poll(&mut self.inbox, &mut self.reader, &mut reads);
         if let Err(error) = polled {
             self.fault = lasting(error);
         }
@@ -98,6 +102,8 @@ impl<R: Read, W: Write> Server<R, W> {
         ensures spent { self.old.fault ≡ None
             → (IsErrOf result ServerError.SeqSpent ↔ (self.old.outbox.count ≡ LAST_SEQ)) }
         ensures reads_nothing { (self.new.reader ≡ self.old.reader) × (self.new.inbox ≡ self.old.inbox) }
+        ensures did { Responded (record { fault = self.old.fault; outbox = self.old.outbox; held = W.contents self.old.writer }) response result
+            (record { fault = self.new.fault; outbox = self.new.outbox; held = W.contents self.new.writer }) }
     {
         if let Some(fault) = self.fault {
             return Err(fault);
@@ -128,16 +134,24 @@ fn lasting(error: ServerError) -> Option<ServerError>
     }
 }
 
-fn poll<R: Read>(inbox: &mut Inbox, reader: &mut R) -> Result<Option<Incoming>, ServerError>
-    ensures { (heard : Heard) → HasRead inbox.old heard
+// Polls a request, and counts the reads.
+fn poll<R: Read>(
+    inbox: &mut Inbox,
+    reader: &mut R,
+    reads: &mut u32,
+) -> Result<Option<Incoming>, ServerError>
+    requires { reads.old ≡ 0 }
+    ensures polls { (heard : Heard) → HasRead inbox.old heard
         → Polls (R.remaining reader.old) (R.remaining reader.new) heard result inbox.new }
+    ensures patient { result ≡ Err ServerError.TooManyReads → reads.new ≡ 2097152 }
 {
-    'reading: for _ in 0..MOST_READS {
+    'reading: for made in 0..MOST_READS {
         match inbox.next() {
             Ok(Some(incoming)) => return Ok(Some(incoming)),
             Ok(None) => {}
             Err(error) => return Err(error),
         }
+        *reads = made + 1;
         match inbox.read(reader) {
             Ok(true) => {}
             Ok(false) => return Ok(None),
