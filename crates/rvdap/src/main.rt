@@ -3,41 +3,35 @@
 #![tactic(auto)]
 
 mod asm;
+mod ending;
 mod options;
+mod serving;
 
 use asm::{AsmFault, list_file};
+use ending::Ending;
 use listing::ListFault;
 use options::{Words, read_words};
+use serving::serve;
 use session::{Limits, Session};
 use std::fmt::Display;
 use std::process::ExitCode;
-use transport::{StreamEnd, serve_streams};
 
 /// Status 0 where the input ended or a `disconnect` succeeded, where a file was listed, and where help or
 /// the version was asked; 1 with one line on standard error where serving or listing failed; 2 where the
 /// words are not taken.
 fn main(rt: HostRuntime) -> ExitCode {
     match read_words(&rt) {
-        Words::Serve => serve_editor(&rt),
+        Words::Serve => end(&rt, serve_editor(&rt)),
         Words::List(file) => list(&rt, file.as_str()),
         Words::Told(status) => ExitCode::from(status),
-        Words::NoMemory => fail(&rt, "no memory"),
+        Words::NoMemory => end(&rt, Ending::NoMemory),
     }
 }
 
-fn serve_editor(rt: &HostRuntime) -> ExitCode {
+fn serve_editor(rt: &HostRuntime) -> Ending {
     let mut session = Session::new(rt.alloc(), Limits::greatest()).unwrap();
     let _ = session.connect();
-    let mut input = rt.stdin();
-    let mut output = rt.stdout();
-    match serve_streams(rt.alloc(), &mut session, &mut input, &mut output, u64::MAX) {
-        StreamEnd::Closed => match session.link_fault() {
-            Some(_) => fail(rt, "bad message"),
-            None => ExitCode::SUCCESS,
-        },
-        StreamEnd::Fault | StreamEnd::Turns => fail(rt, "read or write fault"),
-        StreamEnd::NoMemory => fail(rt, "no memory"),
-    }
+    serve(rt.alloc(), &mut session, &mut rt.stdin(), &mut rt.stdout())
 }
 
 fn list(rt: &HostRuntime, file: &str) -> ExitCode {
@@ -45,18 +39,21 @@ fn list(rt: &HostRuntime, file: &str) -> ExitCode {
         Ok(()) => ExitCode::SUCCESS,
         Err(AsmFault::Unreadable) => fail_at(rt, file, "cannot read"),
         Err(AsmFault::Unlisted(ListFault::Assembly(error))) => fail_at(rt, file, error),
-        Err(AsmFault::Unlisted(ListFault::Write)) => fail(rt, "read or write fault"),
-        Err(AsmFault::Unlisted(ListFault::NoMemory)) => fail(rt, "no memory"),
+        Err(AsmFault::Unlisted(ListFault::Write)) => end(rt, Ending::ReadOrWriteFault),
+        Err(AsmFault::Unlisted(ListFault::NoMemory)) => end(rt, Ending::NoMemory),
     }
 }
 
-// One line on standard error. Where it can't be written, the status still tells.
-fn fail(rt: &impl Eprint, reason: &str) -> ExitCode {
-    let _ = eprintln!(rt; "rvdap: {reason}");
-    ExitCode::FAILURE
+// The line on standard error, if there is one, and the status. Where the line can't be written, the
+// status still tells.
+fn end(rt: &impl Eprint, ending: Ending) -> ExitCode {
+    if let Some(reason) = ending.reason() {
+        let _ = eprintln!(rt; "rvdap: {reason}");
+    }
+    ExitCode::from(ending.status())
 }
 
-// The same of a file.
+// The same of a file that cannot be listed.
 fn fail_at<D: Display + Drop>(rt: &impl Eprint, file: &str, reason: D) -> ExitCode {
     let _ = eprintln!(rt; "rvdap: {file}: {reason}");
     ExitCode::FAILURE

@@ -10,15 +10,15 @@ ghost use Rattle.session.specs.Outcomes as spec;
 ghost use Rattle.session.specs.Effects.{performed};
 
 use crate::BODY_LIMIT;
-use crate::refusals::{answer_to, response_to};
 use crate::arrivals::Arrivals;
 use crate::buffer::Buffer;
 use crate::event::{EventError, LinkFault, Turned};
 use crate::feeding::feed;
 use crate::limits::Limits;
 use crate::link::Link;
-use crate::writing::framed;
 use crate::phase::Phase;
+use crate::refusals::{answer_to, response_to};
+use crate::writing::framed;
 use framing::{FrameError, Unframer};
 use protocol::MessageError;
 use replies::{Message, Outcome};

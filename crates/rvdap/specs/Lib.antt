@@ -1,0 +1,2 @@
+pub use Rattle.transport.specs.Rounds
+pub mod Endings

@@ -1,0 +1,57 @@
+//! How the program ends: its status, and its line on standard error.
+ghost use Rattle.std.specs.Prelude.{◌≡◌, option_map};
+ghost use Rattle.rvdap.specs.Endings as spec;
+
+use session::LinkFault;
+use transport::StreamEnd;
+
+/// How the program ends.
+#[derive(Clone, Copy, Debug, PartialEq, Eq)]
+pub enum Ending {
+    /// All was said, or the input ended; or a listing was written.
+    Success,
+    /// What came is no message of the protocol.
+    BadMessage,
+    /// A read or a write failed, or the turns were used up.
+    ReadOrWriteFault,
+    /// No memory was left.
+    NoMemory,
+}
+
+impl Ending {
+    /// The ending for how serving ended, and what closed the connection.
+    pub(crate) fn of(end: StreamEnd, fault: Option<LinkFault>) -> Ending
+        ensures { result ≡ spec.ending_of end fault }
+    {
+        match end {
+            StreamEnd::Closed => match fault {
+                Some(_) => Ending::BadMessage,
+                None => Ending::Success,
+            },
+            StreamEnd::Fault | StreamEnd::Turns => Ending::ReadOrWriteFault,
+            StreamEnd::NoMemory => Ending::NoMemory,
+        }
+    }
+
+    /// The status of the process.
+    pub(crate) fn status(self) -> u8
+        ensures { result ≡ spec.status_of self }
+    {
+        match self {
+            Ending::Success => 0,
+            Ending::BadMessage | Ending::ReadOrWriteFault | Ending::NoMemory => 1,
+        }
+    }
+
+    /// What the line on standard error says after `rvdap: `, if there is one.
+    pub(crate) fn reason(self) -> Option<&'static str>
+        ensures { option_map (λ text. text.now) result ≡ spec.reason_of self }
+    {
+        match self {
+            Ending::Success => None,
+            Ending::BadMessage => Some("bad message"),
+            Ending::ReadOrWriteFault => Some("read or write fault"),
+            Ending::NoMemory => Some("no memory"),
+        }
+    }
+}
