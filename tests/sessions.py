@@ -267,6 +267,19 @@ def a_conversation_is_the_same_however_it_is_cut():
         expect_run(None, answers, pieces=[data[a:b] for a, b in zip([0] + cuts, cuts + [len(data)])])
 
 
+def a_file_as_input_is_answered_whole():
+    # A file gives as much as is asked for, unlike a pipe.
+    count = 3000
+    data = FIRST + b"".join(request(n, "threads") for n in range(2, count + 2))
+    answers = FIRST_ANSWER + b"".join(frame(THREADS % (n, n)) for n in range(2, count + 2))
+    expect(len(data) > 200000, True, "more than a piece")
+    with tempfile.TemporaryFile() as file:
+        file.write(data)
+        file.seek(0)
+        ran = subprocess.run([PROGRAM], stdin=file, capture_output=True, timeout=60)
+    expect((ran.stdout, ran.stderr, ran.returncode), (answers, b"", 0), "a file as standard input")
+
+
 def an_editor_that_closes_its_end_early_ends_the_session_well():
     for sent, answers in ((b"", b""), (FIRST, FIRST_ANSWER), (FIRST + request(2, "threads")[:30], FIRST_ANSWER)):
         with Talk() as talk:
@@ -348,6 +361,7 @@ def checks():
         many_requests_in_few_pieces_are_answered_in_order,
         more_requests_than_may_wait_come_before_an_answer_is_taken,
         a_conversation_is_the_same_however_it_is_cut,
+        a_file_as_input_is_answered_whole,
         an_editor_that_closes_its_end_early_ends_the_session_well,
         any_bytes_end_with_a_status_and_at_most_one_line,
         an_editor_that_stops_listening_is_a_fault,

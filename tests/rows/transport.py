@@ -121,6 +121,20 @@ ROWS = [Row("the first session is answered however it is cut: %d bytes at a time
         given(HARTS + EVENT + HARTS), server(POLLED, POLLED, ("threads=2", "ok"), NO_MORE), written(FIRST_HARTS_ANSWER)], PROFILE, refused=True),
     Row("a session over streams is served again after it found no memory", [
         ("whole " + SESSION.hex(), "Closed " + ANSWERS.hex())], PROFILE, refused=True),
+    Row("a server reads and writes a byte at a time, and is interrupted", [
+        given(HARTS + EVENT + HARTS), reads(1, interruptions=2), writes(1, interruptions=2),
+        server(POLLED, ("threads=2", "ok"), POLLED, ("ack=2", "ok"), NO_MORE),
+        written(FIRST_HARTS_ANSWER + frame('{"command":"threads","request_seq":2,"seq":2,"success":true,"type":"response"}'))], PROFILE),
+    Row("a server drops an unfinished message at the end of its input", [
+        given(HARTS + HARTS[:-1]), server(POLLED, NO_MORE, NO_MORE), left(b""), written(b"")], PROFILE),
+    Row("a read that fails stays with a server", [
+        given(HARTS + HARTS), reads(len(HARTS), 1, 1), server(POLLED, ("poll", "Read"), ("poll", "Read"), ("ack=2", "Read")), left(HARTS),
+        written(b"")], PROFILE),
+    Row("a write that fails stays with a server, and a part of the answer was written", [
+        given(HARTS + HARTS), writes(100, 1, 1), server(POLLED, ("threads=2", "Write"), ("poll", "Write"), ("ack=2", "Write")),
+        written(FIRST_HARTS_ANSWER[:100])], PROFILE),
+    Row("a write that takes nothing stays with a server", [
+        given(HARTS), writes(0), server(POLLED, ("threads=2", "Write"), ("threads=2", "Write")), written(b"")], PROFILE),
     Row("texts of errors", [
         text("Frame", "not a frame"), text("Message", "not a message"), text("Read", "read fault"), text("Write", "write fault"),
         text("TooManyReads", "too many reads"), text("NoMemory", "no memory"), text("SeqSpent", "no sequence number is left"),
