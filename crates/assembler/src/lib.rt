@@ -11,6 +11,3 @@ mod program;
 
 pub use assembling::assemble;
 pub use error::{AsmError, AsmErrorKind};
-
-#[cfg(test)]
-mod tests;
