@@ -418,4 +418,23 @@ ROWS = [
         fails(b"a: .word a\n.word 4294967296\n", 2, "OutOfRange"),
         fails(b"a: .space 100\n.space 4096\n", 2, "TooLarge"),
     ], PROFILE, refused=True),
+    Row("an image has 1 MiB", [
+        assemble(b"nop\n" * 262144, size=1048576), has_bytes(b"\x13\0\0\0" * 262144), line_of(0x10ffff, 262144),
+        fails(b"nop\n" * 262144, 262144, "TooLarge", size=1048575),
+        assemble(b"a: .space 1048575\n.byte 1", size=1048576), has_bytes(bytes(1048575) + b"\1"), label_at(0x10ffff, "a", 1048575),
+    ], BY_HAND),
+    # Each label's word is the address of the label that is as far from the end.
+    Row("a text has ten thousand labels", [
+        assemble(b"".join(b"l%d: .word l%d\n" % (n, 9999 - n) for n in range(10000)), size=40000),
+        has_bytes(b"".join((BASE + 4 * (9999 - n)).to_bytes(4, "little") for n in range(10000))),
+        *(label_at(BASE + 4 * n + 3, "l%d" % n, 3) for n in (0, 1, 4999, 5000, 9998, 9999)),
+        fails(b"".join(b"l%d:\n" % (n % 9999) for n in range(10000)), 10000, "TwiceDefined"),
+        fails(b"".join(b"l%d: .word l%d\n" % (n, n + 1) for n in range(10000)), 10000, "Undefined", size=40000),
+    ], BY_HAND),
+    Row("a line has 65536 items and 100 labels", [
+        assemble(b"".join(b"l%d: " % n for n in range(100)) + b".byte " + b",".join(b"%d" % (i % 256) for i in range(65536)), size=65536),
+        has_bytes(bytes(i % 256 for i in range(65536))),
+        label_at(0x1ffff, "l0", 65535),
+        fails(b"".join(b"l%d: " % (n % 99) for n in range(100)), 1, "TwiceDefined"),
+    ], BY_HAND),
 ]

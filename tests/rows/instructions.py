@@ -131,6 +131,7 @@ ILLEGAL = (
     0x00002063, 0x00003003, 0x00003023, 0x00001067, 0x00200073, 0x00001073, 0x10500073, 0x00000001,
 )
 
+ALL_REGISTERS = "zero ra sp gp tp t0 t1 t2 s0 s1 a0 a1 a2 a3 a4 a5 a6 a7 s2 s3 s4 s5 s6 s7 s8 s9 s10 s11 t3 t4 t5 t6".split()
 REGISTERS = ((0, "zero"), (1, "ra"), (2, "sp"), (8, "s0"), (10, "a0"), (17, "a7"), (18, "s2"), (27, "s11"), (28, "t3"), (31, "t6"))
 
 ROWS = [
@@ -168,4 +169,29 @@ ROWS = [
         register("x31", 31),
         *(register(text, "none") for text in ("", "x", "x32", "x00", "x01", "X1", "A0", "a8", "s12", "t7", "pc", " ra", "zero ")),
     ], HANDBOOK),
+    Row("any word has a text", [word_text(word, address, wanted) for word, address, wanted in ASSEMBLED]
+        + [word_text(word, 0x10000, ".word 0x%08x" % word) for word in ILLEGAL], ASSEMBLER + "; docs/MACHINE.md, \"Texts\""),
+    Row("an illegal word has no instruction", [step for word in ILLEGAL for step in (encoded(word, "none"), text(word, 0, "none"))], MANUAL),
+    Row("digits are put after a text", [
+        digits("a", 0, "a00000000"),
+        digits("", 0x89abcdef, "89abcdef"),
+        digits("0x", 0xffffffff, "0xffffffff"),
+        digits("word", 0x01234567, "word01234567"),
+    ], "worked by hand"),
+    Row("each register is named and found", [step for number, text in enumerate(ALL_REGISTERS) for step in (
+        name(number, text), register(text, number), register("x%d" % number, number))], HANDBOOK),
+    Row("texts that found no memory are made again", [
+        text(0x12345537, 0, "lui a0, 0x12345"),
+        text(0x001000ef, 0x10008, "jal ra, 0x00010808"),
+        text(0x00b50463, 0x1001c, "beq a0, a1, 0x00010024"),
+        text(0xfff10503, 0, "lb a0, -1(sp)"),
+        text(0x80058513, 0, "addi a0, a1, -2048"),
+        text(0x01f51513, 0, "slli a0, a0, 31"),
+        text(0x40f706b3, 0, "sub a3, a4, a5"),
+        text(0x0f10000f, 0, "fence iorw, w"),
+        text(0x8330000f, 0, ".word 0x8330000f"),
+        text(0x00000073, 0, "ecall"),
+        word_text(0, 0, ".word 0x00000000"),
+        digits("aaaaaaaaaaaaaaaa", 0x89abcdef, "aaaaaaaaaaaaaaaa89abcdef"),
+    ], ASSEMBLER, refused=True),
 ]

@@ -43,6 +43,10 @@ def labels_are(*found):
     return [label_at(*each) for each in found]
 
 
+# Lines 1, 3, 5, .. with a word each and as much data after it, each with a label.
+MANY = table(rows=[(2 * n + 1, 0x10000 + 8 * n, 1) for n in range(10000)], labels=[("l%d" % n, 0x10000 + 8 * n) for n in range(10000)],
+             end=0x10000 + 80000)
+
 ROWS = [
     Row("a line is found by each of its bytes", table() + lines_are(
         (0, "none"),
@@ -114,4 +118,15 @@ ROWS = [
         ("lines parts", "%d 13000000" % 0x10000),
         label_at(0x10000, "none"),
     ], "what the image was made of"),
+    Row("a table of ten thousand lines and labels is searched", MANY + [
+        step for n in (0, 1, 4999, 5000, 9998, 9999) for step in (
+            line_of(0x10000 + 8 * n, 2 * n + 1), line_of(0x10003 + 8 * n, 2 * n + 1), line_of(0x10004 + 8 * n, "none"),
+            starts(0x10000 + 8 * n, "true"), starts(0x10001 + 8 * n, "false"),
+            address_of(2 * n + 1, 0x10000 + 8 * n), address_of(2 * n, "none"), bind(2 * n, 2 * n + 1, 0x10000 + 8 * n),
+            label_at(0x10007 + 8 * n, "l%d" % n, 7),
+        )
+    ] + [line_of(0x10000 + 80000, "none"), bind(20000, "none"), label_at(0x10000 + 80000, "none")], PROFILE),
+    Row("ten thousand labels that fall are searched", table(rows=(), end=0x10000 + 40000, labels=[
+        ("l%d" % n, 0x10000 + 4 * (9999 - n)) for n in range(10000)
+    ]) + [label_at(0x10003 + 4 * (9999 - n), "l%d" % n, 3) for n in (0, 1, 5000, 9998, 9999)], PROFILE),
 ]

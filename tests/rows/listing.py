@@ -53,4 +53,6 @@ ROWS = [
         step for room in (0, 1, 100, len(INCREMENT_LISTING) - 1)
         for step in (writer(room), lists(INCREMENT, "write fault"), taken(INCREMENT_LISTING[:room]))
     ], "docs/MACHINE.md, \"Listings\": the listing could not be written, or only a part of it"),
+    Row("the longest program is listed", listing(b"nop\n" * 262144, b"".join(
+        b"%08x 00000013 addi zero, zero, 0\n" % (0x10000 + 4 * n) for n in range(262144))), PROFILE),
 ]

@@ -190,6 +190,9 @@ SAME = (
     ("lw: a0: lw a0, 8(sp)#", "lw: a0: "),
 )
 
+MANY = [str(i % 256) for i in range(65536)]
+LABELS = ["l%d" % n for n in range(100)]
+
 ROWS = [
     Row("lines of one instruction have their words", [says(line, "One %d" % word) for word, line in ONE], ASSEMBLER),
     Row("constants of two instructions have their words", [says(line, "Two %d %d" % (first, second)) for first, second, line in TWO], ASSEMBLER),
@@ -218,4 +221,31 @@ ROWS = [
         says(".globl main", "Nothing"),
         says(".text", "Nothing"),
     ], PROFILE),
+    Row("a line has 65536 items", [says(".byte " + ", ".join(MANY), "Data Byte " + " ".join(MANY))], PROFILE),
+    Row("a line has 100 labels", [says(":".join(LABELS) + ":ret", ": ".join(LABELS) + ": One %d" % 0x00008067)], PROFILE),
+    Row("each kind of statement is read", [
+        says("jal t0, there", "Jump 5 there"),
+        says("j 0x10000", "Jump 0 65536"),
+        says("bltu a0, s1, there", "Branch Below 10 9 there"),
+        says("bgez a0, 65536", "Branch GreaterOrEqual 10 0 65536"),
+        says("beqz a0, there", "Branch Equal 10 0 there"),
+        says("bnez a0, there", "Branch NotEqual 10 0 there"),
+        says("bgtz a0, there", "Branch Less 0 10 there"),
+        says("bleu a0, a1, there", "Branch AboveOrEqual 11 10 there"),
+        says("lui a0, %hi(x)", "Upper 10 x"),
+        says("addi a0, a1, %lo(x)", "Lower Addi 10 11 x"),
+        says("lhu a0, %lo(x)(a1)", "Lower Lhu 10 11 x"),
+        says("jalr a0, %lo(x)(a1)", "Lower Jalr 10 11 x"),
+        says("sb a0, %lo(x)(a1)", "Lower Sb 11 10 x"),
+        says("la a0, x", "LoadAddress 10 x"),
+        says("call x", "Call x"),
+        says(".global x", "Nothing"),
+        says(".data", "Nothing"),
+    ], PROFILE),
+    Row("a line that found no memory is read again", [
+        says("first: second: third: fourth: fifth: ret", "first: second: third: fourth: fifth: One %d" % 0x00008067),
+        says(".word 1, 2, 3, 4, 5, a, b, c, d", "Data Word 1 2 3 4 5 a b c d"),
+        says("a: .half 1, 65536", "OutOfRange"),
+        says("a: b: foo", "UnknownInstruction"),
+    ], PROFILE, refused=True),
 ]
