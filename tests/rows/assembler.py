@@ -4,11 +4,13 @@ import re
 
 from playing import Row
 from program import TOP
+from rows import programs
 
 PLAYER = "play_assembler"
 BASE = 0x10000
 
-ASSEMBLER = "GNU as and ld 2.40, riscv64-unknown-elf-as -march=rv32i -mabi=ilp32 -mno-relax, riscv64-unknown-elf-ld -m elf32lriscv --no-relax -Ttext=0x10000"
+ASSEMBLER = "GNU as and ld 2.40, riscv64-unknown-elf-as -march=rv32i -mabi=ilp32 -mno-relax, \
+riscv64-unknown-elf-ld -m elf32lriscv --no-relax -Ttext=0x10000"
 PROFILE = "docs/MACHINE.md, \"The assembly language\""
 BY_HAND = "worked by hand from docs/MACHINE.md, \"The assembly language\""
 
@@ -364,6 +366,9 @@ ROWS = [
     Row("a distance has two parts", listed(DISTANCES), ASSEMBLER),
     Row("branches and jumps reach their farthest", listed(FARTHEST), ASSEMBLER),
     Row("programs have their words", listed(ADDS_ONE) + listed(COUNTS_DOWN), ASSEMBLER),
+    Row("a program that sorts has its words", [
+        assemble(programs.TEXT), entry(BASE), has_bytes(b"".join(word.to_bytes(4, "little") for word in programs.WORDS)),
+    ], ASSEMBLER),
     Row("a program has its lines and labels", [
         assemble(text_of(COUNTS_DOWN)),
         entry(0x10000),

@@ -5,20 +5,13 @@ use Rattle.std.proofs.Math.Seq.{take-suc}
 use Rattle.std.proofs.lemmas.List.Elements.{All-append}
 use Rattle.image.specs.Memory.{first_address}
 use Rattle.image.specs.Lines.{Row, RowsRise, line_in, start_of, words_in, end_of}
-use Rattle.image.proofs.Rows.{rows_rise-nil, rows_rise-push}
+use Rattle.image.proofs.Rows.{rows_rise-push}
 
 -- The rows rise up to an address, and are of lines before this one.
 pub record IsRising (rows : List Row) (line address : ℕ) : Type 0 where
   pub rise : RowsRise rows address
   pub lines : All (λ row. line_in row < line) rows
   pub first : first_address ≤ address
-
-pub rising-nil : IsRising [] 0 first_address
-rising-nil = record {
-  rise = rows_rise-nil first_address;
-  lines = λ k d h. absurd (omega arith);
-  first = omega arith;
-}
 
 single : (P : Row → Type 0) (row : Row) → P row → All P (row ∷ [])
 single P row holds zero d h = holds
