@@ -342,19 +342,23 @@ EXAMPLES = {
 NO_EXAMPLE = [(b"", 0)]
 
 
+def between(text, start, end):
+    return text.partition(start)[2].partition(end)[0]
+
+
 def guide():
     """The guide's section on the assembly language."""
     with open(GUIDE, encoding="utf-8") as file:
-        return file.read().split("\n## The assembly language\n")[1].split("\n## ")[0]
+        return between(file.read(), "\n## The assembly language\n", "\n## ")
 
 
 def program_of_the_guide():
-    return guide().split("```\n")[1].encode()
+    return between(guide(), "```\n", "```\n").encode()
 
 
 def errors_of_the_guide():
     """The kinds and the examples of the guide's table of errors."""
-    for line in guide().split("\n| Pass | Error |")[1].split("\n\n")[0].splitlines()[2:]:
+    for line in between(guide(), "\n| Pass | Error |", "\n\n").splitlines()[2:]:
         _, _, error, example, _ = line.split("|")
         yield re.search("`([A-Za-z0-9]+)`", error)[1], tuple(re.findall("`([^`]*)`", example)) or (example.strip(),)
 
