@@ -12,6 +12,3 @@ mod program;
 pub use assembling::assemble;
 pub use error::{AsmError, AsmErrorKind};
 pub use program::TEXT_LIMIT;
-
-#[cfg(test)]
-mod tests;

@@ -39,17 +39,6 @@ rows_rise-push rows row end rise after later first aligned words = record {
   places = all_pairs_push (λ each next. end_of each ≤ start_of next) rows row rise.places (λ k d h. let e = rise.to_end k d h in omega arith);
 }
 
--- Rows that rise up to an end rise up to a later one.
-pub rows_rise-to : (rows : List Row) (end later : ℕ) → RowsRise rows end → end ≤ later → RowsRise rows later
-rows_rise-to rows end later rise h = record {
-  words = rise.words;
-  aligned = rise.aligned;
-  from_first = rise.from_first;
-  to_end = λ k d l. let e = rise.to_end k d l in omega arith;
-  lines = rise.lines;
-  places = rise.places;
-}
-
 all_cons : (P : Row → Type 0) (row : Row) (rows : List Row) → P row → All P rows → All P (row ∷ rows)
 all_cons P row rows holds rest zero d h = holds
 all_cons P row rows holds rest (suc k) d h = rest k d (omega arith)
@@ -243,31 +232,3 @@ rows_rise_from-cons line address row rows end first later after aligned words wi
   lines = all_cons (λ each. line ≤ line_in each) row rows later (λ k d h. let e = rest.lines k d h in omega arith);
   places = all_cons (λ each. address ≤ start_of each) row rows after (λ k d h. let e = rest.places k d h in omega arith);
 }
-
--- whether given rows rise so, by a test that computes
-abbrev pub rise_from : ℕ → ℕ → List Row → ℕ → Bool
-rise_from line address [] end = true
-rise_from line address (row ∷ rows) end = nat_le line (line_in row) && (nat_le address (start_of row) && ((start_of row % 4 == 0) && (nat_le 1 (words_in row) && (nat_le (end_of row) end && rise_from (line_in row + 1) (end_of row) rows end))))
-
-and_parts : (s t : Bool) → (s && t) ≡ true → (s ≡ true) × (t ≡ true)
-and_parts true t e = (refl, e)
-and_parts false t e = cc
-
-eq_true : (a b : ℕ) → (a == b) ≡ true → a ≡ b
-eq_true a b e = grind (arith, nat_tests)
-
-pub rows_rise_from-tested : (line address : ℕ) (rows : List Row) (end : ℕ) → first_address ≤ address → rise_from line address rows end ≡ true → RowsRiseFrom line address rows end
-rows_rise_from-tested line address [] end first e = rows_rise_from-nil line address end
-rows_rise_from-tested line address (row ∷ rows) end first e =
-    let a = and_parts (nat_le line (line_in row)) _ e in
-    let b = and_parts (nat_le address (start_of row)) _ a.1 in
-    let c = and_parts (start_of row % 4 == 0) _ b.1 in
-    let d = and_parts (nat_le 1 (words_in row)) _ c.1 in
-    let f = and_parts (nat_le (end_of row) end) (rise_from (line_in row + 1) (end_of row) rows end) d.1 in
-    let after : address ≤ start_of row = le_true address (start_of row) b.0 in
-    rows_rise_from-cons line address row rows end first (le_true line (line_in row) a.0) after (eq_true (start_of row % 4) 0 c.0) (le_true 1 (words_in row) d.0) (le_true (end_of row) end f.0)
-    (rows_rise_from-tested (line_in row + 1) (end_of row) rows end (omega arith) f.1)
-
--- given rows rise, where the test says so
-pub rows_rise-tested : (rows : List Row) (end : ℕ) → rise_from 0 first_address rows end ≡ true → RowsRise rows end
-rows_rise-tested rows end e = (rows_rise_from-tested 0 first_address rows end (omega arith) e).rise

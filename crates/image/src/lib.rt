@@ -24,6 +24,3 @@ pub struct Image {
     /// Which line the code at an address came from, and where the labels are.
     pub lines: LineTable,
 }
-
-#[cfg(test)]
-mod tests;

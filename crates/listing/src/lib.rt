@@ -7,6 +7,3 @@ mod list;
 
 pub use fault::ListFault;
 pub use list::listing;
-
-#[cfg(test)]
-mod tests;

@@ -24,6 +24,3 @@ pub use names::{reg_name, reg_of};
 pub use stepped::{Cause, Stepped};
 pub use text::{push_digits, text_of};
 pub use word_text::text_of_word;
-
-#[cfg(test)]
-mod tests;

@@ -24,6 +24,3 @@ pub use name::Name;
 pub use operations::{Condition, ImmediateOperation, StoreOperation, lower_part, upper_part};
 pub use reading::read_line;
 pub use statement::{Statement, Target};
-
-#[cfg(test)]
-mod tests;

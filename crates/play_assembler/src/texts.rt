@@ -1,0 +1,45 @@
+//! Whole texts and their images.
+//!
+//! - `assemble SIZE BYTES`: assembles a text for a memory of so many bytes, and keeps its image.
+//! - `image entry`, `image bytes`: the image's; other words after `image` are asked of its lines, as
+//!   `play_image` says.
+
+use assembler::{AsmError, AsmErrorKind, assemble};
+use image::Image;
+use play::{Fault, bytes_of, hexadecimal, parsed, told};
+use play_image::ask_lines;
+use std::alloc::Global;
+
+/// What is told where no memory is left.
+const NO_MEMORY: AsmError = AsmError {
+    line: 0,
+    kind: AsmErrorKind::NoMemory,
+};
+
+/// Assembles a text, and keeps its image.
+pub(crate) fn assembled(
+    alloc: Global,
+    image: &mut Option<Image>,
+    size: &str,
+    text: &str,
+) -> Result<String, Fault> {
+    *image = None;
+    let text = bytes_of(alloc, text)?;
+    match assemble(alloc, &text, parsed(size)?) {
+        Ok(made) => {
+            *image = Some(made);
+            told(alloc, "ok")
+        }
+        Err(NO_MEMORY) => Err(Fault::NoMemoryInCall),
+        Err(error) => told(alloc, error),
+    }
+}
+
+/// What an image answers.
+pub(crate) fn answer_image(alloc: Global, image: &Image, words: &[&str]) -> Result<String, Fault> {
+    match words {
+        ["entry"] => told(alloc, image.entry),
+        ["bytes"] => hexadecimal(alloc, image.bytes.as_slice()),
+        words => ask_lines(alloc, &image.lines, words),
+    }
+}

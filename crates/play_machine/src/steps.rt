@@ -1,0 +1,64 @@
+//! A hart that steps.
+//!
+//! - `new ENTRY SP`: a hart at an entry, with a stack pointer.
+//! - `set NUMBER VALUE`: sets a register, 1 to 31; `go ADDRESS`: sets pc.
+//! - `step`: what came of a step.
+//! - `pc`; `x NUMBER`: the value of a register; `registers`: the values of all.
+
+use image::Memory;
+use play::{Fault, called, parsed, told};
+use rv32i::Hart;
+use std::alloc::Global;
+
+/// What a hart answers.
+pub(crate) fn answer_hart(
+    alloc: Global,
+    hart: &mut Hart,
+    memory: &mut Memory,
+    words: &[&str],
+) -> Result<String, Fault> {
+    match words {
+        ["new", entry, sp] => {
+            *hart = Hart::new(parsed(entry)?, parsed(sp)?);
+            told(alloc, "ok")
+        }
+        ["set", register, value] => set(alloc, hart, register, parsed(value)?),
+        ["go", address] => {
+            hart.pc = parsed(address)?;
+            told(alloc, "ok")
+        }
+        ["step"] => {
+            let stepped = called(hart.step(memory))?;
+            Ok(format!(in alloc; "{stepped:?}")?)
+        }
+        ["pc"] => told(alloc, hart.pc),
+        ["x", register] => value(alloc, hart, register),
+        ["registers"] => registers(alloc, hart),
+        _ => Err(Fault::NoCommand),
+    }
+}
+
+fn set(alloc: Global, hart: &mut Hart, register: &str, value: u32) -> Result<String, Fault> {
+    let register: u32 = parsed(register)?;
+    if register == 0 || register >= 32 {
+        return Err(Fault::NoCommand);
+    }
+    hart.x[register as usize] = value;
+    told(alloc, "ok")
+}
+
+fn value(alloc: Global, hart: &Hart, register: &str) -> Result<String, Fault> {
+    let register: u32 = parsed(register)?;
+    if register >= 32 {
+        return Err(Fault::NoCommand);
+    }
+    told(alloc, hart.x[register as usize])
+}
+
+fn registers(alloc: Global, hart: &Hart) -> Result<String, Fault> {
+    let mut answer = told(alloc, hart.x[0])?;
+    for value in &hart.x[1..] {
+        write!(answer, " {value}")?;
+    }
+    Ok(answer)
+}

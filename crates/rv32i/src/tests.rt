@@ -1,5 +1,0 @@
-//! Words, texts, names and steps, as the manual and outside tools have them.
-mod assembled;
-mod names;
-mod steps;
-mod words;

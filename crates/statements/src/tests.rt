@@ -1,5 +1,0 @@
-//! Lines, and what they say.
-
-mod assembled;
-mod errors;
-mod forms;
