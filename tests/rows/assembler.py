@@ -179,7 +179,7 @@ COUNTS_DOWN = (
 
 # Texts, where their programs start, and their bytes.
 IMAGES = (
-    # Code stands behind padding.
+    # Code stands after padding.
     (b".byte 1\n.align 2\nnop", 0x10004, b"\x01\x00\x00\x00\x13\x00\x00\x00"),
     # An address is loaded from its distance.
     (b"d: .word d\nla a0, d\n", 0x10004, b"\x00\x00\x01\x00\x17\x05\x00\x00\x13\x05\xc5\xff"),
@@ -232,7 +232,7 @@ KINDS = (
     (b"nop\n\rnop\n", 2, "Syntax"),
     (b"nop\r\r\n", 1, "Syntax"),
     (b"j a\ra:\n", 1, "BadOperand"),
-    # A label's colon stands right behind it.
+    # A label's colon stands right after it.
     (b"f : nop\n", 1, "UnknownInstruction"),
     (b"nop\nfoo\n", 2, "UnknownInstruction"),
     (b"addi a0, a0\n", 1, "BadOperand"),

@@ -341,7 +341,7 @@ ROWS = [
         *(step for at in (4, 8, 12, 16, 32) for step in (steps("Retired"), pc(BASE + at), registers(x11=BASE, x12=1))),
     ], MANUAL),
     Row("a hart fetches what it stored", [
-        # sw a2, 4(a1) puts addi a0, zero, 5 behind itself
+        # sw a2, 4(a1) puts addi a0, zero, 5 after itself
         *memory(0x00c5a223, 0), hart(BASE, 0), sets(11, BASE), sets(12, 0x00500513),
         steps("Retired"), holds(BASE + 4, 0x00500513), steps("Retired"), x(10, 5),
     ], MANUAL),

@@ -27,9 +27,9 @@ rising-push rows row line address rising later after aligned words =
       first = omega arith;
     }
 
--- The rows before a place that rise, rise with the row there where it is of a later line and starts where they end or after that.
-pub rising-step : (rows : List Row) (place line address number start words : ℕ) → place < length rows → get_or rows place (0, 0, 0) ≡ (number, start, words) → IsRising (take place rows) line address → line ≤ number → address ≤ start → start % 4 ≡ 0 → 1 ≤ words → IsRising (take (place + 1) rows) (number + 1) (start + 4 * words)
-rising-step rows place line address number start words within here rising later after aligned some =
-    let one : place + 1 ≡ suc place = omega arith in
-    let more : take (place + 1) rows ≡ take place rows ++ (number, start, words) ∷ [] = rw one (take-suc rows place (0, 0, 0) within ∙ ap (λ row. take place rows ++ row ∷ []) here) in
-    subst (λ all. IsRising all (number + 1) (start + 4 * words)) (sym more) (rising-push (take place rows) (number, start, words) line address rising later after aligned some)
+-- The rows before an index that rise, rise with the row there where it is of a later line and starts where they end or after that.
+pub rising-step : (rows : List Row) (index line address number start words : ℕ) → index < length rows → get_or rows index (0, 0, 0) ≡ (number, start, words) → IsRising (take index rows) line address → line ≤ number → address ≤ start → start % 4 ≡ 0 → 1 ≤ words → IsRising (take (index + 1) rows) (number + 1) (start + 4 * words)
+rising-step rows index line address number start words within here rising later after aligned some =
+    let one : index + 1 ≡ suc index = omega arith in
+    let more : take (index + 1) rows ≡ take index rows ++ (number, start, words) ∷ [] = rw one (take-suc rows index (0, 0, 0) within ∙ ap (λ row. take index rows ++ row ∷ []) here) in
+    subst (λ all. IsRising all (number + 1) (start + 4 * words)) (sym more) (rising-push (take index rows) (number, start, words) line address rising later after aligned some)

@@ -58,15 +58,16 @@ fn done(alloc: Global, answer: Result<(), MemFault>) -> Result<String, Fault> {
 
 fn failed(alloc: Global, fault: MemFault) -> Result<String, Fault> {
     match fault {
+        MemFault::Misaligned => told(alloc, "Misaligned"),
+        MemFault::Outside => told(alloc, "Outside"),
         MemFault::NoMemory => Err(Fault::NoMemoryInCall),
-        fault => Ok(format!(in alloc; "{fault:?}")?),
     }
 }
 
 fn read(alloc: Global, memory: &Memory, address: u32, bytes: &str) -> Result<String, Fault> {
     let mut bytes = bytes_of(alloc, bytes)?;
-    let answer = memory.read(address, &mut bytes);
-    let answer = done(alloc, answer)?;
-    let bytes = hexadecimal(alloc, &bytes)?;
-    Ok(format!(in alloc; "{answer} {bytes}")?)
+    let mut answer = done(alloc, memory.read(address, &mut bytes))?;
+    answer.push(' ')?;
+    answer.push_str(hexadecimal(alloc, &bytes)?.as_str())?;
+    Ok(answer)
 }

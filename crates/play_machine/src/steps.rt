@@ -58,7 +58,8 @@ fn value(alloc: Global, hart: &Hart, register: &str) -> Result<String, Fault> {
 fn registers(alloc: Global, hart: &Hart) -> Result<String, Fault> {
     let mut answer = told(alloc, hart.x[0])?;
     for value in &hart.x[1..] {
-        write!(answer, " {value}")?;
+        answer.push(' ')?;
+        answer.push_str(told(alloc, *value)?.as_str())?;
     }
     Ok(answer)
 }

@@ -5,8 +5,8 @@ use Rattle.play_machine.proofs.tables.rise.Goals as goal
 
 pub loop-row-preserved : goal.loop-row-preserved
 loop-row-preserved c =
-    let place = c.loop-row.row-index in
-    let row : Row = slice_index_or c.args.rows.now place (0, 0, 0) in
+    let index = c.loop-row.row-index in
+    let row : Row = slice_index_or c.args.rows.now index (0, 0, 0) in
     let at_line = c.from.ensures in
     let at_start = c.from-else-from-line.ensures in
     let test_line = c.if-from-line.false in
@@ -16,4 +16,4 @@ loop-row-preserved c =
     let start : c.loop-row.address ≤ start_of row = omega arith in
     let words : 1 ≤ words_in row = omega arith in
     rw (c.from-line.ensures, c.from-in-loop-row.ensures, c.from-in-loop-row-2.ensures)
-    (rising-step c.args.rows.now place c.loop-row.line c.loop-row.address (line_in row) (start_of row) (words_in row) c.loop-row-test.true refl c.loop-row.invariant line start c.if-row-ne0.false words)
+    (rising-step c.args.rows.now index c.loop-row.line c.loop-row.address (line_in row) (start_of row) (words_in row) c.loop-row-test.true refl c.loop-row.invariant line start c.if-row-ne0.false words)
