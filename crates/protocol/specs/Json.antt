@@ -16,12 +16,19 @@ use Rattle.serde_json.specs.Data.{Data}
 use Rattle.serde_json.specs.Read.{read}
 use Rattle.serde_json.specs.View.{view}
 use Rattle.serde_json.specs.declared.value.Value.{Value}
+use Rattle.serde_json.specs.declared.error.Category.{Category}
+use Rattle.serde_json.specs.declared.error.Category.TheVariants.{Memory}
 use Rattle.protocol.specs.declared.request.MessageError.{MessageError}
 use Rattle.protocol.specs.declared.request.MessageError.TheVariants.{NotJson, NotAMessage, BadSeq, NoMemory}
 
 -- the value that the bytes spell, where they are UTF-8 and a JSON text
 unfoldable pub json_of : List ℕ → Option Data
 json_of bytes = if is_utf8 bytes then read bytes else None
+
+-- why the library gives no value
+abbrev pub fault_of : Category → MessageError
+fault_of Memory = NoMemory
+fault_of _ = NotJson
 
 -- what was read is the value that is meant, or none is meant, or memory ran out
 abbrev pub GivesValue : Result Value MessageError → Option Data → Type 0

@@ -9,8 +9,8 @@
 -- is nothing to name in an answer. One that has both is answered, if only by a refusal.
 --
 -- The faults have an order, which is that of the lines below: what is told is the first.
-use Rattle.std.specs.Prelude.{ℕ, List, Result, Ok, Err, ok_or, bytes_eq, codes, refl, ◌||◌, ◌≡◌, if◌then◌else◌}
-use Rattle.serde_json.specs.Data.{array, no_items, number, string, unsigned, Members, no_members, member}
+use Rattle.std.specs.Prelude.{ℕ, List, Result, Ok, Err, IsOk, ok_or, bytes_eq, codes, refl, ◌||◌, ◌≡◌, if◌then◌else◌}
+use Rattle.serde_json.specs.Data.{Data, array, no_items, number, string, unsigned, Members, no_members, member}
 use Rattle.serde_json.specs.Find.{as_object}
 use Rattle.protocol.specs.Json.{json_of}
 use Rattle.protocol.specs.Properties.{property, text, sequence_number}
@@ -80,14 +80,24 @@ a_refused_request : message_of (threads_with (member (codes "arguments") (array 
 unfolding threads_with
 a_refused_request = refl
 
+-- what a JSON value means
+abbrev pub value_means : Data → Result Incoming MessageError
+value_means value = do
+  members ← ok_or (as_object value) NotAMessage
+  message_of members
+
 -- what a body means
 unfoldable pub incoming_of : List ℕ → Result Incoming MessageError
 incoming_of body = do
   value ← ok_or (json_of body) NotJson
-  members ← ok_or (as_object value) NotAMessage
-  message_of members
+  value_means value
 
 -- A call that takes memory gives what is meant, or it finds none.
 abbrev pub Gives : Result Incoming MessageError → Result Incoming MessageError → Type 0
 Gives (Err NoMemory) meant = Unit {0}
 Gives result meant = result ≡ meant
+
+-- A call that takes memory only for a request gives what is meant, or it finds none for a request.
+abbrev pub GivesMeaning : Result Incoming MessageError → Result Incoming MessageError → Type 0
+GivesMeaning (Err NoMemory) meant = IsOk meant
+GivesMeaning result meant = result ≡ meant

@@ -1,7 +1,8 @@
 //! What a body means.
-ghost use Rattle.std.specs.Prelude.{◌≡◌};
-ghost use Rattle.serde_json.specs.View.{members_view};
-ghost use Rattle.protocol.specs.Reading.{Gives, incoming_of, request_of};
+ghost use Rattle.std.specs.Prelude.{◌≡◌, Err};
+ghost use Rattle.std.specs.Str.{IsUtf8};
+ghost use Rattle.serde_json.specs.View.{members_view, view};
+ghost use Rattle.protocol.specs.Reading.{Gives, GivesMeaning, incoming_of, request_of, value_means};
 
 use crate::command::command_named;
 use crate::json::json_value;
@@ -72,12 +73,20 @@ impl From<AllocError> for MessageError {
 /// arrays and objects nest more than 127 deep in it. `NotAMessage`: it is no object; or its `type`
 /// is not the text `request`, `response` or `event`; or it is a request whose `command` is no text.
 /// `BadSeq`: it is a request whose `seq` is no whole number from 0 to 2,147,483,647. `NoMemory`: no
-/// memory was left.
+/// memory was left, for the JSON value or for a request; a body that is not UTF-8 takes none.
 #[tactic(auto, unfolding(crate::specs::Reading::incoming_of))]
 pub fn read_request(alloc: Global, body: &[u8]) -> Result<Incoming, MessageError>
-    ensures { Gives result (incoming_of body.now) }
+    ensures means { Gives result (incoming_of body.now) }
+    ensures memory { result ≡ Err MessageError.NoMemory → IsUtf8 body.now }
 {
     let value = json_value(alloc, body)?;
+    meaning_of(alloc, &value)
+}
+
+// What a JSON value means. Memory is needed for a request alone.
+fn meaning_of(alloc: Global, value: &Value) -> Result<Incoming, MessageError>
+    ensures { GivesMeaning result (value_means (view value.now)) }
+{
     let message = value.as_object().ok_or(MessageError::NotAMessage)?;
     match text(message, members::TYPE).ok_or(MessageError::NotAMessage)? {
         members::REQUEST => incoming_request(alloc, message),
@@ -88,7 +97,7 @@ pub fn read_request(alloc: Global, body: &[u8]) -> Result<Incoming, MessageError
 
 /// What a request means, by the members of the message.
 fn incoming_request(alloc: Global, message: &Map<String, Value>) -> Result<Incoming, MessageError>
-    ensures { Gives result (request_of (members_view message.now.entries)) }
+    ensures { GivesMeaning result (request_of (members_view message.now.entries)) }
 {
     let name = text(message, members::COMMAND).ok_or(MessageError::NotAMessage)?;
     let seq = sequence_number(message, members::SEQ).ok_or(MessageError::BadSeq)?;

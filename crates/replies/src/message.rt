@@ -1,5 +1,6 @@
 //! Messages: what the adapter sends, written and read.
 ghost use Rattle.std.specs.Prelude.{◌≡◌, ◌⊎◌, ℕ, Some, IfOk};
+ghost use Rattle.std.specs.Str.{IsUtf8};
 ghost use Rattle.replies.specs.declared.message.Message.{Message as AMessage};
 ghost use Rattle.protocol.specs.Json.{json_of};
 ghost use Rattle.replies.specs.Messages.{message_data, text_of, IsNumber, IsProper};
@@ -38,6 +39,7 @@ pub fn read_message(alloc: Global, body: &[u8]) -> Result<(u32, Message), Messag
     ensures written { (seq : ℕ) (message : AMessage) → IsNumber seq → IsProper message
         → json_of body.now ≡ Some (message_data seq message)
         → (result ≡ Ok (seq, message)) ⊎ (result ≡ Err MessageError.NoMemory) }
+    ensures memory { result ≡ Err MessageError.NoMemory → IsUtf8 body.now }
 {
     let value = json_value(alloc, body)?;
     match reading::message(alloc, &value) {

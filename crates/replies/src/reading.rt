@@ -1,5 +1,5 @@
 //! Messages found in JSON values.
-ghost use Rattle.std.specs.Prelude.{◌≡◌, ◌≤◌, IfOk};
+ghost use Rattle.std.specs.Prelude.{◌≡◌, ◌≤◌, IfOk, IsSome, OnErr};
 ghost use Rattle.std.specs.List.{list_any};
 ghost use Rattle.std.specs.Str.{bytes_eq};
 ghost use Rattle.serde_json.specs.Data.{depth};
@@ -105,7 +105,8 @@ fn outcome_in(command: &str, value: &Value, success: bool) -> Option<Outcome>
 
 /// The response that a value claims to be.
 fn response_in(alloc: Global, value: &Value) -> Result<Option<Response>, AllocError>
-    ensures { IfOk result (λ o. o ≡ response_in (view value.now)) }
+    ensures claims { IfOk result (λ o. o ≡ response_in (view value.now)) }
+    ensures memory { OnErr result (IsSome (response_in (view value.now))) }
 {
     let Some(request_seq) = request_seq_in(value) else {
         return Ok(None);
@@ -128,7 +129,8 @@ fn response_in(alloc: Global, value: &Value) -> Result<Option<Response>, AllocEr
 
 /// The number and the message that a value claims to be.
 fn claim_in(alloc: Global, value: &Value) -> Result<Option<(u32, Message)>, AllocError>
-    ensures { IfOk result (λ o. o ≡ claim_in (view value.now)) }
+    ensures claims { IfOk result (λ o. o ≡ claim_in (view value.now)) }
+    ensures memory { OnErr result (IsSome (claim_in (view value.now))) }
 {
     let Some(seq) = seq_in(value) else {
         return Ok(None);
@@ -153,7 +155,8 @@ fn is_same(alloc: Global, value: &Value, seq: u32, message: &Message) -> Result<
 /// The number and the message that a value is, if it is one.
 pub(crate) fn message(alloc: Global, value: &Value) -> Result<Option<(u32, Message)>, AllocError>
     requires { depth (view value.now) ≤ max_depth }
-    ensures { IfOk result (λ o. o ≡ message_in (view value.now)) }
+    ensures reads { IfOk result (λ o. o ≡ message_in (view value.now)) }
+    ensures memory { OnErr result (IsSome (claim_in (view value.now))) }
 {
     let Some((seq, message)) = claim_in(alloc, value)? else {
         return Ok(None);
