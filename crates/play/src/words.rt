@@ -1,5 +1,5 @@
 //! The words of commands and of answers.
-ghost use Rattle.std.specs.Prelude.{◌≡◌, IfOk, string_bytes};
+ghost use Rattle.std.specs.Prelude.{◌≡◌, IfErr, IfOk, string_bytes};
 ghost use Rattle.hex.specs.Hex.{decode_of, encode_lower};
 
 use crate::Fault;
@@ -35,6 +35,12 @@ pub fn told<D: Display + Drop>(alloc: Global, value: D) -> Result<String, Fault>
 }
 
 /// What a call answered that fails only where no memory was left.
-pub fn called<T: Drop>(answer: Result<T, AllocError>) -> Result<T, Fault> {
-    answer.map_err(|_| Fault::NoMemoryInCall)
+pub fn called<T: Drop>(answer: Result<T, AllocError>) -> Result<T, Fault>
+    ensures ok { IfOk result (λ value. answer ≡ Ok value) }
+    ensures err { IfErr result (λ fault. fault ≡ Fault.NoMemoryInCall) }
+{
+    match answer {
+        Ok(value) => Ok(value),
+        Err(_) => Err(Fault::NoMemoryInCall),
+    }
 }

@@ -1,14 +1,17 @@
 //! Answers that may be missing, and answers of two values.
+ghost use Rattle.std.specs.Prelude.{◌≡◌, None, IfOk, codes, string_bytes};
 
 use play::{Fault, told};
 use std::alloc::Global;
 use std::fmt::Display;
 
 /// The answer that a value is, or `none`.
-pub fn found<D: Display + Drop>(alloc: Global, value: Option<D>) -> Result<String, Fault> {
+pub fn found<D: Display + Drop>(alloc: Global, value: Option<D>) -> Result<String, Fault>
+    ensures { value ≡ None → IfOk result (λ text. string_bytes text ≡ codes "none") }
+{
     match value {
         Some(value) => told(alloc, value),
-        None => told(alloc, "none"),
+        None => Ok("none".to_string(alloc)?),
     }
 }
 
