@@ -4,7 +4,6 @@ import re
 
 FUNCTION = re.compile(r"( *)(?:pub(?:\([a-z]+\))? )?(?:const )?fn (\w+)")
 IMPL = re.compile(r"impl(?:<[^>]*>)? (?:(.*) for )?(\w+)")
-CONSTANT = re.compile(r"(?:pub(?:\([a-z]+\))? )?const (\w+):")
 
 
 class BadEdit(Exception):
@@ -14,61 +13,46 @@ class BadEdit(Exception):
 class Mutant:
     """A crate with some lines changed.
 
-    lines: what stands in place of a line, by the path of its file in the crate and its index there. touched: the functions that
-    these lines belong to. refused: those of which the prover has to refuse one. is_alone: whether it changes more
-    than functions, and so what any other rests on.
+    lines: what stands in place of a line, by the path of its file in the crate and its index. touched: the functions that these
+    lines belong to. refused: those of which the prover has to refuse one. is_alone: whether it changes more than functions.
     """
 
     def __init__(self, crate, name, lines, refused):
         self.name, self.lines = name, lines
-        owners = [owners_of(crate, path, index) for path, index in lines]
-        self.touched = {function for it in owners for function in it}
+        around = {function_at(crate, path, index) for path, index in lines}
+        self.is_alone, self.touched = None in around, around - {None}
         self.refused = set(refused) or self.touched
-        self.is_alone = not all(owners)
         if self.is_alone and not refused:
             raise BadEdit("it changes more than functions: a line 'refused: module::function' has to say which is refused")
 
     def write(self, folder):
         """Changes the lines in a folder that holds the crate's text."""
         for (path, index), line in self.lines.items():
-            file = os.path.join(folder, path)
-            with open(file, encoding="utf-8") as it:
+            with open(os.path.join(folder, path), "r+", encoding="utf-8") as it:
                 lines = it.read().split("\n")
-            lines[index] = line
-            with open(file, "w", encoding="utf-8") as it:
+                lines[index] = line
+                it.seek(0)
+                it.truncate()
                 it.write("\n".join(lines))
 
 
-def functions(path, lines):
-    """The name of each function of a file in rt fmt's layout, as the prover gives it, with the indices of its first and its last line."""
+def function_at(crate, path, index):
+    """The function of src/ that a line belongs to, as the prover calls it, or None. The file is in the layout of rt fmt."""
+    if not path.startswith("src/"):
+        return None
+    lines, owner = crate.lines(path), []
     module = [it for it in path[len("src/"):-len(".rt")].split("/") if it not in ("lib", "main")]
-    owner = []
-    for first, line in enumerate(lines):
+    for first, line in enumerate(lines[:index + 1]):
         function, impl = FUNCTION.match(line), IMPL.match(line)
         if impl:
             owner = [impl[2] + re.sub(r"\W", "", impl[1] or "")]
         elif function:
-            last = next(i for i in range(first, len(lines)) if i == first and line.endswith("}") or lines[i] in (function[1] + "}", function[1] + "{}"))
-            yield "::".join(module + owner * bool(function[1]) + [function[2]]), first, last
-
-
-def owners_of(crate, path, index):
-    """The functions that a line belongs to: the one around it, or those that name the constant there, where no definition does."""
-    if not path.startswith("src/"):
-        return []
-    lines = crate.lines(path)
-    around = [name for name, first, last in functions(path, lines) if first <= index <= last]
-    while index and not CONSTANT.match(lines[index]) and not lines[index - 1].endswith((";", "}")):
-        index -= 1
-    constant = CONSTANT.match(lines[index])
-    if around or not constant:
-        return around
-    names = re.compile(r"\b%s\b" % constant[1])
-    if any(names.search("\n".join(crate.lines(it))) for it in crate.files("specs")):
-        return []
-    places = [path] if constant[0].startswith("const") else [it for it in crate.files("src") if not it.startswith("src/tests")]
-    texts = {it: crate.lines(it) for it in places}
-    return [name for it, text in texts.items() for name, first, last in functions(it, text) if names.search("\n".join(text[first:last]))]
+            name = "::".join(module + owner * bool(function[1]) + [function[2]])
+            ends = (function[1] + "}", function[1] + "{}")
+            last = first if line.endswith("}") else next(i for i in range(first, len(lines)) if lines[i] in ends)
+            if index <= last:
+                return name
+    return None
 
 
 def read(crate, file):
@@ -92,11 +76,15 @@ def read(crate, file):
             texts[path], old = texts[path].replace(old, text), None
         else:
             raise BadEdit("this is no line of an edit: %s" % line)
-    pairs = [(path, index, was, new) for path, text in texts.items() for index, (was, new) in enumerate(zip(crate.lines(path), text.split("\n")))]
-    lines = {(path, index): new for path, index, was, new in pairs if was != new}
+    pairs = [(path, index, pair) for path, text in texts.items() for index, pair in enumerate(zip(crate.lines(path), text.split("\n")))]
+    lines = {(path, index): new for path, index, (was, new) in pairs if was != new}
     if not lines:
         raise BadEdit("it changes nothing")
-    return Mutant(crate, os.path.basename(file)[:-len(".edit")], lines, refused)
+    return Mutant(crate, name_of(file), lines, refused)
+
+
+def name_of(file):
+    return os.path.basename(file)[:-len(".edit")]
 
 
 def batches(mutants):
