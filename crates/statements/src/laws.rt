@@ -1,6 +1,6 @@
 //! What holds of every line: each law is the contract of a function that does nothing.
 
-ghost use Rattle.statements.specs.Laws.{LinesAreRead, OnlyLinesAreRead, TextsAreRead};
+ghost use Rattle.statements.specs.Laws.{FormIsNoError, LinesAreRead, OnlyLinesAreRead, TextsAreRead};
 
 /// A line that the rules of the grammar divide is read as what it is divided into says. So the rules
 /// divide it in one way only, as far as what it says goes.
@@ -11,6 +11,12 @@ pub fn lines_are_read()
 /// What is read as a line, and not refused for its form, is one that the rules divide.
 pub fn only_lines_are_read()
     ensures { OnlyLinesAreRead }
+{}
+
+/// A line that the rules divide is not refused for its form: what is told of it is a word that names
+/// nothing, where its word does not, or else something wrong with its operands.
+pub fn form_is_no_error()
+    ensures { FormIsNoError }
 {}
 
 /// The text of an instruction at an address is read as its statement: as the instruction itself, as a
