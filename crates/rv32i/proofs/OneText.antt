@@ -1,9 +1,9 @@
 -- A word has one text at an address.
-use Rattle.std.proofs.Common.{◌≡◌, ℕ, Bool, true, false, List, sym, ap, ◌∙◌, subst}
+use Rattle.std.proofs.Common.{◌≡◌, ℕ, Bool, true, false, List, sym, ◌∙◌, subst}
 use Rattle.std.specs.Bool.{MatchBool}
 use Rattle.rv32i.specs.Encoding.{Encodes}
 use Rattle.rv32i.specs.Laws.{TextIsOnly}
-use Rattle.rv32i.specs.Texts.{HasText, IsTextOf, Coded, Illegal, is_plain_fence, word_text}
+use Rattle.rv32i.specs.Texts.{HasText, Coded, Illegal, is_plain_fence, word_text}
 use Rattle.rv32i.specs.declared.instr.Instr.{Instr}
 use Rattle.rv32i.specs.declared.instr.Instr.TheVariants.{Lui, Auipc, Jal, Jalr, Beq, Bne, Blt, Bge, Bltu, Bgeu, Lb, Lh, Lw, Lbu, Lhu, Sb, Sh, Sw, Addi, Slti, Sltiu, Xori, Ori, Andi, Slli, Srli, Srai, Add, Sub, Sll, Slt, Sltu, Xor, Srl, Sra, Or, And, Fence, Ecall, Ebreak}
 use Rattle.rv32i.proofs.Unique.{one_instruction}

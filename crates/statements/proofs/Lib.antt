@@ -10,3 +10,4 @@ pub mod Mild
 pub mod Solid
 pub mod Numerals
 pub mod Texts
+pub mod PseudoLines

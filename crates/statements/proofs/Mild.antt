@@ -5,27 +5,25 @@ use Rattle.std.specs.Char.{is_digit}
 use Rattle.std.specs.List.{list_all}
 use Rattle.std.specs.Str.Parse.{digits_value}
 use Rattle.statements.specs.Directives.{align, all_of, are_formed, before_others, global, item_in, items_in, number_item, section, space, stated}
-use Rattle.statements.specs.Grammar.{Division, IsLine, Spoken, says}
-use Rattle.statements.specs.Instructions.{Said, add_upper, against_zero, amount_in, and_then, branch, call, constant, fence, fence_of, fixed, fixed_instruction, immediate, jump, jump_and_link, jump_and_link_register, jump_register, jump_to, load, load_address, load_immediate, load_upper, lower, of_register, registers, shift, store, store_lower, swapped, unary, unary_instruction, upper_by, upper_in, with_zero, zero_against}
+use Rattle.statements.specs.Grammar.{Spoken, says}
+use Rattle.statements.specs.Instructions.{Said, add_upper, against_zero, amount_in, and_then, branch, call, constant, fence, fence_of, fixed, immediate, jump, jump_and_link, jump_and_link_register, jump_register, jump_to, load, load_address, load_immediate, load_upper, lower, of_register, registers, shift, store, store_lower, swapped, unary, unary_instruction, upper_by, upper_in, with_zero, zero_against}
 use Rattle.statements.specs.Laws.{FormIsNoError, IsErrorOf, IsOfOperands}
-use Rattle.statements.specs.Numbers.{bits_by, bits_in, bits_of, bits_within, constant_in, magnitude, magnitude_by, number_by, number_in, numeral, signed, within}
+use Rattle.statements.specs.Numbers.{bits_by, bits_in, bits_of, constant_in, magnitude, magnitude_by, number_by, number_in, numeral, signed, within}
 use Rattle.statements.specs.Operands.{access_by, access_in, access_with, address_target, base_by, bits_low, bracketed, closed, immediate_in, label_in, low_by, low_in, offset_in, operands_in, or_bad, part_access, part_access_by, part_by, part_in, part_low, plain_access, register_in, register_of, set_in, sets, target_in}
-use Rattle.statements.specs.Operations.{immediate_instruction, register_instruction, shift_instruction}
-use Rattle.statements.specs.Reading.{line_of, meaning, read, said_by, stating, without_comment}
+use Rattle.statements.specs.Operations.{register_instruction, shift_instruction}
+use Rattle.statements.specs.Reading.{line_of, meaning, said_by, stating}
 use Rattle.statements.specs.Spelling.{is_name, named, parted, pieces, stripped}
 use Rattle.byte_strings.specs.Blanks.{trimmed, without_leading_blanks}
 use Rattle.statements.specs.Words.{word_of}
 use Rattle.rv32i.specs.declared.instr.Instr.TheVariants as i
 use Rattle.statements.specs.declared.error.LineError.{LineError}
 use Rattle.statements.specs.declared.error.LineError.TheVariants.{UnknownInstruction, BadOperand, OutOfRange}
-use Rattle.statements.specs.declared.items.Item.{Item}
 use Rattle.statements.specs.declared.items.Item.TheVariants.{Label as LabelItem}
 use Rattle.statements.specs.declared.items.Width.{Width}
 use Rattle.statements.specs.declared.items.Width.TheVariants.{Byte, Half, Word as Words}
 use Rattle.statements.specs.declared.number.Number.{Number}
 use Rattle.statements.specs.declared.operands.Low.{Low}
 use Rattle.statements.specs.declared.operands.Low.TheVariants.{Bits}
-use Rattle.statements.specs.declared.operands.Access.{Access}
 use Rattle.statements.specs.declared.operands.Operands.{Operands}
 use Rattle.statements.specs.declared.operands.Operands.TheVariants.{Zero, One, Two, Three, More}
 use Rattle.statements.specs.declared.operations.ImmediateOperation.{ImmediateOperation}
@@ -36,7 +34,6 @@ use Rattle.statements.specs.declared.operations.ShiftOperation.{ShiftOperation}
 use Rattle.statements.specs.declared.operations.StoreOperation.{StoreOperation}
 use Rattle.statements.specs.declared.words.Fixed.{Fixed}
 use Rattle.statements.specs.declared.words.Unary.{Unary}
-use Rattle.statements.specs.declared.statement.Statement.{Statement}
 use Rattle.statements.specs.declared.statement.Statement.TheVariants as say
 use Rattle.statements.specs.declared.statement.Target.TheVariants.{Label}
 use Rattle.statements.specs.declared.words.Word.{Word}

@@ -1,5 +1,6 @@
 //! What holds of every line: each law is the contract of a function that does nothing.
 
+ghost use Rattle.statements.specs.Pseudo.{NamesArePlain, OfBranches, OfConstants, OfJumps, OfRegisters, RegistersArePlain};
 ghost use Rattle.statements.specs.Laws.{FormIsNoError, LinesAreRead, OnlyLinesAreRead, TextsAreRead};
 
 /// A line that the rules of the grammar divide is read as what it is divided into says. So the rules
@@ -24,4 +25,16 @@ pub fn form_is_no_error()
 /// for, as data with its word.
 pub fn texts_are_read()
     ensures { TextsAreRead }
+{}
+
+/// A pseudo-instruction is read as the instruction that it stands for, whatever its operands are: registers
+/// by any of their names, labels, numbers, or others that are spelled without blanks. `la`, `call` and
+/// `li` say what they are of a register, a label and a number.
+pub fn pseudo_instructions_stand_for_others()
+    ensures registers { OfRegisters }
+    ensures branches { OfBranches }
+    ensures jumps { OfJumps }
+    ensures constants { OfConstants }
+    ensures names { NamesArePlain }
+    ensures named { RegistersArePlain }
 {}
