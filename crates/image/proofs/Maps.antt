@@ -1,7 +1,8 @@
 -- Elements of a list of which a part was read or replaced.
-use Rattle.std.proofs.Common.{◌≡◌, ℕ, zero, suc, ◌+◌, ◌-◌, ◌<◌, ◌≤◌, Bool, true, false, cond, eqb, ltb, leb, ◌&&◌, List, [], ◌∷◌, ◌++◌, length, take, drop, None, refl, sym, ap, ◌∙◌, arith, length-append}
-use Rattle.std.specs.Prelude.{slice_get}
+use Rattle.std.proofs.Common.{◌≡◌, ℕ, zero, suc, ◌+◌, ◌-◌, ◌<◌, ◌≤◌, Bool, true, false, cond, eqb, ltb, leb, ◌&&◌, List, [], ◌∷◌, ◌++◌, length, take, drop, replicate, Some, None, refl, sym, ap, ◌∙◌, arith, length-append}
+use Rattle.std.specs.Prelude.{is_some, slice_get}
 use Rattle.std.proofs.lemmas.Bool.Decides.{nat_tests}
+use Rattle.image.specs.Laws.{BytesLieFromFirst, EachHasByte, NewIsZero}
 use Rattle.image.specs.Memory.{byte_at, bytes_at, first_address, has_bytes, with_bytes}
 
 get_first : (a b : List ℕ) (k : ℕ) → k < length a → slice_get (a ++ b) k ≡ slice_get a k
@@ -108,3 +109,62 @@ keeps_above memory address other (b ∷ bytes) h above =
     let low : first_address ≤ address = i.low in
     let high : address + length (b ∷ bytes) ≤ first_address + length memory = i.high in
     same memory (with_bytes memory address (b ∷ bytes)) other (λ l. put_above memory (address - first_address) (other - first_address) (b ∷ bytes) (omega arith) (omega arith))
+
+-- which elements a list has
+element : (m : List ℕ) (k : ℕ) → is_some (slice_get m k) ≡ true → k < length m
+element [] k h = cc
+element (x ∷ m) zero h = omega arith
+element (x ∷ m) (suc k) h = let e = element m k h in omega arith
+
+has_element : (m : List ℕ) (k : ℕ) → k < length m → is_some (slice_get m k) ≡ true
+has_element [] k h = absurd (omega arith)
+has_element (x ∷ m) zero h = refl
+has_element (x ∷ m) (suc k) h = has_element m k (omega arith)
+
+copy_at : (value size k : ℕ) → k < size → slice_get (replicate size value) k ≡ Some value
+copy_at value zero k h = absurd (omega arith)
+copy_at value (suc size) zero h = refl
+copy_at value (suc size) (suc k) h = copy_at value size k (omega arith)
+
+-- an address that has a byte, and where it lies
+lies : (memory : List ℕ) (address : ℕ) → is_some (byte_at memory address) ≡ true → (first_address ≤ address) × (address < first_address + length memory)
+lies memory address h =
+    let P : Bool → Type 0 = λ t. ltb address first_address ≡ t → is_some (cond t None (slice_get memory (address - first_address))) ≡ true → (first_address ≤ address) × (address < first_address + length memory) in
+    let go : P (ltb address first_address) = elim (ltb address first_address) as P [
+      | true ↦ λ t s. absurd (cc)
+      | false ↦ λ t s.
+          let low : first_address ≤ address = grind (arith, nat_tests) in
+          let e = element memory (address - first_address) s in
+          (low, omega (arith, e, low))
+    ] in go refl h
+
+has_one : (memory : List ℕ) (address : ℕ) → first_address ≤ address → address < first_address + length memory → is_some (byte_at memory address) ≡ true
+has_one memory address low high = ap is_some (at_or_above memory address low) ∙ has_element memory (address - first_address) (omega (arith, low, high))
+
+pub bytes_lie : BytesLieFromFirst
+bytes_lie memory address = (λ h. lies memory address h, λ (low, high). has_one memory address low high)
+
+each_has : (memory : List ℕ) (address count : ℕ) → has_bytes memory address count ≡ true → (k : ℕ) → k < count → is_some (byte_at memory (address + k)) ≡ true
+each_has memory address count h k below =
+    let i = inside memory address count k h below in
+    let low : first_address ≤ address = i.low in
+    let high : address + count ≤ first_address + length memory = i.high in
+    has_one memory (address + k) (omega arith) (omega arith)
+
+has_each : (memory : List ℕ) (address count : ℕ) → ((k : ℕ) → k < count → is_some (byte_at memory (address + k)) ≡ true) → has_bytes memory address count ≡ true
+has_each memory address zero h = refl
+has_each memory address (suc count) h =
+    let first = lies memory (address + 0) (h 0 (omega arith)) in
+    let last = lies memory (address + count) (h count (omega arith)) in
+    let low : first_address ≤ address = omega (arith, first.0) in
+    let high : address + suc count ≤ first_address + length memory = omega (arith, last.1) in
+    let l : leb first_address address ≡ true = grind (arith, nat_tests) in
+    let u : leb (address + suc count) (first_address + length memory) ≡ true = grind (arith, nat_tests) in
+    let some : eqb (suc count) 0 ≡ false = grind (arith, nat_tests) in
+    rw (some, l, u) refl
+
+pub bytes_are_there : EachHasByte
+bytes_are_there memory address count = (each_has memory address count, has_each memory address count)
+
+pub zeros_are_there : NewIsZero
+zeros_are_there size address low high = at_or_above (replicate size 0) address low ∙ copy_at 0 size (address - first_address) (omega (arith, low, high))

@@ -1,6 +1,23 @@
 -- Memory is a map. Each of these statements is the contract of a function of the module `laws`.
-use Rattle.std.specs.Prelude.{◌≡◌, ℕ, ◌+◌, ◌<◌, ◌≤◌, true, List, length, slice_get}
-use Rattle.image.specs.Memory.{byte_at, bytes_at, has_bytes, with_bytes}
+use Rattle.std.specs.Prelude.{◌≡◌, ℕ, ◌+◌, ◌<◌, ◌≤◌, ◌↔◌, true, List, length, replicate, slice_get, Some, IsSome}
+use Rattle.image.specs.Memory.{byte_at, bytes_at, fault_at, has_bytes, with_bytes}
+use Rattle.image.specs.declared.fault.MemFault.TheVariants.{NoMemory}
+
+-- An address has a byte exactly where it lies from 0x00010000 on and below the end of memory.
+abbrev pub BytesLieFromFirst : Type 0
+BytesLieFromFirst = (memory : List ℕ) (address : ℕ) → IsSome (byte_at memory address) ↔ ((0x10000 ≤ address) × (address < 0x10000 + length memory))
+
+-- Addresses are found to have bytes exactly where each of them has one.
+abbrev pub EachHasByte : Type 0
+EachHasByte = (memory : List ℕ) (address count : ℕ) → (has_bytes memory address count ≡ true) ↔ ((k : ℕ) → k < count → IsSome (byte_at memory (address + k)))
+
+-- In new memory each byte is 0.
+abbrev pub NewIsZero : Type 0
+NewIsZero = (size address : ℕ) → 0x10000 ≤ address → address < 0x10000 + size → byte_at (replicate size 0) address ≡ Some 0
+
+-- No access takes memory.
+abbrev pub TakesNoMemory : Type 0
+TakesNoMemory = (memory : List ℕ) (aligned address count : ℕ) → fault_at memory aligned address count ≡ Some NoMemory → ⊥
 
 -- What is read from an address on is the bytes there, one after the other.
 abbrev pub ReadsBytes : Type 0

@@ -12,7 +12,7 @@ pub enum MemFault {
     #[error("access outside memory")]
     Outside,
     /// No memory was left for the page that is written. No call answers it as long as all bytes are
-    /// made at the start.
+    /// made at the start, which the law `takes_no_memory` says.
     #[error("no memory")]
     NoMemory,
 }

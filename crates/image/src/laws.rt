@@ -1,6 +1,6 @@
 //! Memory is a map from address to byte: each law is the contract of a function that does nothing.
 
-ghost use Rattle.image.specs.Laws.{KeepsAbove, KeepsBelow, ReadsBytes, WritesBytes};
+ghost use Rattle.image.specs.Laws.{BytesLieFromFirst, EachHasByte, KeepsAbove, KeepsBelow, NewIsZero, ReadsBytes, TakesNoMemory, WritesBytes};
 
 /// What is read from an address on is the bytes there.
 pub fn reads_are_bytes()
@@ -12,4 +12,21 @@ pub fn writes_are_changes()
     ensures bytes { WritesBytes }
     ensures below { KeepsBelow }
     ensures above { KeepsAbove }
+{}
+
+/// The addresses that have a byte are those from 0x00010000 up to the end of memory, and no others. An
+/// access is found to lie in memory exactly where each of its addresses has a byte.
+pub fn bytes_lie_from_first()
+    ensures one { BytesLieFromFirst }
+    ensures each { EachHasByte }
+{}
+
+/// Each byte of new memory is 0.
+pub fn new_is_zero()
+    ensures { NewIsZero }
+{}
+
+/// No access to memory answers that none is left: all bytes are made at the start.
+pub fn takes_no_memory()
+    ensures { TakesNoMemory }
 {}

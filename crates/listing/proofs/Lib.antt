@@ -1,1 +1,3 @@
 pub mod Listed
+pub mod Only
+pub mod Written

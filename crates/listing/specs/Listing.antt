@@ -1,8 +1,9 @@
 -- What `listing` leaves behind.
 --
--- A text that has an image, for memory of 1 MiB, is listed wholly. A text that has none is told its error, and then the
--- writer has what it had; so it has where no memory was left.
-use Rattle.std.specs.Prelude.{◌≡◌, ℕ, List, Option, Some}
+-- A text that has an image, for memory of 1 MiB, is listed wholly. Where the writer fails on the way, it has a part of the
+-- listing, up to some byte. A text that has no image is told its error, and then the writer has what it had; so it has where
+-- no memory was left. A text has at most one listing.
+use Rattle.std.specs.Prelude.{◌≡◌, ℕ, ◌<◌, List, length, take, Option, Some}
 use Rattle.std.specs.Io.KnownBytes.{Appends, Keeps}
 use Rattle.image.specs.declared.Image.{Image}
 use Rattle.assembler.specs.Placed.{error_of, Placed}
@@ -17,18 +18,34 @@ use Rattle.listing.specs.declared.fault.ListFault.TheVariants.{Assembly, NoMemor
 abbrev pub memory_size : ℕ
 memory_size = 1048576
 
--- A text's listing stands behind what a writer had before.
-pub record Lists (text : List ℕ) (before after : Option (List ℕ)) : Type 0 where
+-- The listing of a text: that of the image that is right for it.
+pub record IsListed (text lines : List ℕ) : Type 0 where
   pub image : Image
   pub placed : Placed text memory_size image
-  pub lines : List ℕ
   pub is_listing : IsListing image lines
+
+-- It is only one.
+abbrev pub ListingIsOnly : Type 0
+ListingIsOnly = (text lines other : List ℕ) → IsListed text lines → IsListed text other → lines ≡ other
+
+-- A text's listing stands behind what a writer had before.
+pub record Lists (text : List ℕ) (before after : Option (List ℕ)) : Type 0 where
+  pub lines : List ℕ
+  pub listed : IsListed text lines
   pub behind : Appends before after lines
 
--- What stands where a fault is told; of a writer that failed, nothing is known but that there was a listing to write.
+-- So does a part of it: its first bytes, and not all.
+pub record ListsPart (text : List ℕ) (before after : Option (List ℕ)) : Type 0 where
+  pub lines : List ℕ
+  pub listed : IsListed text lines
+  pub count : ℕ
+  pub short : count < length lines
+  pub behind : Appends before after (take count lines)
+
+-- What stands where a fault is told.
 abbrev pub Faults : ListFault → List ℕ → Option (List ℕ) → Option (List ℕ) → Type 0
 Faults (Assembly error) text before after = (error_of text memory_size ≡ Some error) × Keeps before after
-Faults Write text before after = (image : Image) × Placed text memory_size image
+Faults Write text before after = ListsPart text before after
 Faults NoMemory text before after = Keeps before after
 
 -- what is told of an error of the assembler

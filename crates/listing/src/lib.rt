@@ -3,7 +3,9 @@
 
 mod entries;
 mod fault;
+pub mod laws;
 mod list;
+mod writing;
 
 pub use fault::ListFault;
 pub use list::listing;

@@ -1,12 +1,16 @@
 //! A text to its listing.
-ghost use Rattle.std.specs.Prelude.{◌≡◌, OnOk, IfErr};
+ghost use Rattle.std.specs.Prelude.{◌≡◌, string_bytes, IfErr, IfOk, OnOk};
 ghost use Rattle.listing.specs.Listing as spec;
-ghost use Rattle.listing.specs.Listing.{Faults, Lists};
+ghost use Rattle.listing.specs.Listing.{Faults, IsListed, Lists};
+ghost use Rattle.listing.specs.Steps as steps;
+ghost use Rattle.listing.specs.Steps.{Unlisted};
 
 use crate::entries::entries_of;
 use crate::fault::ListFault;
+use crate::writing::write_whole;
 use assembler::{AsmError, AsmErrorKind, assemble};
 use std::alloc::Global;
+use std::io;
 use std::io::Write;
 
 /// How many bytes the memory has that a text is assembled for.
@@ -17,20 +21,37 @@ const MEMORY_SIZE: u32 = 1_048_576;
 /// that stands for the instruction there.
 ///
 /// - `Assembly`: something is wrong with the text, and nothing was written.
-/// - `Write`: the writer failed; it may have taken a part of the listing.
+/// - `Write`: the writer failed, and has the first bytes of the listing, but not all.
 /// - `NoMemory`: no memory was left, and nothing was written.
 pub fn listing<W: Write>(alloc: Global, text: &[u8], writer: &mut W) -> Result<(), ListFault>
     ensures ok { OnOk result (Lists text.now (W.contents writer.old) (W.contents writer.new)) }
     ensures err { IfErr result (λ fault. Faults fault text.now (W.contents writer.old) (W.contents writer.new)) }
 {
+    match lines_of(alloc, text) {
+        Ok(lines) => told(write_whole(writer, lines.as_bytes())),
+        Err(fault) => Err(fault),
+    }
+}
+
+// The listing of a text, in memory.
+fn lines_of(alloc: Global, text: &[u8]) -> Result<String, ListFault>
+    ensures ok { IfOk result (λ lines. IsListed text.now (string_bytes lines)) }
+    ensures err { IfErr result (λ fault. Unlisted fault text.now) }
+{
     let image = match assemble(alloc, text, MEMORY_SIZE) {
         Ok(image) => image,
         Err(error) => return Err(fault_of(error)),
     };
-    let Ok(lines) = entries_of(alloc, &image) else {
-        return Err(ListFault::NoMemory);
-    };
-    match writer.write_all(lines.as_bytes()) {
+    match entries_of(alloc, &image) {
+        Ok(lines) => Ok(lines),
+        Err(_) => Err(ListFault::NoMemory),
+    }
+}
+
+fn told(answer: io::Result<()>) -> Result<(), ListFault>
+    ensures { result ≡ steps.told answer }
+{
+    match answer {
         Ok(()) => Ok(()),
         Err(_) => Err(ListFault::Write),
     }

@@ -4,6 +4,7 @@ use Rattle.std.specs.Prelude.{slice_get}
 use Rattle.std.proofs.lemmas.Bool.Decides.{nat_tests}
 use Rattle.image.specs.Memory.{byte_at}
 use Rattle.rv32i.specs.Steps.{loaded}
+use Rattle.rv32i.specs.declared.perform.Halt.TheVariants.{Stopped}
 use Rattle.rv32i.specs.declared.stepped.Cause.TheVariants.{LoadOutside}
 
 pub record Found (bytes : List ℕ) (k byte : ℕ) : Type 0 where
@@ -43,7 +44,7 @@ byte_loads memory address byte h =
     let n : byte + 256 * 0 ≡ byte = omega arith in
     rw (e, l, r, f.one) (ap (λ x. Ok x) n)
 
-pub no_byte_loads : (memory : List ℕ) (address : ℕ) → byte_at memory address ≡ None → loaded 1 memory address ≡ Err LoadOutside
+pub no_byte_loads : (memory : List ℕ) (address : ℕ) → byte_at memory address ≡ None → loaded 1 memory address ≡ Err (Stopped LoadOutside)
 no_byte_loads memory address h =
     let e : eqb (address % 1) 0 ≡ true = (let z : address % 1 ≡ 0 = omega arith in rw z refl) in
     elim (no_place address (slice_get memory (address - 65536)) h) [

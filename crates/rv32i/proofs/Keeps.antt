@@ -1,14 +1,13 @@
 -- A trap and an exit leave the machine as it was, and pc stays a multiple of 4.
-use Rattle.std.proofs.Common.{◌≡◌, ℕ, ◌+◌, ◌%◌, ◌^◌, Bool, true, false, cond, eqb, List, Option, Some, None, refl, sym, arith, subst}
-use Rattle.std.specs.Prelude.{Result, Ok, Err, IsOkAnd}
-use Rattle.std.specs.declared.alloc.AllocError.{AllocError}
+use Rattle.std.proofs.Common.{◌≡◌, ℕ, ◌+◌, ◌%◌, ◌^◌, Bool, true, false, cond, not, eqb, List, Option, Some, None, refl, sym, ap, ◌∙◌, arith, subst}
+use Rattle.std.specs.Prelude.{Ok, is_ok}
 use Rattle.std.proofs.lemmas.Bool.Decides.{nat_tests}
-use Rattle.image.specs.Memory.{fault_at}
+use Rattle.image.specs.Memory.{fault_at, has_bytes}
 use Rattle.image.specs.declared.fault.MemFault.{MemFault}
+use Rattle.image.specs.declared.fault.MemFault.TheVariants.{Misaligned, Outside, NoMemory}
 use Rattle.rv32i.specs.Machine.{Machine, Effect, Keeps, effect_of, retired, trapped, gives, jumps, linked, branches, loads_unless, stores_unless, calls, signed, sum, value}
 use Rattle.rv32i.specs.declared.instr.Instr.{Instr}
 use Rattle.rv32i.specs.declared.instr.Instr.TheVariants.{Lui, Auipc, Jal, Jalr, Beq, Bne, Blt, Bge, Bltu, Bgeu, Lb, Lh, Lw, Lbu, Lhu, Sb, Sh, Sw, Addi, Slti, Sltiu, Xori, Ori, Andi, Slli, Srli, Srai, Add, Sub, Sll, Slt, Sltu, Xor, Srl, Sra, Or, And, Fence, Ecall, Ebreak}
-use Rattle.rv32i.specs.declared.stepped.Stepped.{Stepped}
 use Rattle.rv32i.specs.declared.stepped.Stepped.TheVariants.{Exit, Printed}
 use Rattle.rv32i.specs.declared.stepped.Cause.TheVariants.{JumpMisaligned, UnknownCall}
 
@@ -35,15 +34,19 @@ branches_keep false offset m = next_keeps m
 
 loads_keep : (fault : Option MemFault) (rd v : ℕ) (m : Machine) → Keeps m (loads_unless fault rd v m)
 loads_keep None rd v m = gives_keeps rd v m
-loads_keep (Some fault) rd v m = record { unchanged = refl; aligned = λ h. h }
+loads_keep (Some Misaligned) rd v m = record { unchanged = refl; aligned = λ h. h }
+loads_keep (Some Outside) rd v m = record { unchanged = refl; aligned = λ h. h }
+loads_keep (Some NoMemory) rd v m = record { unchanged = refl; aligned = λ h. h }
 
 stores_keep : (fault : Option MemFault) (bytes : List ℕ) (address : ℕ) (m : Machine) → Keeps m (stores_unless fault bytes address m)
 stores_keep None bytes address m = record { unchanged = tt; aligned = next_aligned m.pc }
-stores_keep (Some fault) bytes address m = record { unchanged = refl; aligned = λ h. h }
+stores_keep (Some Misaligned) bytes address m = record { unchanged = refl; aligned = λ h. h }
+stores_keep (Some Outside) bytes address m = record { unchanged = refl; aligned = λ h. h }
+stores_keep (Some NoMemory) bytes address m = record { unchanged = refl; aligned = λ h. h }
 
 calls_keep : (m : Machine) → Keeps m (calls m)
 calls_keep m =
-    let P : Bool → Bool → Type 0 = λ s t. Keeps m (cond s (record { answer = Exit (signed (value 10 m)); machine = m }) (cond t (record { answer = Printed (signed (value 10 m)); machine = record m { pc = sum m.pc 4 } }) (trapped UnknownCall m))) in
+    let P : Bool → Bool → Type 0 = λ s t. Keeps m (cond s (record { answer = Ok (Exit (signed (value 10 m))); machine = m }) (cond t (record { answer = Ok (Printed (signed (value 10 m))); machine = record m { pc = sum m.pc 4 } }) (trapped UnknownCall m))) in
     let go : P (eqb (value 17 m) 93) (eqb (value 17 m) 1) = elim (eqb (value 17 m) 93) as (λ s. P s (eqb (value 17 m) 1)) [
       | true ↦ record { unchanged = refl; aligned = λ h. h }
       | false ↦ (elim (eqb (value 17 m) 1) as (λ t. P false t) [
@@ -94,6 +97,84 @@ keeps (Fence fm before after rd rs1) m = next_keeps m
 keeps Ecall m = calls_keep m
 keeps Ebreak m = record { unchanged = tt; aligned = next_aligned m.pc }
 
-pub step_keeps : (before after : Machine) (i : Instr) (r : Result Stepped AllocError) → IsOkAnd r (λ answer. record { answer = answer; machine = after } ≡ effect_of i before) → IsOkAnd r (λ answer. Keeps before (record { answer = answer; machine = after }))
-step_keeps before after i (Ok answer) h = let P : Effect → Type 0 = λ e. Keeps before e in subst P (sym h) (keeps i before)
-step_keeps before after i (Err error) h = h
+pub step_keeps : (before : Machine) (effect : Effect) (i : Instr) → effect ≡ effect_of i before → Keeps before effect
+step_keeps before effect i h = let P : Effect → Type 0 = λ e. Keeps before e in subst P (sym h) (keeps i before)
+
+-- ---- no move takes memory
+
+jumps_answer : (target : ℕ) (m l : Machine) → is_ok (jumps target m l).answer ≡ true
+jumps_answer target m l =
+    let P : Bool → Type 0 = λ t. is_ok (cond t (retired target l) (trapped JumpMisaligned m)).answer ≡ true in
+    let go : P (eqb (target % 4) 0) = elim (eqb (target % 4) 0) as P [ true ↦ refl | false ↦ refl ] in go
+
+branches_answer : (taken : Bool) (offset : ℕ) (m : Machine) → is_ok (branches taken offset m).answer ≡ true
+branches_answer true offset m = jumps_answer (sum m.pc offset) m m
+branches_answer false offset m = refl
+
+-- which faults an access can have
+faults : (P : Option MemFault → Type 0) (memory : List ℕ) (aligned address count : ℕ) → P None → P (Some Misaligned) → P (Some Outside) → P (fault_at memory aligned address count)
+faults P memory aligned address count none misaligned outside =
+    let Q : Bool → Bool → Type 0 = λ s t. P (cond (not s) (Some Misaligned) (cond t None (Some Outside))) in
+    let go : Q (eqb (address % aligned) 0) (has_bytes memory address count) = elim (eqb (address % aligned) 0) as (λ s. Q s (has_bytes memory address count)) [
+      | true ↦ (elim (has_bytes memory address count) as (λ t. Q true t) [ true ↦ none | false ↦ outside ])
+      | false ↦ misaligned
+    ] in go
+
+loads_answer : (count rd v address : ℕ) (m : Machine) → is_ok (loads_unless (fault_at m.memory count address count) rd v m).answer ≡ true
+loads_answer count rd v address m = faults (λ f. is_ok (loads_unless f rd v m).answer ≡ true) m.memory count address count refl refl refl
+
+stores_answer : (count : ℕ) (bytes : List ℕ) (address : ℕ) (m : Machine) → is_ok (stores_unless (fault_at m.memory count address count) bytes address m).answer ≡ true
+stores_answer count bytes address m = faults (λ f. is_ok (stores_unless f bytes address m).answer ≡ true) m.memory count address count refl refl refl
+
+calls_answer : (m : Machine) → is_ok (calls m).answer ≡ true
+calls_answer m =
+    let P : Bool → Bool → Type 0 = λ s t. is_ok (cond s (record { answer = Ok (Exit (signed (value 10 m))); machine = m }) (cond t (record { answer = Ok (Printed (signed (value 10 m))); machine = record m { pc = sum m.pc 4 } }) (trapped UnknownCall m))).answer ≡ true in
+    let go : P (eqb (value 17 m) 93) (eqb (value 17 m) 1) = elim (eqb (value 17 m) 93) as (λ s. P s (eqb (value 17 m) 1)) [
+      | true ↦ refl
+      | false ↦ (elim (eqb (value 17 m) 1) as (λ t. P false t) [ true ↦ refl | false ↦ refl ])
+    ] in go
+
+answers : (i : Instr) (m : Machine) → is_ok (effect_of i m).answer ≡ true
+answers (Jal rd offset) m = jumps_answer _ m (linked rd m)
+answers (Jalr rd rs1 imm) m = jumps_answer _ m (linked rd m)
+answers (Beq rs1 rs2 offset) m = branches_answer _ offset m
+answers (Bne rs1 rs2 offset) m = branches_answer _ offset m
+answers (Blt rs1 rs2 offset) m = branches_answer _ offset m
+answers (Bge rs1 rs2 offset) m = branches_answer _ offset m
+answers (Bltu rs1 rs2 offset) m = branches_answer _ offset m
+answers (Bgeu rs1 rs2 offset) m = branches_answer _ offset m
+answers (Lb rd rs1 imm) m = loads_answer 1 rd _ (sum (value rs1 m) imm) m
+answers (Lh rd rs1 imm) m = loads_answer 2 rd _ (sum (value rs1 m) imm) m
+answers (Lw rd rs1 imm) m = loads_answer 4 rd _ (sum (value rs1 m) imm) m
+answers (Lbu rd rs1 imm) m = loads_answer 1 rd _ (sum (value rs1 m) imm) m
+answers (Lhu rd rs1 imm) m = loads_answer 2 rd _ (sum (value rs1 m) imm) m
+answers (Sb rs1 rs2 imm) m = stores_answer 1 _ (sum (value rs1 m) imm) m
+answers (Sh rs1 rs2 imm) m = stores_answer 2 _ (sum (value rs1 m) imm) m
+answers (Sw rs1 rs2 imm) m = stores_answer 4 _ (sum (value rs1 m) imm) m
+answers Ecall m = calls_answer m
+answers (Lui rd imm) m = refl
+answers (Auipc rd imm) m = refl
+answers (Addi rd rs1 imm) m = refl
+answers (Slti rd rs1 imm) m = refl
+answers (Sltiu rd rs1 imm) m = refl
+answers (Xori rd rs1 imm) m = refl
+answers (Ori rd rs1 imm) m = refl
+answers (Andi rd rs1 imm) m = refl
+answers (Slli rd rs1 shamt) m = refl
+answers (Srli rd rs1 shamt) m = refl
+answers (Srai rd rs1 shamt) m = refl
+answers (Add rd rs1 rs2) m = refl
+answers (Sub rd rs1 rs2) m = refl
+answers (Sll rd rs1 rs2) m = refl
+answers (Slt rd rs1 rs2) m = refl
+answers (Sltu rd rs1 rs2) m = refl
+answers (Xor rd rs1 rs2) m = refl
+answers (Srl rd rs1 rs2) m = refl
+answers (Sra rd rs1 rs2) m = refl
+answers (Or rd rs1 rs2) m = refl
+answers (And rd rs1 rs2) m = refl
+answers (Fence fm before after rd rs1) m = refl
+answers Ebreak m = refl
+
+pub step_answers : (before : Machine) (effect : Effect) (i : Instr) → effect ≡ effect_of i before → is_ok effect.answer ≡ true
+step_answers before effect i h = ap (λ e. is_ok e.answer) h ∙ answers i before

@@ -1,12 +1,14 @@
 -- A machine has one move. Whether two effects are equal can be tested, so it is enough that they cannot differ. If they
 -- did, the word at pc would encode no instruction, since each one would make them equal; and then both are its trap.
 use Rattle.std.proofs.Common.{◌≡◌, ℕ, ℤ, pos, Bool, true, false, cond, eqb, List, Result, Ok, Err, MatchResult, Decides, bytes_eq, int_eq, refl, sym, ap, ◌∙◌}
+use Rattle.std.specs.Prelude.{alloc_error}
+use Rattle.std.specs.declared.alloc.AllocError.{AllocError}
 use Rattle.std.proofs.lemmas.Bool.Decides.{Decides-eqb, Decides-int_eq, not_from_Decides}
 use Rattle.std.proofs.lemmas.Slice.Eq.{bytes_eq-Decides}
 use Rattle.image.specs.Memory.{word_at}
 use Rattle.image.specs.declared.fault.MemFault.{MemFault}
 use Rattle.rv32i.specs.Encoding.{Encodes, IsIllegal}
-use Rattle.rv32i.specs.Machine.{Machine, Effect, IsMove, effect_of, trapped, fetch_cause}
+use Rattle.rv32i.specs.Machine.{Machine, Effect, IsMove, effect_of, trapped, fetch_fault}
 use Rattle.rv32i.specs.declared.instr.Instr.{Instr}
 use Rattle.rv32i.specs.declared.stepped.Stepped.{Stepped}
 use Rattle.rv32i.specs.declared.stepped.Stepped.TheVariants.{Retired, Printed, Break as Breakpoint, Exit, Trap}
@@ -18,49 +20,52 @@ holds true d n = d.0 refl
 holds false d n = absurd (n (not_from_Decides false d refl))
 
 -- An answer as two numbers, and back.
-kind : Stepped → ℕ
-kind Retired = 0
-kind (Printed n) = 1
-kind Breakpoint = 2
-kind (Exit n) = 3
-kind (Trap FetchOutside) = 4
-kind (Trap Illegal) = 5
-kind (Trap JumpMisaligned) = 6
-kind (Trap LoadMisaligned) = 7
-kind (Trap LoadOutside) = 8
-kind (Trap StoreMisaligned) = 9
-kind (Trap StoreOutside) = 10
-kind (Trap UnknownCall) = 11
+kind : Result Stepped AllocError → ℕ
+kind (Ok Retired) = 0
+kind (Ok (Printed n)) = 1
+kind (Ok Breakpoint) = 2
+kind (Ok (Exit n)) = 3
+kind (Ok (Trap FetchOutside)) = 4
+kind (Ok (Trap Illegal)) = 5
+kind (Ok (Trap JumpMisaligned)) = 6
+kind (Ok (Trap LoadMisaligned)) = 7
+kind (Ok (Trap LoadOutside)) = 8
+kind (Ok (Trap StoreMisaligned)) = 9
+kind (Ok (Trap StoreOutside)) = 10
+kind (Ok (Trap UnknownCall)) = 11
+kind (Err error) = 12
 
-number : Stepped → ℤ
-number Retired = pos 0
-number (Printed n) = n
-number Breakpoint = pos 0
-number (Exit n) = n
-number (Trap cause) = pos 0
+number : Result Stepped AllocError → ℤ
+number (Ok Retired) = pos 0
+number (Ok (Printed n)) = n
+number (Ok Breakpoint) = pos 0
+number (Ok (Exit n)) = n
+number (Ok (Trap cause)) = pos 0
+number (Err error) = pos 0
 
-abbrev stepped : ℕ → ℤ → Stepped
-stepped k n = cond (eqb k 0) Retired (cond (eqb k 1) (Printed n) (cond (eqb k 2) Breakpoint (cond (eqb k 3) (Exit n) (cond (eqb k 4) (Trap FetchOutside) (cond (eqb k 5) (Trap Illegal) (cond (eqb k 6) (Trap JumpMisaligned) (cond (eqb k 7) (Trap LoadMisaligned) (cond (eqb k 8) (Trap LoadOutside) (cond (eqb k 9) (Trap StoreMisaligned) (cond (eqb k 10) (Trap StoreOutside) (Trap UnknownCall)))))))))))
+abbrev stepped : ℕ → ℤ → Result Stepped AllocError
+stepped k n = cond (eqb k 0) (Ok Retired) (cond (eqb k 1) (Ok (Printed n)) (cond (eqb k 2) (Ok Breakpoint) (cond (eqb k 3) (Ok (Exit n)) (cond (eqb k 4) (Ok (Trap FetchOutside)) (cond (eqb k 5) (Ok (Trap Illegal)) (cond (eqb k 6) (Ok (Trap JumpMisaligned)) (cond (eqb k 7) (Ok (Trap LoadMisaligned)) (cond (eqb k 8) (Ok (Trap LoadOutside)) (cond (eqb k 9) (Ok (Trap StoreMisaligned)) (cond (eqb k 10) (Ok (Trap StoreOutside)) (cond (eqb k 11) (Ok (Trap UnknownCall)) (Err alloc_error))))))))))))
 
-back : (s : Stepped) → stepped (kind s) (number s) ≡ s
+back : (s : Result Stepped AllocError) → stepped (kind s) (number s) ≡ s
 unfolding kind number
-back Retired = refl
-back (Printed n) = refl
-back Breakpoint = refl
-back (Exit n) = refl
-back (Trap FetchOutside) = refl
-back (Trap Illegal) = refl
-back (Trap JumpMisaligned) = refl
-back (Trap LoadMisaligned) = refl
-back (Trap LoadOutside) = refl
-back (Trap StoreMisaligned) = refl
-back (Trap StoreOutside) = refl
-back (Trap UnknownCall) = refl
+back (Ok Retired) = refl
+back (Ok (Printed n)) = refl
+back (Ok Breakpoint) = refl
+back (Ok (Exit n)) = refl
+back (Ok (Trap FetchOutside)) = refl
+back (Ok (Trap Illegal)) = refl
+back (Ok (Trap JumpMisaligned)) = refl
+back (Ok (Trap LoadMisaligned)) = refl
+back (Ok (Trap LoadOutside)) = refl
+back (Ok (Trap StoreMisaligned)) = refl
+back (Ok (Trap StoreOutside)) = refl
+back (Ok (Trap UnknownCall)) = refl
+back (Err error) = refl
 
-same_answers : (s t : Stepped) → kind s ≡ kind t → number s ≡ number t → s ≡ t
+same_answers : (s t : Result Stepped AllocError) → kind s ≡ kind t → number s ≡ number t → s ≡ t
 same_answers s t k n = sym (back s) ∙ ap (λ a. stepped a (number s)) k ∙ ap (stepped (kind t)) n ∙ back t
 
-abbrev made : Stepped → ℕ → List ℕ → List ℕ → Effect
+abbrev made : Result Stepped AllocError → ℕ → List ℕ → List ℕ → Effect
 made answer pc x memory = record { answer = answer; machine = record { pc = pc; x = x; memory = memory } }
 
 same_effects : (e f : Effect) → e.answer ≡ f.answer → e.machine.pc ≡ f.machine.pc → e.machine.x ≡ f.machine.x → e.machine.memory ≡ f.machine.memory → e ≡ f
@@ -88,7 +93,7 @@ effects_equal e f n =
 abbrev Fetched : Machine → Effect → Result ℕ MemFault → Type 0
 Fetched before effect fetched = MatchResult fetched
     (λ word. ((i : Instr) → Encodes i word → effect ≡ effect_of i before) × (IsIllegal word → effect ≡ trapped Illegal before))
-    (λ fault. effect ≡ trapped (fetch_cause fault) before)
+    (λ fault. effect ≡ fetch_fault fault before)
 
 one_fetched : (before : Machine) (e f : Effect) (fetched : Result ℕ MemFault) → Fetched before e fetched → Fetched before f fetched → e ≡ f
 one_fetched before e f (Ok word) a b = effects_equal e f (λ no.

@@ -1,7 +1,8 @@
 -- What holds of every word and of every machine. Each of these statements is the contract of a function of the module `laws`.
-use Rattle.std.specs.Prelude.{◌≡◌, ℕ}
+use Rattle.std.specs.Prelude.{◌≡◌, ℕ, List}
 use Rattle.rv32i.specs.Encoding.{Encodes}
 use Rattle.rv32i.specs.Machine.{Machine, Effect, IsMove}
+use Rattle.rv32i.specs.Texts.{IsTextOf}
 use Rattle.rv32i.specs.declared.instr.Instr.{Instr}
 
 -- A word encodes at most one instruction.
@@ -15,3 +16,7 @@ EncodingIsOnly = (i : Instr) (word other : ℕ) → Encodes i word → Encodes i
 -- A machine has at most one move: its pc, its registers and its memory settle what a step answers and leaves.
 abbrev pub MoveIsOnly : Type 0
 MoveIsOnly = (before : Machine) (effect other : Effect) → IsMove before effect → IsMove before other → effect ≡ other
+
+-- A word at an address has at most one text.
+abbrev pub TextIsOnly : Type 0
+TextIsOnly = (word pc : ℕ) (text other : List ℕ) → IsTextOf word pc text → IsTextOf word pc other → text ≡ other

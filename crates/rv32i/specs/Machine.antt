@@ -4,10 +4,12 @@
 -- below 2 ^ 8, and sums wrap. x0 is hardwired to 0 (section 2.1): it is 0 in each hart, and a value for x0 is dropped.
 --
 -- A move fetches the word at pc and does what its instruction says, one clause for each instruction below. A trap is
--- precise: it leaves the machine as it was, and so does the end of the program.
-use Rattle.std.specs.Prelude.{◌≡◌, ℕ, ℤ, ◌+◌, ◌-◌, ◌*◌, ◌/◌, ◌%◌, ◌^◌, Bool, ◌==◌, nat_lt, not, if◌then◌else◌, List, [], ◌∷◌, slice_index, slice_set, bit_and, bit_or, bit_xor, Option, Some, None, MatchResult, ⊤}
+-- precise: it leaves the machine as it was, and so does the end of the program. Where no memory is left for an access, that
+-- is told as itself, no trap, and leaves the machine as it was too.
+use Rattle.std.specs.Prelude.{◌≡◌, ℕ, ℤ, ◌+◌, ◌-◌, ◌*◌, ◌/◌, ◌%◌, ◌^◌, Bool, ◌==◌, nat_lt, not, if◌then◌else◌, List, [], ◌∷◌, slice_index, slice_set, bit_and, bit_or, bit_xor, Option, Some, None, Result, Ok, Err, MatchResult, ⊤, alloc_error}
 use Rattle.std.specs.Int.{cast_signed, cast_unsigned, int_shr, w32}
 use Rattle.std.specs.Int.RustNames.{int_lt}
+use Rattle.std.specs.declared.alloc.AllocError.{AllocError}
 use Rattle.image.specs.Memory.{fault_at, bytes_at, with_bytes, little_endian, half_bytes, word_bytes, word_at}
 use Rattle.image.specs.declared.fault.MemFault.{MemFault}
 use Rattle.image.specs.declared.fault.MemFault.TheVariants.{Misaligned, Outside, NoMemory}
@@ -29,9 +31,9 @@ pub record Machine : Type 0 where
 abbrev pub machine_of : Hart → List ℕ → Machine
 machine_of hart memory = record { pc = hart.pc; x = hart.x; memory = memory }
 
--- what a move answers, and the machine after it
+-- what a move answers, or that no memory is left for it, and the machine after it
 pub record Effect : Type 0 where
-  pub answer : Stepped
+  pub answer : Result Stepped AllocError
   pub machine : Machine
 
 -- ---- numbers of 32 bits
@@ -93,15 +95,19 @@ with_register r v x = if r == 0 then x else slice_set x r v
 
 -- the instruction retires, and the next one is at this address
 abbrev pub retired : ℕ → Machine → Effect
-retired pc m = record { answer = Retired; machine = record m { pc = pc } }
+retired pc m = record { answer = Ok Retired; machine = record m { pc = pc } }
 
 -- it retires with this value in rd, and the next one follows
 abbrev pub gives : ℕ → ℕ → Machine → Effect
-gives rd v m = record { answer = Retired; machine = record m { pc = sum m.pc 4; x = with_register rd v m.x } }
+gives rd v m = record { answer = Ok Retired; machine = record m { pc = sum m.pc 4; x = with_register rd v m.x } }
 
 -- it does not retire, and nothing changes
 abbrev pub trapped : Cause → Machine → Effect
-trapped cause m = record { answer = Trap cause; machine = m }
+trapped cause m = record { answer = Ok (Trap cause); machine = m }
+
+-- no memory is left for it, and nothing changes
+abbrev pub out_of_memory : Machine → Effect
+out_of_memory m = record { answer = Err alloc_error; machine = m }
 
 -- "An instruction-address-misaligned exception is generated on a taken branch or unconditional jump if the target
 -- address is not four-byte aligned" (section 2.2): then nothing changes, rd neither.
@@ -115,15 +121,16 @@ linked rd m = record m { x = with_register rd (sum m.pc 4) m.x }
 abbrev pub branches : Bool → ℕ → Machine → Effect
 branches taken offset m = if taken then jumps (sum m.pc offset) m m else retired (sum m.pc 4) m
 
--- a load of so many bytes, at an address that is a multiple of their number; rd gets what is made of their value
-abbrev pub load_cause : MemFault → Cause
-load_cause Misaligned = LoadMisaligned
-load_cause Outside = LoadOutside
-load_cause NoMemory = LoadOutside
+-- a load of so many bytes, at an address that is a multiple of their number; rd gets what is made of their value, or what
+-- a fault comes to
+abbrev pub load_fault : MemFault → Machine → Effect
+load_fault Misaligned m = trapped LoadMisaligned m
+load_fault Outside m = trapped LoadOutside m
+load_fault NoMemory m = out_of_memory m
 
 abbrev pub loads_unless : Option MemFault → ℕ → ℕ → Machine → Effect
 loads_unless None rd v m = gives rd v m
-loads_unless (Some fault) rd v m = trapped (load_cause fault) m
+loads_unless (Some fault) rd v m = load_fault fault m
 
 abbrev pub loads : ℕ → (ℕ → ℕ) → ℕ → ℕ → Machine → Effect
 loads count extended rd address m = loads_unless (fault_at m.memory count address count) rd (extended (little_endian (bytes_at m.memory address count))) m
@@ -132,14 +139,14 @@ abbrev pub as_it_is : ℕ → ℕ
 as_it_is a = a
 
 -- a store of so many bytes, at an address that is a multiple of their number
-abbrev pub store_cause : MemFault → Cause
-store_cause Misaligned = StoreMisaligned
-store_cause Outside = StoreOutside
-store_cause NoMemory = StoreOutside
+abbrev pub store_fault : MemFault → Machine → Effect
+store_fault Misaligned m = trapped StoreMisaligned m
+store_fault Outside m = trapped StoreOutside m
+store_fault NoMemory m = out_of_memory m
 
 abbrev pub stores_unless : Option MemFault → List ℕ → ℕ → Machine → Effect
-stores_unless None bytes address m = record { answer = Retired; machine = record m { pc = sum m.pc 4; memory = with_bytes m.memory address bytes } }
-stores_unless (Some fault) bytes address m = trapped (store_cause fault) m
+stores_unless None bytes address m = record { answer = Ok Retired; machine = record m { pc = sum m.pc 4; memory = with_bytes m.memory address bytes } }
+stores_unless (Some fault) bytes address m = store_fault fault m
 
 abbrev pub stores : ℕ → List ℕ → ℕ → Machine → Effect
 stores count bytes address m = stores_unless (fault_at m.memory count address count) bytes address m
@@ -147,8 +154,8 @@ stores count bytes address m = stores_unless (fault_at m.memory count address co
 -- The environment call (section 2.8), by a7 (x17) and a0 (x10): 93 ends the program with a0 as its code, 1 prints a0 as
 -- a signed number; there is no other.
 abbrev pub calls : Machine → Effect
-calls m = if value 17 m == 93 then record { answer = Exit (signed (value 10 m)); machine = m }
-    else if value 17 m == 1 then record { answer = Printed (signed (value 10 m)); machine = record m { pc = sum m.pc 4 } }
+calls m = if value 17 m == 93 then record { answer = Ok (Exit (signed (value 10 m))); machine = m }
+    else if value 17 m == 1 then record { answer = Ok (Printed (signed (value 10 m))); machine = record m { pc = sum m.pc 4 } }
     else trapped UnknownCall m
 
 -- ---- the instructions
@@ -202,32 +209,33 @@ effect_of (Sw rs1 rs2 imm) m = stores 4 (word_bytes (value rs2 m)) (sum (value r
 effect_of (Fence fm before after rd rs1) m = retired (sum m.pc 4) m
 -- 2.8: environment call and breakpoints
 effect_of Ecall m = calls m
-effect_of Ebreak m = record { answer = Break; machine = record m { pc = sum m.pc 4 } }
+effect_of Ebreak m = record { answer = Ok Break; machine = record m { pc = sum m.pc 4 } }
 
 -- ---- the move
 
 -- "An instruction-address-misaligned exception", or an access fault where there is no word
-abbrev pub fetch_cause : MemFault → Cause
-fetch_cause Misaligned = JumpMisaligned
-fetch_cause Outside = FetchOutside
-fetch_cause NoMemory = FetchOutside
+abbrev pub fetch_fault : MemFault → Machine → Effect
+fetch_fault Misaligned m = trapped JumpMisaligned m
+fetch_fault Outside m = trapped FetchOutside m
+fetch_fault NoMemory m = out_of_memory m
 
 -- The move: it fetches the word at pc, and does what the instruction that the word encodes says; a word that encodes
 -- none is illegal, and one that is not there cannot be fetched.
 abbrev pub IsMove : Machine → Effect → Type 0
 IsMove before effect = MatchResult (word_at before.memory before.pc)
     (λ word. ((i : Instr) → Encodes i word → effect ≡ effect_of i before) × (IsIllegal word → effect ≡ trapped Illegal before))
-    (λ fault. effect ≡ trapped (fetch_cause fault) before)
+    (λ fault. effect ≡ fetch_fault fault before)
 
 -- ---- what holds of each move
 
--- a trap and an exit leave the machine as it was
-abbrev pub KeepsMachine : Stepped → Machine → Machine → Type 0
-KeepsMachine (Trap cause) before after = after ≡ before
-KeepsMachine (Exit code) before after = after ≡ before
-KeepsMachine (Printed number) before after = ⊤
-KeepsMachine Retired before after = ⊤
-KeepsMachine Break before after = ⊤
+-- a trap and an exit leave the machine as it was, and so it is where no memory is left
+abbrev pub KeepsMachine : Result Stepped AllocError → Machine → Machine → Type 0
+KeepsMachine (Err error) before after = after ≡ before
+KeepsMachine (Ok (Trap cause)) before after = after ≡ before
+KeepsMachine (Ok (Exit code)) before after = after ≡ before
+KeepsMachine (Ok (Printed number)) before after = ⊤
+KeepsMachine (Ok Retired) before after = ⊤
+KeepsMachine (Ok Break) before after = ⊤
 
 -- pc stays a multiple of 4
 abbrev pub KeepsAligned : Machine → Machine → Type 0

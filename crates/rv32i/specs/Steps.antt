@@ -1,37 +1,42 @@
 -- How the code goes through a move: the core answers the next pc, or why there is none, and a cold part settles that.
 -- A reader of the public calls needs none of this.
-use Rattle.std.specs.Prelude.{◌≡◌, ℕ, ◌%◌, ◌==◌, if◌then◌else◌, List, [], Option, Some, None, Result, Ok, Err, IsOkAnd, alloc_error}
+use Rattle.std.specs.Prelude.{◌≡◌, ℕ, ◌%◌, ◌==◌, if◌then◌else◌, List, [], Option, Some, None, Result, Ok, Err, alloc_error}
 use Rattle.std.specs.declared.alloc.AllocError.{AllocError}
 use Rattle.image.specs.Memory.{fault_at, bytes_at, with_bytes, memory_after, little_endian}
 use Rattle.image.specs.declared.fault.MemFault.{MemFault}
 use Rattle.image.specs.declared.fault.MemFault.TheVariants.{Misaligned, Outside, NoMemory as NoRoom}
-use Rattle.rv32i.specs.Machine.{Machine, effect_of, calls, load_cause, sum, with_register}
+use Rattle.rv32i.specs.Machine.{Machine, effect_of, calls, sum, with_register}
 use Rattle.rv32i.specs.declared.perform.Halt.{Halt}
 use Rattle.rv32i.specs.declared.perform.Halt.TheVariants.{Stopped, NoMemory, Calls, Breaks}
-use Rattle.rv32i.specs.declared.stepped.Cause.{Cause}
-use Rattle.rv32i.specs.declared.stepped.Cause.TheVariants.{JumpMisaligned, StoreMisaligned, StoreOutside}
+use Rattle.rv32i.specs.declared.stepped.Cause.TheVariants.{JumpMisaligned, LoadMisaligned, LoadOutside, StoreMisaligned, StoreOutside}
 use Rattle.rv32i.specs.declared.stepped.Stepped.{Stepped}
 use Rattle.rv32i.specs.declared.stepped.Stepped.TheVariants.{Retired, Break, Trap}
 use Rattle.rv32i.specs.declared.instr.Instr.{Instr}
 use Rattle.rv32i.specs.declared.instr.Instr.TheVariants.{Ecall, Ebreak}
 
--- what a load of so many bytes gives, or its trap
-abbrev pub loaded_unless : Option MemFault → ℕ → Result ℕ Cause
-loaded_unless None value = Ok value
-loaded_unless (Some fault) value = Err (load_cause fault)
+-- what comes of a fault of a load
+abbrev pub load_halt : MemFault → Halt
+load_halt Misaligned = Stopped LoadMisaligned
+load_halt Outside = Stopped LoadOutside
+load_halt NoRoom = NoMemory
 
-abbrev pub loaded : ℕ → List ℕ → ℕ → Result ℕ Cause
+-- what a load of so many bytes gives, or why it gives nothing
+abbrev pub loaded_unless : Option MemFault → ℕ → Result ℕ Halt
+loaded_unless None value = Ok value
+loaded_unless (Some fault) value = Err (load_halt fault)
+
+abbrev pub loaded : ℕ → List ℕ → ℕ → Result ℕ Halt
 loaded count memory address = loaded_unless (fault_at memory count address count) (little_endian (bytes_at memory address count))
 
 -- the same with its value extended
-abbrev pub extended : (ℕ → ℕ) → Result ℕ Cause → Result ℕ Cause
+abbrev pub extended : (ℕ → ℕ) → Result ℕ Halt → Result ℕ Halt
 extended f (Ok value) = Ok (f value)
-extended f (Err cause) = Err cause
+extended f (Err halt) = Err halt
 
--- a load's value goes into rd; a trap leaves the registers
-abbrev pub keeps : Result ℕ Cause → ℕ → ℕ → List ℕ → Result ℕ Halt → List ℕ → Type 0
+-- a load's value goes into rd; else the registers stay
+abbrev pub keeps : Result ℕ Halt → ℕ → ℕ → List ℕ → Result ℕ Halt → List ℕ → Type 0
 keeps (Ok value) rd next before answer after = (answer ≡ Ok next) × (after ≡ with_register rd value before)
-keeps (Err cause) rd next before answer after = (answer ≡ Err (Stopped cause)) × (after ≡ before)
+keeps (Err halt) rd next before answer after = (answer ≡ Err halt) × (after ≡ before)
 
 -- where a jump goes
 abbrev pub target_of : ℕ → Result ℕ Halt
@@ -42,23 +47,23 @@ abbrev pub links : ℕ → ℕ → ℕ → List ℕ → Result ℕ Halt → List
 links target rd next before answer after = (answer ≡ target_of target) × (after ≡ (if target % 4 == 0 then with_register rd next before else before))
 
 -- what comes of a fault of a store
-abbrev pub halt_of : MemFault → Halt
-halt_of Misaligned = Stopped StoreMisaligned
-halt_of Outside = Stopped StoreOutside
-halt_of NoRoom = NoMemory
+abbrev pub store_halt : MemFault → Halt
+store_halt Misaligned = Stopped StoreMisaligned
+store_halt Outside = Stopped StoreOutside
+store_halt NoRoom = NoMemory
 
 abbrev pub stored_unless : Option MemFault → ℕ → Result ℕ Halt
 stored_unless None next = Ok next
-stored_unless (Some fault) next = Err (halt_of fault)
+stored_unless (Some fault) next = Err (store_halt fault)
 
 abbrev pub Stores : ℕ → List ℕ → ℕ → ℕ → List ℕ → Result ℕ Halt → List ℕ → Type 0
 Stores count bytes address next before answer after = (answer ≡ stored_unless (fault_at before count address count) next) × (after ≡ memory_after (fault_at before count address count) (with_bytes before address bytes) before)
 
 -- what the core answers for an effect, and the registers and memory that it leaves
 abbrev pub Performs : Instr → Machine → Result ℕ Halt → List ℕ → List ℕ → Type 0
-Performs i before (Ok pc) x memory = effect_of i before ≡ record { answer = Retired; machine = record { pc = pc; x = x; memory = memory } }
-Performs i before (Err (Stopped cause)) x memory = effect_of i before ≡ record { answer = Trap cause; machine = record { pc = before.pc; x = x; memory = memory } }
-Performs i before (Err NoMemory) x memory = ⊥
+Performs i before (Ok pc) x memory = effect_of i before ≡ record { answer = Ok Retired; machine = record { pc = pc; x = x; memory = memory } }
+Performs i before (Err (Stopped cause)) x memory = effect_of i before ≡ record { answer = Ok (Trap cause); machine = record { pc = before.pc; x = x; memory = memory } }
+Performs i before (Err NoMemory) x memory = effect_of i before ≡ record { answer = Err alloc_error; machine = record { pc = before.pc; x = x; memory = memory } }
 Performs i before (Err Calls) x memory = (i ≡ Ecall) × (x ≡ before.x) × (memory ≡ before.memory)
 Performs i before (Err Breaks) x memory = (i ≡ Ebreak) × (x ≡ before.x) × (memory ≡ before.memory)
 
@@ -66,5 +71,5 @@ Performs i before (Err Breaks) x memory = (i ≡ Ebreak) × (x ≡ before.x) × 
 abbrev pub settles : Halt → ℕ → List ℕ → Result Stepped AllocError → ℕ → Type 0
 settles (Stopped cause) pc x answer after = (answer ≡ Ok (Trap cause)) × (after ≡ pc)
 settles NoMemory pc x answer after = (answer ≡ Err alloc_error) × (after ≡ pc)
-settles Calls pc x answer after = IsOkAnd answer (λ stepped. record { answer = stepped; machine = record { pc = after; x = x; memory = [] } } ≡ calls (record { pc = pc; x = x; memory = [] }))
+settles Calls pc x answer after = record { answer = answer; machine = record { pc = after; x = x; memory = [] } } ≡ calls (record { pc = pc; x = x; memory = [] })
 settles Breaks pc x answer after = (answer ≡ Ok Break) × (after ≡ sum pc 4)

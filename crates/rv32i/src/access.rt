@@ -3,7 +3,8 @@
 ghost use Rattle.std.specs.Prelude.{◌≡◌, ◌<◌, ◌%◌, ◌∷◌, [], IfOk};
 ghost use Rattle.image.specs.Memory.{half_bytes, word_bytes};
 ghost use Rattle.rv32i.specs.Machine.{byte_extended, half_extended};
-ghost use Rattle.rv32i.specs.Steps.{extended, halt_of, loaded, Stores};
+ghost use Rattle.rv32i.specs.Steps as steps;
+ghost use Rattle.rv32i.specs.Steps.{extended, loaded, Stores};
 
 use crate::perform::Halt;
 use crate::stepped::Cause;
@@ -12,47 +13,46 @@ use image::{MemFault, Memory};
 /// The byte at an address.
 #[inline]
 #[tactic(auto, using(crate::proofs::Bytes::byte_loads, crate::proofs::Bytes::no_byte_loads))]
-pub(crate) fn load_byte(memory: &Memory, address: u32) -> Result<u32, Cause>
+pub(crate) fn load_byte(memory: &Memory, address: u32) -> Result<u32, Halt>
     ensures value { result ≡ loaded 1 memory.now address }
     ensures within { IfOk result (λ byte. byte < 256) }
 {
     match memory.byte(address) {
         Some(byte) => Ok(u32::from(byte)),
-        None => Err(Cause::LoadOutside),
+        None => Err(Halt::Stopped(Cause::LoadOutside)),
     }
 }
 
 /// The half at an address.
 #[inline]
-pub(crate) fn load_half(memory: &Memory, address: u32) -> Result<u32, Cause>
+pub(crate) fn load_half(memory: &Memory, address: u32) -> Result<u32, Halt>
     ensures value { result ≡ loaded 2 memory.now address }
     ensures within { IfOk result (λ half. half < 65536) }
 {
     if address % 2 != 0 {
-        return Err(Cause::LoadMisaligned);
+        return Err(Halt::Stopped(Cause::LoadMisaligned));
     }
     let mut bytes = [0; 2];
     match memory.read(address, &mut bytes) {
         Ok(()) => Ok(u32::from(u16::from_le_bytes(bytes))),
-        Err(_) => Err(Cause::LoadOutside),
+        Err(fault) => Err(load_halt(fault)),
     }
 }
 
 /// The word at an address.
 #[inline]
-pub(crate) fn load_word(memory: &Memory, address: u32) -> Result<u32, Cause>
+pub(crate) fn load_word(memory: &Memory, address: u32) -> Result<u32, Halt>
     ensures { result ≡ loaded 4 memory.now address }
 {
     match memory.word(address) {
         Ok(word) => Ok(word),
-        Err(MemFault::Misaligned) => Err(Cause::LoadMisaligned),
-        Err(MemFault::Outside | MemFault::NoMemory) => Err(Cause::LoadOutside),
+        Err(fault) => Err(load_halt(fault)),
     }
 }
 
 /// The byte at an address, sign-extended.
 #[inline]
-pub(crate) fn load_i8(memory: &Memory, address: u32) -> Result<u32, Cause>
+pub(crate) fn load_i8(memory: &Memory, address: u32) -> Result<u32, Halt>
     ensures { result ≡ extended byte_extended (loaded 1 memory.now address) }
 {
     sign_byte(load_byte(memory, address))
@@ -60,7 +60,7 @@ pub(crate) fn load_i8(memory: &Memory, address: u32) -> Result<u32, Cause>
 
 /// The half at an address, sign-extended.
 #[inline]
-pub(crate) fn load_i16(memory: &Memory, address: u32) -> Result<u32, Cause>
+pub(crate) fn load_i16(memory: &Memory, address: u32) -> Result<u32, Halt>
     ensures { result ≡ extended half_extended (loaded 2 memory.now address) }
 {
     sign_half(load_half(memory, address))
@@ -68,27 +68,27 @@ pub(crate) fn load_i16(memory: &Memory, address: u32) -> Result<u32, Cause>
 
 // A byte that was loaded, sign-extended.
 #[inline]
-fn sign_byte(loaded: Result<u32, Cause>) -> Result<u32, Cause>
+fn sign_byte(loaded: Result<u32, Halt>) -> Result<u32, Halt>
     requires { IfOk loaded (λ byte. byte < 256) }
     ensures { result ≡ extended byte_extended loaded }
 {
     match loaded {
         Ok(byte) if byte < 0x80 => Ok(byte),
         Ok(byte) => Ok(byte + 0xffff_ff00),
-        Err(cause) => Err(cause),
+        Err(halt) => Err(halt),
     }
 }
 
 // A half that was loaded, sign-extended.
 #[inline]
-fn sign_half(loaded: Result<u32, Cause>) -> Result<u32, Cause>
+fn sign_half(loaded: Result<u32, Halt>) -> Result<u32, Halt>
     requires { IfOk loaded (λ half. half < 65536) }
     ensures { result ≡ extended half_extended loaded }
 {
     match loaded {
         Ok(half) if half < 0x8000 => Ok(half),
         Ok(half) => Ok(half + 0xffff_0000),
-        Err(cause) => Err(cause),
+        Err(halt) => Err(halt),
     }
 }
 
@@ -140,9 +140,20 @@ pub(crate) fn store_word(
     }
 }
 
+// What a fault of a load comes to.
+fn load_halt(fault: MemFault) -> Halt
+    ensures { result ≡ steps.load_halt fault }
+{
+    match fault {
+        MemFault::Misaligned => Halt::Stopped(Cause::LoadMisaligned),
+        MemFault::Outside => Halt::Stopped(Cause::LoadOutside),
+        MemFault::NoMemory => Halt::NoMemory,
+    }
+}
+
 // What a fault of a store comes to.
 fn store_halt(fault: MemFault) -> Halt
-    ensures { result ≡ halt_of fault }
+    ensures { result ≡ steps.store_halt fault }
 {
     match fault {
         MemFault::Misaligned => Halt::Stopped(Cause::StoreMisaligned),

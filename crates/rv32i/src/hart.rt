@@ -31,7 +31,7 @@ pub struct Hart {
 }
 
 impl Hart {
-    ghost use Rattle.std.specs.Prelude.{[], slice_set, replicate, IsOkAnd};
+    ghost use Rattle.std.specs.Prelude.{[], slice_set, replicate, IsOk};
     ghost use Rattle.rv32i.specs.Machine.{calls, machine_of, IsMove, Keeps, effect_of};
     ghost use Rattle.rv32i.specs.Steps.{settles};
 
@@ -46,20 +46,22 @@ impl Hart {
     }
 
     /// One step: fetches the word at pc, decodes it, and does what the instruction says. After a trap
-    /// or an exit the hart and memory are as they were. `Err` is for want of memory, and leaves all as
-    /// it was; it does not come as long as memory has all its bytes from the start.
+    /// or an exit the hart and memory are as they were. `Err`: no memory was left, and all is as it was;
+    /// it does not come as long as memory has all its bytes from the start.
     pub fn step(&mut self, memory: &mut Memory) -> Result<Stepped, AllocError>
-        ensures moves { IsOkAnd result (λ answer. IsMove (machine_of self.old memory.old) (record { answer = answer; machine = machine_of self.new memory.new })) }
+        ensures moves { IsMove (machine_of self.old memory.old) (record { answer = result; machine = machine_of self.new memory.new }) }
 
-        // A trap and an exit change nothing, and pc stays a multiple of 4.
-        ensures keeps { IsOkAnd result (λ answer. Keeps (machine_of self.old memory.old) (record { answer = answer; machine = machine_of self.new memory.new })) }
+        // A trap and an exit change nothing, nor does a step without memory, and pc stays a multiple of 4.
+        ensures keeps { Keeps (machine_of self.old memory.old) (record { answer = result; machine = machine_of self.new memory.new }) }
+
+        // No access takes memory.
+        ensures answers { IsOk result }
     {
         let word = match memory.word(self.pc) {
             Ok(word) => word,
             Err(MemFault::Misaligned) => return Ok(Stepped::Trap(Cause::JumpMisaligned)),
-            Err(MemFault::Outside | MemFault::NoMemory) => return Ok(Stepped::Trap(
-                Cause::FetchOutside,
-            )),
+            Err(MemFault::Outside) => return Ok(Stepped::Trap(Cause::FetchOutside)),
+            Err(MemFault::NoMemory) => return Err(AllocError),
         };
         match decode(word) {
             Some(instr) => self.execute(&instr, memory),
@@ -70,7 +72,7 @@ impl Hart {
     // Does what an instruction says.
     #[inline]
     fn execute(&mut self, instr: &Instr, memory: &mut Memory) -> Result<Stepped, AllocError>
-        ensures { IsOkAnd result (λ answer. record { answer = answer; machine = machine_of self.new memory.new } ≡ effect_of instr.now (machine_of self.old memory.old)) }
+        ensures { record { answer = result; machine = machine_of self.new memory.new } ≡ effect_of instr.now (machine_of self.old memory.old) }
     {
         match perform(&mut self.x, self.pc, instr, memory) {
             Ok(pc) => {
@@ -101,7 +103,7 @@ impl Hart {
 
     // The environment call, by a7.
     fn call(&mut self) -> Stepped
-        ensures { record { answer = result; machine = machine_of self.new [] } ≡ calls (machine_of self.old []) }
+        ensures { record { answer = Ok result; machine = machine_of self.new [] } ≡ calls (machine_of self.old []) }
     {
         let argument = self.x[A0].cast_signed();
         match self.x[A7] {

@@ -1,7 +1,7 @@
 //! What holds of every word and of every move: each law is the contract of a function that does
 //! nothing.
 
-ghost use Rattle.rv32i.specs.Laws.{EncodingIsOnly, InstructionIsOnly, MoveIsOnly};
+ghost use Rattle.rv32i.specs.Laws.{EncodingIsOnly, InstructionIsOnly, MoveIsOnly, TextIsOnly};
 
 /// A word encodes at most one instruction.
 pub fn instruction_is_only()
@@ -18,4 +18,9 @@ pub fn encoding_is_only()
 /// leaves.
 pub fn move_is_only()
     ensures { MoveIsOnly }
+{}
+
+/// A word at an address has at most one text.
+pub fn text_is_only()
+    ensures { TextIsOnly }
 {}

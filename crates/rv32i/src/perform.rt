@@ -17,7 +17,7 @@ use image::Memory;
 pub(crate) enum Halt {
     /// A trap.
     Stopped(Cause),
-    /// No memory was left for the page of a store.
+    /// No memory was left for the page of an access.
     NoMemory,
     /// ECALL, which is not settled yet.
     Calls,
@@ -46,16 +46,16 @@ fn put(value: u32, reg: Reg, x: &mut [u32; 32], next: u32) -> Result<u32, Halt>
     Ok(next)
 }
 
-// Puts what was loaded into a register, or answers the trap.
+// Puts what was loaded into a register, or answers why nothing was.
 #[inline]
-fn keep(loaded: Result<u32, Cause>, reg: Reg, x: &mut [u32; 32], next: u32) -> Result<u32, Halt>
+fn keep(loaded: Result<u32, Halt>, reg: Reg, x: &mut [u32; 32], next: u32) -> Result<u32, Halt>
     requires { slice_index x.old 0 ≡ 0 }
     ensures keeps { keeps loaded reg next x.old result x.new }
     ensures zero { slice_index x.new 0 ≡ 0 }
 {
     match loaded {
         Ok(value) => put(value, reg, x, next),
-        Err(cause) => Err(Halt::Stopped(cause)),
+        Err(halt) => Err(halt),
     }
 }
 

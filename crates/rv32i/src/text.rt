@@ -1,6 +1,6 @@
 //! The texts of instructions.
 
-ghost use Rattle.std.specs.Prelude.{◌≡◌, ◌<◌, ◌++◌, codes, string_bytes, IfOk, OnOk};
+ghost use Rattle.std.specs.Prelude.{◌≡◌, ◌+◌, ◌<◌, ◌≤◌, [], ◌∷◌, ◌++◌, codes, string_bytes, string_capacity, string_len, IfOk, OnErr, OnOk};
 ghost use Rattle.rv32i.specs.Machine.{sum};
 ghost use Rattle.rv32i.specs.Names.{name_of};
 ghost use Rattle.rv32i.specs.Texts.{
@@ -219,20 +219,34 @@ fn digit(value: u32) -> char
     }
 }
 
-/// Appends the eight hexadecimal digits of a word, small ones. `Err`: no memory was left, and the text may
-/// have some of them.
+/// Appends the eight hexadecimal digits of a word, small ones: all of them or none. `Err`: no memory was
+/// left for them, and the text is as it was.
 pub fn push_digits(text: &mut String, word: u32) -> Result<(), AllocError>
-    ensures { OnOk result (string_bytes text.new ≡ string_bytes text.old ++ eight_digits word) }
+    ensures ok { OnOk result (string_bytes text.new ≡ string_bytes text.old ++ eight_digits word) }
+    ensures err { OnErr result (string_bytes text.new ≡ string_bytes text.old) }
+    ensures full { OnErr result (string_capacity text.old < string_len text.old + 8) }
 {
-    text.push(digit(word >> 28))?;
-    text.push(digit((word >> 24) & 15))?;
-    text.push(digit((word >> 20) & 15))?;
-    text.push(digit((word >> 16) & 15))?;
-    text.push(digit((word >> 12) & 15))?;
-    text.push(digit((word >> 8) & 15))?;
-    text.push(digit((word >> 4) & 15))?;
-    text.push(digit(word & 15))?;
+    text.reserve(8)?;
+    put_digit(text, digit(word >> 28));
+    put_digit(text, digit((word >> 24) & 15));
+    put_digit(text, digit((word >> 20) & 15));
+    put_digit(text, digit((word >> 16) & 15));
+    put_digit(text, digit((word >> 12) & 15));
+    put_digit(text, digit((word >> 8) & 15));
+    put_digit(text, digit((word >> 4) & 15));
+    put_digit(text, digit(word & 15));
     Ok(())
+}
+
+// Appends a digit for which there is room.
+fn put_digit(text: &mut String, digit: char)
+    requires ascii { digit < 128 }
+    requires room { string_len text.old + 1 ≤ string_capacity text.old }
+    ensures bytes { string_bytes text.new ≡ string_bytes text.old ++ digit ∷ [] }
+    ensures len { string_len text.new ≡ string_len text.old + 1 }
+    ensures capacity { string_capacity text.old ≤ string_capacity text.new }
+{
+    let _ = text.push(digit);
 }
 
 // A FENCE by its two sets, or as its word.

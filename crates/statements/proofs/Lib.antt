@@ -6,6 +6,8 @@ pub mod Said
 pub mod Labelling
 pub mod Runs
 pub mod Dividing
+pub mod Mild
 pub mod Solid
 pub mod Numerals
 pub mod Texts
+pub mod PseudoLines

@@ -9,3 +9,4 @@ pub mod Reading
 pub mod Grammar
 pub mod Texts
 pub mod Laws
+pub mod Pseudo

@@ -6,13 +6,13 @@ ghost use Rattle.statements.specs.Instructions.{Said};
 ghost use Rattle.statements.specs.Spelling.{is_name};
 ghost use Rattle.byte_strings.specs.Blanks.{trimmed};
 
-use byte_strings::trimmed;
 use crate::error::LineError;
 use crate::forms::{label_in, name_in};
 use crate::items::{Item, Items, Width};
 use crate::number::{bits_in, constant_in};
 use crate::operands::{Operands, first_piece};
 use crate::statement::Statement;
+use byte_strings::trimmed;
 use std::alloc::Global;
 
 /// `.space number`.

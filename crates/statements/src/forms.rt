@@ -5,13 +5,13 @@ ghost use Rattle.statements.specs.Spelling.{is_name, named};
 ghost use Rattle.statements.specs.Numbers as numbers;
 ghost use Rattle.statements.specs.Operands as spec;
 
-use byte_strings::{trimmed, without_leading_blanks};
 use crate::error::LineError;
 use crate::name::Name;
 use crate::number::bits_in;
 use crate::operands::{Access, Low};
 use crate::spelling::{is_name, parted, stripped};
 use crate::statement::Target;
+use byte_strings::{trimmed, without_leading_blanks};
 use rv32i::{FenceSet, Imm, Reg, reg_of};
 
 /// The register that a text names.

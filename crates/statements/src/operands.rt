@@ -7,12 +7,12 @@ ghost use Rattle.byte_strings.specs.Blanks.{trimmed};
 ghost use Rattle.statements.specs.Numbers.{bits_in};
 ghost use Rattle.statements.specs.Operands as spec;
 
-use byte_strings::trimmed;
 use crate::error::LineError;
 use crate::name::Name;
 use crate::number::bits_in;
 use crate::spelling::{is_name, parted, stripped};
 use crate::statement::Target;
+use byte_strings::trimmed;
 use rv32i::{FenceSet, Imm, Reg, reg_of};
 use std::marker::Model;
 

@@ -6,7 +6,6 @@ ghost use Rattle.statements.specs.Reading as spec;
 ghost use Rattle.statements.specs.Spelling.{named, pieces};
 ghost use Rattle.byte_strings.specs.Blanks.{is_blank};
 
-use byte_strings::{is_blank, trimmed, without_leading_blanks};
 use crate::directives::{align, data, global, section, space};
 use crate::error::LineError;
 use crate::forms::name_in;
@@ -21,6 +20,7 @@ use crate::operands::{Operands, operands_in};
 use crate::spelling::parted;
 use crate::statement::Statement;
 use crate::words::{Word, word_of};
+use byte_strings::{is_blank, trimmed, without_leading_blanks};
 use std::alloc::Global;
 
 /// What a line says, or the first thing that is wrong with it. The line has no line feed.
