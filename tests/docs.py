@@ -1,0 +1,176 @@
+"""The documents, held against the repository and the built program: links, paths, crates, clauses, laws and transcripts."""
+import glob
+import os
+import re
+import subprocess
+
+from program import TOP, expect
+
+SPAN = re.compile(r"`([^`\n]+)`")
+FOLDERS = ("bench", "crates", "docs", "examples", "tests")
+# A part of a path that stands for any.
+STANDS_FOR_ANY = {"NAME": "*", "Name": "*", "CRATE": "*", "play_NAME": "*"}
+
+
+def text_of(*path):
+    with open(os.path.join(TOP, *path), encoding="utf-8") as file:
+        return file.read()
+
+
+def documents():
+    """The documents by name, without their blocks of code."""
+    names = ["README.md"] + sorted("docs/" + os.path.basename(path) for path in glob.glob(os.path.join(TOP, "docs", "*.md")))
+    return {name: re.sub(r"^```.*?^```$", "", text_of(name), flags=re.M | re.S) for name in names}
+
+
+def anchors_of(name):
+    """What a link may name in a document: its headings, as a forge makes anchors of them."""
+    titles = re.findall(r"^#+ (.*)$", text_of(name), re.M)
+    return {re.sub(r"[^\w -]", "", title.lower()).replace(" ", "-") for title in titles}
+
+
+def links_lead_to_what_is_there():
+    for name, text in documents().items():
+        for link in re.findall(r"\]\(([^)\s]+)\)", text):
+            path, _, anchor = link.partition("#")
+            if "://" in path:
+                continue
+            target = os.path.normpath(os.path.join(os.path.dirname(name), path)) if path else name
+            expect(os.path.exists(os.path.join(TOP, target)), True, "%s: the file of the link %s" % (name, link))
+            if anchor:
+                expect(anchor in anchors_of(target), True, "%s: the heading of the link %s" % (name, link))
+
+
+def alternatives(path):
+    """The paths that one with a list in braces stands for."""
+    listed = re.match(r"(.*)\{(.*)\}(.*)$", path)
+    return [listed[1] + word + listed[3] for word in listed[2].split(",")] if listed else [path]
+
+
+def places_of(span):
+    """Where a span that is a path may lie, or nothing where it is none."""
+    parts = [STANDS_FOR_ANY.get(part, part) for part in span.split("/")]
+    if len(parts) < 2 or not re.fullmatch(r"[\w.*{},/-]+", span):
+        return []
+    if parts[0] in FOLDERS:
+        return ["/".join(parts)]
+    # NAME, with what may stand behind it, is any name
+    folder = ["*"] + parts if parts[0] in ("specs", "src", "proofs") else parts
+    if len(folder) < 3 or folder[1] not in ("specs", "src", "proofs"):
+        return []
+    path = re.sub(r"\b(NAME|Name)\b", "*", "/".join(["crates"] + folder))
+    return [path, path + ".antt"]
+
+
+def spans_of(text):
+    """Each code span, a path for each name in braces. In a table a bare name behind a path lies in the same folder."""
+    for line in text.splitlines():
+        for cell in line.split("|") if line.startswith("|") else [line]:
+            folder = None
+            for span in SPAN.findall(cell):
+                if line.startswith("|") and folder and re.fullmatch(r"[\w.]+(\.rt)?|[A-Z]\w+", span) and "/" not in span:
+                    span = folder + "/" + span
+                folder = os.path.dirname(span) if "/" in span and places_of(span) else None
+                yield from alternatives(span)
+
+
+def paths_that_are_named_are_there():
+    for name, text in documents().items():
+        for span in spans_of(text):
+            places = places_of(span)
+            if places:
+                found = any(glob.glob(os.path.join(TOP, place)) for place in places)
+                expect(found, True, "%s: the path %s" % (name, span))
+
+
+def each_crate_stands_in_the_map_and_in_the_ledger():
+    crates = re.findall(r"^(\w+):", text_of("crates.txt"), re.M)
+    expect(sorted(crates), sorted(os.listdir(os.path.join(TOP, "crates"))), "crates.txt")
+    for name in ("docs/ARCHITECTURE.md", "docs/DEFINITIONS.md"):
+        spans = set(SPAN.findall(text_of(name)))
+        expect([crate for crate in crates if crate not in spans], [], "%s: crates that are not named" % name)
+
+
+def sections():
+    """The ledger's section of each crate that has one."""
+    parts = re.split(r"^## (.*)\n", text_of("docs/DEFINITIONS.md"), flags=re.M)
+    return {title.strip("`"): text for title, text in zip(parts[1::2], parts[2::2]) if title.startswith("`")}
+
+
+def sources(crate):
+    return sorted(glob.glob(os.path.join(TOP, "crates", crate, "src", "**", "*.rt"), recursive=True))
+
+
+def public_functions(crate):
+    """The name of each public function of a crate, with the names of its clauses."""
+    for path in sources(crate):
+        for head in re.findall(r"^ *pub (?:const )?fn .*?(?=^ *\{)", text_of(path), re.M | re.S):
+            yield re.search(r"fn (\w+)", head)[1], re.findall(r"^ *ensures\*? (\w+) \{", head, re.M)
+
+
+def each_clause_stands_in_the_ledger():
+    for crate, text in sections().items():
+        spans = set(SPAN.findall(text))
+        names = {span.split("::")[-1] for span in spans}
+        for function, clauses in public_functions(crate):
+            expect(function in names, True, "DEFINITIONS: the function %s of %s" % (function, crate))
+            expect([clause for clause in clauses if clause not in spans], [], "DEFINITIONS: clauses of %s of %s" % (function, crate))
+
+
+def each_law_stands_in_the_ledger():
+    for path in glob.glob(os.path.join(TOP, "crates", "*", "src", "laws.rt")):
+        crate = path.split(os.sep)[-3]
+        for law in re.findall(r"^pub fn (\w+)", text_of(path), re.M):
+            expect("`%s`" % law in sections()[crate], True, "DEFINITIONS: the law %s of %s" % (law, crate))
+
+
+def is_defined(crate, file, name):
+    path = os.path.join(TOP, "crates", crate, "specs", file + ".antt")
+    return os.path.exists(path) and re.search(r"^ *(?:(?:abbrev|record|data|unfoldable) )*pub (?:(?:abbrev|record|data|unfoldable) )*%s\b" % name,
+                                              text_of(path), re.M) is not None
+
+
+def expect_defined(crate, file, name):
+    expect(is_defined(crate, file, name), True, "DEFINITIONS: %s.%s of %s" % (file, name, crate))
+
+
+def each_definition_of_the_ledger_is_in_its_file():
+    for crate, text in sections().items():
+        for file, name, other in re.findall(r"`([A-Z]\w+)\.(\w+)`(?: of `(\w+)`)?", text):
+            expect_defined(other or crate, file, name)
+        for made in re.findall(r"^Made of: (.*?)(?:\.\s|\.?\Z)", text, re.M | re.S):
+            file = None
+            for span in SPAN.findall(re.sub(r"\([^)]*\)", "", made)):
+                if "." in span:
+                    file = span.split(".")[0]
+                elif file:
+                    expect_defined(crate, file, span)
+
+
+def each_definition_of_a_request_is_in_its_file():
+    table = re.search(r"^\| Request .*\n\|.*\n((?:\|.*\n)+)", text_of("docs/DEFINITIONS.md"), re.M)[1]
+    requests = {os.path.basename(path)[:-3] for path in sources("session") if "/requests/" in path}
+    expect({SPAN.search(row)[1] for row in table.splitlines()}, requests, "DEFINITIONS: the requests")
+    for row in table.splitlines():
+        for crate, cell in zip(("protocol", "session", "replies"), row.split("|")[2:]):
+            for file, name in re.findall(r"`(\w+)\.(\w+)`", cell):
+                expect_defined(crate, file, name)
+
+
+def the_transcripts_are_what_their_commands_print():
+    ran = subprocess.run([os.path.join(TOP, "docs", "transcript"), "--check"], capture_output=True, text=True, timeout=120)
+    expect((ran.stdout, ran.stderr, ran.returncode), ("", "", 0), "docs/transcript --check")
+
+
+def checks():
+    """Each check with its name."""
+    return [(check.__name__.replace("_", " "), check) for check in (
+        links_lead_to_what_is_there,
+        paths_that_are_named_are_there,
+        each_crate_stands_in_the_map_and_in_the_ledger,
+        each_clause_stands_in_the_ledger,
+        each_law_stands_in_the_ledger,
+        each_definition_of_the_ledger_is_in_its_file,
+        each_definition_of_a_request_is_in_its_file,
+        the_transcripts_are_what_their_commands_print,
+    )]
