@@ -147,11 +147,20 @@ def each_definition_of_the_ledger_is_in_its_file():
                     expect_defined(crate, file, span)
 
 
-def each_definition_of_a_request_is_in_its_file():
-    table = re.search(r"^\| Request .*\n\|.*\n((?:\|.*\n)+)", text_of("docs/DEFINITIONS.md"), re.M)[1]
+def rows_of_requests(name):
+    """The rows of the table of requests in a document."""
+    return re.search(r"^\| Request .*\n\|.*\n((?:\|.*\n)+)", text_of(name), re.M)[1].splitlines()
+
+
+def each_request_has_a_row():
     requests = {os.path.basename(path)[:-3] for path in sources("session") if "/requests/" in path}
-    expect({SPAN.search(row)[1] for row in table.splitlines()}, requests, "DEFINITIONS: the requests")
-    for row in table.splitlines():
+    for name in ("docs/DEFINITIONS.md", "docs/PROTOCOL.md"):
+        named = {SPAN.findall(row)[0] for row in rows_of_requests(name) if row.startswith("| `")}
+        expect(sorted(named), sorted(requests), "%s: the requests" % name)
+
+
+def each_definition_of_a_request_is_in_its_file():
+    for row in rows_of_requests("docs/DEFINITIONS.md"):
         for crate, cell in zip(("protocol", "session", "replies"), row.split("|")[2:]):
             for file, name in re.findall(r"`(\w+)\.(\w+)`", cell):
                 expect_defined(crate, file, name)
@@ -171,6 +180,7 @@ def checks():
         each_clause_stands_in_the_ledger,
         each_law_stands_in_the_ledger,
         each_definition_of_the_ledger_is_in_its_file,
+        each_request_has_a_row,
         each_definition_of_a_request_is_in_its_file,
         the_transcripts_are_what_their_commands_print,
     )]
