@@ -7,7 +7,7 @@
 -- What is wrong with a text before any address is known is the first of these: it is too long (TooLarge, at line 0); it
 -- is no UTF-8 (NotUtf8, at the line of the first byte that belongs to no character); a line is wrong as it stands, and
 -- then the first such line is told.
-use Rattle.std.specs.Prelude.{ℕ, ◌+◌, Bool, ◌==◌, nat_lt, ◌&&◌, if◌then◌else◌, List, [], ◌∷◌, length, take, count_by, is_none, Result, Ok, Err}
+use Rattle.std.specs.Prelude.{ℕ, ◌+◌, ◌<◌, Bool, ◌==◌, nat_lt, ◌&&◌, if◌then◌else◌, List, [], ◌∷◌, length, take, count_by, is_none, Result, Ok, Err}
 use Rattle.std.specs.Str.{is_utf8}
 use Rattle.std.specs.Str.Lines.{lines}
 use Rattle.std.specs.Str.Lossy.{utf8_valid_len}
@@ -49,6 +49,13 @@ line_then number (Err error) others = Err (of_line number error)
 abbrev pub read_lines : ℕ → List (List ℕ) → Result (List Source) AsmError
 read_lines number [] = Ok []
 read_lines number (line ∷ others) = line_then number (read line) (read_lines (number + 1) others)
+
+-- What is wrong with a text as a whole. It is found before any memory is taken, so that it is told even where none is left.
+abbrev pub IsTooLong : List ℕ → Type 0
+IsTooLong text = text_limit < length text
+
+abbrev pub too_long : AsmError
+too_long = at 0 k.TooLarge
 
 unfoldable pub read_text : List ℕ → Result (List Source) AsmError
 read_text text = if nat_lt text_limit (length text) then Err (at 0 k.TooLarge)

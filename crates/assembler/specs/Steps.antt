@@ -69,10 +69,22 @@ TellsTwice k.OutOfRange twice = ⊥
 TellsTwice k.Undefined twice = ⊥
 TellsTwice k.TooLarge twice = ⊥
 
--- what is added of one name, or why nothing is; want of memory may be told in place of it
+-- the same of one name: whether it is defined is looked up before memory is taken
+abbrev pub TellsOne : AsmErrorKind → Bool → Type 0
+TellsOne k.TwiceDefined twice = twice ≡ true
+TellsOne k.NoMemory twice = twice ≡ false
+TellsOne k.NotUtf8 twice = ⊥
+TellsOne k.Syntax twice = ⊥
+TellsOne k.UnknownInstruction twice = ⊥
+TellsOne k.BadOperand twice = ⊥
+TellsOne k.OutOfRange twice = ⊥
+TellsOne k.Undefined twice = ⊥
+TellsOne k.TooLarge twice = ⊥
+
+-- what is added of one name, or why nothing is
 abbrev pub AddsOne : Result (Unit {0}) AsmErrorKind → ℕ → List Label → List ℕ → List Label → Type 0
 AddsOne (Ok done) address before name after = (is_some (named before name) ≡ false) × (after ≡ before ++ (name, address) ∷ [])
-AddsOne (Err kind) address before name after = TellsTwice kind (is_some (named before name))
+AddsOne (Err kind) address before name after = TellsOne kind (is_some (named before name))
 
 -- the same of names
 abbrev pub Adds : Result (Unit {0}) AsmErrorKind → ℕ → List Label → List (List ℕ) → List Label → Type 0

@@ -1,9 +1,10 @@
 //! A text to an image.
-ghost use Rattle.std.specs.Prelude.{◌≡◌, ◌≤◌, length, IfOk, MatchResult};
+ghost use Rattle.std.specs.Prelude.{◌≡◌, ◌≤◌, length, Err, IfOk, MatchResult};
 ghost use Rattle.image.specs.Lines.{labels_of, RowsRise};
 ghost use Rattle.assembler.specs.Errors.{Tells};
 ghost use Rattle.assembler.specs.Placed.{error_of, Placed};
 ghost use Rattle.assembler.specs.Places as spec;
+ghost use Rattle.assembler.specs.Program.{too_long, IsTooLong};
 
 use crate::error::AsmError;
 use crate::fill::fill;
@@ -27,6 +28,9 @@ use std::alloc::Global;
 pub fn assemble(alloc: Global, text: &[u8], size: u32) -> Result<Image, AsmError>
     ensures answers { MatchResult result (λ image. Placed text.now size image) (λ error. Tells error (error_of text.now size)) }
     ensures fits { IfOk result (λ image. length image.bytes ≤ size) }
+
+    // A text that is too long takes no memory, so it is never told that none is left.
+    ensures long { IsTooLong text.now → result ≡ Err too_long }
 {
     let limit = FIRST_ADDRESS.saturating_add(size);
     let program = match read_program(alloc, text) {

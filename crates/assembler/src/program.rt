@@ -24,7 +24,8 @@ pub(crate) struct Source<'a> {
 
 /// The lines of a text that say something.
 pub(crate) fn read_program<'a>(alloc: Global, text: &'a [u8]) -> Result<Vec<Source<'a>>, AsmError>
-    ensures { MatchResult result (λ p. spec.read_text text.now ≡ Ok p.items) (λ e. Tells e (error_in (spec.read_text text.now))) }
+    ensures answers { MatchResult result (λ p. spec.read_text text.now ≡ Ok p.items) (λ e. Tells e (error_in (spec.read_text text.now))) }
+    ensures long { spec.IsTooLong text.now → result ≡ Err spec.too_long }
 {
     if text.len() > TEXT_LIMIT {
         return Err(AsmError {
