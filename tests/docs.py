@@ -8,8 +8,8 @@ from program import TOP, expect
 
 SPAN = re.compile(r"`([^`\n]+)`")
 FOLDERS = ("bench", "crates", "docs", "examples", "tests")
-# A part of a path that stands for any.
-STANDS_FOR_ANY = {"NAME": "*", "Name": "*", "CRATE": "*", "play_NAME": "*"}
+# Folders of a crate, whose paths may be given without the crate, and without the ending of a definition's file.
+PARTS = ("specs", "src", "proofs")
 
 
 def text_of(*path):
@@ -19,7 +19,7 @@ def text_of(*path):
 
 def documents():
     """The documents by name, without their blocks of code."""
-    names = ["README.md"] + sorted("docs/" + os.path.basename(path) for path in glob.glob(os.path.join(TOP, "docs", "*.md")))
+    names = [os.path.relpath(path, TOP) for folder in ("", "docs", "bench") for path in sorted(glob.glob(os.path.join(TOP, folder, "*.md")))]
     return {name: re.sub(r"^```.*?^```$", "", text_of(name), flags=re.M | re.S) for name in names}
 
 
@@ -48,27 +48,26 @@ def alternatives(path):
 
 
 def places_of(span):
-    """Where a span that is a path may lie, or nothing where it is none."""
-    parts = [STANDS_FOR_ANY.get(part, part) for part in span.split("/")]
-    if len(parts) < 2 or not re.fullmatch(r"[\w.*{},/-]+", span):
+    """Where a span that is a path may lie, as patterns of names, or nothing where it is none."""
+    if "/" not in span or not re.fullmatch(r"[\w.*{},/-]+", span):
         return []
-    if parts[0] in FOLDERS:
-        return ["/".join(parts)]
-    # NAME, with what may stand behind it, is any name
-    folder = ["*"] + parts if parts[0] in ("specs", "src", "proofs") else parts
-    if len(folder) < 3 or folder[1] not in ("specs", "src", "proofs"):
+    pattern = re.sub(r"\b(play_)?(NAME|Name|CRATE)\b", "*", span)
+    first, second = pattern.split("/")[:2]
+    if first in FOLDERS:
+        return [pattern]
+    if first not in PARTS and second not in PARTS:
         return []
-    path = re.sub(r"\b(NAME|Name)\b", "*", "/".join(["crates"] + folder))
-    return [path, path + ".antt"]
+    pattern = "/".join(["crates", "*", pattern] if first in PARTS else ["crates", pattern])
+    return [pattern, pattern + ".antt"]
 
 
 def spans_of(text):
-    """Each code span, a path for each name in braces. In a table a bare name behind a path lies in the same folder."""
+    """Each code span, a path for each name in braces. In a table a bare name after a path lies in the same folder."""
     for line in text.splitlines():
         for cell in line.split("|") if line.startswith("|") else [line]:
             folder = None
             for span in SPAN.findall(cell):
-                if line.startswith("|") and folder and re.fullmatch(r"[\w.]+(\.rt)?|[A-Z]\w+", span) and "/" not in span:
+                if line.startswith("|") and folder and re.fullmatch(r"[\w.]+", span):
                     span = folder + "/" + span
                 folder = os.path.dirname(span) if "/" in span and places_of(span) else None
                 yield from alternatives(span)
