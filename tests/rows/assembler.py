@@ -1,9 +1,5 @@
 """Whole texts and their images, and what is wrong with a text."""
-import os
-import re
-
 from playing import Row
-from program import TOP
 from rows import programs
 
 PLAYER = "play_assembler"
@@ -320,49 +316,6 @@ FIRST = (
     (b".space 4095\nnop\n", 2, "OutOfRange"),
 )
 
-GUIDE = os.path.join(TOP, "docs", "MACHINE.md")
-
-# The words of the guide's program.
-GUIDE_WORDS = (0x00500513, 0x00000097, 0x018080e7, 0x00000097, 0x010080e7, 0x05d00893, 0x00000073, 0x00150513, 0x00008067)
-
-# The guide's examples of errors by the code in them, or as they are worded, and the texts that they are, with the line that is told.
-EXAMPLES = {
-    ("a text of 1,048,577 bytes",): [(b"\n" * 1048577, 0)],
-    ("a byte 0xff",): [(b"\xff", 1)],
-    ("add a0,, a1", "5x: nop"): [(b"add a0,, a1", 1), (b"5x: nop", 1)],
-    ("mul a0, a1, a2", ".ascii \"x\""): [(b"mul a0, a1, a2", 1), (b".ascii \"x\"", 1)],
-    ("addi a0, a1, a2", "lw a0, 8"): [(b"addi a0, a1, a2", 1), (b"lw a0, 8", 1)],
-    ("addi a0, a1, 2048",): [(b"addi a0, a1, 2048", 1)],
-    ("a: a: nop",): [(b"a: a: nop", 1)],
-    ("nop", ".byte 1", "_start"): [(b".byte 1\nnop", 2), (b".byte 1\n_start:", 2)],
-    (".space 4097",): [(b".space 4097", 1)],
-    ("j x", "x"): [(b"j x", 1)],
-    ("beq a0, a1, 0",): [(b"beq a0, a1, 0", 1)],
-}
-NO_EXAMPLE = [(b"", 0)]
-
-
-def between(text, start, end):
-    return text.partition(start)[2].partition(end)[0]
-
-
-def guide():
-    """The guide's section on the assembly language."""
-    with open(GUIDE, encoding="utf-8") as file:
-        return between(file.read(), "\n## The assembly language\n", "\n## ")
-
-
-def program_of_the_guide():
-    return between(guide(), "```\n", "```\n").encode()
-
-
-def errors_of_the_guide():
-    """The kinds and the examples of the guide's table of errors."""
-    for line in between(guide(), "\n| Pass | Error |", "\n\n").splitlines()[2:]:
-        _, _, error, example, _ = line.split("|")
-        yield re.search("`([A-Za-z0-9]+)`", error)[1], tuple(re.findall("`([^`]*)`", example)) or (example.strip(),)
-
-
 ROWS = [
     Row("an error has a text", [assemble(b"j x", "line 1: Undefined")], PROFILE),
     Row("branches and jumps go on and back", listed(BRANCHES), ASSEMBLER),
@@ -410,14 +363,6 @@ ROWS = [
         fails(b".space 16777216\nnop", 2, "TooLarge", size=16777216),
     ], PROFILE),
     Row("an address has 32 bits whatever the size", [fails(b".space 16777216\n" * 256, 256, "TooLarge", size=4294967295)], PROFILE),
-    Row("the program of the guide has its words", [
-        assemble(program_of_the_guide()),
-        entry(0x10000),
-        has_bytes(b"".join(word.to_bytes(4, "little") for word in GUIDE_WORDS)),
-    ], ASSEMBLER),
-    Row("the errors of the guide are told", [
-        fails(text, line, kind) for kind, example in errors_of_the_guide() for text, line in EXAMPLES.get(example, NO_EXAMPLE)
-    ], "docs/MACHINE.md, \"Errors\""),
     Row("assemble of a call", [assemble(text_of(ADDS_ONE)), entry(0x10000), has_bytes(bytes_of(ADDS_ONE))], ASSEMBLER, refused=True),
     Row("assemble of calls within calls", [assemble(text_of(COUNTS_DOWN)), entry(0x10000), has_bytes(bytes_of(COUNTS_DOWN))], ASSEMBLER,
         refused=True),
