@@ -4,6 +4,7 @@ import os
 import re
 import subprocess
 
+import playing
 from program import TOP, expect
 
 SPAN = re.compile(r"`([^`\n]+)`")
@@ -183,6 +184,15 @@ def each_definition_of_a_request_is_in_its_file():
                 expect_defined(crate, file, name)
 
 
+def each_row_that_is_named_is_there():
+    only_tested = text_of("docs/DEFINITIONS.md").partition("## Only tested\n")[2].partition("\n## ")[0]
+    rows = {(table, row.name) for table, module in playing.tables() for row in module.ROWS}
+    named = [(table, name) for table, names in re.findall(r'(\w+): ((?:"[^"]+"(?:, )?)+)', only_tested)
+             for name in re.findall(r'"([^"]+)"', names)]
+    expect(len(named) > 10, True, "rows are named")
+    expect(sorted(set(named) - rows), [], "the rows of the ledger that no table has")
+
+
 def the_transcripts_are_what_their_commands_print():
     ran = subprocess.run([os.path.join(TOP, "docs", "transcript"), "--check"], capture_output=True, text=True, timeout=120)
     expect((ran.stdout, ran.stderr, ran.returncode), ("", "", 0), "docs/transcript --check")
@@ -199,5 +209,6 @@ def checks():
         each_definition_of_the_ledger_is_in_its_file,
         each_request_has_a_row,
         each_definition_of_a_request_is_in_its_file,
+        each_row_that_is_named_is_there,
         the_transcripts_are_what_their_commands_print,
     )]
