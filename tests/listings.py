@@ -18,6 +18,20 @@ INCREMENT_LISTING = b"""\
 """
 LONGEST = 1048576
 
+# Each error: its pass, its name, and a text whose last line has it. They stand in the order of the help.
+ERRORS = (
+    (0, "NotUtf8", b"# \xff"),
+    (1, "Syntax", b"1 2"),
+    (1, "UnknownInstruction", b"bogus"),
+    (1, "BadOperand", b"add a0"),
+    (1, "OutOfRange", b"addi a0, a0, 2048"),
+    (2, "TwiceDefined", b"a: a: nop"),
+    (2, "OutOfRange", b".byte 1\nnop"),
+    (2, "TooLarge", b".space 1048577"),
+    (3, "Undefined", b"j x"),
+    (3, "OutOfRange", b"beq a0, a1, 0"),
+)
+
 
 def listed(*words, environment=None, output=subprocess.PIPE):
     """Runs `rvdap asm` with these words, and answers its output, its standard error and its status."""
@@ -45,6 +59,11 @@ def expect_fault(text, reason):
 
 def the_example_is_listed():
     expect(listed(INCREMENT), (INCREMENT_LISTING, b"", 0), "the listing of examples/increment.s")
+
+
+def the_guide_shows_that_listing():
+    with open(os.path.join(TOP, "docs", "MACHINE.md"), "rb") as file:
+        expect(b"```\n$ rvdap asm examples/increment.s\n" + INCREMENT_LISTING + b"```\n" in file.read(), True, "docs/MACHINE.md")
 
 
 def a_text_on_six_lines_has_the_same_listing():
@@ -102,7 +121,38 @@ def words_that_are_not_taken():
 
 def help_of_asm():
     out, err, status = listed("--help")
-    expect((err, status, b"FILE" in out), (b"", 0, True), "help")
+    expect((err, status), (b"", 0), "help")
+    expect(listed("-h"), (out, err, status), "help by its short name")
+    for words in (b"Usage: rvdap asm <FILE>", b"1,048,576 bytes", b"docs/MACHINE.md", b"line 2: OutOfRange", b"cannot read"):
+        expect(words in out, True, "help has %r" % words)
+    expect(max(map(len, out.splitlines())) <= 80, True, "the lines of help fit a terminal")
+
+
+def help_of_asm_has_an_example():
+    command, listing = listed("--help")[0].partition(b"  $ rvdap asm ")[2].split(b"\n", 1)
+    expect(command, b"examples/increment.s", "the example")
+    shown = [line.strip() for line in listing.partition(b"  ..\n")[0].splitlines()]
+    expect((shown, bool(shown)), (INCREMENT_LISTING.splitlines()[:len(shown)], True), "the first lines of its listing")
+
+
+def help_of_asm_has_a_line_for_each_error_under_its_pass():
+    told, number = [], None
+    for line in listed("--help")[0].decode().splitlines():
+        if line.startswith("Pass "):
+            number = int(line.split()[1].rstrip(","))
+        elif number is not None and line[:2] == "  " and line[2:3].isupper():
+            told.append((number, line.split()[0]))
+            expect(len(line.split()) > 5, True, "what %s means" % line.split()[0])
+    expect(told, [(number, kind) for number, kind, _ in ERRORS], "the errors in the help")
+
+
+def an_earlier_pass_is_told_first():
+    for number, kind, text in ERRORS:
+        expect_fault(text, b"line %d: %s" % (text.count(b"\n") + 1, kind.encode()))
+        for other, _, before in ERRORS:
+            if other > number:
+                both = before + b"\n" + text
+                expect_fault(both, b"line %d: %s" % (both.count(b"\n") + 1, kind.encode()))
 
 
 def a_listing_ends_well_without_memory():
@@ -117,6 +167,7 @@ def checks():
     """Each check with its name."""
     return [(check.__name__.replace("_", " "), check) for check in (
         the_example_is_listed,
+        the_guide_shows_that_listing,
         a_text_on_six_lines_has_the_same_listing,
         a_listing_is_assembled_to_the_same_words,
         data_is_left_out,
@@ -127,5 +178,8 @@ def checks():
         a_listing_that_is_not_taken_is_a_fault,
         words_that_are_not_taken,
         help_of_asm,
+        help_of_asm_has_an_example,
+        help_of_asm_has_a_line_for_each_error_under_its_pass,
+        an_earlier_pass_is_told_first,
         a_listing_ends_well_without_memory,
     )]

@@ -324,6 +324,16 @@ def help_and_version_are_printed():
         expect((out[:len(start)], err, status), (start, b"", 0), " ".join(words))
 
 
+def help_says_what_to_do_without_a_command():
+    out = run(b"", words=["--help"])[0]
+    for words in (b"Usage: rvdap [COMMAND]", b"  asm  Assembles FILE", b"Without a command", b"Debug Adapter Protocol (DAP)",
+                  b"docs/PROTOCOL.md", b"Status: 0", b"--version"):
+        expect(words in out, True, "help has %r" % words)
+    expect(b"standard input and output" in b" ".join(out.split()), True, "help says where it speaks")
+    expect(run(b"", words=["-h"]), (out, b"", 0), "help by its short name")
+    expect(max(map(len, out.splitlines())) <= 80, True, "the lines of help fit a terminal")
+
+
 def any_other_word_is_a_fault_of_usage():
     for words in (["x"], ["--x"], ["help"], [""], ["--listen", "127.0.0.1:0"], ["-x"], ["--help=1"]):
         out, err, status = run(b"", words=words)
@@ -367,5 +377,6 @@ def checks():
         an_editor_that_stops_listening_is_a_fault,
         an_input_that_cannot_be_read_is_a_fault,
         help_and_version_are_printed,
+        help_says_what_to_do_without_a_command,
         any_other_word_is_a_fault_of_usage,
     )]

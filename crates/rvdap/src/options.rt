@@ -6,6 +6,52 @@ use std::alloc::{AllocError, Global};
 use std::rt::Env;
 use std::{env, io};
 
+// What help says after the options.
+const AFTER_HELP: &str = "\
+    Without a command, rvdap speaks the Debug Adapter Protocol (DAP) on standard\
+    \ninput and output: an editor starts it so. In a terminal it waits for requests\
+    \nuntil the input ends (Ctrl-D). docs/PROTOCOL.md has the requests that it\
+    \nanswers, byte by byte.\
+    \n\
+    \nStatus: 0 if all went well; 1 if not, with a line on standard error; and 2 if\
+    \nthe words on the command line are not as above.";
+
+// What help of `asm` says after its options.
+const AFTER_HELP_OF_ASM: &str = "\
+    Example:\
+    \n  $ rvdap asm examples/increment.s\
+    \n  00010000 00500513 addi a0, zero, 5\
+    \n  00010004 00000097 auipc ra, 0x0\
+    \n  ..\
+    \n\
+    \nEach line is an instruction: its address, its word and its text.\
+    \n\
+    \nErrors, as in `rvdap: FILE: line 2: OutOfRange`. One is reported at a time: that\
+    \nof the first pass that finds one, on the earliest line. So `bogus` on line 4 is\
+    \nreported before `j x` on line 2, where no line defines x.\
+    \n\
+    \nPass 0, the text as a whole:\
+    \n  NotUtf8             a byte that is not UTF-8: save the file as UTF-8\
+    \nPass 1, each line by itself:\
+    \n  Syntax              not labels and then one statement: look at its colons and\
+    \n                      commas\
+    \n  UnknownInstruction  no such mnemonic or directive: look at its spelling\
+    \n  BadOperand          too few, too many or of another form: look at registers,\
+    \n                      immediates and brackets\
+    \n  OutOfRange          a number is too large or too small for its place\
+    \nPass 2, each line at its address:\
+    \n  TwiceDefined        an earlier label has this name: rename one of them\
+    \n  OutOfRange          an instruction is not at a multiple of 4: put `.align 2`\
+    \n                      after the data before it\
+    \n  TooLarge            memory (1 MiB) ends before this line: look at `.space`\
+    \nPass 3, each line with its labels:\
+    \n  Undefined           no line defines this label: look at its spelling\
+    \n  OutOfRange          a branch or a jump does not reach its target: look at how\
+    \n                      far it is\
+    \n\
+    \n`cannot read` in place of an error: FILE is not there, is not a file, or is too\
+    \nlong. docs/MACHINE.md has the language, and examples of each error.";
+
 /// What the words after the program's name come to.
 pub(crate) enum Words {
     /// An editor is to be served over standard streams.
@@ -83,6 +129,7 @@ fn command<'a>(alloc: Global) -> Result<Command<'a>, AllocError> {
     Command::new(alloc, "rvdap")
         .version("0.1.0")
         .about("A debug adapter for assembly programs on one simulated RISC-V hart")
+        .after_help(AFTER_HELP)
         .disable_help_subcommand(true)
         .subcommand(asm(alloc)?)
 }
@@ -93,5 +140,6 @@ fn asm<'a>(alloc: Global) -> Result<Command<'a>, AllocError> {
         .help("A text of assembly, of at most 1,048,576 bytes");
     Command::new(alloc, "asm")
         .about("Assembles FILE and lists its instructions")
+        .after_help(AFTER_HELP_OF_ASM)
         .arg(file)
 }
