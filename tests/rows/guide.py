@@ -253,7 +253,8 @@ ROWS = [
     from_the_guide("the guide's numbers are spelled as it says", spellings, GUIDE % "Numbers"),
     from_the_guide("a pseudo-instruction of the guide is what it stands for", pseudo_instructions, ASSEMBLER),
     from_the_guide("the guide's breakpoints and addresses have their lines", lines_and_addresses, GUIDE % "Lines and addresses"),
-    *(from_the_guide("the guide's examples of %s are reported and fixed" % kind, partial(examples_of, kind), GUIDE % "Errors") for kind in KINDS),
+    *(from_the_guide("the guide's examples of %s are reported and fixed" % kind, partial(examples_of, kind), GUIDE % "Errors")
+      for kind in KINDS),
     from_the_guide("the guide's errors are reported", each_is_reported(["Lines", "Reported", "Why", "Fix"]), GUIDE % "Errors"),
     from_the_guide("the guide says which of several errors is reported", each_is_reported(["Lines", "Reported", "Why"]), GUIDE % "Errors"),
     from_the_guide("the guide's differences from GNU as are here as it says", differences, GUIDE % "Where GNU as differs"),
