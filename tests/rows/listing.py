@@ -1,4 +1,5 @@
 """Listings of texts, and what comes in their place."""
+from listings import INCREMENT_LISTING
 from playing import Row
 
 PLAYER = "play_assembler"
@@ -7,15 +8,6 @@ PROFILE = "docs/MACHINE.md, \"Listings\", with words of GNU as and ld 2.40"
 
 # A function that adds 1, called once.
 INCREMENT = b"_start: li a0, 5\ncall f\nli a7, 93\necall\nf: addi a0, a0, 1\nret\n"
-INCREMENT_LISTING = b"""\
-00010000 00500513 addi a0, zero, 5
-00010004 00000097 auipc ra, 0x0
-00010008 010080e7 jalr ra, 16(ra)
-0001000c 05d00893 addi a7, zero, 93
-00010010 00000073 ecall
-00010014 00150513 addi a0, a0, 1
-00010018 00008067 jalr zero, 0(ra)
-"""
 
 
 def writer(room):
