@@ -1,5 +1,5 @@
 pub mod Values
-pub mod Pieces
+pub mod Fields
 pub mod Below
 pub mod Registers
 pub mod Said

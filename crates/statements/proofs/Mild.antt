@@ -1,4 +1,4 @@
--- Whatever a word's operands are, what is wrong with them is told as an error of operands.
+-- Whatever the operands of a mnemonic are, what is wrong with them is an error of operands.
 use Rattle.std.proofs.Common.{◌≡◌, ℕ, Bool, true, false, cond, not, ◌*◌, ◌==◌, ◌&&◌, ◌||◌, List, [], ◌∷◌, length, map, Option, Some, None, Result, Ok, Err, refl, sym, subst, ◌∙◌, codes}
 use Rattle.std.specs.Prelude.{MatchOption, ⊤, nat_le}
 use Rattle.std.specs.Char.{is_digit}
@@ -12,18 +12,18 @@ use Rattle.statements.specs.Numbers.{bits_by, bits_in, bits_of, constant_in, mag
 use Rattle.statements.specs.Operands.{access_by, access_in, access_with, address_target, base_by, bits_low, bracketed, closed, immediate_in, label_in, low_by, low_in, offset_in, operands_in, or_bad, part_access, part_access_by, part_by, part_in, part_low, plain_access, register_in, register_of, set_in, sets, target_in}
 use Rattle.statements.specs.Operations.{register_instruction, shift_instruction}
 use Rattle.statements.specs.Reading.{line_of, meaning, said_by, stating}
-use Rattle.statements.specs.Spelling.{is_name, named, parted, pieces, stripped}
+use Rattle.statements.specs.Spelling.{is_name, named, parted, fields, stripped}
 use Rattle.byte_strings.specs.Blanks.{trimmed, without_leading_blanks}
-use Rattle.statements.specs.Words.{word_of}
+use Rattle.statements.specs.Mnemonics.{mnemonic_of}
 use Rattle.rv32i.specs.declared.instr.Instr.TheVariants as i
 use Rattle.statements.specs.declared.error.LineError.{LineError}
 use Rattle.statements.specs.declared.error.LineError.TheVariants.{UnknownInstruction, BadOperand, OutOfRange}
 use Rattle.statements.specs.declared.items.Item.TheVariants.{Label as LabelItem}
 use Rattle.statements.specs.declared.items.Width.{Width}
-use Rattle.statements.specs.declared.items.Width.TheVariants.{Byte, Half, Word as Words}
+use Rattle.statements.specs.declared.items.Width.TheVariants.{Byte, Half, Word}
 use Rattle.statements.specs.declared.number.Number.{Number}
-use Rattle.statements.specs.declared.operands.Low.{Low}
-use Rattle.statements.specs.declared.operands.Low.TheVariants.{Bits}
+use Rattle.statements.specs.declared.forms.Low.{Low}
+use Rattle.statements.specs.declared.forms.Low.TheVariants.{Bits}
 use Rattle.statements.specs.declared.operands.Operands.{Operands}
 use Rattle.statements.specs.declared.operands.Operands.TheVariants.{Zero, One, Two, Three, More}
 use Rattle.statements.specs.declared.operations.ImmediateOperation.{ImmediateOperation}
@@ -32,12 +32,12 @@ use Rattle.statements.specs.declared.operations.Condition.{Condition}
 use Rattle.statements.specs.declared.operations.RegisterOperation.{RegisterOperation}
 use Rattle.statements.specs.declared.operations.ShiftOperation.{ShiftOperation}
 use Rattle.statements.specs.declared.operations.StoreOperation.{StoreOperation}
-use Rattle.statements.specs.declared.words.Fixed.{Fixed}
-use Rattle.statements.specs.declared.words.Unary.{Unary}
+use Rattle.statements.specs.declared.mnemonics.Fixed.{Fixed}
+use Rattle.statements.specs.declared.mnemonics.Unary.{Unary}
 use Rattle.statements.specs.declared.statement.Statement.TheVariants as say
 use Rattle.statements.specs.declared.statement.Target.TheVariants.{Label}
-use Rattle.statements.specs.declared.words.Word.{Word}
-use Rattle.statements.specs.declared.words.Word.TheVariants as w
+use Rattle.statements.specs.declared.mnemonics.Mnemonic.{Mnemonic}
+use Rattle.statements.specs.declared.mnemonics.Mnemonic.TheVariants as w
 use Rattle.statements.proofs.Dividing.{lines_read}
 
 abbrev Mild : {A : Type 0} → Result A LineError → Type 0
@@ -118,7 +118,7 @@ mild_part_low (Err error) h = h
 
 mild_low_by : (text : List ℕ) (found : Option (List ℕ)) → Mild (low_by text found)
 mild_low_by text None = mild_bits_low (immediate_in text) (mild_bits 2048 2047 text)
-mild_low_by text (Some behind) = mild_part_low (part_in behind) (mild_part behind)
+mild_low_by text (Some after) = mild_part_low (part_in after) (mild_part after)
 
 mild_low : (text : List ℕ) → Mild (low_in text)
 mild_low text = mild_low_by text (stripped (codes "%lo") text)
@@ -137,11 +137,11 @@ mild_base_by (Some name) = mild_register name
 
 mild_plain_access : (found : Option (List ℕ × List ℕ)) → Mild (plain_access found)
 mild_plain_access None = tt
-mild_plain_access (Some (offset, behind)) = mild_access_with (offset_in (trimmed offset)) (base_by (closed behind)) (mild_offset (trimmed offset)) (mild_base_by (closed behind))
+mild_plain_access (Some (offset, after)) = mild_access_with (offset_in (trimmed offset)) (base_by (closed after)) (mild_offset (trimmed offset)) (mild_base_by (closed after))
 
 mild_part_access_by : (found : Option (List ℕ × List ℕ)) → Mild (part_access_by found)
 mild_part_access_by None = tt
-mild_part_access_by (Some (label, behind)) = mild_access_with (part_low (label_in (trimmed label))) (base_by (bracketed (without_leading_blanks behind))) (mild_part_low (label_in (trimmed label)) (mild_label (trimmed label))) (mild_base_by (bracketed (without_leading_blanks behind)))
+mild_part_access_by (Some (label, after)) = mild_access_with (part_low (label_in (trimmed label))) (base_by (bracketed (without_leading_blanks after))) (mild_part_low (label_in (trimmed label)) (mild_label (trimmed label))) (mild_base_by (bracketed (without_leading_blanks after)))
 
 mild_part_access : (found : Option (List ℕ)) → Mild (part_access found)
 mild_part_access None = tt
@@ -149,7 +149,7 @@ mild_part_access (Some text) = mild_part_access_by (parted 41 text)
 
 mild_access_by : (text : List ℕ) (found : Option (List ℕ)) → Mild (access_by text found)
 mild_access_by text None = mild_plain_access (parted 40 text)
-mild_access_by text (Some behind) = mild_part_access (stripped (codes "(") (without_leading_blanks behind))
+mild_access_by text (Some after) = mild_part_access (stripped (codes "(") (without_leading_blanks after))
 
 mild_access : (text : List ℕ) → Mild (access_in text)
 mild_access text = mild_access_by text (stripped (codes "%lo") text)
@@ -169,7 +169,7 @@ mild_upper text = mild_one (bits_in 0 1048575 text) (λ bits. bits * 4096) (mild
 
 mild_upper_by : (rd : ℕ) (text : List ℕ) (found : Option (List ℕ)) → Mild (upper_by rd text found)
 mild_upper_by rd text None = mild_one (upper_in text) (λ imm. say.One (i.Lui rd imm)) (mild_upper text)
-mild_upper_by rd text (Some behind) = mild_one (part_in behind) (λ label. say.Upper rd label) (mild_part behind)
+mild_upper_by rd text (Some after) = mild_one (part_in after) (λ label. say.Upper rd label) (mild_part after)
 
 -- ---- data
 
@@ -180,7 +180,7 @@ mild_number_item (Err error) h = h
 mild_item : (width : Width) (text : List ℕ) → Mild (item_in width text)
 mild_item Byte text = mild_number_item (bits_in 128 255 text) (mild_bits 128 255 text)
 mild_item Half text = mild_number_item (bits_in 32768 65535 text) (mild_bits 32768 65535 text)
-mild_item Words text = mild_cond (is_name text) (Ok (LabelItem text)) (number_item (constant_in text)) tt (mild_number_item (constant_in text) (mild_bits 2147483648 4294967295 text))
+mild_item Word text = mild_cond (is_name text) (Ok (LabelItem text)) (number_item (constant_in text)) tt (mild_number_item (constant_in text) (mild_bits 2147483648 4294967295 text))
 
 mild_before : {A : Type 0} (a : A) (others : Result (List A) LineError) → Mild others → Mild (before_others a others)
 mild_before a (Ok others) h = tt
@@ -190,14 +190,14 @@ mild_next : {A : Type 0} (x : Result A LineError) (others : List (Result A LineE
 mild_next (Ok a) others x h = mild_before a (all_of others) h
 mild_next (Err error) others x h = x
 
-mild_all : (width : Width) (list : List (List ℕ)) → Mild (all_of (map (λ piece. item_in width (trimmed piece)) list))
+mild_all : (width : Width) (list : List (List ℕ)) → Mild (all_of (map (λ field. item_in width (trimmed field)) list))
 mild_all width [] = tt
-mild_all width (piece ∷ list) = mild_next (item_in width (trimmed piece)) (map (λ piece. item_in width (trimmed piece)) list) (mild_item width (trimmed piece)) (mild_all width list)
+mild_all width (field ∷ list) = mild_next (item_in width (trimmed field)) (map (λ field. item_in width (trimmed field)) list) (mild_item width (trimmed field)) (mild_all width list)
 
 mild_stated : (width : Width) (text : List ℕ) → Mild (stated width text)
-mild_stated width text = mild_cond ((length text == 0) || not (are_formed width text)) (Err BadOperand) (and_then (items_in width text) (λ items. Ok (say.Data width items))) tt (mild_one (items_in width text) (λ items. say.Data width items) (mild_all width (pieces 44 text)))
+mild_stated width text = mild_cond ((length text == 0) || not (are_formed width text)) (Err BadOperand) (and_then (items_in width text) (λ items. Ok (say.Data width items))) tt (mild_one (items_in width text) (λ items. say.Data width items) (mild_all width (fields 44 text)))
 
--- ---- words
+-- ---- instructions
 
 mild_registers : (op : RegisterOperation) (operands : Operands) → Mild (registers op operands)
 mild_registers op Zero = tt
@@ -391,7 +391,7 @@ mild_global (Two a b) = tt
 mild_global (Three a b c) = tt
 mild_global More = tt
 
-mild_meaning : (word : Word) (operands : Operands) (text : List ℕ) → Mild (meaning word operands text)
+mild_meaning : (mnemonic : Mnemonic) (operands : Operands) (text : List ℕ) → Mild (meaning mnemonic operands text)
 mild_meaning (w.Registers op) operands text = mild_registers op operands
 mild_meaning (w.Immediate op) operands text = mild_immediate op operands
 mild_meaning (w.Shift op) operands text = mild_shift op operands
@@ -435,13 +435,13 @@ mild_error : (s : Said) → Mild s → ErrorIs IsOfOperands s
 mild_error (Ok statement) h = tt
 mild_error (Err error) h = h
 
-named_error : (labels : List (List ℕ)) (found : Option Word) (operands : List ℕ) → ErrorIs (λ error. MatchOption found (error ≡ UnknownInstruction) (λ named. IsOfOperands error)) (line_of labels (stating (said_by found operands)))
+named_error : (labels : List (List ℕ)) (found : Option Mnemonic) (operands : List ℕ) → ErrorIs (λ error. MatchOption found (error ≡ UnknownInstruction) (λ named. IsOfOperands error)) (line_of labels (stating (said_by found operands)))
 named_error labels None operands = refl
-named_error labels (Some word) operands = stated_error labels IsOfOperands (meaning word (operands_in operands) operands) (mild_error (meaning word (operands_in operands) operands) (mild_meaning word (operands_in operands) operands))
+named_error labels (Some mnemonic) operands = stated_error labels IsOfOperands (meaning mnemonic (operands_in operands) operands) (mild_error (meaning mnemonic (operands_in operands) operands) (mild_meaning mnemonic (operands_in operands) operands))
 
 spoken_error : (labels : List (List ℕ)) (spoken : Option Spoken) → ErrorIs (IsErrorOf spoken) (line_of labels (says spoken))
 spoken_error labels None = tt
-spoken_error labels (Some (word, operands)) = named_error labels (word_of word) operands
+spoken_error labels (Some (mnemonic, operands)) = named_error labels (mnemonic_of mnemonic) operands
 
 pub form_no_error : FormIsNoError
 form_no_error line d error h e =

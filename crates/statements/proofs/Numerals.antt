@@ -36,9 +36,9 @@ pub not_both : (x y : Bool) → x ≡ false → (x && y) ≡ false
 not_both true y h = cc
 not_both false y h = refl
 
--- a text has no such front where its first byte is another
-pub other_front : (c d : ℕ) (front text : List ℕ) → (c == d) ≡ false → stripped (d ∷ front) (c ∷ text) ≡ None
-other_front c d front text h = turned_down (bytes_eq (take (length (d ∷ front)) (c ∷ text)) (d ∷ front)) _ _ (not_both (c == d) _ h)
+-- a text has no such prefix where its first byte is another
+pub other_prefix : (c d : ℕ) (prefix text : List ℕ) → (c == d) ≡ false → stripped (d ∷ prefix) (c ∷ text) ≡ None
+other_prefix c d prefix text h = turned_down (bytes_eq (take (length (d ∷ prefix)) (c ∷ text)) (d ∷ prefix)) _ _ (not_both (c == d) _ h)
 
 -- ---- digits
 
@@ -68,10 +68,10 @@ no_percent_byte : (b : ℕ) → is_high b ≡ true → (b == 37) ≡ false
 unfolding is_high
 no_percent_byte b h = grind (arith, nat_tests)
 
--- it has no front that begins with a percent sign
-pub high_front : (front text more : List ℕ) → High text → stripped (37 ∷ front) (text ++ more) ≡ None
-high_front front [] more h = let none : false ≡ true = h.some in cc
-high_front front (c ∷ text) more h = other_front c 37 front (text ++ more) (no_percent_byte c (and_left (is_high c) _ h.all))
+-- it has no prefix that begins with a percent sign
+pub high_prefix : (prefix text more : List ℕ) → High text → stripped (37 ∷ prefix) (text ++ more) ≡ None
+high_prefix prefix [] more h = let none : false ≡ true = h.some in cc
+high_prefix prefix (c ∷ text) more h = other_prefix c 37 prefix (text ++ more) (no_percent_byte c (and_left (is_high c) _ h.all))
 
 digit_high : (c : ℕ) → digit_value c < 16 → 48 ≤ c
 digit_high c h =
@@ -139,7 +139,7 @@ no_radix (c ∷ d ∷ ds) h = turned_down ((c == 48) && ((d == 120) && true)) _ 
 
 no_minus : (ds : List ℕ) → AllDigits 10 ds → stripped (codes "-") ds ≡ None
 no_minus [] h = refl
-no_minus (c ∷ ds) h = let value : digit_value c < 10 = h.0 in other_front c 45 [] ds (not_minus c (omega (arith, value)))
+no_minus (c ∷ ds) h = let value : digit_value c < 10 = h.0 in other_prefix c 45 [] ds (not_minus c (omega (arith, value)))
 
 magnitude_read : (ds : List ℕ) (n : ℕ) → Writes 10 ds n → n ≤ 4294967295 → magnitude ds ≡ Ok n
 magnitude_read ds n w l = ap (magnitude_by ds) (no_radix ds w.numeral.1) ∙ numeral_read 10 ds n w l

@@ -11,16 +11,16 @@ use Rattle.rv32i.specs.Texts.{with_three, with_two}
 use Rattle.rv32i.specs.declared.instr.Instr.TheVariants as i
 use Rattle.statements.specs.Instructions.{and_then, constant, lower, one}
 use Rattle.statements.specs.Numbers.{bits_by, constant_in, number_in}
-use Rattle.statements.specs.Operands.{access_in, access_with, base_by, closed, closed_by, is_operand, label_in, or_bad, plain_access, register_in, register_of, stripped_back, target_in}
+use Rattle.statements.specs.Operands.{access_in, access_with, base_by, closed, closed_by, is_operand, label_in, or_bad, plain_access, register_in, register_of, stripped_suffix, target_in}
 use Rattle.statements.specs.Operations.{lower_part, upper_part}
 use Rattle.statements.specs.Pseudo.{at_register, is_plain, with_one, IsShort, NamesArePlain, OfBranches, OfConstants, OfJumps, OfOne, OfRegisters, OfThree, OfTwo, Puts, RegistersArePlain}
 use Rattle.statements.specs.Reading.{line_of, meaning, read, stating}
 use Rattle.statements.specs.Spelling.{is_name, is_name_byte}
-use Rattle.statements.specs.Words.{word_of}
+use Rattle.statements.specs.Mnemonics.{mnemonic_of}
 use Rattle.statements.specs.declared.error.LineError.{LineError}
 use Rattle.statements.specs.declared.error.LineError.TheVariants.{OutOfRange}
 use Rattle.statements.specs.declared.number.Number.{Number}
-use Rattle.statements.specs.declared.operands.Low.TheVariants.{Bits}
+use Rattle.statements.specs.declared.forms.Low.TheVariants.{Bits}
 use Rattle.statements.specs.declared.operands.Operands.TheVariants.{One, Two, Three}
 use Rattle.statements.specs.declared.operations.Condition.{Condition}
 use Rattle.statements.specs.declared.operations.Condition.TheVariants as c
@@ -31,10 +31,10 @@ use Rattle.statements.specs.declared.operations.RegisterOperation.TheVariants as
 use Rattle.statements.specs.declared.statement.Statement.{Statement}
 use Rattle.statements.specs.declared.statement.Statement.TheVariants as say
 use Rattle.statements.specs.declared.statement.Target.{Target}
-use Rattle.statements.specs.declared.words.Unary.{Unary}
-use Rattle.statements.specs.declared.words.Unary.TheVariants as u
-use Rattle.statements.specs.declared.words.Word.{Word}
-use Rattle.statements.specs.declared.words.Word.TheVariants.{Registers, Immediate, Branch, Swapped, AgainstZero, ZeroAgainst, OfRegister, WithZero, OfImmediate, JumpAndLink, JumpAndLinkRegister, Jump, JumpRegister, LoadImmediate, LoadAddress, Call}
+use Rattle.statements.specs.declared.mnemonics.Unary.{Unary}
+use Rattle.statements.specs.declared.mnemonics.Unary.TheVariants as u
+use Rattle.statements.specs.declared.mnemonics.Mnemonic.{Mnemonic}
+use Rattle.statements.specs.declared.mnemonics.Mnemonic.TheVariants.{Registers, Immediate, Branch, Swapped, AgainstZero, ZeroAgainst, OfRegister, WithZero, OfImmediate, JumpAndLink, JumpAndLinkRegister, Jump, JumpRegister, LoadImmediate, LoadAddress, Call}
 use Rattle.statements.proofs.Registers.{named_is_name, register_named}
 use Rattle.statements.proofs.Runs.{name_bytes, parts_join}
 use Rattle.statements.proofs.Solid.{Solid, all_weaker, is_solid, one_listed, solid_trimmed, spoken_alone, three_listed, two_listed}
@@ -80,24 +80,24 @@ solid_minus = record { some = refl; all = refl }
 
 -- ---- lines by the number of operands
 
-one_means : (name a : List ℕ) (word : Word) → is_name name ≡ true → word_of name ≡ Some word → Solid a → read (with_one name a) ≡ line_of [] (stating (meaning word (One a) a))
-one_means name a word n w s = spoken_alone name a (with_one name a) (a ∷ []) word n w (one_listed a s) refl
+one_means : (name a : List ℕ) (mnemonic : Mnemonic) → is_name name ≡ true → mnemonic_of name ≡ Some mnemonic → Solid a → read (with_one name a) ≡ line_of [] (stating (meaning mnemonic (One a) a))
+one_means name a mnemonic n w s = spoken_alone name a (with_one name a) (a ∷ []) mnemonic n w (one_listed a s) refl
 
-two_means : (name a b : List ℕ) (word : Word) → is_name name ≡ true → word_of name ≡ Some word → Solid a → Solid b → read (with_two name a b) ≡ line_of [] (stating (meaning word (Two a b) (a ++ 44 ∷ 32 ∷ b)))
-two_means name a b word n w s t = spoken_alone name (a ++ 44 ∷ 32 ∷ b) (with_two name a b) (a ∷ b ∷ []) word n w (two_listed a b s t) refl
+two_means : (name a b : List ℕ) (mnemonic : Mnemonic) → is_name name ≡ true → mnemonic_of name ≡ Some mnemonic → Solid a → Solid b → read (with_two name a b) ≡ line_of [] (stating (meaning mnemonic (Two a b) (a ++ 44 ∷ 32 ∷ b)))
+two_means name a b mnemonic n w s t = spoken_alone name (a ++ 44 ∷ 32 ∷ b) (with_two name a b) (a ∷ b ∷ []) mnemonic n w (two_listed a b s t) refl
 
-three_means : (name a b c : List ℕ) (word : Word) → is_name name ≡ true → word_of name ≡ Some word → Solid a → Solid b → Solid c → read (with_three name a b c) ≡ line_of [] (stating (meaning word (Three a b c) (a ++ 44 ∷ 32 ∷ (b ++ 44 ∷ 32 ∷ c))))
-three_means name a b c word n w s t v = spoken_alone name (a ++ 44 ∷ 32 ∷ (b ++ 44 ∷ 32 ∷ c)) (with_three name a b c) (a ∷ b ∷ c ∷ []) word n w (three_listed a b c s t v) refl
+three_means : (name a b c : List ℕ) (mnemonic : Mnemonic) → is_name name ≡ true → mnemonic_of name ≡ Some mnemonic → Solid a → Solid b → Solid c → read (with_three name a b c) ≡ line_of [] (stating (meaning mnemonic (Three a b c) (a ++ 44 ∷ 32 ∷ (b ++ 44 ∷ 32 ∷ c))))
+three_means name a b c mnemonic n w s t v = spoken_alone name (a ++ 44 ∷ 32 ∷ (b ++ 44 ∷ 32 ∷ c)) (with_three name a b c) (a ∷ b ∷ c ∷ []) mnemonic n w (three_listed a b c s t v) refl
 
 -- ---- registers
 
-zero_first : (name other : List ℕ) (op : RegisterOperation) → is_name name ≡ true → word_of name ≡ Some (OfRegister op) → is_name other ≡ true → word_of other ≡ Some (Registers op) → OfTwo name (λ d s. with_three other d (codes "zero") s)
+zero_first : (name other : List ℕ) (op : RegisterOperation) → is_name name ≡ true → mnemonic_of name ≡ Some (OfRegister op) → is_name other ≡ true → mnemonic_of other ≡ Some (Registers op) → OfTwo name (λ d s. with_three other d (codes "zero") s)
 zero_first name other op n w n' w' d s h k = two_means name d s (OfRegister op) n w (solid d h) (solid s k) ∙ sym (three_means other d (codes "zero") s (Registers op) n' w' (solid d h) solid_zero (solid s k))
 
-zero_second : (name other : List ℕ) (op : RegisterOperation) → is_name name ≡ true → word_of name ≡ Some (WithZero op) → is_name other ≡ true → word_of other ≡ Some (Registers op) → OfTwo name (λ d s. with_three other d s (codes "zero"))
+zero_second : (name other : List ℕ) (op : RegisterOperation) → is_name name ≡ true → mnemonic_of name ≡ Some (WithZero op) → is_name other ≡ true → mnemonic_of other ≡ Some (Registers op) → OfTwo name (λ d s. with_three other d s (codes "zero"))
 zero_second name other op n w n' w' d s h k = two_means name d s (WithZero op) n w (solid d h) (solid s k) ∙ sym (three_means other d s (codes "zero") (Registers op) n' w' (solid d h) (solid s k) solid_zero)
 
-with_number : (name other number : List ℕ) (op : Unary) (by : ImmediateOperation) → is_name name ≡ true → word_of name ≡ Some (OfImmediate op) → is_name other ≡ true → word_of other ≡ Some (Immediate by) → Solid number → ((d s t t' : List ℕ) → meaning (OfImmediate op) (Two d s) t ≡ meaning (Immediate by) (Three d s number) t') → OfTwo name (λ d s. with_three other d s number)
+with_number : (name other number : List ℕ) (op : Unary) (by : ImmediateOperation) → is_name name ≡ true → mnemonic_of name ≡ Some (OfImmediate op) → is_name other ≡ true → mnemonic_of other ≡ Some (Immediate by) → Solid number → ((d s t t' : List ℕ) → meaning (OfImmediate op) (Two d s) t ≡ meaning (Immediate by) (Three d s number) t') → OfTwo name (λ d s. with_three other d s number)
 with_number name other number op by n w n' w' v same d s h k = two_means name d s (OfImmediate op) n w (solid d h) (solid s k) ∙ ap (λ x. line_of [] (stating x)) (same d s [] []) ∙ sym (three_means other d s number (Immediate by) n' w' (solid d h) (solid s k) v)
 
 pub of_registers : OfRegisters
@@ -113,10 +113,10 @@ of_registers = record {
 
 -- ---- branches
 
-against_zero : (name other : List ℕ) (condition : Condition) → is_name name ≡ true → word_of name ≡ Some (AgainstZero condition) → is_name other ≡ true → word_of other ≡ Some (Branch condition) → OfTwo name (λ s t. with_three other s (codes "zero") t)
+against_zero : (name other : List ℕ) (condition : Condition) → is_name name ≡ true → mnemonic_of name ≡ Some (AgainstZero condition) → is_name other ≡ true → mnemonic_of other ≡ Some (Branch condition) → OfTwo name (λ s t. with_three other s (codes "zero") t)
 against_zero name other condition n w n' w' s t h k = two_means name s t (AgainstZero condition) n w (solid s h) (solid t k) ∙ sym (three_means other s (codes "zero") t (Branch condition) n' w' (solid s h) solid_zero (solid t k))
 
-zero_against : (name other : List ℕ) (condition : Condition) → is_name name ≡ true → word_of name ≡ Some (ZeroAgainst condition) → is_name other ≡ true → word_of other ≡ Some (Branch condition) → OfTwo name (λ s t. with_three other (codes "zero") s t)
+zero_against : (name other : List ℕ) (condition : Condition) → is_name name ≡ true → mnemonic_of name ≡ Some (ZeroAgainst condition) → is_name other ≡ true → mnemonic_of other ≡ Some (Branch condition) → OfTwo name (λ s t. with_three other (codes "zero") s t)
 zero_against name other condition n w n' w' s t h k = two_means name s t (ZeroAgainst condition) n w (solid s h) (solid t k) ∙ sym (three_means other (codes "zero") s t (Branch condition) n' w' solid_zero (solid s h) (solid t k))
 
 -- of two registers it does not matter which one is looked at first
@@ -126,7 +126,7 @@ either_first None (Some b) z f = refl
 either_first (Some a) None z f = refl
 either_first (Some a) (Some b) z f = refl
 
-swapped : (name other : List ℕ) (condition : Condition) → is_name name ≡ true → word_of name ≡ Some (Swapped condition) → is_name other ≡ true → word_of other ≡ Some (Branch condition) → OfThree name (λ s r t. with_three other r s t)
+swapped : (name other : List ℕ) (condition : Condition) → is_name name ≡ true → mnemonic_of name ≡ Some (Swapped condition) → is_name other ≡ true → mnemonic_of other ≡ Some (Branch condition) → OfThree name (λ s r t. with_three other r s t)
 swapped name other condition n w n' w' s r t h k l =
     three_means name s r t (Swapped condition) n w (solid s h) (solid r k) (solid t l)
     ∙ ap (λ x. line_of [] (stating x)) (either_first (register_of s) (register_of r) (target_in t) (λ b a c. say.Branch condition b a c))
@@ -138,12 +138,12 @@ of_branches = record {
   bnez_is = against_zero (codes "bnez") (codes "bne") c.NotEqual refl refl refl refl;
   blez_is = zero_against (codes "blez") (codes "bge") c.GreaterOrEqual refl refl refl refl;
   bgez_is = against_zero (codes "bgez") (codes "bge") c.GreaterOrEqual refl refl refl refl;
-  bltz_is = against_zero (codes "bltz") (codes "blt") c.Less refl refl refl refl;
-  bgtz_is = zero_against (codes "bgtz") (codes "blt") c.Less refl refl refl refl;
-  bgt_is = swapped (codes "bgt") (codes "blt") c.Less refl refl refl refl;
+  bltz_is = against_zero (codes "bltz") (codes "blt") c.LessThan refl refl refl refl;
+  bgtz_is = zero_against (codes "bgtz") (codes "blt") c.LessThan refl refl refl refl;
+  bgt_is = swapped (codes "bgt") (codes "blt") c.LessThan refl refl refl refl;
   ble_is = swapped (codes "ble") (codes "bge") c.GreaterOrEqual refl refl refl refl;
-  bgtu_is = swapped (codes "bgtu") (codes "bltu") c.Below refl refl refl refl;
-  bleu_is = swapped (codes "bleu") (codes "bgeu") c.AboveOrEqual refl refl refl refl;
+  bgtu_is = swapped (codes "bgtu") (codes "bltu") c.LessThanUnsigned refl refl refl refl;
+  bleu_is = swapped (codes "bleu") (codes "bgeu") c.GreaterOrEqualUnsigned refl refl refl refl;
 }
 
 -- ---- jumps
@@ -153,7 +153,7 @@ closed_bracket s h =
     let text : List ℕ = s ++ 41 ∷ [] in
     let G : List ℕ → List ℕ → Option (List ℕ) = λ d t. cond (bytes_eq d (41 ∷ [])) (Some t) None in
     let e : length text - 1 ≡ length s = omega (arith, length-append s (41 ∷ [])) in
-    let parts : stripped_back (41 ∷ []) text ≡ Some s =
+    let parts : stripped_suffix (41 ∷ []) text ≡ Some s =
     ap (λ n. G (drop n text) (take n text)) e ∙ ap (λ d. G d (take (length s) text)) (drop-append_seam s (41 ∷ [])) ∙ ap (λ t. G (41 ∷ []) t) (take-append_seam s (41 ∷ [])) in
     ap closed_by parts ∙ ap (λ t. Some t) (solid_trimmed s h)
 
@@ -174,10 +174,10 @@ jump_same rd (Err error) = refl
 jumps_to : (rd : ℕ) (s : List ℕ) → Solid s → and_then (register_in s) (λ rs1. one (i.Jalr rd rs1 0)) ≡ and_then (access_in (at_register s)) (λ access. Ok (lower m.Jalr rd access.base access.offset))
 jumps_to rd s h = jump_same rd (register_in s) ∙ sym (ap (λ x. and_then x (λ access. Ok (lower m.Jalr rd access.base access.offset))) (address_at s h))
 
-by_register : (name link : List ℕ) (word : Word) (rd : ℕ) → is_name name ≡ true → word_of name ≡ Some word → Solid link → register_in link ≡ Ok rd → ((s : List ℕ) → meaning word (One s) s ≡ and_then (register_in s) (λ rs1. one (i.Jalr rd rs1 0))) → OfOne name (λ s. with_two (codes "jalr") link (at_register s))
-by_register name link word rd n w l found same s h =
+by_register : (name link : List ℕ) (mnemonic : Mnemonic) (rd : ℕ) → is_name name ≡ true → mnemonic_of name ≡ Some mnemonic → Solid link → register_in link ≡ Ok rd → ((s : List ℕ) → meaning mnemonic (One s) s ≡ and_then (register_in s) (λ rs1. one (i.Jalr rd rs1 0))) → OfOne name (λ s. with_two (codes "jalr") link (at_register s))
+by_register name link mnemonic rd n w l found same s h =
     let access : List ℕ = at_register s in
-    one_means name s word n w (solid s h)
+    one_means name s mnemonic n w (solid s h)
     ∙ ap (λ x. line_of [] (stating x)) (same s ∙ jumps_to rd s (solid s h) ∙ sym (ap (λ x. and_then x (λ rd. and_then (access_in access) (λ access. Ok (lower m.Jalr rd access.base access.offset)))) found))
     ∙ sym (two_means (codes "jalr") link access JumpAndLinkRegister refl refl l (address_solid s (solid s h)))
 

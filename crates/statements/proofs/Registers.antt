@@ -6,7 +6,7 @@ use Rattle.std.specs.List.{list_all}
 use Rattle.std.proofs.lemmas.List.Quantifiers.{position-Some}
 use Rattle.std.proofs.lemmas.Slice.Eq.{bytes_eq-Decides}
 use Rattle.rv32i.specs.Names.{Names, names, numbered_names, name_of, numbered_name_of}
-use Rattle.statements.specs.Operands.{place_of, register_of}
+use Rattle.statements.specs.Operands.{index_of, register_of}
 use Rattle.std.specs.Str.{bytes_eq, IsUtf8}
 use Rattle.std.proofs.lemmas.Str.{IsUtf8-from_ascii}
 use Rattle.statements.specs.Spelling.{begins_name, is_name, is_name_byte, named}
@@ -32,21 +32,21 @@ name_small (b ∷ text) h (suc i) = name_bytes_small text (and_right (begins_nam
 pub name_is_utf8 : (text : List ℕ) → is_name text ≡ true → IsUtf8 text
 name_is_utf8 text h = IsUtf8-from_ascii text (name_small text h)
 
-is_place : Option ℕ → ℕ → Bool
-is_place None n = false
-is_place (Some m) n = m == n
+is_index : Option ℕ → ℕ → Bool
+is_index None n = false
+is_index (Some m) n = m == n
 
-place_is : (o : Option ℕ) (n : ℕ) → is_place o n ≡ true → o ≡ Some n
-unfolding is_place
-place_is None n h = cc
-place_is (Some m) n h = let e : m ≡ n = grind (arith, nat_tests) in ap (λ x. Some x) e
+index_is : (o : Option ℕ) (n : ℕ) → is_index o n ≡ true → o ≡ Some n
+unfolding is_index
+index_is None n h = cc
+index_is (Some m) n h = let e : m ≡ n = grind (arith, nat_tests) in ap (λ x. Some x) e
 
 -- each register has its names, and they are names
 right_at : ℕ → Bool
-right_at n = is_place (register_of (name_of n)) n && (is_place (register_of (numbered_name_of n)) n && (is_name (name_of n) && is_name (numbered_name_of n)))
+right_at n = is_index (register_of (name_of n)) n && (is_index (register_of (numbered_name_of n)) n && (is_name (name_of n) && is_name (numbered_name_of n)))
 
 right : all_below 32 right_at ≡ true
-unfolding all_below right_at is_place
+unfolding all_below right_at is_index
 right = refl
 
 right_below : (n : ℕ) → n < 32 → right_at n ≡ true
@@ -59,9 +59,9 @@ register_named name n h =
     let all = right_below n h.0 in
     let P : Type 0 = register_of name ≡ Some n in
     elim h.1 as (λ _. P) [
-      | inl e ↦ ap register_of e ∙ place_is _ n (and_left _ _ all)
+      | inl e ↦ ap register_of e ∙ index_is _ n (and_left _ _ all)
       | inr others ↦ elim others as (λ _. P) [
-        | inl e ↦ ap register_of e ∙ place_is _ n (and_left _ _ (and_right (is_place (register_of (name_of n)) n) _ all))
+        | inl e ↦ ap register_of e ∙ index_is _ n (and_left _ _ (and_right (is_index (register_of (name_of n)) n) _ all))
         | inr fp ↦ ap register_of fp.0 ∙ ap (λ x. Some x) (sym fp.1)
       ]
     ]
@@ -70,7 +70,7 @@ register_named name n h =
 pub named_is_name : (name : List ℕ) (n : ℕ) → Names name n → is_name name ≡ true
 unfolding right_at
 named_is_name name n h =
-    let all = and_right (is_place (register_of (numbered_name_of n)) n) _ (and_right (is_place (register_of (name_of n)) n) _ (right_below n h.0)) in
+    let all = and_right (is_index (register_of (numbered_name_of n)) n) _ (and_right (is_index (register_of (name_of n)) n) _ (right_below n h.0)) in
     let P : Type 0 = is_name name ≡ true in
     elim h.1 as (λ _. P) [
       | inl e ↦ ap is_name e ∙ and_left _ _ all
@@ -81,9 +81,9 @@ named_is_name name n h =
     ]
 
 -- what is in no list has no place
-no_place : (name : List ℕ) (list : List (List ℕ)) → ((i : ℕ) → i < length list → name ≡ get_or list i [] → ⊥) → place_of name list ≡ None
-no_place name list h = go (place_of name list) refl where
-  go : (o : Option ℕ) → place_of name list ≡ o → o ≡ None
+no_index : (name : List ℕ) (list : List (List ℕ)) → ((i : ℕ) → i < length list → name ≡ get_or list i [] → ⊥) → index_of name list ≡ None
+no_index name list h = go (index_of name list) refl where
+  go : (o : Option ℕ) → index_of name list ≡ o → o ≡ None
   go None e = refl
   go (Some i) e =
       let at = position-Some (λ other. bytes_eq name other) list i [] e in
@@ -92,8 +92,8 @@ no_place name list h = go (place_of name list) refl where
 -- and what names no register is not found
 pub register_none : (name : List ℕ) → ((n : ℕ) → Names name n → ⊥) → register_of name ≡ None
 register_none name h =
-    let plain : place_of name names ≡ None = no_place name names (λ i l e. h i (l, inl e)) in
-    let numbered : place_of name numbered_names ≡ None = no_place name numbered_names (λ i l e. h i (l, inr (inl e))) in
+    let plain : index_of name names ≡ None = no_index name names (λ i l e. h i (l, inl e)) in
+    let numbered : index_of name numbered_names ≡ None = no_index name numbered_names (λ i l e. h i (l, inr (inl e))) in
     let eight : ℕ = 8 in
     let P : Bool → Type 0 = λ t. bytes_eq name (codes "fp") ≡ t → cond t (Some eight) None ≡ None in
     let fp : P (bytes_eq name (codes "fp")) = elim (bytes_eq name (codes "fp")) as P [

@@ -4,54 +4,54 @@ use Rattle.std.specs.List.{list_all, join_with_byte, position, position_or_len}
 use Rattle.std.proofs.Math.Seq.{take-append_seam, drop-append-add}
 use Rattle.std.proofs.lemmas.List.Splits.{join_with_byte-slice_split}
 use Rattle.std.proofs.lemmas.Bool.Decides.{nat_tests}
-use Rattle.statements.specs.Spelling.{begins_name, is_name, is_name_byte, parted, parted_at, pieces}
+use Rattle.statements.specs.Spelling.{begins_name, is_name, is_name_byte, parted, parted_at, fields}
 use Rattle.byte_strings.specs.Blanks.{is_blank}
-use Rattle.statements.proofs.Pieces.{pieces_some, shape}
+use Rattle.statements.proofs.Fields.{fields_some, shape}
 use Rattle.byte_strings.proofs.Conjunctions.{and_left, and_right}
 use Rattle.byte_strings.proofs.Trimming.{begins_blank}
 use Rattle.byte_strings.proofs.Conjunctions.{all_reverse}
 
--- the first element that passes, behind some that do not
-pub place_at : (p : ℕ → Bool) (xs ys : List ℕ) (y : ℕ) → list_all (λ x. not (p x)) xs ≡ true → p y ≡ true → position_or_len p (xs ++ y ∷ ys) ≡ length xs
-place_at p [] ys y h t = rw t refl
-place_at p (x ∷ xs) ys y h t = rw (and_left (not (p x)) _ h) (ap (λ n. 1 + n) (place_at p xs ys y (and_right (not (p x)) _ h) t) ∙ next (length xs)) where
+-- the first element that passes, after some that do not
+pub index_at : (p : ℕ → Bool) (xs ys : List ℕ) (y : ℕ) → list_all (λ x. not (p x)) xs ≡ true → p y ≡ true → position_or_len p (xs ++ y ∷ ys) ≡ length xs
+index_at p [] ys y h t = rw t refl
+index_at p (x ∷ xs) ys y h t = rw (and_left (not (p x)) _ h) (ap (λ n. 1 + n) (index_at p xs ys y (and_right (not (p x)) _ h) t) ∙ next (length xs)) where
   next : (n : ℕ) → 1 + n ≡ suc n
   next n = omega arith
 
 pub position_at : (p : ℕ → Bool) (xs ys : List ℕ) (y : ℕ) → list_all (λ x. not (p x)) xs ≡ true → p y ≡ true → position p (xs ++ y ∷ ys) ≡ Some (length xs)
 position_at p xs ys y h t =
-    let at = place_at p xs ys y h t in
+    let at = index_at p xs ys y h t in
     let long : length (xs ++ y ∷ ys) ≡ length xs + length (y ∷ ys) = length-append xs (y ∷ ys) in
     let test : nat_lt (length xs) (length (xs ++ y ∷ ys)) ≡ true = rw long (grind (arith, nat_tests)) in
     rw at (rw test refl)
 
-pub no_place : (p : ℕ → Bool) (xs : List ℕ) → list_all (λ x. not (p x)) xs ≡ true → position_or_len p xs ≡ length xs
-no_place p [] h = refl
-no_place p (x ∷ xs) h = rw (and_left (not (p x)) _ h) (ap (λ n. 1 + n) (no_place p xs (and_right (not (p x)) _ h)) ∙ next (length xs)) where
+pub no_index : (p : ℕ → Bool) (xs : List ℕ) → list_all (λ x. not (p x)) xs ≡ true → position_or_len p xs ≡ length xs
+no_index p [] h = refl
+no_index p (x ∷ xs) h = rw (and_left (not (p x)) _ h) (ap (λ n. 1 + n) (no_index p xs (and_right (not (p x)) _ h)) ∙ next (length xs)) where
   next : (n : ℕ) → 1 + n ≡ suc n
   next n = omega arith
 
 pub no_position : (p : ℕ → Bool) (xs : List ℕ) → list_all (λ x. not (p x)) xs ≡ true → position p xs ≡ None
 no_position p xs h =
-    let none = no_place p xs h in
+    let none = no_index p xs h in
     let test : nat_lt (length xs) (length xs) ≡ false = grind (arith, nat_tests) in
     rw none (rw test refl)
 
 -- a text that is divided at a byte is put together so, and the other way round
-pub parted_joins : (byte : ℕ) (text front behind : List ℕ) → parted byte text ≡ Some (front, behind) → text ≡ front ++ byte ∷ behind
-parted_joins byte text front behind h =
-    let s = shape byte behind in
-    let all : pieces byte text ≡ front ∷ s.0 ∷ s.1 = pieces_some byte text front behind h ∙ ap (λ (l : List (List ℕ)). front ∷ l) s.2 in
-    let rest : join_with_byte byte (s.0 ∷ s.1) ≡ behind = sym (ap (join_with_byte byte) s.2) ∙ join_with_byte-slice_split byte behind in
-    sym (join_with_byte-slice_split byte text) ∙ ap (join_with_byte byte) all ∙ ap (λ (l : List ℕ). front ++ byte ∷ l) rest
+pub parted_joins : (byte : ℕ) (text prefix after : List ℕ) → parted byte text ≡ Some (prefix, after) → text ≡ prefix ++ byte ∷ after
+parted_joins byte text prefix after h =
+    let s = shape byte after in
+    let all : fields byte text ≡ prefix ∷ s.0 ∷ s.1 = fields_some byte text prefix after h ∙ ap (λ (l : List (List ℕ)). prefix ∷ l) s.2 in
+    let rest : join_with_byte byte (s.0 ∷ s.1) ≡ after = sym (ap (join_with_byte byte) s.2) ∙ join_with_byte-slice_split byte after in
+    sym (join_with_byte-slice_split byte text) ∙ ap (join_with_byte byte) all ∙ ap (λ (l : List ℕ). prefix ++ byte ∷ l) rest
 
-pub parts_join : (byte : ℕ) (front behind : List ℕ) → list_all (λ b. not (b == byte)) front ≡ true → parted byte (front ++ byte ∷ behind) ≡ Some (front, behind)
-parts_join byte front behind h =
+pub parts_join : (byte : ℕ) (prefix after : List ℕ) → list_all (λ b. not (b == byte)) prefix ≡ true → parted byte (prefix ++ byte ∷ after) ≡ Some (prefix, after)
+parts_join byte prefix after h =
     let same : (byte == byte) ≡ true = grind (arith, nat_tests) in
-    let at : position (λ b. b == byte) (front ++ byte ∷ behind) ≡ Some (length front) = position_at (λ b. b == byte) front behind byte h same in
-    let t : take (length front) (front ++ byte ∷ behind) ≡ front = take-append_seam front (byte ∷ behind) in
-    let d : drop (length front + 1) (front ++ byte ∷ behind) ≡ behind = drop-append-add front (byte ∷ behind) 1 in
-    ap (parted_at (front ++ byte ∷ behind)) at ∙ ap (λ (l : List ℕ). Some (l, drop (length front + 1) (front ++ byte ∷ behind))) t ∙ ap (λ (l : List ℕ). Some (front, l)) d
+    let at : position (λ b. b == byte) (prefix ++ byte ∷ after) ≡ Some (length prefix) = position_at (λ b. b == byte) prefix after byte h same in
+    let t : take (length prefix) (prefix ++ byte ∷ after) ≡ prefix = take-append_seam prefix (byte ∷ after) in
+    let d : drop (length prefix + 1) (prefix ++ byte ∷ after) ≡ after = drop-append-add prefix (byte ∷ after) 1 in
+    ap (parted_at (prefix ++ byte ∷ after)) at ∙ ap (λ (l : List ℕ). Some (l, drop (length prefix + 1) (prefix ++ byte ∷ after))) t ∙ ap (λ (l : List ℕ). Some (prefix, l)) d
 
 -- the bytes of names
 pub name_bytes : (name : List ℕ) → is_name name ≡ true → list_all is_name_byte name ≡ true
@@ -97,7 +97,7 @@ pub blank_ends : (text : List ℕ) → begins_blank text ≡ true → goes_on te
 blank_ends [] h = refl
 blank_ends (b ∷ text) h = grind (arith, nat_tests)
 
--- the bytes of a name at the front of a text are those up to the first that is none
+-- the name that a text begins with is its bytes up to the first that is none of a name
 pub runs : (a b x y : List ℕ) → list_all is_name_byte a ≡ true → list_all is_name_byte b ≡ true → goes_on x ≡ false → goes_on y ≡ false → a ++ x ≡ b ++ y → (a ≡ b) × (x ≡ y)
 runs [] [] x y ha hb gx gy e = (refl, e)
 runs [] (c ∷ b) x y ha hb gx gy e =

@@ -4,9 +4,9 @@ use Rattle.statements.specs.Operands.{are_operands}
 use Rattle.statements.specs.Reading.{labels_of, line_of, read, read_content, rest_of, said, said_by, statement_in, without_comment}
 use Rattle.statements.specs.declared.line.Line.{Line}
 use Rattle.statements.specs.declared.statement.Statement.{Statement}
-use Rattle.statements.specs.Spelling.{is_name, pieces}
+use Rattle.statements.specs.Spelling.{is_name, fields}
 use Rattle.byte_strings.specs.Blanks.{trimmed}
-use Rattle.statements.specs.Words.{word_of}
+use Rattle.statements.specs.Mnemonics.{mnemonic_of}
 use Rattle.statements.proofs.Registers.{named_text}
 use Rattle.statements.specs.Directives.{OrNoMemory}
 use Rattle.statements.specs.declared.error.LineError.{LineError}
@@ -20,12 +20,12 @@ itself (Err UnknownInstruction) s h = sym h
 itself (Err BadOperand) s h = sym h
 itself (Err OutOfRange) s h = sym h
 
--- what a word says that is a name, of operands none of which is blank
-pub said_named : (word name text : List ℕ) → Some name ≡ (if is_name word then Some word else None) → are_operands text ≡ true → said word text ≡ said_by (word_of name) text
-said_named word name text h all =
-    let P : Bool → Type 0 = λ t. is_name word ≡ t → said word text ≡ said_by (word_of name) text in
-    let go : P (is_name word) = elim (is_name word) as P [
-      | true ↦ λ t. rw t (rw all (ap (λ w. said_by (word_of w) text) (sym (named_text word name h))))
+-- what a mnemonic that is a name says of operands none of which is blank
+pub said_named : (mnemonic name text : List ℕ) → Some name ≡ (if is_name mnemonic then Some mnemonic else None) → are_operands text ≡ true → said mnemonic text ≡ said_by (mnemonic_of name) text
+said_named mnemonic name text h all =
+    let P : Bool → Type 0 = λ t. is_name mnemonic ≡ t → said mnemonic text ≡ said_by (mnemonic_of name) text in
+    let go : P (is_name mnemonic) = elim (is_name mnemonic) as P [
+      | true ↦ λ t. rw t (rw all (ap (λ w. said_by (mnemonic_of w) text) (sym (named_text mnemonic name h))))
       | false ↦ λ t. let none : Some name ≡ None = h ∙ rw t refl in cc
     ] in go refl
 
@@ -38,9 +38,9 @@ or_line labels (Err UnknownInstruction) s h = ap (line_of labels) h
 or_line labels (Err BadOperand) s h = ap (line_of labels) h
 or_line labels (Err OutOfRange) s h = ap (line_of labels) h
 
-pub read_so : (line : List ℕ) (labels : List (List ℕ)) (rest : List ℕ) (r : Result (Option Statement) LineError) (result : Result Line LineError) → labels ≡ labels_of (pieces 58 (without_comment line)) → rest ≡ rest_of (pieces 58 (without_comment line)) → OrNoMemory r (statement_in (trimmed rest)) → result ≡ line_of labels r → OrNoMemory result (read line)
+pub read_so : (line : List ℕ) (labels : List (List ℕ)) (rest : List ℕ) (r : Result (Option Statement) LineError) (result : Result Line LineError) → labels ≡ labels_of (fields 58 (without_comment line)) → rest ≡ rest_of (fields 58 (without_comment line)) → OrNoMemory r (statement_in (trimmed rest)) → result ≡ line_of labels r → OrNoMemory result (read line)
 unfolding read
 read_so line labels rest r result e f h same =
     let so : OrNoMemory (line_of labels r) (line_of labels (statement_in (trimmed rest))) = or_line labels r (statement_in (trimmed rest)) h in
-    let read_is : line_of labels (statement_in (trimmed rest)) ≡ read_content (without_comment line) = ap (λ (l : List (List ℕ)). line_of l (statement_in (trimmed rest))) e ∙ ap (λ t. line_of (labels_of (pieces 58 (without_comment line))) (statement_in (trimmed t))) f in
+    let read_is : line_of labels (statement_in (trimmed rest)) ≡ read_content (without_comment line) = ap (λ (l : List (List ℕ)). line_of l (statement_in (trimmed rest))) e ∙ ap (λ t. line_of (labels_of (fields 58 (without_comment line))) (statement_in (trimmed t))) f in
     subst (λ x. OrNoMemory x (read_content (without_comment line))) (sym same) (subst (λ x. OrNoMemory (line_of labels r) x) read_is so)

@@ -6,12 +6,12 @@ use Rattle.std.proofs.lemmas.Bool.Decides.{nat_tests}
 use Rattle.statements.specs.Grammar.{Division, IsLine, IsStatement}
 use Rattle.statements.specs.Operands.{counted, is_operand, operand_list}
 use Rattle.statements.specs.Reading.{content_by, line_of, meaning, read, said_by, stating, without_comment}
-use Rattle.statements.specs.Spelling.{is_name, is_name_byte, parted, parted_at, pieces}
+use Rattle.statements.specs.Spelling.{is_name, is_name_byte, parted, parted_at, fields}
 use Rattle.byte_strings.specs.Blanks.{is_blank, trimmed}
-use Rattle.statements.specs.Words.{word_of}
-use Rattle.statements.specs.declared.words.Word.{Word}
+use Rattle.statements.specs.Mnemonics.{mnemonic_of}
+use Rattle.statements.specs.declared.mnemonics.Mnemonic.{Mnemonic}
 use Rattle.statements.proofs.Dividing.{lines_read}
-use Rattle.statements.proofs.Pieces.{pieces_none, pieces_some}
+use Rattle.statements.proofs.Fields.{fields_none, fields_some}
 use Rattle.byte_strings.proofs.Conjunctions.{and_left, and_right}
 use Rattle.statements.proofs.Runs.{name_bytes, no_position, parts_join}
 use Rattle.byte_strings.proofs.Trimming.{bare, begins_blank, between}
@@ -88,10 +88,10 @@ ends_solid text s =
       long = long (reverse text) r;
     }
 
-ends_behind : (front text : List ℕ) → Ends text → Ends (front ++ text)
-ends_behind front text e = record {
-  last = ap begins_blank (reverse-append front text) ∙ begins_more (reverse text) (reverse front) e.long e.last;
-  long = let l : 0 < length (reverse text) = e.long in rw (reverse-append front text) (omega (arith, length-append (reverse text) (reverse front), l));
+ends_after : (prefix text : List ℕ) → Ends text → Ends (prefix ++ text)
+ends_after prefix text e = record {
+  last = ap begins_blank (reverse-append prefix text) ∙ begins_more (reverse text) (reverse prefix) e.long e.last;
+  long = let l : 0 < length (reverse text) = e.long in rw (reverse-append prefix text) (omega (arith, length-append (reverse text) (reverse prefix), l));
 }
 
 pub solid_trimmed : (text : List ℕ) → Solid text → trimmed text ≡ text
@@ -106,19 +106,19 @@ solid_no_comma text s = all_weaker is_solid (λ b. not (b == 44)) not_comma text
 solid_no_sign : (text : List ℕ) → Solid text → no_sign text ≡ true
 solid_no_sign text s = all_weaker is_solid (λ b. not (b == 35)) not_sign text s.all
 
-pub one_piece : (text : List ℕ) → Solid text → pieces 44 text ≡ text ∷ []
-one_piece text s = pieces_none 44 text (ap (parted_at text) (no_position (λ b. b == 44) text (solid_no_comma text s)))
+pub one_field : (text : List ℕ) → Solid text → fields 44 text ≡ text ∷ []
+one_field text s = fields_none 44 text (ap (parted_at text) (no_position (λ b. b == 44) text (solid_no_comma text s)))
 
-piece_last : (front a : List ℕ) → no_comma front ≡ true → trimmed front ≡ a → map trimmed (pieces 44 front) ≡ a ∷ []
-piece_last front a h t =
-    let none : parted 44 front ≡ None = ap (parted_at front) (no_position (λ b. b == 44) front h) in
-    ap (map trimmed) (pieces_none 44 front none) ∙ ap (λ (l : List ℕ). l ∷ []) t
+field_last : (prefix a : List ℕ) → no_comma prefix ≡ true → trimmed prefix ≡ a → map trimmed (fields 44 prefix) ≡ a ∷ []
+field_last prefix a h t =
+    let none : parted 44 prefix ≡ None = ap (parted_at prefix) (no_position (λ b. b == 44) prefix h) in
+    ap (map trimmed) (fields_none 44 prefix none) ∙ ap (λ (l : List ℕ). l ∷ []) t
 
-piece_more : (front a rest : List ℕ) → no_comma front ≡ true → trimmed front ≡ a → map trimmed (pieces 44 (front ++ 44 ∷ rest)) ≡ a ∷ map trimmed (pieces 44 rest)
-piece_more front a rest h t =
-    ap (map trimmed) (pieces_some 44 (front ++ 44 ∷ rest) front rest (parts_join 44 front rest h)) ∙ ap (λ (l : List ℕ). l ∷ map trimmed (pieces 44 rest)) t
+field_more : (prefix a rest : List ℕ) → no_comma prefix ≡ true → trimmed prefix ≡ a → map trimmed (fields 44 (prefix ++ 44 ∷ rest)) ≡ a ∷ map trimmed (fields 44 rest)
+field_more prefix a rest h t =
+    ap (map trimmed) (fields_some 44 (prefix ++ 44 ∷ rest) prefix rest (parts_join 44 prefix rest h)) ∙ ap (λ (l : List ℕ). l ∷ map trimmed (fields 44 rest)) t
 
--- ---- what stands behind a word
+-- ---- what stands after a mnemonic
 
 pub record Lists (text : List ℕ) (list : List (List ℕ)) : Type 0 where
   pub quiet : no_sign text ≡ true
@@ -126,7 +126,7 @@ pub record Lists (text : List ℕ) (list : List (List ℕ)) : Type 0 where
   pub parts : operand_list text ≡ list
   pub each : list_all is_operand list ≡ true
 
-listed : (text : List ℕ) (list : List (List ℕ)) → 0 < length text → map trimmed (pieces 44 text) ≡ list → operand_list text ≡ list
+listed : (text : List ℕ) (list : List (List ℕ)) → 0 < length text → map trimmed (fields 44 text) ≡ list → operand_list text ≡ list
 listed [] list l h = absurd (omega arith)
 listed (b ∷ text) list l h = let t : (length (b ∷ text) == 0) ≡ false = grind (arith, nat_tests) in rw t h
 
@@ -134,7 +134,7 @@ pub one_listed : (a : List ℕ) → Solid a → Lists a (a ∷ [])
 one_listed a s = record {
   quiet = solid_no_sign a s;
   bare = solid_trimmed a s;
-  parts = listed a (a ∷ []) (long a s) (piece_last a a (solid_no_comma a s) (solid_trimmed a s));
+  parts = listed a (a ∷ []) (long a s) (field_last a a (solid_no_comma a s) (solid_trimmed a s));
   each = and_both _ _ s.some refl;
 }
 
@@ -146,9 +146,9 @@ two_listed a b s t =
     let text : List ℕ = a ++ 44 ∷ 32 ∷ b in
     record {
       quiet = all_append (λ c. not (c == 35)) a (44 ∷ 32 ∷ b) (solid_no_sign a s) (solid_no_sign b t);
-      bare = bare text (begins_solid a (44 ∷ 32 ∷ b) s) (ends_behind a (44 ∷ 32 ∷ b) (ends_behind (44 ∷ 32 ∷ []) b (ends_solid b t))).last;
+      bare = bare text (begins_solid a (44 ∷ 32 ∷ b) s) (ends_after a (44 ∷ 32 ∷ b) (ends_after (44 ∷ 32 ∷ []) b (ends_solid b t))).last;
       parts = listed text (a ∷ b ∷ []) (longer a (44 ∷ 32 ∷ b) s)
-          (piece_more a a (32 ∷ b) (solid_no_comma a s) (solid_trimmed a s) ∙ ap (λ (l : List (List ℕ)). a ∷ l) (piece_last (32 ∷ b) b (solid_no_comma b t) (spaced_trimmed b t)));
+          (field_more a a (32 ∷ b) (solid_no_comma a s) (solid_trimmed a s) ∙ ap (λ (l : List (List ℕ)). a ∷ l) (field_last (32 ∷ b) b (solid_no_comma b t) (spaced_trimmed b t)));
       each = and_both _ _ s.some (and_both _ _ t.some refl);
     }
 
@@ -159,11 +159,11 @@ three_listed a b c s t u =
     let two = two_listed b c t u in
     record {
       quiet = all_append (λ d. not (d == 35)) a (44 ∷ 32 ∷ last) (solid_no_sign a s) two.quiet;
-      bare = bare text (begins_solid a (44 ∷ 32 ∷ last) s) (ends_behind a (44 ∷ 32 ∷ last) (ends_behind (44 ∷ 32 ∷ []) last (ends_behind b (44 ∷ 32 ∷ c) (ends_behind (44 ∷ 32 ∷ []) c (ends_solid c u))))).last;
+      bare = bare text (begins_solid a (44 ∷ 32 ∷ last) s) (ends_after a (44 ∷ 32 ∷ last) (ends_after (44 ∷ 32 ∷ []) last (ends_after b (44 ∷ 32 ∷ c) (ends_after (44 ∷ 32 ∷ []) c (ends_solid c u))))).last;
       parts = listed text (a ∷ b ∷ c ∷ []) (longer a (44 ∷ 32 ∷ last) s)
-          (piece_more a a (32 ∷ last) (solid_no_comma a s) (solid_trimmed a s)
-          ∙ ap (λ (l : List (List ℕ)). a ∷ l) (piece_more (32 ∷ b) b (32 ∷ c) (solid_no_comma b t) (spaced_trimmed b t)
-          ∙ ap (λ (l : List (List ℕ)). b ∷ l) (piece_last (32 ∷ c) c (solid_no_comma c u) (spaced_trimmed c u))));
+          (field_more a a (32 ∷ last) (solid_no_comma a s) (solid_trimmed a s)
+          ∙ ap (λ (l : List (List ℕ)). a ∷ l) (field_more (32 ∷ b) b (32 ∷ c) (solid_no_comma b t) (spaced_trimmed b t)
+          ∙ ap (λ (l : List (List ℕ)). b ∷ l) (field_last (32 ∷ c) c (solid_no_comma c u) (spaced_trimmed c u))));
       each = and_both _ _ s.some two.each;
     }
 
@@ -172,19 +172,19 @@ three_listed a b c s t u =
 one_statement : (name operands : List ℕ) → name ++ 32 ∷ operands ≡ [] ++ name ++ (32 ∷ []) ++ operands ++ []
 one_statement name operands = sym (append-nil ((name ++ 32 ∷ []) ++ operands) ∙ append_assoc name (32 ∷ []) operands)
 
--- a word and its operands, parted by a space, say what the word says of them
-pub spoken_alone : (name operands text : List ℕ) (list : List (List ℕ)) (word : Word) → is_name name ≡ true → word_of name ≡ Some word → Lists operands list → text ≡ name ++ 32 ∷ operands → read text ≡ line_of [] (stating (meaning word (counted list) operands))
-spoken_alone name operands text list word n w o e =
+-- a mnemonic and its operands, parted by a space, say what the mnemonic says of them
+pub spoken_alone : (name operands text : List ℕ) (list : List (List ℕ)) (mnemonic : Mnemonic) → is_name name ≡ true → mnemonic_of name ≡ Some mnemonic → Lists operands list → text ≡ name ++ 32 ∷ operands → read text ≡ line_of [] (stating (meaning mnemonic (counted list) operands))
+spoken_alone name operands text list mnemonic n w o e =
     let quiet : no_sign text ≡ true = ap no_sign e ∙ all_append (λ c. not (c == 35)) name (32 ∷ operands) (all_weaker is_name_byte (λ c. not (c == 35)) name_not_sign name (name_bytes name n)) o.quiet in
     let whole : without_comment text ≡ text = ap (λ p. content_by text (parted_at text p)) (no_position (λ b. b == 35) text quiet) in
     let d : Division = record { labels = []; spoken = Some (name, operands) } in
     let statement : IsStatement name operands text = record {
       before = [];
       gap = 32 ∷ [];
-      behind = [];
+      after = [];
       blank_before = refl;
       blank_gap = refl;
-      blank_behind = refl;
+      blank_after = refl;
       name = n;
       apart = λ _. omega arith;
       bare = o.bare;
@@ -194,4 +194,4 @@ spoken_alone name operands text list word n w o e =
     let line : IsLine text d = record { rest = text; labelled = refl; spoken = statement } in
     lines_read text d (subst (λ t. IsLine t d) (sym whole) line)
     ∙ ap (λ v. line_of [] (stating (said_by v operands))) w
-    ∙ ap (λ l. line_of [] (stating (meaning word (counted l) operands))) o.parts
+    ∙ ap (λ l. line_of [] (stating (meaning mnemonic (counted l) operands))) o.parts

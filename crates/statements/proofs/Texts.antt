@@ -19,14 +19,14 @@ use Rattle.statements.specs.Numbers.{bits_in, constant_in}
 use Rattle.statements.specs.Operands.{access_by, access_in, access_with, address_target, base_by, bits_low, closed, is_operand, low_by, low_in, offset_in, or_bad, plain_access, register_in, set_in, target_in}
 use Rattle.statements.specs.Operations.{immediate_instruction, register_instruction, shift_instruction, store_instruction}
 use Rattle.statements.specs.Reading.{line_of, meaning, read, stating}
-use Rattle.statements.specs.Spelling.{is_name, pieces, stripped}
+use Rattle.statements.specs.Spelling.{is_name, fields, stripped}
 use Rattle.byte_strings.specs.Blanks.{trimmed}
 use Rattle.statements.specs.Texts.{data_word, stated_alone, statement_of}
-use Rattle.statements.specs.Words.{word_of}
+use Rattle.statements.specs.Mnemonics.{mnemonic_of}
 use Rattle.statements.specs.declared.error.LineError.{LineError}
 use Rattle.statements.specs.declared.items.Item.TheVariants.{Number}
-use Rattle.statements.specs.declared.items.Width.TheVariants.{Word as Words}
-use Rattle.statements.specs.declared.operands.Low.TheVariants.{Bits}
+use Rattle.statements.specs.declared.items.Width.TheVariants.{Word}
+use Rattle.statements.specs.declared.forms.Low.TheVariants.{Bits}
 use Rattle.statements.specs.declared.operands.Operands.TheVariants.{Two, Three}
 use Rattle.statements.specs.declared.operations.Condition.{Condition}
 use Rattle.statements.specs.declared.operations.Condition.TheVariants as c
@@ -41,14 +41,14 @@ use Rattle.statements.specs.declared.operations.StoreOperation.TheVariants as t
 use Rattle.statements.specs.declared.statement.Statement.{Statement}
 use Rattle.statements.specs.declared.statement.Statement.TheVariants as say
 use Rattle.statements.specs.declared.statement.Target.TheVariants.{Address}
-use Rattle.statements.specs.declared.words.Word.{Word}
-use Rattle.statements.specs.declared.words.Word.TheVariants.{Registers, Immediate, Shift, Load, Store, Branch, LoadUpper, AddUpper, JumpAndLink, JumpAndLinkRegister, Fence, Data}
+use Rattle.statements.specs.declared.mnemonics.Mnemonic.{Mnemonic}
+use Rattle.statements.specs.declared.mnemonics.Mnemonic.TheVariants.{Registers, Immediate, Shift, Load, Store, Branch, LoadUpper, AddUpper, JumpAndLink, JumpAndLinkRegister, Fence, Data}
 use Rattle.statements.proofs.Below.{all_below, all_below_at}
-use Rattle.statements.proofs.Numerals.{High, IsImmediate, decimal_read, hex_high, hex_read, high_front, high_no_bracket, high_solid, immediate_is, is_high, turned_down, writes_decimal, writes_eight, writes_hex, writes_high}
+use Rattle.statements.proofs.Numerals.{High, IsImmediate, decimal_read, hex_high, hex_read, high_prefix, high_no_bracket, high_solid, immediate_is, is_high, turned_down, writes_decimal, writes_eight, writes_hex, writes_high}
 use Rattle.statements.proofs.Registers.{register_named}
 use Rattle.byte_strings.proofs.Conjunctions.{and_left, and_right}
 use Rattle.statements.proofs.Runs.{parts_join}
-use Rattle.statements.proofs.Solid.{Solid, is_solid, one_listed, one_piece, solid_trimmed, spoken_alone, three_listed, two_listed}
+use Rattle.statements.proofs.Solid.{Solid, is_solid, one_listed, one_field, solid_trimmed, spoken_alone, three_listed, two_listed}
 use Rattle.byte_strings.proofs.Conjunctions.{all_append}
 
 -- ---- results
@@ -102,22 +102,22 @@ register_read n l = ap or_bad (register_named (name_of n) n (l, inl refl))
 
 -- ---- lines by the number of operands
 
-two_read : (name a b text : List ℕ) (word : Word) (statement : Statement) → is_name name ≡ true → word_of name ≡ Some word → Solid a → Solid b → text ≡ with_two name a b → meaning word (Two a b) (a ++ 44 ∷ 32 ∷ b) ≡ Ok statement → read text ≡ stated_alone statement
-two_read name a b text word statement n w x y e h = spoken_alone name (a ++ 44 ∷ 32 ∷ b) text (a ∷ b ∷ []) word n w (two_listed a b x y) e ∙ ap (λ v. line_of [] (stating v)) h
+two_read : (name a b text : List ℕ) (mnemonic : Mnemonic) (statement : Statement) → is_name name ≡ true → mnemonic_of name ≡ Some mnemonic → Solid a → Solid b → text ≡ with_two name a b → meaning mnemonic (Two a b) (a ++ 44 ∷ 32 ∷ b) ≡ Ok statement → read text ≡ stated_alone statement
+two_read name a b text mnemonic statement n w x y e h = spoken_alone name (a ++ 44 ∷ 32 ∷ b) text (a ∷ b ∷ []) mnemonic n w (two_listed a b x y) e ∙ ap (λ v. line_of [] (stating v)) h
 
-three_read : (name a b c text : List ℕ) (word : Word) (statement : Statement) → is_name name ≡ true → word_of name ≡ Some word → Solid a → Solid b → Solid c → text ≡ with_three name a b c → meaning word (Three a b c) (a ++ 44 ∷ 32 ∷ (b ++ 44 ∷ 32 ∷ c)) ≡ Ok statement → read text ≡ stated_alone statement
-three_read name a b c text word statement n w x y z e h = spoken_alone name (a ++ 44 ∷ 32 ∷ (b ++ 44 ∷ 32 ∷ c)) text (a ∷ b ∷ c ∷ []) word n w (three_listed a b c x y z) e ∙ ap (λ v. line_of [] (stating v)) h
+three_read : (name a b c text : List ℕ) (mnemonic : Mnemonic) (statement : Statement) → is_name name ≡ true → mnemonic_of name ≡ Some mnemonic → Solid a → Solid b → Solid c → text ≡ with_three name a b c → meaning mnemonic (Three a b c) (a ++ 44 ∷ 32 ∷ (b ++ 44 ∷ 32 ∷ c)) ≡ Ok statement → read text ≡ stated_alone statement
+three_read name a b c text mnemonic statement n w x y z e h = spoken_alone name (a ++ 44 ∷ 32 ∷ (b ++ 44 ∷ 32 ∷ c)) text (a ∷ b ∷ c ∷ []) mnemonic n w (three_listed a b c x y z) e ∙ ap (λ v. line_of [] (stating v)) h
 
 -- ---- three registers
 
-registers_read : (name : List ℕ) (op : RegisterOperation) (rd rs1 rs2 : ℕ) (text : List ℕ) → is_name name ≡ true → word_of name ≡ Some (Registers op) → {opcode funct3 funct7 word : ℕ} → RType opcode funct3 funct7 rd rs1 rs2 word → text ≡ registers_text name rd rs1 rs2 → read text ≡ stated_alone (say.One (register_instruction op rd rs1 rs2))
+registers_read : (name : List ℕ) (op : RegisterOperation) (rd rs1 rs2 : ℕ) (text : List ℕ) → is_name name ≡ true → mnemonic_of name ≡ Some (Registers op) → {opcode funct3 funct7 word : ℕ} → RType opcode funct3 funct7 rd rs1 rs2 word → text ≡ registers_text name rd rs1 rs2 → read text ≡ stated_alone (say.One (register_instruction op rd rs1 rs2))
 registers_read name op rd rs1 rs2 text n w e h =
     three_read name (name_of rd) (name_of rs1) (name_of rs2) text (Registers op) (say.One (register_instruction op rd rs1 rs2)) n w (name_solid rd e.rd_fits) (name_solid rs1 e.rs1_fits) (name_solid rs2 e.rs2_fits) h
     (three_ok (register_in (name_of rd)) (register_in (name_of rs1)) (register_in (name_of rs2)) rd rs1 rs2 (λ rd rs1 rs2. one (register_instruction op rd rs1 rs2)) (register_read rd e.rd_fits) (register_read rs1 e.rs1_fits) (register_read rs2 e.rs2_fits))
 
 -- ---- two registers and a shift amount
 
-shift_read : (name : List ℕ) (op : ShiftOperation) (rd rs1 shamt : ℕ) (text : List ℕ) → is_name name ≡ true → word_of name ≡ Some (Shift op) → {opcode funct3 funct7 word : ℕ} → RType opcode funct3 funct7 rd rs1 shamt word → text ≡ shift_text name rd rs1 shamt → read text ≡ stated_alone (say.One (shift_instruction op rd rs1 shamt))
+shift_read : (name : List ℕ) (op : ShiftOperation) (rd rs1 shamt : ℕ) (text : List ℕ) → is_name name ≡ true → mnemonic_of name ≡ Some (Shift op) → {opcode funct3 funct7 word : ℕ} → RType opcode funct3 funct7 rd rs1 shamt word → text ≡ shift_text name rd rs1 shamt → read text ≡ stated_alone (say.One (shift_instruction op rd rs1 shamt))
 shift_read name op rd rs1 shamt text n w e h =
     let fits : shamt < 32 = e.rs2_fits in
     let writes = writes_decimal shamt (omega arith) in
@@ -127,11 +127,11 @@ shift_read name op rd rs1 shamt text n w e h =
 -- ---- two registers and an immediate
 
 low_read : (text : List ℕ) (imm : ℕ) → IsImmediate text imm → low_in text ≡ Ok (Bits imm)
-low_read text imm h = ap (low_by text) (whole ∙ high_front (codes "lo") text [] h.high) ∙ ap bits_low h.read where
+low_read text imm h = ap (low_by text) (whole ∙ high_prefix (codes "lo") text [] h.high) ∙ ap bits_low h.read where
   whole : stripped (codes "%lo") text ≡ stripped (codes "%lo") (text ++ [])
   whole = ap (stripped (codes "%lo")) (sym (append-nil text))
 
-immediate_read : (name : List ℕ) (op : ImmediateOperation) (rd rs1 imm : ℕ) (text : List ℕ) → is_name name ≡ true → word_of name ≡ Some (Immediate op) → {opcode funct3 word : ℕ} → IType opcode funct3 rd rs1 imm word → text ≡ immediate_text name rd rs1 imm → read text ≡ stated_alone (say.One (immediate_instruction op rd rs1 imm))
+immediate_read : (name : List ℕ) (op : ImmediateOperation) (rd rs1 imm : ℕ) (text : List ℕ) → is_name name ≡ true → mnemonic_of name ≡ Some (Immediate op) → {opcode funct3 word : ℕ} → IType opcode funct3 rd rs1 imm word → text ≡ immediate_text name rd rs1 imm → read text ≡ stated_alone (say.One (immediate_instruction op rd rs1 imm))
 immediate_read name op rd rs1 imm text n w e h =
     let number : List ℕ = signed_decimal (signed imm) in
     let is = immediate_is e.sign e.low imm e.sign_fits e.low_fits e.value in
@@ -163,25 +163,25 @@ offset_read number imm h =
 
 access_read : (number name : List ℕ) (imm base : ℕ) → IsImmediate number imm → base_by (closed (name ++ 41 ∷ [])) ≡ Ok base → access_in (number ++ 40 ∷ (name ++ 41 ∷ [])) ≡ Ok (record { offset = Bits imm; base = base })
 access_read number name imm base h b =
-    let behind : List ℕ = name ++ 41 ∷ [] in
-    let text : List ℕ = number ++ 40 ∷ behind in
-    ap (access_by text) (high_front (codes "lo") number (40 ∷ behind) h.high)
-    ∙ ap plain_access (parts_join 40 number behind (high_no_bracket number h.high.all))
-    ∙ ap (λ o. access_with o (base_by (closed behind))) (offset_read number imm h)
+    let after : List ℕ = name ++ 41 ∷ [] in
+    let text : List ℕ = number ++ 40 ∷ after in
+    ap (access_by text) (high_prefix (codes "lo") number (40 ∷ after) h.high)
+    ∙ ap plain_access (parts_join 40 number after (high_no_bracket number h.high.all))
+    ∙ ap (λ o. access_with o (base_by (closed after))) (offset_read number imm h)
     ∙ ap (access_with (Ok (Bits imm))) b
 
 accessed : (reg base imm : ℕ) → base < 32 → IsImmediate (signed_decimal (signed imm)) imm → Solid (signed_decimal (signed imm) ++ 40 ∷ (name_of base ++ 41 ∷ []))
 accessed reg base imm l is = access_solid (signed_decimal (signed imm)) (name_of base) (high_solid (signed_decimal (signed imm)) is.high) (base_solid base l)
 
-load_read : (name : List ℕ) (word : Word) (op : ImmediateOperation) (rd rs1 imm : ℕ) (text : List ℕ) → is_name name ≡ true → word_of name ≡ Some word → ((a b t : List ℕ) → meaning word (Two a b) t ≡ meaning (Load op) (Two a b) t) → {opcode funct3 code : ℕ} → IType opcode funct3 rd rs1 imm code → text ≡ access_text name rd rs1 imm → read text ≡ stated_alone (say.One (immediate_instruction op rd rs1 imm))
-load_read name word op rd rs1 imm text n w same e h =
+load_read : (name : List ℕ) (mnemonic : Mnemonic) (op : ImmediateOperation) (rd rs1 imm : ℕ) (text : List ℕ) → is_name name ≡ true → mnemonic_of name ≡ Some mnemonic → ((a b t : List ℕ) → meaning mnemonic (Two a b) t ≡ meaning (Load op) (Two a b) t) → {opcode funct3 code : ℕ} → IType opcode funct3 rd rs1 imm code → text ≡ access_text name rd rs1 imm → read text ≡ stated_alone (say.One (immediate_instruction op rd rs1 imm))
+load_read name mnemonic op rd rs1 imm text n w same e h =
     let number : List ℕ = signed_decimal (signed imm) in
     let access : List ℕ = number ++ 40 ∷ (name_of rs1 ++ 41 ∷ []) in
     let is = immediate_is e.sign e.low imm e.sign_fits e.low_fits e.value in
-    two_read name (name_of rd) access text word (say.One (immediate_instruction op rd rs1 imm)) n w (name_solid rd e.rd_fits) (accessed rd rs1 imm e.rs1_fits is) h
+    two_read name (name_of rd) access text mnemonic (say.One (immediate_instruction op rd rs1 imm)) n w (name_solid rd e.rd_fits) (accessed rd rs1 imm e.rs1_fits is) h
     (same (name_of rd) access _ ∙ two_ok (register_in (name_of rd)) (access_in access) rd (record { offset = Bits imm; base = rs1 }) (λ rd access. Ok (lower op rd access.base access.offset)) (register_read rd e.rd_fits) (access_read number (name_of rs1) imm rs1 is (base_read rs1 e.rs1_fits)))
 
-store_read : (name : List ℕ) (op : StoreOperation) (rs1 rs2 imm : ℕ) (text : List ℕ) → is_name name ≡ true → word_of name ≡ Some (Store op) → {opcode funct3 word : ℕ} → SType opcode funct3 rs1 rs2 imm word → text ≡ access_text name rs2 rs1 imm → read text ≡ stated_alone (say.One (store_instruction op rs1 rs2 imm))
+store_read : (name : List ℕ) (op : StoreOperation) (rs1 rs2 imm : ℕ) (text : List ℕ) → is_name name ≡ true → mnemonic_of name ≡ Some (Store op) → {opcode funct3 word : ℕ} → SType opcode funct3 rs1 rs2 imm word → text ≡ access_text name rs2 rs1 imm → read text ≡ stated_alone (say.One (store_instruction op rs1 rs2 imm))
 store_read name op rs1 rs2 imm text n w e h =
     let number : List ℕ = signed_decimal (signed imm) in
     let access : List ℕ = number ++ 40 ∷ (name_of rs1 ++ 41 ∷ []) in
@@ -194,8 +194,8 @@ store_read name op rs1 rs2 imm text n w e h =
 upper_bits : (ds : List ℕ) (n imm : ℕ) → bits_in 0 1048575 (48 ∷ 120 ∷ ds) ≡ Ok n → n * 4096 ≡ imm → upper_in (48 ∷ 120 ∷ ds) ≡ Ok imm
 upper_bits ds n imm h e = ap (λ x. and_then x (λ bits. Ok (bits * 4096))) h ∙ ap (λ b. Ok b) e
 
-upper_read : (name : List ℕ) (word : Word) (rd imm : ℕ) (make : ℕ → ℕ → Instr) (text : List ℕ) → is_name name ≡ true → word_of name ≡ Some word → ((a ds t : List ℕ) → meaning word (Two a (48 ∷ 120 ∷ ds)) t ≡ and_then (register_in a) (λ rd. and_then (upper_in (48 ∷ 120 ∷ ds)) (λ imm. one (make rd imm)))) → {opcode code : ℕ} → UType opcode rd imm code → text ≡ upper_text name rd imm → read text ≡ stated_alone (say.One (make rd imm))
-upper_read name word rd imm make text n w same e h =
+upper_read : (name : List ℕ) (mnemonic : Mnemonic) (rd imm : ℕ) (make : ℕ → ℕ → Instr) (text : List ℕ) → is_name name ≡ true → mnemonic_of name ≡ Some mnemonic → ((a ds t : List ℕ) → meaning mnemonic (Two a (48 ∷ 120 ∷ ds)) t ≡ and_then (register_in a) (λ rd. and_then (upper_in (48 ∷ 120 ∷ ds)) (λ imm. one (make rd imm)))) → {opcode code : ℕ} → UType opcode rd imm code → text ≡ upper_text name rd imm → read text ≡ stated_alone (say.One (make rd imm))
+upper_read name mnemonic rd imm make text n w same e h =
     let value : imm ≡ e.high * 4096 = e.value in
     let k : ℕ = imm / 4096 in
     let fits : e.high < 1048576 = e.high_fits in
@@ -203,7 +203,7 @@ upper_read name word rd imm make text n w same e h =
     let writes = writes_hex k (omega arith) in
     let ds : List ℕ = digits 16 false k in
     let bits : bits_in 0 1048575 (48 ∷ 120 ∷ ds) ≡ Ok k = hex_read 0 1048575 k ds writes (omega arith) (omega arith) in
-    two_read name (name_of rd) (48 ∷ 120 ∷ ds) text word (say.One (make rd imm)) n w (name_solid rd e.rd_fits) (high_solid (48 ∷ 120 ∷ ds) (hex_high ds (writes_high 16 ds k (omega arith) writes))) h
+    two_read name (name_of rd) (48 ∷ 120 ∷ ds) text mnemonic (say.One (make rd imm)) n w (name_solid rd e.rd_fits) (high_solid (48 ∷ 120 ∷ ds) (hex_high ds (writes_high 16 ds k (omega arith) writes))) h
     (same (name_of rd) ds _ ∙ two_ok (register_in (name_of rd)) (upper_in (48 ∷ 120 ∷ ds)) rd imm (λ rd imm. one (make rd imm)) (register_read rd e.rd_fits) (upper_bits ds k imm bits (omega arith)))
 
 -- ---- an address
@@ -220,7 +220,7 @@ target_read n l = target_by (eight_digits n) n (hex_read 0 4294967295 n (eight_d
 sum_fits : (a b : ℕ) → sum a b < 2 ^ 32
 sum_fits a b = omega arith
 
-branch_read : (name : List ℕ) (condition : Condition) (rs1 rs2 target : ℕ) (text : List ℕ) → is_name name ≡ true → word_of name ≡ Some (Branch condition) → target < 2 ^ 32 → rs1 < 32 → rs2 < 32 → text ≡ branch_text name rs1 rs2 target → read text ≡ stated_alone (say.Branch condition rs1 rs2 (Address target))
+branch_read : (name : List ℕ) (condition : Condition) (rs1 rs2 target : ℕ) (text : List ℕ) → is_name name ≡ true → mnemonic_of name ≡ Some (Branch condition) → target < 2 ^ 32 → rs1 < 32 → rs2 < 32 → text ≡ branch_text name rs1 rs2 target → read text ≡ stated_alone (say.Branch condition rs1 rs2 (Address target))
 branch_read name condition rs1 rs2 target text n w l l1 l2 h =
     let address : List ℕ = 48 ∷ 120 ∷ eight_digits target in
     three_read name (name_of rs1) (name_of rs2) address text (Branch condition) (say.Branch condition rs1 rs2 (Address target)) n w (name_solid rs1 l1) (name_solid rs2 l2) (address_is_solid target l) h
@@ -276,27 +276,27 @@ plain_read fm before after rd rs1 text l1 l2 plain h =
     sets_read before after text l1 l2 (and_left (not (before == 0)) _ sets) (and_right (not (before == 0)) _ sets) h
     ∙ ap (λ x. stated_alone (say.One x)) (fence_is fm before after rd rs1 (zero_is fm (and_left (fm == 0) _ plain)) (zero_is rd (and_left (rd == 0) _ second)) (zero_is rs1 (and_left (rs1 == 0) _ third)))
 
--- ---- a word
+-- ---- a word of data
 
 not_either : (x y : Bool) → x ≡ false → y ≡ true → (x || not y) ≡ false
 not_either x y a b = rw (a, b) refl
 
-word_stated : (text : List ℕ) (n : ℕ) → Solid text → item_in Words text ≡ Ok (Number n) → stated Words text ≡ Ok (data_word n)
+word_stated : (text : List ℕ) (n : ℕ) → Solid text → item_in Word text ≡ Ok (Number n) → stated Word text ≡ Ok (data_word n)
 word_stated text n s h =
-    let p : pieces 44 text ≡ text ∷ [] = one_piece text s in
-    let formed : are_formed Words text ≡ true = ap (λ l. list_all (is_formed Words) (map trimmed l)) p ∙ ap (λ t. is_formed Words t && true) (solid_trimmed text s) ∙ ap (λ r. not (is_bad r) && true) h in
-    let items : items_in Words text ≡ Ok (Number n ∷ []) = ap (items_of Words) p ∙ ap (λ t. all_of (item_in Words t ∷ [])) (solid_trimmed text s) ∙ ap (λ r. all_of (r ∷ [])) h in
-    turned_down ((length text == 0) || not (are_formed Words text)) _ _ (not_either (length text == 0) (are_formed Words text) (not_empty text s.some) formed)
-    ∙ ap (λ r. and_then r (λ items. Ok (say.Data Words items))) items
+    let p : fields 44 text ≡ text ∷ [] = one_field text s in
+    let formed : are_formed Word text ≡ true = ap (λ l. list_all (is_formed Word) (map trimmed l)) p ∙ ap (λ t. is_formed Word t && true) (solid_trimmed text s) ∙ ap (λ r. not (is_bad r) && true) h in
+    let items : items_in Word text ≡ Ok (Number n ∷ []) = ap (items_of Word) p ∙ ap (λ t. all_of (item_in Word t ∷ [])) (solid_trimmed text s) ∙ ap (λ r. all_of (r ∷ [])) h in
+    turned_down ((length text == 0) || not (are_formed Word text)) _ _ (not_either (length text == 0) (are_formed Word text) (not_empty text s.some) formed)
+    ∙ ap (λ r. and_then r (λ items. Ok (say.Data Word items))) items
 
-item_by : (ds : List ℕ) (n : ℕ) → constant_in (48 ∷ 120 ∷ ds) ≡ Ok n → item_in Words (48 ∷ 120 ∷ ds) ≡ Ok (Number n)
+item_by : (ds : List ℕ) (n : ℕ) → constant_in (48 ∷ 120 ∷ ds) ≡ Ok n → item_in Word (48 ∷ 120 ∷ ds) ≡ Ok (Number n)
 item_by ds n h = ap number_item h
 
 word_read : (word : ℕ) (text : List ℕ) → word < 2 ^ 32 → text ≡ word_text word → read text ≡ stated_alone (data_word word)
 word_read word text l h =
     let number : List ℕ = 48 ∷ 120 ∷ eight_digits word in
     let s = address_is_solid word l in
-    spoken_alone (codes ".word") number text (number ∷ []) (Data Words) refl refl (one_listed number s) h
+    spoken_alone (codes ".word") number text (number ∷ []) (Data Word) refl refl (one_listed number s) h
     ∙ ap (λ v. line_of [] (stating v)) (word_stated number word s (item_by (eight_digits word) word (hex_read 2147483648 4294967295 word (eight_digits word) (writes_eight word l) (omega arith) (omega arith))))
 
 fence_word_fits : {fm before after rd rs1 word : ℕ} → FenceType 0b0001111 0b000 fm before after rd rs1 word → word < 2 ^ 32
@@ -311,7 +311,7 @@ fence_read fm before after rd rs1 word text e h =
       | false ↦ λ t h. word_read word text (fence_word_fits e) (h word e)
     ] in go refl h
 
--- ---- words that stand alone
+-- ---- mnemonics without operands
 
 ecall_read : read (codes "ecall") ≡ stated_alone (say.One i.Ecall)
 unfolding read
@@ -330,10 +330,10 @@ texts_read (i.Jal rd offset) pc word text h e = jump_read rd (sum pc offset) tex
 texts_read (i.Jalr rd rs1 imm) pc word text h e = load_read (codes "jalr") JumpAndLinkRegister m.Jalr rd rs1 imm text refl refl (λ a b t. refl) e h
 texts_read (i.Beq rs1 rs2 offset) pc word text h e = branch_read (codes "beq") c.Equal rs1 rs2 (sum pc offset) text refl refl (sum_fits pc offset) e.rs1_fits e.rs2_fits h
 texts_read (i.Bne rs1 rs2 offset) pc word text h e = branch_read (codes "bne") c.NotEqual rs1 rs2 (sum pc offset) text refl refl (sum_fits pc offset) e.rs1_fits e.rs2_fits h
-texts_read (i.Blt rs1 rs2 offset) pc word text h e = branch_read (codes "blt") c.Less rs1 rs2 (sum pc offset) text refl refl (sum_fits pc offset) e.rs1_fits e.rs2_fits h
+texts_read (i.Blt rs1 rs2 offset) pc word text h e = branch_read (codes "blt") c.LessThan rs1 rs2 (sum pc offset) text refl refl (sum_fits pc offset) e.rs1_fits e.rs2_fits h
 texts_read (i.Bge rs1 rs2 offset) pc word text h e = branch_read (codes "bge") c.GreaterOrEqual rs1 rs2 (sum pc offset) text refl refl (sum_fits pc offset) e.rs1_fits e.rs2_fits h
-texts_read (i.Bltu rs1 rs2 offset) pc word text h e = branch_read (codes "bltu") c.Below rs1 rs2 (sum pc offset) text refl refl (sum_fits pc offset) e.rs1_fits e.rs2_fits h
-texts_read (i.Bgeu rs1 rs2 offset) pc word text h e = branch_read (codes "bgeu") c.AboveOrEqual rs1 rs2 (sum pc offset) text refl refl (sum_fits pc offset) e.rs1_fits e.rs2_fits h
+texts_read (i.Bltu rs1 rs2 offset) pc word text h e = branch_read (codes "bltu") c.LessThanUnsigned rs1 rs2 (sum pc offset) text refl refl (sum_fits pc offset) e.rs1_fits e.rs2_fits h
+texts_read (i.Bgeu rs1 rs2 offset) pc word text h e = branch_read (codes "bgeu") c.GreaterOrEqualUnsigned rs1 rs2 (sum pc offset) text refl refl (sum_fits pc offset) e.rs1_fits e.rs2_fits h
 texts_read (i.Lb rd rs1 imm) pc word text h e = load_read (codes "lb") (Load m.Lb) m.Lb rd rs1 imm text refl refl (λ a b t. refl) e h
 texts_read (i.Lh rd rs1 imm) pc word text h e = load_read (codes "lh") (Load m.Lh) m.Lh rd rs1 imm text refl refl (λ a b t. refl) e h
 texts_read (i.Lw rd rs1 imm) pc word text h e = load_read (codes "lw") (Load m.Lw) m.Lw rd rs1 imm text refl refl (λ a b t. refl) e h

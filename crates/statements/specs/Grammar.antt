@@ -1,20 +1,21 @@
 -- What a line is made of, by rules.
 --
--- A line, without its comment, is labels, and behind them a statement or blanks. A label is a name behind blanks, and its
--- colon follows it. A statement is a word, which is a name, and behind one blank or more its operands, divided by commas,
--- none of them blank; it may have no operands. Blanks may stand before and behind it.
+-- A line, without its comment, is labels, and after them a statement or blanks. A label is a name after blanks, and its
+-- colon follows it. A statement is a mnemonic or the name of a directive ("mnemonic" below means either: what it may be
+-- is said in Mnemonics, here it is any name), and after one blank or more its operands, divided by commas, none of them
+-- blank; it may have no operands. Blanks may stand before and after it.
 use Rattle.std.specs.Prelude.{◌≡◌, ℕ, ◌<◌, true, List, [], ◌∷◌, ◌++◌, length, Option, Some, None, Result, Ok}
 use Rattle.std.specs.List.{list_all}
 use Rattle.statements.specs.Spelling.{is_name}
 use Rattle.byte_strings.specs.Blanks.{is_blank, trimmed}
 use Rattle.statements.specs.Operands.{are_operands}
 use Rattle.statements.specs.Reading.{line_of, said_by, stating}
-use Rattle.statements.specs.Words.{word_of}
+use Rattle.statements.specs.Mnemonics.{mnemonic_of}
 use Rattle.statements.specs.declared.error.LineError.{LineError}
 use Rattle.statements.specs.declared.line.Line.{Line}
 use Rattle.statements.specs.declared.statement.Statement.{Statement}
 
--- a word, and the text of its operands without the blanks round it
+-- a mnemonic, and the text of its operands without the blanks round it
 abbrev pub Spoken : Type 0
 Spoken = List ℕ × List ℕ
 
@@ -23,38 +24,40 @@ pub record Division : Type 0 where
   pub labels : List (List ℕ)
   pub spoken : Option Spoken
 
+-- only blanks
 abbrev pub AllBlank : List ℕ → Type 0
 AllBlank text = list_all is_blank text ≡ true
 
--- a text begins with a label, and this stands behind its colon
-pub record BeginsWith (label text behind : List ℕ) : Type 0 where
+-- a text begins with a label, and this is what comes after its colon
+pub record BeginsWith (label text after : List ℕ) : Type 0 where
   pub before : List ℕ
   pub blank : AllBlank before
   pub name : is_name label ≡ true
-  pub spelled : text ≡ before ++ label ++ 58 ∷ behind
+  pub spelled : text ≡ before ++ label ++ 58 ∷ after
 
--- a text begins with these labels, and this stands behind the last colon
+-- a text begins with these labels, and this is what comes after the last colon
 abbrev pub Labelled : List (List ℕ) → List ℕ → List ℕ → Type 0
 Labelled [] text rest = text ≡ rest
-Labelled (label ∷ labels) text rest = (behind : List ℕ) × (BeginsWith label text behind × Labelled labels behind rest)
+Labelled (label ∷ labels) text rest = (after : List ℕ) × (BeginsWith label text after × Labelled labels after rest)
 
 -- a text is a statement
-pub record IsStatement (word operands text : List ℕ) : Type 0 where
+pub record IsStatement (mnemonic operands text : List ℕ) : Type 0 where
   pub before : List ℕ
   pub gap : List ℕ
-  pub behind : List ℕ
+  pub after : List ℕ
   pub blank_before : AllBlank before
   pub blank_gap : AllBlank gap
-  pub blank_behind : AllBlank behind
-  pub name : is_name word ≡ true
+  pub blank_after : AllBlank after
+  pub name : is_name mnemonic ≡ true
   pub apart : 0 < length operands → 0 < length gap
   pub bare : trimmed operands ≡ operands
   pub each : are_operands operands ≡ true
-  pub spelled : text ≡ before ++ word ++ gap ++ operands ++ behind
+  pub spelled : text ≡ before ++ mnemonic ++ gap ++ operands ++ after
 
+-- a text is a statement, or only blanks
 abbrev pub IsSpoken : Option Spoken → List ℕ → Type 0
 IsSpoken None text = AllBlank text
-IsSpoken (Some (word, operands)) text = IsStatement word operands text
+IsSpoken (Some (mnemonic, operands)) text = IsStatement mnemonic operands text
 
 -- a text is divided so
 pub record IsLine (text : List ℕ) (d : Division) : Type 0 where
@@ -65,7 +68,8 @@ pub record IsLine (text : List ℕ) (d : Division) : Type 0 where
 -- what a line says that is divided so
 abbrev pub says : Option Spoken → Result (Option Statement) LineError
 says None = Ok None
-says (Some (word, operands)) = stating (said_by (word_of word) operands)
+says (Some (mnemonic, operands)) = stating (said_by (mnemonic_of mnemonic) operands)
 
+-- the line that is divided so, or its error
 abbrev pub means : Division → Result Line LineError
 means d = line_of d.labels (says d.spoken)

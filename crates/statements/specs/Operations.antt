@@ -14,6 +14,7 @@ use Rattle.statements.specs.declared.operations.StoreOperation.TheVariants as t
 use Rattle.statements.specs.declared.operations.Condition.{Condition}
 use Rattle.statements.specs.declared.operations.Condition.TheVariants as c
 
+-- an instruction of three registers
 abbrev pub register_instruction : RegisterOperation → ℕ → ℕ → ℕ → Instr
 register_instruction r.Add rd rs1 rs2 = i.Add rd rs1 rs2
 register_instruction r.Sub rd rs1 rs2 = i.Sub rd rs1 rs2
@@ -26,11 +27,13 @@ register_instruction r.Sra rd rs1 rs2 = i.Sra rd rs1 rs2
 register_instruction r.Or rd rs1 rs2 = i.Or rd rs1 rs2
 register_instruction r.And rd rs1 rs2 = i.And rd rs1 rs2
 
+-- a shift by an immediate
 abbrev pub shift_instruction : ShiftOperation → ℕ → ℕ → ℕ → Instr
 shift_instruction s.Slli rd rs1 shamt = i.Slli rd rs1 shamt
 shift_instruction s.Srli rd rs1 shamt = i.Srli rd rs1 shamt
 shift_instruction s.Srai rd rs1 shamt = i.Srai rd rs1 shamt
 
+-- an instruction with an immediate that is not stored
 abbrev pub immediate_instruction : ImmediateOperation → ℕ → ℕ → ℕ → Instr
 immediate_instruction m.Addi rd rs1 imm = i.Addi rd rs1 imm
 immediate_instruction m.Slti rd rs1 imm = i.Slti rd rs1 imm
@@ -45,24 +48,27 @@ immediate_instruction m.Lw rd rs1 imm = i.Lw rd rs1 imm
 immediate_instruction m.Lbu rd rs1 imm = i.Lbu rd rs1 imm
 immediate_instruction m.Lhu rd rs1 imm = i.Lhu rd rs1 imm
 
+-- a store: the register of the address comes first
 abbrev pub store_instruction : StoreOperation → ℕ → ℕ → ℕ → Instr
 store_instruction t.Sb rs1 rs2 imm = i.Sb rs1 rs2 imm
 store_instruction t.Sh rs1 rs2 imm = i.Sh rs1 rs2 imm
 store_instruction t.Sw rs1 rs2 imm = i.Sw rs1 rs2 imm
 
+-- a branch by its condition
 abbrev pub branch_instruction : Condition → ℕ → ℕ → ℕ → Instr
 branch_instruction c.Equal rs1 rs2 offset = i.Beq rs1 rs2 offset
 branch_instruction c.NotEqual rs1 rs2 offset = i.Bne rs1 rs2 offset
-branch_instruction c.Less rs1 rs2 offset = i.Blt rs1 rs2 offset
+branch_instruction c.LessThan rs1 rs2 offset = i.Blt rs1 rs2 offset
 branch_instruction c.GreaterOrEqual rs1 rs2 offset = i.Bge rs1 rs2 offset
-branch_instruction c.Below rs1 rs2 offset = i.Bltu rs1 rs2 offset
-branch_instruction c.AboveOrEqual rs1 rs2 offset = i.Bgeu rs1 rs2 offset
+branch_instruction c.LessThanUnsigned rs1 rs2 offset = i.Bltu rs1 rs2 offset
+branch_instruction c.GreaterOrEqualUnsigned rs1 rs2 offset = i.Bgeu rs1 rs2 offset
 
 -- A number of 32 bits as the sum of a multiple of 4,096, which LUI or AUIPC can take, and of the low 12 bits,
 -- sign-extended: where these are negative, the multiple is the next one.
 abbrev pub upper_part : ℕ → ℕ
 upper_part n = (n + 2048) % 2 ^ 32 / 4096 * 4096
 
+-- the low 12 bits, sign-extended
 abbrev pub lower_part : ℕ → ℕ
 lower_part n = if nat_lt (n % 4096) 2048 then n % 4096 else n % 4096 + (2 ^ 32 - 4096)
 

@@ -1,9 +1,10 @@
--- Pseudo-instructions (RISC-V Unprivileged ISA 20191213, chapter 25, tables 25.2 and 25.3): each line of one is read as the
--- line of the instruction is that it stands for.
+-- Pseudo-instructions (RISC-V Unprivileged ISA 20191213, chapter 25, tables 25.2 and 25.3): each line of one is read as
+-- the line of the instruction is that it stands for.
 --
--- Its operands may be any that are spelled plainly, as registers, labels and numbers are. They need not be right: where one
--- is wrong, both lines have the same error.
-use Rattle.std.specs.Prelude.{◌≡◌, ◌≢◌, ℕ, ◌-◌, ◌%◌, ◌^◌, ◌<◌, ◌≤◌, Bool, true, ◌==◌, not, ◌&&◌, ◌⊎◌, List, ◌++◌, Ok, codes}
+-- Its operands may be any that are spelled plainly, as registers, labels and numbers are. They need not be right: where
+-- one is wrong, both lines have the same error.
+use Rattle.std.specs.Prelude.{◌≡◌, ◌≢◌, ℕ, ◌-◌, ◌%◌, ◌^◌, ◌<◌, ◌≤◌, Bool, true, ◌==◌, not, ◌&&◌, ◌⊎◌, List, ◌++◌, Ok}
+use Rattle.std.specs.Prelude.{codes}
 use Rattle.std.specs.List.{list_all}
 use Rattle.byte_strings.specs.Blanks.{is_blank}
 use Rattle.rv32i.specs.Machine.{sum}
@@ -22,29 +23,34 @@ use Rattle.statements.specs.declared.statement.Statement.TheVariants as say
 abbrev pub is_plain : List ℕ → Bool
 is_plain text = is_operand text && list_all (λ b. not (is_blank b) && (not (b == 44) && not (b == 35))) text
 
--- names are spelled plainly, and so are registers
+-- names are spelled plainly
 abbrev pub NamesArePlain : Type 0
 NamesArePlain = (name : List ℕ) → is_name name ≡ true → is_plain name ≡ true
 
+-- and so are registers
 abbrev pub RegistersArePlain : Type 0
 RegistersArePlain = (name : List ℕ) (register : ℕ) → Names name register → is_plain name ≡ true
 
--- a word with one operand, and an address as a register without an offset
+-- a mnemonic with one operand
 abbrev pub with_one : List ℕ → List ℕ → List ℕ
 with_one name a = name ++ (codes " " ++ a)
 
+-- an address as a register without an offset
 abbrev pub at_register : List ℕ → List ℕ
 at_register s = codes "0(" ++ (s ++ codes ")")
 
--- a word with so many operands stands for a line that has them too
+-- a mnemonic with one operand stands for a line that has it too
 abbrev pub OfOne : List ℕ → (List ℕ → List ℕ) → Type 0
 OfOne name line = (a : List ℕ) → is_plain a ≡ true → read (with_one name a) ≡ read (line a)
 
+-- with two
 abbrev pub OfTwo : List ℕ → (List ℕ → List ℕ → List ℕ) → Type 0
 OfTwo name line = (a b : List ℕ) → is_plain a ≡ true → is_plain b ≡ true → read (with_two name a b) ≡ read (line a b)
 
+-- with three
 abbrev pub OfThree : List ℕ → (List ℕ → List ℕ → List ℕ → List ℕ) → Type 0
-OfThree name line = (a b c : List ℕ) → is_plain a ≡ true → is_plain b ≡ true → is_plain c ≡ true → read (with_three name a b c) ≡ read (line a b c)
+OfThree name line = (a b c : List ℕ) → is_plain a ≡ true → is_plain b ≡ true → is_plain c ≡ true →
+    read (with_three name a b c) ≡ read (line a b c)
 
 -- what has a register and is computed
 pub record OfRegisters : Type 0 where
@@ -76,23 +82,29 @@ pub record OfJumps : Type 0 where
   pub jr_is : OfOne (codes "jr") (λ s. with_two (codes "jalr") (codes "zero") (at_register s))
   pub jalr_is : OfOne (codes "jalr") (λ s. with_two (codes "jalr") (codes "ra") (at_register s))
   pub ret_is : read (codes "ret") ≡ read (codes "jalr zero, 0(ra)")
-  pub call_is : (label : List ℕ) → is_name label ≡ true → read (with_one (codes "call") label) ≡ stated_alone (say.Call label)
-  pub la_is : (d label : List ℕ) (register : ℕ) → Names d register → is_name label ≡ true → read (with_two (codes "la") d label) ≡ stated_alone (say.LoadAddress register label)
+  pub call_is : (label : List ℕ) → is_name label ≡ true → read (with_one (codes "call") label)
+      ≡ stated_alone (say.Call label)
+  pub la_is : (d label : List ℕ) (register : ℕ) → Names d register → is_name label ≡ true →
+      read (with_two (codes "la") d label) ≡ stated_alone (say.LoadAddress register label)
 
 -- whether a number of 32 bits is one of 12 bits, sign-extended
 abbrev pub IsShort : ℕ → Type 0
 IsShort n = (n < 2 ^ 11) ⊎ (2 ^ 32 - 2 ^ 11 ≤ n)
 
--- a statement puts a number into a register: by an ADDI where the number is short, else by a LUI, or by a LUI and an ADDI
--- whose parts add up to it
+-- a statement puts a number into a register: by an ADDI where the number is short, else by a LUI, or by a LUI and an
+-- ADDI whose parts add up to it
 abbrev pub Puts : ℕ → ℕ → Statement → Type 0
 Puts register n statement =
     (IsShort n × (statement ≡ say.One (i.Addi register 0 n)))
     ⊎ (((IsShort n → ⊥) × (n % 4096 ≡ 0) × (statement ≡ say.One (i.Lui register n)))
-    ⊎ ((IsShort n → ⊥) × (n % 4096 ≢ 0) × ((upper : ℕ) × (lower : ℕ) × (upper % 4096 ≡ 0) × IsShort lower × (sum upper lower ≡ n) × (statement ≡ say.Two (i.Lui register upper) (i.Addi register register lower)))))
+    ⊎ ((IsShort n → ⊥) × (n % 4096 ≢ 0) × ((upper : ℕ) × (lower : ℕ) × (upper % 4096 ≡ 0) × IsShort lower
+    × (sum upper lower ≡ n) × (statement ≡ say.Two (i.Lui register upper) (i.Addi register register lower)))))
 
 -- constants, and what does nothing
 pub record OfConstants : Type 0 where
   pub nop_is : read (codes "nop") ≡ read (codes "addi zero, zero, 0")
   pub fence_is : read (codes "fence") ≡ read (codes "fence iorw, iorw")
-  pub li_is : (d number : List ℕ) (register n : ℕ) → Names d register → is_plain number ≡ true → constant_in number ≡ Ok n → (statement : Statement) × ((read (with_two (codes "li") d number) ≡ stated_alone statement) × Puts register n statement)
+  pub li_is : (d number : List ℕ) (register n : ℕ) → Names d register → is_plain number ≡ true →
+      constant_in number ≡ Ok n →
+      (statement : Statement) × ((read (with_two (codes "li") d number) ≡ stated_alone statement)
+      × Puts register n statement)

@@ -7,10 +7,11 @@ ghost use Rattle.statements.specs.Spelling.{is_name};
 ghost use Rattle.byte_strings.specs.Blanks.{trimmed};
 
 use crate::error::LineError;
-use crate::forms::{label_in, name_in};
+use crate::forms::label_in;
 use crate::items::{Item, Items, Width};
+use crate::name::name_in;
 use crate::number::{bits_in, constant_in};
-use crate::operands::{Operands, first_piece};
+use crate::operands::{Operands, first_field};
 use crate::statement::Statement;
 use byte_strings::trimmed;
 use std::alloc::Global;
@@ -80,17 +81,17 @@ fn number_item<'a>(number: Result<u32, LineError>) -> Result<Item<'a>, LineError
     }
 }
 
-// Whether each of the pieces of a text has the form of an item.
+// Whether each of the fields of a text has the form of an item.
 fn are_formed(width: Width, text: &[u8]) -> bool
     ensures { result ≡ spec.are_formed width text.now }
 {
     let mut rest = Some(text);
-    'pieces: while let Some(pieces) = rest {
-        let (piece, behind) = first_piece(pieces);
-        if !is_formed(width, trimmed(piece)) {
+    'fields: while let Some(fields) = rest {
+        let (field, after) = first_field(fields);
+        if !is_formed(width, trimmed(field)) {
             return false;
         }
-        rest = behind;
+        rest = after;
     }
     true
 }
@@ -116,22 +117,22 @@ pub(crate) fn data<'a>(
     Ok(Statement::Data { width, items })
 }
 
-// The items in the pieces of a text.
+// The items in the fields of a text.
 fn items_in<'a>(alloc: Global, width: Width, text: &'a [u8]) -> Result<Items<'a>, LineError>
     ensures { spec.OrNoMemory result (spec.items_in width text.now) }
 {
     let mut list = Vec::new(alloc);
     let mut rest = Some(text);
-    'pieces: while let Some(pieces) = rest {
-        let (piece, behind) = first_piece(pieces);
-        let item = match item_in(width, trimmed(piece)) {
+    'fields: while let Some(fields) = rest {
+        let (field, after) = first_field(fields);
+        let item = match item_in(width, trimmed(field)) {
             Ok(item) => item,
             Err(error) => return Err(error),
         };
         if list.push(item).is_err() {
             return Err(LineError::NoMemory);
         }
-        rest = behind;
+        rest = after;
     }
     Ok(Items::new(list))
 }

@@ -6,13 +6,30 @@ ghost use Rattle.statements.specs.Numbers as numbers;
 ghost use Rattle.statements.specs.Operands as spec;
 
 use crate::error::LineError;
-use crate::name::Name;
+use crate::name::{Name, name_in};
 use crate::number::bits_in;
-use crate::operands::{Access, Low};
-use crate::spelling::{is_name, parted, stripped};
+use crate::spelling::{parted, stripped};
 use crate::statement::Target;
 use byte_strings::{trimmed, without_leading_blanks};
 use rv32i::{FenceSet, Imm, Reg, reg_of};
+
+/// The lower 12 bits of something.
+#[derive(Drop)]
+pub(crate) enum Low<'a> {
+    /// These.
+    Bits(Imm),
+    /// Those of a label's address.
+    Part(Name<'a>),
+}
+
+/// An address: a register and an offset.
+#[derive(Drop)]
+pub(crate) struct Access<'a> {
+    /// The offset.
+    pub offset: Low<'a>,
+    /// The register.
+    pub base: Reg,
+}
 
 /// The register that a text names.
 pub(crate) fn register_in(text: &[u8]) -> Result<Reg, LineError>
@@ -37,19 +54,6 @@ pub(crate) fn label_in(text: &[u8]) -> Result<Name<'_>, LineError>
     }
 }
 
-/// The text, if it is a name.
-pub(crate) fn name_in(text: &[u8]) -> Option<Name<'_>>
-    ensures { result ≡ (if is_name text.now then Some text.now else None) }
-{
-    if !is_name(text) {
-        return None;
-    }
-    match str::from_utf8(text) {
-        Ok(name) => Some(Name::new(name)),
-        Err(_) => None,
-    }
-}
-
 /// What stands before a closing bracket at the end, without the blanks round it.
 fn closed(text: &[u8]) -> Option<&[u8]>
     ensures { option_copied result ≡ spec.closed text.now }
@@ -65,12 +69,12 @@ fn bracketed(text: &[u8]) -> Option<&[u8]>
     ensures { option_copied result ≡ spec.bracketed text.now }
 {
     match stripped(b"(", text) {
-        Some(behind) => closed(behind),
+        Some(after) => closed(after),
         None => None,
     }
 }
 
-/// The label in brackets behind `%lo` or `%hi`.
+/// The label in brackets after `%lo` or `%hi`.
 pub(crate) fn part_in(text: &[u8]) -> Result<Name<'_>, LineError>
     ensures { result ≡ spec.part_in text.now }
 {
@@ -94,7 +98,7 @@ pub(crate) fn low_in(text: &[u8]) -> Result<Low<'_>, LineError>
     ensures { result ≡ spec.low_in text.now }
 {
     match stripped(b"%lo", text) {
-        Some(behind) => part_low(part_in(behind)),
+        Some(after) => part_low(part_in(after)),
         None => bits_low(immediate_in(text)),
     }
 }
@@ -117,12 +121,12 @@ fn part_low(label: Result<Name<'_>, LineError>) -> Result<Low<'_>, LineError>
     }
 }
 
-/// A register in brackets behind an offset.
+/// A register in brackets after an offset.
 pub(crate) fn access_in(text: &[u8]) -> Result<Access<'_>, LineError>
     ensures { result ≡ spec.access_in text.now }
 {
     match stripped(b"%lo", text) {
-        Some(behind) => part_access(stripped(b"(", without_leading_blanks(behind))),
+        Some(after) => part_access(stripped(b"(", without_leading_blanks(after))),
         None => plain_access(parted(b'(', text)),
     }
 }
@@ -131,7 +135,7 @@ fn plain_access<'a>(parts: Option<(&'a [u8], &'a [u8])>) -> Result<Access<'a>, L
     ensures { result ≡ spec.plain_access (option_map (λ p. (p.0.now, p.1.now)) parts.entry) }
 {
     match parts {
-        Some((offset, behind)) => access_with(offset_in(trimmed(offset)), base_by(closed(behind))),
+        Some((offset, after)) => access_with(offset_in(trimmed(offset)), base_by(closed(after))),
         None => Err(LineError::BadOperand),
     }
 }
@@ -143,9 +147,9 @@ fn part_access(text: Option<&[u8]>) -> Result<Access<'_>, LineError>
         return Err(LineError::BadOperand);
     };
     match parted(b')', text) {
-        Some((label, behind)) => access_with(
+        Some((label, after)) => access_with(
             part_low(label_in(trimmed(label))),
-            base_by(bracketed(without_leading_blanks(behind))),
+            base_by(bracketed(without_leading_blanks(after))),
         ),
         None => Err(LineError::BadOperand),
     }

@@ -1,19 +1,19 @@
-//! What the words of instructions and pseudo-instructions say of their operands.
+//! What the mnemonics of instructions and pseudo-instructions say of their operands.
 ghost use Rattle.std.specs.Prelude.{◌≡◌, ◌<◌, ◌≤◌, ◌+◌, ◌%◌, ◌^◌, IfOk};
 ghost use Rattle.std.specs.Option.{option_copied};
 ghost use Rattle.statements.specs.Instructions as spec;
 
 use crate::error::LineError;
-use crate::forms::{access_in, label_in, low_in, part_in, register_in, set_in, target_in};
+use crate::forms::{Low, access_in, label_in, low_in, part_in, register_in, set_in, target_in};
+use crate::mnemonics::{Fixed, Unary};
 use crate::number::{bits_in, constant_in};
-use crate::operands::{Low, Operands};
+use crate::operands::Operands;
 use crate::operations::{
     Condition, ImmediateOperation, RegisterOperation, ShiftOperation, StoreOperation, lower_part,
     upper_part,
 };
 use crate::spelling::stripped;
 use crate::statement::Statement;
-use crate::words::{Fixed, Unary};
 use rv32i::{FenceSet, Imm, Instr, Reg, Shamt, Upper};
 
 /// `op rd, rs1, rs2`.
@@ -370,13 +370,13 @@ pub(crate) fn load_upper<'a>(operands: Operands<'a>) -> Result<Statement<'a>, Li
 fn upper_by<'a>(
     rd: Reg,
     text: &'a [u8],
-    behind: Option<&'a [u8]>,
+    after: Option<&'a [u8]>,
 ) -> Result<Statement<'a>, LineError>
-    ensures { result ≡ spec.upper_by rd text.now (option_copied behind.entry) }
+    ensures { result ≡ spec.upper_by rd text.now (option_copied after.entry) }
 {
-    match behind {
-        Some(behind) => {
-            let label = part_in(behind)?;
+    match after {
+        Some(after) => {
+            let label = part_in(after)?;
             Ok(Statement::Upper { rd, label })
         }
         None => {
@@ -458,7 +458,7 @@ pub(crate) fn call<'a>(operands: Operands<'a>) -> Result<Statement<'a>, LineErro
     Ok(Statement::Call { label })
 }
 
-/// A word that takes no operand.
+/// A mnemonic that takes no operand.
 pub(crate) fn fixed<'a>(
     operation: Fixed,
     operands: Operands<'a>,

@@ -14,13 +14,13 @@ pub fn only_lines_are_read()
     ensures { OnlyLinesAreRead }
 {}
 
-/// A line that the rules divide is not refused for its form: what is told of it is a word that names
-/// nothing, where its word does not, or else something wrong with its operands.
+/// A line that the rules divide is not refused for its form: its error is that its name is no mnemonic and
+/// no directive's, where it is none, and else something wrong with its operands.
 pub fn form_is_no_error()
     ensures { FormIsNoError }
 {}
 
-/// The text of an instruction at an address is read as its statement: as the instruction itself, as a
+/// The disassembly of an instruction at an address is read as its statement: as the instruction itself, as a
 /// jump or a branch to the address that it goes to, or, for a FENCE that no statement of its own stands
 /// for, as data with its word.
 pub fn texts_are_read()

@@ -8,6 +8,7 @@ mod instructions;
 mod items;
 pub mod laws;
 mod line;
+mod mnemonics;
 mod name;
 mod number;
 mod operands;
@@ -15,7 +16,6 @@ mod operations;
 mod reading;
 mod spelling;
 mod statement;
-mod words;
 
 pub use error::LineError;
 pub use items::{Item, Items, Width};

@@ -1,6 +1,8 @@
-//! The names of labels.
-ghost use Rattle.std.specs.Prelude.{◌≡◌};
+//! Names.
+ghost use Rattle.std.specs.Prelude.{◌≡◌, List, ℕ, Option, Some, None, if◌then◌else◌};
+ghost use Rattle.statements.specs.Spelling.{is_name};
 
+use crate::spelling::is_name;
 use std::marker::Model;
 
 /// A name in a text. A contract sees its bytes.
@@ -30,5 +32,18 @@ impl<'a> Name<'a> {
         ensures { result.now ≡ self.now }
     {
         self.text
+    }
+}
+
+/// The text, if it is a name.
+pub(crate) fn name_in(text: &[u8]) -> Option<Name<'_>>
+    ensures { result ≡ (if is_name text.now then Some text.now else None) }
+{
+    if !is_name(text) {
+        return None;
+    }
+    match str::from_utf8(text) {
+        Ok(name) => Some(Name::new(name)),
+        Err(_) => None,
     }
 }

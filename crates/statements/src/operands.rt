@@ -2,7 +2,7 @@
 ghost use Rattle.std.specs.Prelude.{◌≡◌, ◌≤◌, ◌<◌, ◌+◌, ◌%◌, ◌^◌, ◌∷◌, ◌↔◌, [], true, IsSome, List, ℕ, length, Option, Some, None, Ok, IfOk, IfSome, if◌then◌else◌};
 ghost use Rattle.std.specs.List.{list_all};
 ghost use Rattle.std.specs.Option.{option_copied};
-ghost use Rattle.statements.specs.Spelling.{is_name, pieces, pieces_behind};
+ghost use Rattle.statements.specs.Spelling.{is_name, fields, fields_after};
 ghost use Rattle.byte_strings.specs.Blanks.{trimmed};
 ghost use Rattle.statements.specs.Numbers.{bits_in};
 ghost use Rattle.statements.specs.Operands as spec;
@@ -30,7 +30,7 @@ impl<'a> Model for Operand<'a> {
     ghost view = { λ o. o.text.now };
 }
 
-/// The operands behind a word, by their number.
+/// The operands after a mnemonic, by their number.
 #[derive(Drop)]
 pub(crate) enum Operands<'a> {
     /// There is none.
@@ -45,25 +45,7 @@ pub(crate) enum Operands<'a> {
     More,
 }
 
-/// The lower 12 bits of something.
-#[derive(Drop)]
-pub(crate) enum Low<'a> {
-    /// These.
-    Bits(Imm),
-    /// Those of a label's address.
-    Part(Name<'a>),
-}
-
-/// An address: a register and an offset.
-#[derive(Drop)]
-pub(crate) struct Access<'a> {
-    /// The offset.
-    pub offset: Low<'a>,
-    /// The register.
-    pub base: Reg,
-}
-
-/// The operands in what stands behind a word, which has no blanks round it. `None`: one of them is
+/// The operands in what comes after a mnemonic, which has no blanks round it. `None`: one of them is
 /// blank.
 pub(crate) fn operands_in(text: &[u8]) -> Option<Operands<'_>>
     ensures some { IfSome result (λ o. o ≡ spec.operands_in text.now) }
@@ -84,12 +66,12 @@ fn are_operands(text: &[u8]) -> bool
     ensures { result ≡ spec.are_operands text.now }
 {
     let mut rest = Some(text);
-    'pieces: while let Some(pieces) = rest {
-        let (piece, behind) = first_piece(pieces);
-        if trimmed(piece).is_empty() {
+    'fields: while let Some(fields) = rest {
+        let (field, after) = first_field(fields);
+        if trimmed(field).is_empty() {
             return false;
         }
-        rest = behind;
+        rest = after;
     }
     true
 }
@@ -98,43 +80,43 @@ fn counted(text: &[u8]) -> Operands<'_>
     requires { 0 < length text.now }
     ensures { result ≡ spec.operands_in text.now }
 {
-    let (first, behind) = first_piece(text);
+    let (first, after) = first_field(text);
     let first = Operand::new(first);
-    let Some(text) = behind else {
+    let Some(text) = after else {
         return Operands::One(first);
     };
-    let (second, behind) = first_piece(text);
+    let (second, after) = first_field(text);
     let second = Operand::new(second);
-    let Some(text) = behind else {
+    let Some(text) = after else {
         return Operands::Two(first, second);
     };
-    let (third, behind) = first_piece(text);
+    let (third, after) = first_field(text);
     let third = Operand::new(third);
-    if behind.is_some() {
+    if after.is_some() {
         return Operands::More;
     }
     Operands::Three(first, second, third)
 }
 
-/// The first piece of a text that is divided at commas, and what stands behind the comma, if there is
+/// The first field of a text that is divided at commas, and what comes after the comma, if there is
 /// one.
-pub(crate) fn first_piece(text: &[u8]) -> (&[u8], Option<&[u8]>)
-    ensures pieces { pieces 44 text.now ≡ result.0.now ∷ pieces_behind 44 (option_copied result.1) }
-    ensures smaller { IfSome result.1 (λ behind. length behind.now < length text.now) }
+pub(crate) fn first_field(text: &[u8]) -> (&[u8], Option<&[u8]>)
+    ensures fields { fields 44 text.now ≡ result.0.now ∷ fields_after 44 (option_copied result.1) }
+    ensures smaller { IfSome result.1 (λ after. length after.now < length text.now) }
 {
     match parted(b',', text) {
-        Some((piece, behind)) => (piece, Some(behind)),
+        Some((field, after)) => (field, Some(after)),
         None => (text, None),
     }
 }
 
 impl<'a> Operand<'a> {
     /// What stands between two commas, without the blanks round it.
-    fn new(piece: &'a [u8]) -> Operand<'a>
-        ensures { result ≡ trimmed piece.now }
+    fn new(field: &'a [u8]) -> Operand<'a>
+        ensures { result ≡ trimmed field.now }
     {
         Operand {
-            text: trimmed(piece),
+            text: trimmed(field),
         }
     }
 

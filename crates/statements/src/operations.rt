@@ -48,13 +48,13 @@ pub enum Condition {
     /// BNE.
     NotEqual,
     /// BLT.
-    Less,
+    LessThan,
     /// BGE.
     GreaterOrEqual,
     /// BLTU.
-    Below,
+    LessThanUnsigned,
     /// BGEU.
-    AboveOrEqual,
+    GreaterOrEqualUnsigned,
 }
 
 /// An instruction with an immediate of 12 bits that is not stored (sections 2.4 to 2.6).
@@ -173,10 +173,10 @@ impl Condition {
         match self {
             Condition::Equal => Instr::Beq { rs1, rs2, offset },
             Condition::NotEqual => Instr::Bne { rs1, rs2, offset },
-            Condition::Less => Instr::Blt { rs1, rs2, offset },
+            Condition::LessThan => Instr::Blt { rs1, rs2, offset },
             Condition::GreaterOrEqual => Instr::Bge { rs1, rs2, offset },
-            Condition::Below => Instr::Bltu { rs1, rs2, offset },
-            Condition::AboveOrEqual => Instr::Bgeu { rs1, rs2, offset },
+            Condition::LessThanUnsigned => Instr::Bltu { rs1, rs2, offset },
+            Condition::GreaterOrEqualUnsigned => Instr::Bgeu { rs1, rs2, offset },
         }
     }
 }

@@ -32,27 +32,27 @@ fn are_name_bytes(text: &[u8]) -> bool
     text.iter().all(|b| is_name_byte(*b))
 }
 
-/// What stands before the first of a byte, and behind it. `None`: there is none.
+/// What comes before the first of a byte, and after it. `None`: there is none.
 pub(crate) fn parted(byte: u8, text: &[u8]) -> Option<(&[u8], &[u8])>
     ensures parts { option_map (λ p. (p.0.now, p.1.now)) result ≡ parted byte text.now }
     ensures smaller { IfSome result (λ p. length p.1.now < length text.now) }
 {
-    let i = place_of(byte, text)?;
+    let i = index_of(byte, text)?;
     Some((&text[..i], &text[i + 1..]))
 }
 
 // Where the first of a byte is.
-fn place_of(byte: u8, text: &[u8]) -> Option<usize>
+fn index_of(byte: u8, text: &[u8]) -> Option<usize>
     ensures { result ≡ position (λ b. b == byte) text.now }
 {
     text.iter().position(|b| *b == byte)
 }
 
-/// The text behind this front. `None`: it has another.
-pub(crate) fn stripped<'a>(front: &[u8], text: &'a [u8]) -> Option<&'a [u8]>
-    ensures { option_copied result ≡ stripped front.now text.now }
+/// The text without this prefix. `None`: it has another.
+pub(crate) fn stripped<'a>(prefix: &[u8], text: &'a [u8]) -> Option<&'a [u8]>
+    ensures { option_copied result ≡ stripped prefix.now text.now }
 {
-    match text.strip_prefix(front) {
+    match text.strip_prefix(prefix) {
         Some(rest) => Some(rest),
         None => None,
     }

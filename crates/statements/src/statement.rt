@@ -23,7 +23,7 @@ pub enum Statement<'a> {
     Two(Instr, Instr),
     /// JAL.
     Jump {
-        /// The register of the address behind.
+        /// The register that gets the address of the next instruction.
         rd: Reg,
         /// Where it goes.
         target: Target<'a>,
@@ -80,7 +80,7 @@ pub enum Statement<'a> {
         /// The label.
         label: Name<'a>,
     },
-    /// Data, one item behind the other.
+    /// Data, one item after the other.
     Data {
         /// How many bytes each has.
         width: Width,

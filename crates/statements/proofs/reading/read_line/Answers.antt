@@ -1,7 +1,7 @@
 use Rattle.std.proofs.Common.{ap, subst, ◌∙◌}
 use Rattle.statements.specs.Directives.{OrNoMemory}
 use Rattle.statements.specs.Reading.{labels_of, rest_of, statement_in}
-use Rattle.statements.specs.Spelling.{pieces}
+use Rattle.statements.specs.Spelling.{fields}
 use Rattle.statements.proofs.Said.{read_so}
 use Rattle.statements.proofs.reading.read_line.Goals as goal
 
@@ -9,7 +9,7 @@ pub returns-in-Ok : goal.returns-in-Ok
 returns-in-Ok c =
     let content = c.without_comment.ensures in
     read_so c.args.line.now c.in-Ok.labelled.labels c.in-Ok.labelled.rest.now c.statement_in-statement.result c.line_of.result
-    (c.in-Ok.ensures.labels ∙ ap (λ t. labels_of (pieces 58 t)) content)
-    (c.in-Ok.ensures.rest ∙ ap (λ t. rest_of (pieces 58 t)) content)
+    (c.in-Ok.ensures.labels ∙ ap (λ t. labels_of (fields 58 t)) content)
+    (c.in-Ok.ensures.rest ∙ ap (λ t. rest_of (fields 58 t)) content)
     (subst (λ t. OrNoMemory c.statement_in-statement.result (statement_in t)) c.trimmed.ensures c.statement_in-statement.ensures)
     c.line_of.ensures

@@ -1,12 +1,12 @@
 use Rattle.std.proofs.Common.{◌≡◌, ◌++◌, length}
 use Rattle.statements.specs.Reading.{labels_of, rest_of}
-use Rattle.statements.specs.Spelling.{pieces}
+use Rattle.statements.specs.Spelling.{fields}
 use Rattle.statements.proofs.reading.take_labels.Given as goal
 
 abbrev pub invariant-labels : goal.invariant-labels
 invariant-labels l = record {
-  labels : labels_of (pieces 58 l.text) ≡ l.labels.items ++ labels_of (pieces 58 l.rest);
-  rest : rest_of (pieces 58 l.text) ≡ rest_of (pieces 58 l.rest);
+  labels : labels_of (fields 58 l.text) ≡ l.labels.items ++ labels_of (fields 58 l.rest);
+  rest : rest_of (fields 58 l.text) ≡ rest_of (fields 58 l.rest);
 }
 
 abbrev pub decreases-labels : goal.decreases-labels

@@ -5,7 +5,7 @@ use Rattle.std.proofs.lemmas.List.Splits.{slice_split_first, length-slice_split}
 use Rattle.std.specs.List.{count_by, slice_split, onto_first, position_or_len}
 use Rattle.std.specs.Option.{is_some, option_map}
 use Rattle.statements.specs.Operands.{counted, operands_in}
-use Rattle.statements.specs.Spelling.{parted, parted_at, pieces, pieces_behind}
+use Rattle.statements.specs.Spelling.{parted, parted_at, fields, fields_after}
 use Rattle.byte_strings.specs.Blanks.{trimmed}
 use Rattle.statements.specs.declared.error.LineError.{LineError}
 use Rattle.statements.specs.declared.operands.Operands.TheVariants.{More}
@@ -19,8 +19,8 @@ whole p (x ∷ text) h =
       | false ↦ λ e. let shorter : nat_lt (position_or_len p text) (length text) ≡ false = grind (arith, nat_tests) in ap (onto_first x) (whole p text shorter)
     ] in go h
 
-pub pieces_none : (byte : ℕ) (text : List ℕ) → parted byte text ≡ None → pieces byte text ≡ text ∷ []
-pieces_none byte text h =
+pub fields_none : (byte : ℕ) (text : List ℕ) → parted byte text ≡ None → fields byte text ≡ text ∷ []
+fields_none byte text h =
     let p : ℕ → Bool = λ b. b == byte in
     let P : Bool → Type 0 = λ t. nat_lt (position_or_len p text) (length text) ≡ t → parted_at text (cond t (Some (position_or_len p text)) None) ≡ None → slice_split p text ≡ text ∷ [] in
     let go : P (nat_lt (position_or_len p text) (length text)) = elim (nat_lt (position_or_len p text) (length text)) as P [
@@ -28,41 +28,41 @@ pieces_none byte text h =
       | false ↦ λ t e. whole p text t
     ] in go refl h
 
-abbrev front_of : Option (List ℕ × List ℕ) → List ℕ
-front_of None = []
-front_of (Some parts) = parts.0
+abbrev before_of : Option (List ℕ × List ℕ) → List ℕ
+before_of None = []
+before_of (Some parts) = parts.0
 
-abbrev behind_of : Option (List ℕ × List ℕ) → List ℕ
-behind_of None = []
-behind_of (Some parts) = parts.1
+abbrev after_of : Option (List ℕ × List ℕ) → List ℕ
+after_of None = []
+after_of (Some parts) = parts.1
 
-pub pieces_some : (byte : ℕ) (text front behind : List ℕ) → parted byte text ≡ Some (front, behind) → pieces byte text ≡ front ∷ pieces byte behind
-pieces_some byte text front behind h =
+pub fields_some : (byte : ℕ) (text prefix after : List ℕ) → parted byte text ≡ Some (prefix, after) → fields byte text ≡ prefix ∷ fields byte after
+fields_some byte text prefix after h =
     let p : ℕ → Bool = λ b. b == byte in
     let k : ℕ = position_or_len p text in
-    let P : Bool → Type 0 = λ t. nat_lt k (length text) ≡ t → parted_at text (cond t (Some k) None) ≡ Some (front, behind) → slice_split p text ≡ front ∷ slice_split p behind in
+    let P : Bool → Type 0 = λ t. nat_lt k (length text) ≡ t → parted_at text (cond t (Some k) None) ≡ Some (prefix, after) → slice_split p text ≡ prefix ∷ slice_split p after in
     let go : P (nat_lt k (length text)) = elim (nat_lt k (length text)) as P [
       | true ↦ λ t e.
           let below : k < length text = grind (arith, nat_tests) in
           let first : slice_split p text ≡ take k text ∷ slice_split p (drop (k + 1) text) = slice_split_first p text 0 below in
-          let f : take k text ≡ front = ap front_of e in
-          let b : drop (k + 1) text ≡ behind = ap behind_of e in
-          first ∙ ap (λ (l : List ℕ). l ∷ slice_split p (drop (k + 1) text)) f ∙ ap (λ (l : List ℕ). front ∷ slice_split p l) b
+          let f : take k text ≡ prefix = ap before_of e in
+          let b : drop (k + 1) text ≡ after = ap after_of e in
+          first ∙ ap (λ (l : List ℕ). l ∷ slice_split p (drop (k + 1) text)) f ∙ ap (λ (l : List ℕ). prefix ∷ slice_split p l) b
       | false ↦ λ t e. cc
     ] in go refl h
 
--- there is always a first piece
-pub shape : (byte : ℕ) (text : List ℕ) → (first : List ℕ) × (others : List (List ℕ)) × (pieces byte text ≡ first ∷ others)
+-- there is always a first field
+pub shape : (byte : ℕ) (text : List ℕ) → (first : List ℕ) × (others : List (List ℕ)) × (fields byte text ≡ first ∷ others)
 shape byte text = shaped (slice_split (λ b. b == byte) text) (length-slice_split (λ b. b == byte) text) where
   shaped : (list : List (List ℕ)) → length list ≡ count_by (λ b. b == byte) text + 1 → (first : List ℕ) × (others : List (List ℕ)) × (list ≡ first ∷ others)
   shaped [] h = absurd (omega (arith, h))
   shaped (first ∷ others) h = (first, others, refl)
 
-pub counted_more : (text a b c t1 t2 : List ℕ) (behind : Option (List ℕ)) → 0 < length text → pieces 44 text ≡ a ∷ pieces 44 t1 → pieces 44 t1 ≡ b ∷ pieces 44 t2 → pieces 44 t2 ≡ c ∷ pieces_behind 44 behind → is_some behind ≡ true → More ≡ operands_in text
+pub counted_more : (text a b c t1 t2 : List ℕ) (after : Option (List ℕ)) → 0 < length text → fields 44 text ≡ a ∷ fields 44 t1 → fields 44 t1 ≡ b ∷ fields 44 t2 → fields 44 t2 ≡ c ∷ fields_after 44 after → is_some after ≡ true → More ≡ operands_in text
 counted_more text a b c t1 t2 None some e1 e2 e3 h = cc
 counted_more text a b c t1 t2 (Some t3) some e1 e2 e3 h =
     let s = shape 44 t3 in
-    let all : pieces 44 text ≡ a ∷ b ∷ c ∷ s.0 ∷ s.1 = e1 ∙ ap (λ (l : List (List ℕ)). a ∷ l) (e2 ∙ ap (λ (l : List (List ℕ)). b ∷ l) (e3 ∙ ap (λ (l : List (List ℕ)). c ∷ l) s.2)) in
+    let all : fields 44 text ≡ a ∷ b ∷ c ∷ s.0 ∷ s.1 = e1 ∙ ap (λ (l : List (List ℕ)). a ∷ l) (e2 ∙ ap (λ (l : List (List ℕ)). b ∷ l) (e3 ∙ ap (λ (l : List (List ℕ)). c ∷ l) s.2)) in
     let test : (length text == 0) ≡ false = grind (arith, nat_tests) in
     rw test (sym (ap (λ l. counted (map trimmed l)) all))
 
@@ -75,7 +75,7 @@ abbrev pub left : Option (List ℕ) → ℕ
 left None = 0
 left (Some text) = length text + 1
 
--- a list with more behind it, unless something is wrong with that
-abbrev pub after : {A : Type 0} → List A → Result (List A) LineError → Result (List A) LineError
-after list (Ok more) = Ok (list ++ more)
-after list (Err error) = Err error
+-- a list with more after it, unless something is wrong with that
+abbrev pub followed_by : {A : Type 0} → List A → Result (List A) LineError → Result (List A) LineError
+followed_by list (Ok more) = Ok (list ++ more)
+followed_by list (Err error) = Err error
