@@ -11,19 +11,19 @@ use Rattle.statements.specs.declared.items.Width.{Width}
 use Rattle.statements.specs.declared.items.Width.TheVariants.{Byte, Half, Word}
 use Rattle.statements.specs.declared.statement.Statement.{Statement}
 use Rattle.statements.specs.declared.statement.Statement.TheVariants as say
-use Rattle.assembler.specs.Contents.{and_then, AreParts, AreWords, branch, call, Coded, Contained, content_at, content_error, content_of, distance_of, IsPart, IsWord, item_bytes, items_bytes, jump, load_address, lower, one, plain, store_lower, upper, value_of, with_more, wrong_in}
-use Rattle.assembler.specs.Errors.{Tells}
-use Rattle.assembler.specs.Places.{behind, bytes_in, end_of, error_at, padding, Place, place, places, size_at, size_of}
+use Rattle.assembler.specs.Contents.{and_then, AreParts, AreWords, coded_branch, call, Coded, Contained, content_at, content_error, content_of, distance_of, IsPart, IsWord, item_bytes, items_bytes, coded_jump, load_address, lower, one, plain, store_lower, upper, value_of, with_more, wrong_in}
+use Rattle.assembler.specs.Errors.{Reports}
+use Rattle.assembler.specs.Places.{end_of_line, bytes_in, end_of, error_at, padding, Place, place, places, size_at, size_of}
 use Rattle.assembler.specs.declared.error.AsmErrorKind.{AsmErrorKind}
 use Rattle.assembler.specs.declared.error.AsmErrorKind.TheVariants as k
 use Rattle.assembler.specs.declared.program.Source.{Source}
-use Rattle.assembler.specs.Steps.{TellsKind, Writes, told_at, told_kind}
-use Rattle.assembler.proofs.Placing.{told_so}
+use Rattle.assembler.specs.Steps.{ReportsKind, Writes, reported_at, reported_kind}
+use Rattle.assembler.proofs.Placing.{reported_so}
 
--- no line ends behind the last
+-- no line ends after the last
 pub end_of_le : (address : ℕ) (program : List Source) → address ≤ end_of address program
 end_of_le address [] = omega arith
-end_of_le address (source ∷ others) = let h = end_of_le (behind source address) others in omega (arith, h)
+end_of_le address (source ∷ others) = let h = end_of_le (end_of_line source address) others in omega (arith, h)
 
 pub record IsFilled (limit : ℕ) (labels : List Label) (program : List Source) (count : ℕ) (bytes : List ℕ) (address : ℕ) : Type 0 where
   pub parts : (more : List ℕ) → AreParts labels (places address (drop count program)) more → AreParts labels (places first_address program) (bytes ++ more)
@@ -31,31 +31,31 @@ pub record IsFilled (limit : ℕ) (labels : List Label) (program : List Source) 
   pub fits : end_of address (drop count program) ≤ limit
   pub from : first_address ≤ address
 
-next : (address : ℕ) (program : List Source) (count : ℕ) (source : Source) → (count < length program) × (source ≡ get_or program count source) → places address (drop count program) ≡ place address source ∷ places (behind source address) (drop (count + 1) program)
-next address program count source here = at_drop_more (places address) program count source here.0 ∙ ap (λ s. place address s ∷ places (behind s address) (drop (count + 1) program)) (sym here.1)
+next : (address : ℕ) (program : List Source) (count : ℕ) (source : Source) → (count < length program) × (source ≡ get_or program count source) → places address (drop count program) ≡ place address source ∷ places (end_of_line source address) (drop (count + 1) program)
+next address program count source here = at_drop_more (places address) program count source here.0 ∙ ap (λ s. place address s ∷ places (end_of_line s address) (drop (count + 1) program)) (sym here.1)
 
 -- a line that is filled lies within the limit
-pub filled_within : (limit : ℕ) (labels : List Label) (program : List Source) (count : ℕ) (source : Source) (bytes : List ℕ) (address : ℕ) → IsFilled limit labels program count bytes address → (count < length program) × (source ≡ get_or program count source) → behind source address ≤ limit
+pub filled_within : (limit : ℕ) (labels : List Label) (program : List Source) (count : ℕ) (source : Source) (bytes : List ℕ) (address : ℕ) → IsFilled limit labels program count bytes address → (count < length program) × (source ≡ get_or program count source) → end_of_line source address ≤ limit
 filled_within limit labels program count source bytes address f here =
-    let e : end_of address (drop count program) ≡ end_of (behind source address) (drop (count + 1) program) = at_drop_more (end_of address) program count source here.0 ∙ ap (λ s. end_of (behind s address) (drop (count + 1) program)) (sym here.1) in
-    let more = end_of_le (behind source address) (drop (count + 1) program) in
+    let e : end_of address (drop count program) ≡ end_of (end_of_line source address) (drop (count + 1) program) = at_drop_more (end_of address) program count source here.0 ∙ ap (λ s. end_of (end_of_line s address) (drop (count + 1) program)) (sym here.1) in
+    let more = end_of_le (end_of_line source address) (drop (count + 1) program) in
     omega (arith, e, more, f.fits)
 
 unspoilt : (contained : Contained) (part : List ℕ) → IsPart contained part → wrong_in contained ≡ None
 unspoilt (Ok content) part h = refl
 unspoilt (Err kind) part h = absurd h
 
-pub filled_more : (limit : ℕ) (labels : List Label) (program : List Source) (count : ℕ) (source : Source) (bytes bytes' : List ℕ) (address end : ℕ) → IsFilled limit labels program count bytes address → (count < length program) × (source ≡ get_or program count source) → Writes (Ok tt) (content_at labels address source.line.statement) bytes bytes' → end ≡ behind source address → IsFilled limit labels program (count + 1) bytes' end
+pub filled_more : (limit : ℕ) (labels : List Label) (program : List Source) (count : ℕ) (source : Source) (bytes bytes' : List ℕ) (address end : ℕ) → IsFilled limit labels program count bytes address → (count < length program) × (source ≡ get_or program count source) → Writes (Ok tt) (content_at labels address source.line.statement) bytes bytes' → end ≡ end_of_line source address → IsFilled limit labels program (count + 1) bytes' end
 filled_more limit labels program count source bytes bytes' address end f here (part, right, e) same =
     let rest = drop (count + 1) program in
-    let go : IsFilled limit labels program (count + 1) bytes' (behind source address) = record {
+    let go : IsFilled limit labels program (count + 1) bytes' (end_of_line source address) = record {
       parts = λ more m.
-          let whole : AreParts labels (place address source ∷ places (behind source address) rest) (part ++ more) = (part, more, right, m, refl) in
+          let whole : AreParts labels (place address source ∷ places (end_of_line source address) rest) (part ++ more) = (part, more, right, m, refl) in
           let all = f.parts (part ++ more) (subst (λ p. AreParts labels p (part ++ more)) (sym (next address program count source here)) whole) in
           subst (AreParts labels (places first_address program)) (sym (append_assoc bytes part more) ∙ ap (λ l. l ++ more) (sym e)) all;
-      wrong = f.wrong ∙ ap (content_error labels) (next address program count source here) ∙ ap (λ w. error_at source.number w (content_error labels (places (behind source address) rest))) (unspoilt (content_at labels address source.line.statement) part right);
-      fits = let e : end_of address (drop count program) ≡ end_of (behind source address) (drop (count + 1) program) = at_drop_more (end_of address) program count source here.0 ∙ ap (λ s. end_of (behind s address) (drop (count + 1) program)) (sym here.1) in omega (arith, e, f.fits);
-      from = let more : address ≤ behind source address = omega arith in omega (arith, f.from);
+      wrong = f.wrong ∙ ap (content_error labels) (next address program count source here) ∙ ap (λ w. error_at source.number w (content_error labels (places (end_of_line source address) rest))) (unspoilt (content_at labels address source.line.statement) part right);
+      fits = let e : end_of address (drop count program) ≡ end_of (end_of_line source address) (drop (count + 1) program) = at_drop_more (end_of address) program count source here.0 ∙ ap (λ s. end_of (end_of_line s address) (drop (count + 1) program)) (sym here.1) in omega (arith, e, f.fits);
+      from = let more : address ≤ end_of_line source address = omega arith in omega (arith, f.from);
     } in
     subst (IsFilled limit labels program (count + 1) bytes') (sym same) go
 
@@ -65,20 +65,20 @@ filled_all limit labels program count bytes address f end =
     let none : AreParts labels (places address (drop count program)) [] = subst (λ p. AreParts labels p []) (sym done) refl in
     subst (AreParts labels (places first_address program)) (append-nil bytes) (f.parts [] none)
 
-told_wrong : (kind : AsmErrorKind) (contained : Contained) → TellsKind kind contained → told_kind kind (wrong_in contained)
-told_wrong k.NoMemory contained h = tt
-told_wrong k.NotUtf8 contained h = ap wrong_in h
-told_wrong k.Syntax contained h = ap wrong_in h
-told_wrong k.UnknownInstruction contained h = ap wrong_in h
-told_wrong k.BadOperand contained h = ap wrong_in h
-told_wrong k.OutOfRange contained h = ap wrong_in h
-told_wrong k.TwiceDefined contained h = ap wrong_in h
-told_wrong k.Undefined contained h = ap wrong_in h
-told_wrong k.TooLarge contained h = ap wrong_in h
+reported_wrong : (kind : AsmErrorKind) (contained : Contained) → ReportsKind kind contained → reported_kind kind (wrong_in contained)
+reported_wrong k.NoMemory contained h = tt
+reported_wrong k.NotUtf8 contained h = ap wrong_in h
+reported_wrong k.Syntax contained h = ap wrong_in h
+reported_wrong k.UnknownInstruction contained h = ap wrong_in h
+reported_wrong k.BadOperand contained h = ap wrong_in h
+reported_wrong k.OutOfRange contained h = ap wrong_in h
+reported_wrong k.TwiceDefined contained h = ap wrong_in h
+reported_wrong k.Undefined contained h = ap wrong_in h
+reported_wrong k.TooLarge contained h = ap wrong_in h
 
-pub filled_wrong : (limit : ℕ) (labels : List Label) (program : List Source) (count : ℕ) (source : Source) (bytes : List ℕ) (address : ℕ) (kind : AsmErrorKind) → IsFilled limit labels program count bytes address → (count < length program) × (source ≡ get_or program count source) → TellsKind kind (content_at labels address source.line.statement) → Tells (told_at source.number kind) (content_error labels (places first_address program))
+pub filled_wrong : (limit : ℕ) (labels : List Label) (program : List Source) (count : ℕ) (source : Source) (bytes : List ℕ) (address : ℕ) (kind : AsmErrorKind) → IsFilled limit labels program count bytes address → (count < length program) × (source ≡ get_or program count source) → ReportsKind kind (content_at labels address source.line.statement) → Reports (reported_at source.number kind) (content_error labels (places first_address program))
 filled_wrong limit labels program count source bytes address kind f here h =
-    told_so kind source.number (wrong_in (content_at labels address source.line.statement)) (content_error labels (places (behind source address) (drop (count + 1) program))) (content_error labels (places first_address program)) (told_wrong kind (content_at labels address source.line.statement) h) (f.wrong ∙ ap (content_error labels) (next address program count source here))
+    reported_so kind source.number (wrong_in (content_at labels address source.line.statement)) (content_error labels (places (end_of_line source address) (drop (count + 1) program))) (content_error labels (places first_address program)) (reported_wrong kind (content_at labels address source.line.statement) h) (f.wrong ∙ ap (content_error labels) (next address program count source here))
 
 pub filled_at : (limit : ℕ) (labels : List Label) (program : List Source) (count : ℕ) (bytes : List ℕ) (address : ℕ) → IsFilled limit labels program count bytes address → address ≤ limit
 filled_at limit labels program count bytes address f = let e = end_of_le address (drop count program) in omega (arith, e, f.fits)
@@ -142,8 +142,8 @@ plain_length (Err kind) part h = absurd h
 statement_length : (labels : List Label) (address : ℕ) (statement : Statement) (part : List ℕ) → IsPart (content_of labels address statement) part → length part ≡ size_of statement address
 statement_length labels address (say.One first) part h = words_length (first ∷ []) part h
 statement_length labels address (say.Two first second) part h = words_length (first ∷ second ∷ []) part h
-statement_length labels address (say.Jump rd target) part h = one_length (jump labels address rd target) part h
-statement_length labels address (say.Branch condition rs1 rs2 target) part h = one_length (branch labels address condition rs1 rs2 target) part h
+statement_length labels address (say.Jump rd target) part h = one_length (coded_jump labels address rd target) part h
+statement_length labels address (say.Branch condition rs1 rs2 target) part h = one_length (coded_branch labels address condition rs1 rs2 target) part h
 statement_length labels address (say.Upper rd label) part h = one_length (upper labels rd label) part h
 statement_length labels address (say.Lower operation rd rs1 label) part h = one_length (lower labels operation rd rs1 label) part h
 statement_length labels address (say.StoreLower operation rs1 rs2 label) part h = one_length (store_lower labels operation rs1 rs2 label) part h
@@ -158,11 +158,11 @@ part_length : (labels : List Label) (address : ℕ) (statement : Option Statemen
 part_length labels address None part h = ap length h
 part_length labels address (Some statement) part h = statement_length labels address statement part h
 
--- the last line ends behind the last byte
+-- the last line ends after the last byte
 pub parts_length : (labels : List Label) (address : ℕ) (program : List Source) (bytes : List ℕ) → AreParts labels (places address program) bytes → address + length bytes ≡ end_of address program
 parts_length labels address [] bytes h = let e = ap length h in omega arith
 parts_length labels address (source ∷ others) bytes (part, rest, right, more, e) =
     let n = ap length e ∙ length-append part rest in
     let size = part_length labels address source.line.statement part right in
-    let all = parts_length labels (behind source address) others rest more in
+    let all = parts_length labels (end_of_line source address) others rest more in
     omega (arith, all, size, n)

@@ -20,7 +20,7 @@ map_push : {A B : Type 0} (f : A → B) (list : List A) (a : A) → map f (list 
 map_push f [] a = refl
 map_push f (x ∷ xs) a = ap (λ l. f x ∷ l) (map_push f xs a)
 
--- a label is added to a map behind the others
+-- a label is added to a map after the others
 pub labels_of-push : {Z : Type 0} (entries : List (String Z × ℕ)) (key : String Z) (address : ℕ) → labels_of (entries ++ (key, address) ∷ []) ≡ labels_of entries ++ (string_bytes key, address) ∷ []
 labels_of-push {Z} entries key address = let f : (String Z × ℕ) → (List ℕ × ℕ) = λ e. (string_bytes e.0, e.1) in map_push f entries (key, address)
 

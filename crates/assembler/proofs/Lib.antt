@@ -1,4 +1,4 @@
-pub mod Telling
+pub mod Reporting
 pub mod Reading
 pub mod Labelled
 pub mod Written
@@ -6,6 +6,6 @@ pub mod Padded
 pub mod Placing
 pub mod Filling
 pub mod Rising
-pub mod Only
+pub mod Unique
 pub mod Done
 pub mod Texts

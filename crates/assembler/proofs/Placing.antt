@@ -2,13 +2,13 @@
 use Rattle.std.proofs.Common.{◌≡◌, ℕ, ◌≤◌, List, [], ◌++◌, drop, Option, refl, ap, ◌∙◌}
 use Rattle.image.specs.Memory.{first_address}
 use Rattle.image.specs.Lines.{Label, Row}
-use Rattle.assembler.specs.Errors.{Tells}
+use Rattle.assembler.specs.Errors.{Reports}
 use Rattle.assembler.specs.Places.{end_of, error_at, labels_in, place_error, places, rows_in}
 use Rattle.assembler.specs.declared.error.AsmError.{AsmError}
 use Rattle.assembler.specs.declared.error.AsmErrorKind.{AsmErrorKind}
 use Rattle.assembler.specs.declared.error.AsmErrorKind.TheVariants as k
 use Rattle.assembler.specs.declared.program.Source.{Source}
-use Rattle.assembler.specs.Steps.{told_at, told_kind}
+use Rattle.assembler.specs.Steps.{reported_at, reported_kind}
 
 -- ---- lines so far
 
@@ -20,14 +20,14 @@ pub record IsReached (limit : ℕ) (program : List Source) (count : ℕ) (labels
   pub from : first_address ≤ address
   pub to : address ≤ limit
 
--- what is wrong with a line is told of the lines from it on
-pub told_so : (kind : AsmErrorKind) (line : ℕ) (wrong : Option AsmErrorKind) (later found : Option AsmError) → told_kind kind wrong → found ≡ error_at line wrong later → Tells (told_at line kind) found
-told_so k.NoMemory line wrong later found h e = refl
-told_so k.NotUtf8 line wrong later found h e = e ∙ ap (λ w. error_at line w later) h
-told_so k.Syntax line wrong later found h e = e ∙ ap (λ w. error_at line w later) h
-told_so k.UnknownInstruction line wrong later found h e = e ∙ ap (λ w. error_at line w later) h
-told_so k.BadOperand line wrong later found h e = e ∙ ap (λ w. error_at line w later) h
-told_so k.OutOfRange line wrong later found h e = e ∙ ap (λ w. error_at line w later) h
-told_so k.TwiceDefined line wrong later found h e = e ∙ ap (λ w. error_at line w later) h
-told_so k.Undefined line wrong later found h e = e ∙ ap (λ w. error_at line w later) h
-told_so k.TooLarge line wrong later found h e = e ∙ ap (λ w. error_at line w later) h
+-- what is wrong with a line is reported of the lines from it on
+pub reported_so : (kind : AsmErrorKind) (line : ℕ) (wrong : Option AsmErrorKind) (later found : Option AsmError) → reported_kind kind wrong → found ≡ error_at line wrong later → Reports (reported_at line kind) found
+reported_so k.NoMemory line wrong later found h e = refl
+reported_so k.NotUtf8 line wrong later found h e = e ∙ ap (λ w. error_at line w later) h
+reported_so k.Syntax line wrong later found h e = e ∙ ap (λ w. error_at line w later) h
+reported_so k.UnknownInstruction line wrong later found h e = e ∙ ap (λ w. error_at line w later) h
+reported_so k.BadOperand line wrong later found h e = e ∙ ap (λ w. error_at line w later) h
+reported_so k.OutOfRange line wrong later found h e = e ∙ ap (λ w. error_at line w later) h
+reported_so k.TwiceDefined line wrong later found h e = e ∙ ap (λ w. error_at line w later) h
+reported_so k.Undefined line wrong later found h e = e ∙ ap (λ w. error_at line w later) h
+reported_so k.TooLarge line wrong later found h e = e ∙ ap (λ w. error_at line w later) h

@@ -11,13 +11,13 @@ use Rattle.std.specs.Str.Lossy.{utf8_valid_len}
 use Rattle.std.proofs.lemmas.Bool.{false_from_ne_true}
 use Rattle.std.proofs.lemmas.Bool.Decides.{nat_tests}
 use Rattle.std.proofs.lemmas.Str.{IsUtf8-from_is_utf8, is_utf8-from_IsUtf8}
-use Rattle.assembler.specs.Errors.{at, error_in, Tells}
+use Rattle.assembler.specs.Errors.{at, error_in, Reports}
 use Rattle.assembler.specs.Program.{kept, line_at, line_then, read_lines, read_text, says_nothing, text_limit}
 use Rattle.assembler.specs.declared.error.AsmErrorKind.TheVariants as k
 use Rattle.assembler.specs.declared.error.AsmError.{AsmError}
 use Rattle.assembler.specs.declared.program.Source.{Source}
 use Rattle.assembler.specs.Steps.{after, said}
-use Rattle.assembler.proofs.Telling.{tells_weaker}
+use Rattle.assembler.proofs.Reporting.{reports_weaker}
 
 kept_before : (number : ℕ) (line : Line) (others : List Source) → kept number line others ≡ kept number line [] ++ others
 kept_before number line others =
@@ -44,10 +44,10 @@ error_more : (number : ℕ) (line : Result Line LineError) (before : List Source
 error_more number (Err e) before rest error h = h
 error_more number (Ok line) before rest error h = cc
 
-pub line_wrong : (all : Result (List Source) AsmError) (texts : List (List ℕ)) (number : ℕ) (text : List ℕ) (before : List Source) (error : AsmError) → all ≡ after before (read_lines (number + 1) (drop number texts)) → (number < length texts) × (text ≡ get_or texts number text) → Tells error (error_in (said (number + 1) (read text))) → Tells error (error_in all)
-line_wrong all texts number text before error h here told =
+pub line_wrong : (all : Result (List Source) AsmError) (texts : List (List ℕ)) (number : ℕ) (text : List ℕ) (before : List Source) (error : AsmError) → all ≡ after before (read_lines (number + 1) (drop number texts)) → (number < length texts) × (text ≡ get_or texts number text) → Reports error (error_in (said (number + 1) (read text))) → Reports error (error_in all)
+line_wrong all texts number text before error h here reported =
     let same = h ∙ ap (after before) (at_drop_more (read_lines (number + 1)) texts number text here.0 ∙ ap (λ t. line_then (number + 1) (read t) (read_lines (number + 1 + 1) (drop (number + 1) texts))) (sym here.1)) in
-    tells_weaker error (error_in (said (number + 1) (read text))) (error_in all) told
+    reports_weaker error (error_in (said (number + 1) (read text))) (error_in all) reported
     (λ e. ap error_in same ∙ error_more (number + 1) (read text) before (read_lines (number + 1 + 1) (drop (number + 1) texts)) error e)
 
 pub lines_all : (all : Result (List Source) AsmError) (texts : List (List ℕ)) (number : ℕ) (before : List Source) → all ≡ after before (read_lines (number + 1) (drop number texts)) → number ≡ length texts → all ≡ Ok before

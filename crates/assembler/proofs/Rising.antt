@@ -12,7 +12,7 @@ use Rattle.statements.specs.declared.error.LineError.{LineError}
 use Rattle.statements.specs.declared.line.Line.{Line}
 use Rattle.statements.specs.declared.statement.Statement.{Statement}
 use Rattle.statements.specs.declared.statement.Statement.TheVariants as say
-use Rattle.assembler.specs.Places.{behind, defines_twice, end_of, error_at, is_aligned, labels_at, misplaced, Place, place, place_error, places, row_of, rows_in, size_at, size_of, words_at, words_of}
+use Rattle.assembler.specs.Places.{end_of_line, defines_twice, end_of, error_at, is_aligned, labels_at, misplaced, Place, place, place_error, places, row_of, rows_in, size_at, size_of, words_at, words_of}
 use Rattle.assembler.specs.Program.{kept, line_then, read_lines, read_text, says_nothing, text_limit}
 use Rattle.assembler.specs.declared.error.AsmError.{AsmError}
 use Rattle.assembler.specs.declared.error.AsmErrorKind.{AsmErrorKind}
@@ -108,22 +108,22 @@ rise_from_more line less address lower rows end h l r = record {
 rise_from : (limit number address : ℕ) (before : List Label) (program : List Source) → NumbersFrom number program → first_address ≤ address → place_error limit before (places address program) ≡ None → RowsRiseFrom number address (rows_in (places address program)) (end_of address program)
 rise_from limit number address before [] n first h = rows_rise_from-nil number address address
 rise_from limit number address before (source ∷ others) (le, n) first h =
-    let right = parted source.number (misplaced limit before (place address source)) (place_error limit (before ++ labels_at (place address source)) (places (behind source address) others)) h in
+    let right = parted source.number (misplaced limit before (place address source)) (place_error limit (before ++ labels_at (place address source)) (places (end_of_line source address) others)) h in
     let words = words_at source.line.statement in
-    let from : first_address ≤ behind source address = omega arith in
-    let rest = rise_from limit (source.number + 1) (behind source address) (before ++ labels_at (place address source)) others n from right.1 in
-    let end = end_of (behind source address) others in
-    let P : Bool → Type 0 = λ t. (words == 0) ≡ t → RowsRiseFrom number address (row_of source.number address words ++ rows_in (places (behind source address) others)) end in
+    let from : first_address ≤ end_of_line source address = omega arith in
+    let rest = rise_from limit (source.number + 1) (end_of_line source address) (before ++ labels_at (place address source)) others n from right.1 in
+    let end = end_of (end_of_line source address) others in
+    let P : Bool → Type 0 = λ t. (words == 0) ≡ t → RowsRiseFrom number address (row_of source.number address words ++ rows_in (places (end_of_line source address) others)) end in
     let go : P (words == 0) = elim (words == 0) as P [
-      | true ↦ λ t. rw t (rise_from_more (source.number + 1) number (behind source address) address (rows_in (places (behind source address) others)) end (omega (arith, le)) (omega arith) rest)
+      | true ↦ λ t. rw t (rise_from_more (source.number + 1) number (end_of_line source address) address (rows_in (places (end_of_line source address) others)) end (omega (arith, le)) (omega arith) rest)
       | false ↦ λ t.
           let size : size_at source.line.statement address ≡ 4 * words = size_words_at source.line.statement address t in
-          let last = end_of_le (behind source address) others in
-          let same : behind source address ≡ row_end (source.number, address, words) = ap (λ s. address + s) size in
+          let last = end_of_le (end_of_line source address) others in
+          let same : end_of_line source address ≡ row_end (source.number, address, words) = ap (λ s. address + s) size in
           let some : 1 ≤ words = grind (arith, nat_tests) in
           let here : address ≤ address = omega arith in
-          let on : RowsRiseFrom (source.number + 1) (row_end (source.number, address, words)) (rows_in (places (behind source address) others)) end = subst (λ a. RowsRiseFrom (source.number + 1) a (rows_in (places (behind source address) others)) end) same rest in
-          rw t (rows_rise_from-cons number address (source.number, address, words) (rows_in (places (behind source address) others)) end first le here (multiple limit before (place address source) right.0 t) some (omega (arith, last, same)) on)
+          let on : RowsRiseFrom (source.number + 1) (row_end (source.number, address, words)) (rows_in (places (end_of_line source address) others)) end = subst (λ a. RowsRiseFrom (source.number + 1) a (rows_in (places (end_of_line source address) others)) end) same rest in
+          rw t (rows_rise_from-cons number address (source.number, address, words) (rows_in (places (end_of_line source address) others)) end first le here (multiple limit before (place address source) right.0 t) some (omega (arith, last, same)) on)
     ] in go refl
 
 pub rows_rise : (text : List ℕ) (limit : ℕ) (program : List Source) (labels : List Label) (rows : List Row) (end : ℕ) → read_text text ≡ Ok program → IsLayout limit program labels rows end → RowsRise rows end

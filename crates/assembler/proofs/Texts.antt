@@ -1,4 +1,4 @@
--- The text of an instruction reads back as its word.
+-- The disassembly of an instruction reads back as its word.
 use Rattle.std.proofs.Common.{◌≡◌, ℕ, ◌+◌, ◌%◌, ◌^◌, ◌<◌, Bool, true, false, cond, ◌==◌, ltb, List, [], ◌∷◌, Some, Ok, refl, sym, ap, subst, ◌∙◌, arith}
 use Rattle.std.proofs.lemmas.Bool.{and_from}
 use Rattle.std.proofs.lemmas.Bool.Decides.{nat_tests}
@@ -19,17 +19,17 @@ use Rattle.statements.specs.declared.operations.Condition.TheVariants as c
 use Rattle.statements.specs.declared.statement.Statement.{Statement}
 use Rattle.statements.specs.declared.statement.Statement.TheVariants as say
 use Rattle.statements.specs.declared.statement.Target.TheVariants.{Address}
-use Rattle.assembler.specs.Contents.{and_then, branch, branch_offset, Code, Coded, content_at, distance, IsContent, IsPart, jump, jump_offset, one}
+use Rattle.assembler.specs.Contents.{and_then, coded_branch, branch_offset, Code, Coded, content_at, distance, IsContent, IsPart, coded_jump, jump_offset, one}
 use Rattle.assembler.specs.Places.{size_of}
 use Rattle.assembler.specs.Texts.{IsWordAt, TextsAreWords}
-use Rattle.assembler.proofs.Only.{part_only}
+use Rattle.assembler.proofs.Unique.{part_unique}
 
 -- what is right for a statement is all that is
 stands : (pc word : ℕ) (statement : Statement) → size_of statement pc ≡ 4 → ((labels : List Label) → IsPart (content_at labels pc (Some statement)) (word_bytes word)) → IsWordAt pc word statement
 stands pc word statement size right = record {
   size = size;
   bytes = right;
-  only = λ labels bytes h. part_only (content_at labels pc (Some statement)) bytes (word_bytes word) h (right labels);
+  unique = λ labels bytes h. part_unique (content_at labels pc (Some statement)) bytes (word_bytes word) h (right labels);
 }
 
 -- the bytes of one instruction
@@ -65,7 +65,7 @@ jump_stands rd offset pc word l e =
     let fits = jump_fits e in
     let far : jump_offset (distance (sum pc offset) pc) ≡ Ok offset = ap jump_offset (distance_back pc offset l fits.0) ∙ jump_taken offset fits.1 fits.2 in
     stands pc word (say.Jump rd (Address (sum pc offset))) refl
-    (λ labels. coded (i.Jal rd offset) word (jump labels pc rd (Address (sum pc offset))) (ap (λ x. and_then x (λ offset. Ok (i.Jal rd offset))) far) e)
+    (λ labels. coded (i.Jal rd offset) word (coded_jump labels pc rd (Address (sum pc offset))) (ap (λ x. and_then x (λ offset. Ok (i.Jal rd offset))) far) e)
 
 -- ---- branches
 
@@ -80,7 +80,7 @@ branch_stands condition rs1 rs2 offset pc word l b e =
     let fits = branch_fits b in
     let far : branch_offset (distance (sum pc offset) pc) ≡ Ok offset = ap branch_offset (distance_back pc offset l fits.0) ∙ branch_taken offset fits.1 fits.2 in
     stands pc word (branch_at pc condition rs1 rs2 offset) refl
-    (λ labels. coded (branch_instruction condition rs1 rs2 offset) word (branch labels pc condition rs1 rs2 (Address (sum pc offset))) (ap (λ x. and_then x (λ offset. Ok (branch_instruction condition rs1 rs2 offset))) far) e)
+    (λ labels. coded (branch_instruction condition rs1 rs2 offset) word (coded_branch labels pc condition rs1 rs2 (Address (sum pc offset))) (ap (λ x. and_then x (λ offset. Ok (branch_instruction condition rs1 rs2 offset))) far) e)
 
 -- ---- a fence, and a word of data
 
@@ -99,10 +99,10 @@ statement_stands : (i : Instr) (pc word : ℕ) → pc < 2 ^ 32 → Encodes i wor
 statement_stands (i.Jal rd offset) pc word l e = jump_stands rd offset pc word l e
 statement_stands (i.Beq rs1 rs2 offset) pc word l e = branch_stands c.Equal rs1 rs2 offset pc word l e e
 statement_stands (i.Bne rs1 rs2 offset) pc word l e = branch_stands c.NotEqual rs1 rs2 offset pc word l e e
-statement_stands (i.Blt rs1 rs2 offset) pc word l e = branch_stands c.Less rs1 rs2 offset pc word l e e
+statement_stands (i.Blt rs1 rs2 offset) pc word l e = branch_stands c.LessThan rs1 rs2 offset pc word l e e
 statement_stands (i.Bge rs1 rs2 offset) pc word l e = branch_stands c.GreaterOrEqual rs1 rs2 offset pc word l e e
-statement_stands (i.Bltu rs1 rs2 offset) pc word l e = branch_stands c.Below rs1 rs2 offset pc word l e e
-statement_stands (i.Bgeu rs1 rs2 offset) pc word l e = branch_stands c.AboveOrEqual rs1 rs2 offset pc word l e e
+statement_stands (i.Bltu rs1 rs2 offset) pc word l e = branch_stands c.LessThanUnsigned rs1 rs2 offset pc word l e e
+statement_stands (i.Bgeu rs1 rs2 offset) pc word l e = branch_stands c.GreaterOrEqualUnsigned rs1 rs2 offset pc word l e e
 statement_stands (i.Fence fm before after rd rs1) pc word l e = fence_stands fm before after rd rs1 pc word e
 statement_stands other pc word l e = one_stands other pc word e
 

@@ -1,4 +1,4 @@
--- What is written behind bytes.
+-- What is written after bytes.
 use Rattle.std.proofs.Common.{◌≡◌, ℕ, List, [], ◌∷◌, ◌++◌, Err, refl}
 use Rattle.image.specs.Memory.{word_bytes}
 use Rattle.rv32i.specs.Encoding.{Encodes}
@@ -6,9 +6,9 @@ use Rattle.rv32i.specs.declared.instr.Instr.{Instr}
 use Rattle.assembler.specs.Contents.{Code, Contained}
 use Rattle.assembler.specs.declared.error.AsmErrorKind.{AsmErrorKind}
 use Rattle.assembler.specs.declared.error.AsmErrorKind.TheVariants as k
-use Rattle.assembler.specs.Steps.{Appends, TellsKind}
+use Rattle.assembler.specs.Steps.{Appends, ReportsKind}
 
-pub itself : (kind : AsmErrorKind) (contained : Contained) → contained ≡ Err kind → TellsKind kind contained
+pub itself : (kind : AsmErrorKind) (contained : Contained) → contained ≡ Err kind → ReportsKind kind contained
 itself k.NoMemory contained same = tt
 itself k.NotUtf8 contained same = same
 itself k.Syntax contained same = same

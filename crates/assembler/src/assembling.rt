@@ -1,7 +1,7 @@
 //! A text to an image.
 ghost use Rattle.std.specs.Prelude.{◌≡◌, ◌≤◌, length, Err, IfOk, MatchResult};
 ghost use Rattle.image.specs.Lines.{labels_of, RowsRise};
-ghost use Rattle.assembler.specs.Errors.{Tells};
+ghost use Rattle.assembler.specs.Errors.{Reports};
 ghost use Rattle.assembler.specs.Placed.{error_of, Placed};
 ghost use Rattle.assembler.specs.Places as spec;
 ghost use Rattle.assembler.specs.Program.{too_long, IsTooLong};
@@ -15,21 +15,21 @@ use std::alloc::Global;
 
 /// The image of a text, for a memory of so many bytes from 0x00010000 on; or what is wrong with the text.
 /// The image is no longer than that, and lies below 0xffffffff whatever the size. The passes go over all
-/// lines, one behind the other, and the first line in error of the first pass that has one is told.
+/// lines, one after the other, and the first line in error of the first pass that has one is reported.
 ///
 /// - First: `TooLarge` at line 0 for a text of more than 1,048,576 bytes; then `NotUtf8`.
 /// - Second: `Syntax`, `UnknownInstruction`, `BadOperand`, or `OutOfRange` for a number that needs no
 ///   address.
 /// - Third: `TwiceDefined`; then `OutOfRange` for an instruction, or the label `_start`, at an address that is
-///   no multiple of 4; then `TooLarge` for a line that ends behind the end of memory.
+///   no multiple of 4; then `TooLarge` for a line that ends past the end of memory.
 /// - Fourth: `Undefined`; then `OutOfRange` for a distance.
 ///
-/// In place of any answer it may tell `NoMemory`, at line 0.
+/// Instead of any answer it may report `NoMemory`, at line 0.
 pub fn assemble(alloc: Global, text: &[u8], size: u32) -> Result<Image, AsmError>
-    ensures answers { MatchResult result (λ image. Placed text.now size image) (λ error. Tells error (error_of text.now size)) }
+    ensures answers { MatchResult result (λ image. Placed text.now size image) (λ error. Reports error (error_of text.now size)) }
     ensures fits { IfOk result (λ image. length image.bytes ≤ size) }
 
-    // A text that is too long takes no memory, so it is never told that none is left.
+    // A text that is too long takes no memory, so it is never reported that none is left.
     ensures long { IsTooLong text.now → result ≡ Err too_long }
 {
     let limit = FIRST_ADDRESS.saturating_add(size);

@@ -5,7 +5,7 @@ ghost use Rattle.image.specs.Memory.{word_bytes};
 ghost use Rattle.assembler.specs.Contents as spec;
 ghost use Rattle.assembler.specs.Contents.{Code, Plain};
 ghost use Rattle.assembler.specs.Places.{size_of};
-ghost use Rattle.assembler.specs.Steps.{Appends, TellsKind, Writes};
+ghost use Rattle.assembler.specs.Steps.{Appends, ReportsKind, Writes};
 
 use crate::error::AsmErrorKind;
 use indexmap::IndexMap;
@@ -15,7 +15,7 @@ use statements::{
     lower_part, upper_part,
 };
 
-/// Appends what a statement at an address puts into memory; `end` is the address behind it.
+/// Appends what a statement at an address puts into memory; `end` is the address after it.
 #[tactic(auto, using(crate::proofs::Written::itself))]
 pub(crate) fn write(
     bytes: &mut Vec<u8>,
@@ -30,7 +30,7 @@ pub(crate) fn write(
     match statement {
         Statement::One(instr) => put_one(bytes, Ok(*instr)),
         Statement::Two(first, second) => put_two(bytes, *first, *second),
-        Statement::Jump { rd, target } => put_one(bytes, jump(labels, address, *rd, target)),
+        Statement::Jump { rd, target } => put_one(bytes, coded_jump(labels, address, *rd, target)),
         Statement::Branch {
             condition,
             rs1,
@@ -38,7 +38,7 @@ pub(crate) fn write(
             target,
         } => put_one(
             bytes,
-            branch(labels, address, *condition, *rs1, *rs2, target),
+            coded_branch(labels, address, *condition, *rs1, *rs2, target),
         ),
         Statement::Upper { rd, label } => put_one(bytes, upper(labels, *rd, label)),
         Statement::Lower {
@@ -66,8 +66,8 @@ pub(crate) fn write(
 
 // ---- addresses
 
-fn place_of(labels: &IndexMap<String, u32>, name: &Name) -> Result<u32, AsmErrorKind>
-    ensures { result ≡ spec.place_of (labels_of labels.now.entries) name.now }
+fn address_of(labels: &IndexMap<String, u32>, name: &Name) -> Result<u32, AsmErrorKind>
+    ensures { result ≡ spec.address_of (labels_of labels.now.entries) name.now }
 {
     match labels.get(name.as_str()) {
         Some(address) => Ok(*address),
@@ -79,7 +79,7 @@ fn target_of(labels: &IndexMap<String, u32>, target: &Target) -> Result<u32, Asm
     ensures { result ≡ spec.target_of (labels_of labels.now.entries) target.now }
 {
     match target {
-        Target::Label(name) => place_of(labels, name),
+        Target::Label(name) => address_of(labels, name),
         Target::Address(address) => Ok(*address),
     }
 }
@@ -92,7 +92,7 @@ fn distance_of(
 ) -> Result<u32, AsmErrorKind>
     ensures { result ≡ spec.distance_of (labels_of labels.now.entries) address label.now }
 {
-    match place_of(labels, label) {
+    match address_of(labels, label) {
         Ok(to) => Ok(to.wrapping_sub(address)),
         Err(kind) => Err(kind),
     }
@@ -120,13 +120,13 @@ fn jump_offset(far: u32) -> Result<JumpOffset, AsmErrorKind>
 
 // ---- instructions
 
-fn jump(
+fn coded_jump(
     labels: &IndexMap<String, u32>,
     address: u32,
     rd: Reg,
     target: &Target,
 ) -> Result<Instr, AsmErrorKind>
-    ensures { result ≡ spec.jump (labels_of labels.now.entries) address rd target.now }
+    ensures { result ≡ spec.coded_jump (labels_of labels.now.entries) address rd target.now }
 {
     let to = match target_of(labels, target) {
         Ok(to) => to,
@@ -138,7 +138,7 @@ fn jump(
     }
 }
 
-fn branch(
+fn coded_branch(
     labels: &IndexMap<String, u32>,
     address: u32,
     condition: Condition,
@@ -146,7 +146,7 @@ fn branch(
     rs2: Reg,
     target: &Target,
 ) -> Result<Instr, AsmErrorKind>
-    ensures { result ≡ spec.branch (labels_of labels.now.entries) address condition rs1 rs2 target.now }
+    ensures { result ≡ spec.coded_branch (labels_of labels.now.entries) address condition rs1 rs2 target.now }
 {
     let to = match target_of(labels, target) {
         Ok(to) => to,
@@ -161,7 +161,7 @@ fn branch(
 fn upper(labels: &IndexMap<String, u32>, rd: Reg, label: &Name) -> Result<Instr, AsmErrorKind>
     ensures { result ≡ spec.upper (labels_of labels.now.entries) rd label.now }
 {
-    match place_of(labels, label) {
+    match address_of(labels, label) {
         Ok(to) => Ok(Instr::Lui {
             rd,
             imm: upper_part(to),
@@ -179,7 +179,7 @@ fn lower(
 ) -> Result<Instr, AsmErrorKind>
     ensures { result ≡ spec.lower (labels_of labels.now.entries) operation rd rs1 label.now }
 {
-    match place_of(labels, label) {
+    match address_of(labels, label) {
         Ok(to) => Ok(operation.instruction(rd, rs1, lower_part(to))),
         Err(kind) => Err(kind),
     }
@@ -194,7 +194,7 @@ fn store_lower(
 ) -> Result<Instr, AsmErrorKind>
     ensures { result ≡ spec.store_lower (labels_of labels.now.entries) operation rs1 rs2 label.now }
 {
-    match place_of(labels, label) {
+    match address_of(labels, label) {
         Ok(to) => Ok(operation.instruction(rs1, rs2, lower_part(to))),
         Err(kind) => Err(kind),
     }
@@ -299,7 +299,7 @@ fn value_of(labels: &IndexMap<String, u32>, item: &Item) -> Result<u32, AsmError
     ensures { result ≡ spec.value_of (labels_of labels.now.entries) item.now }
 {
     match item {
-        Item::Label(name) => place_of(labels, name),
+        Item::Label(name) => address_of(labels, name),
         Item::Number(number) => Ok(*number),
     }
 }

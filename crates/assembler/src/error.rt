@@ -12,13 +12,13 @@ pub enum AsmErrorKind {
     /// The text is no UTF-8; the line is that of the first byte that is none.
     #[error("NotUtf8")]
     NotUtf8,
-    /// The line is no labels followed by a word and operands.
+    /// The line is no labels followed by a name and operands.
     #[error("Syntax")]
     Syntax,
-    /// Its word names no instruction and no directive.
+    /// Its name is no mnemonic of an instruction and no directive's.
     #[error("UnknownInstruction")]
     UnknownInstruction,
-    /// Its word takes operands of another number or form.
+    /// Its mnemonic or directive takes operands of another number or form.
     #[error("BadOperand")]
     BadOperand,
     /// A number, a distance or an address in it is outside its range.
@@ -30,7 +30,7 @@ pub enum AsmErrorKind {
     /// It names a label that no line defines.
     #[error("Undefined")]
     Undefined,
-    /// It ends behind the end of memory; or the text is too long, and then the line is 0.
+    /// It ends past the end of memory; or the text is too long, and then the line is 0.
     #[error("TooLarge")]
     TooLarge,
     /// No memory was left; the line is 0.
@@ -42,14 +42,14 @@ pub enum AsmErrorKind {
 #[derive(Clone, Copy, Debug, PartialEq, Eq, Error)]
 #[error("line {line}: {kind}")]
 pub struct AsmError {
-    /// The line, counted from 1; 0 where it is the text as a whole, or want of memory.
+    /// The line, counted from 1; 0 where it is the text as a whole, or no memory was left.
     pub line: u32,
     /// What is wrong with it.
     pub kind: AsmErrorKind,
 }
 
 impl AsmError {
-    /// Want of memory.
+    /// No memory was left.
     pub(crate) fn no_memory() -> AsmError
         ensures { result ≡ spec.no_memory }
     {
@@ -59,9 +59,9 @@ impl AsmError {
         }
     }
 
-    /// What is wrong with a line, or want of memory.
-    pub(crate) fn told_at(line: u32, kind: AsmErrorKind) -> AsmError
-        ensures { result ≡ steps.told_at line kind }
+    /// What is wrong with a line, or that no memory was left.
+    pub(crate) fn reported_at(line: u32, kind: AsmErrorKind) -> AsmError
+        ensures { result ≡ steps.reported_at line kind }
     {
         match kind {
             AsmErrorKind::NoMemory => AsmError::no_memory(),

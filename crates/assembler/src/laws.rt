@@ -1,15 +1,15 @@
 //! What holds of every image and of every text: each law is the contract of a function that does
 //! nothing.
 
-ghost use Rattle.assembler.specs.Placed.{PlacedIsOnly};
+ghost use Rattle.assembler.specs.Placed.{PlacedIsUnique};
 ghost use Rattle.assembler.specs.Texts.{TextsAreWords};
 
 /// A text has at most one image for a size of memory.
-pub fn placed_is_only()
-    ensures { PlacedIsOnly }
+pub fn placed_is_unique()
+    ensures { PlacedIsUnique }
 {}
 
-/// The text of an instruction at an address reads back as its word: as a line with no label and with a
+/// The disassembly of an instruction at an address reads back as its word: as a line with no label and with a
 /// statement that has four bytes at that address, those of the one word that encodes the instruction.
 pub fn texts_are_words()
     ensures { TextsAreWords }

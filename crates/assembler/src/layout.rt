@@ -4,9 +4,9 @@ ghost use Rattle.std.specs.List.{list_any};
 ghost use Rattle.std.specs.Str.{bytes_eq};
 ghost use Rattle.image.specs.Lines.{labels_of};
 ghost use Rattle.image.specs.Memory.{first_address};
-ghost use Rattle.assembler.specs.Errors.{Tells};
+ghost use Rattle.assembler.specs.Errors.{Reports};
 ghost use Rattle.assembler.specs.Places as spec;
-ghost use Rattle.assembler.specs.Steps.{Adds, AddsOne, IsLayout, told_kind, up_to};
+ghost use Rattle.assembler.specs.Steps.{Adds, AddsOne, IsLayout, reported_kind, up_to};
 
 use crate::error::{AsmError, AsmErrorKind};
 use crate::program::Source;
@@ -22,7 +22,7 @@ pub(crate) struct Layout {
     pub labels: IndexMap<String, u32>,
     /// A line with code each: its number, its address and how many words it has.
     pub rows: Vec<(u32, u32, u32)>,
-    /// The address behind the last line.
+    /// The address after the last line.
     pub end: u32,
 }
 
@@ -40,7 +40,7 @@ fn at_most(address: u32, size: u32, limit: u32) -> Option<u32>
     }
 }
 
-fn behind_items(width: Width, items: &Items, address: u32, limit: u32) -> Option<u32>
+fn end_of_items(width: Width, items: &Items, address: u32, limit: u32) -> Option<u32>
     requires { address ≤ limit }
     ensures { result ≡ up_to limit (address + length items.now * spec.bytes_in width) }
 {
@@ -71,7 +71,7 @@ fn behind_items(width: Width, items: &Items, address: u32, limit: u32) -> Option
     }
 }
 
-fn behind_padding(power: u32, address: u32, limit: u32) -> Option<u32>
+fn end_of_padding(power: u32, address: u32, limit: u32) -> Option<u32>
     requires some { 0 < address }
     requires within { address ≤ limit }
     ensures { result ≡ up_to limit (address + spec.padding (2 ^ power) address) }
@@ -86,8 +86,8 @@ fn behind_padding(power: u32, address: u32, limit: u32) -> Option<u32>
     at_most(address, (1 << power) - over, limit)
 }
 
-/// The address behind a statement at an address. `None`: it is more than the limit.
-pub(crate) fn behind_statement(statement: &Statement, address: u32, limit: u32) -> Option<u32>
+/// The address after a statement at an address. `None`: it is more than the limit.
+pub(crate) fn end_of_statement(statement: &Statement, address: u32, limit: u32) -> Option<u32>
     requires some { 0 < address }
     requires within { address ≤ limit }
     ensures { result ≡ up_to limit (address + spec.size_of statement.now address) }
@@ -102,21 +102,21 @@ pub(crate) fn behind_statement(statement: &Statement, address: u32, limit: u32) 
         Statement::StoreLower { .. } => at_most(address, 4, limit),
         Statement::LoadAddress { .. } => at_most(address, 8, limit),
         Statement::Call { .. } => at_most(address, 8, limit),
-        Statement::Data { width, items } => behind_items(*width, items, address, limit),
+        Statement::Data { width, items } => end_of_items(*width, items, address, limit),
         Statement::Space(count) => at_most(address, *count, limit),
-        Statement::Align(power) => behind_padding(*power, address, limit),
+        Statement::Align(power) => end_of_padding(*power, address, limit),
         Statement::Nothing => at_most(address, 0, limit),
     }
 }
 
-/// The address behind a line at an address. `None`: it is more than the limit.
-pub(crate) fn behind(source: &Source, address: u32, limit: u32) -> Option<u32>
+/// The address after a line at an address. `None`: it is more than the limit.
+pub(crate) fn end_of_line(source: &Source, address: u32, limit: u32) -> Option<u32>
     requires some { 0 < address }
     requires within { address ≤ limit }
-    ensures { result ≡ up_to limit (spec.behind source.now address) }
+    ensures { result ≡ up_to limit (spec.end_of_line source.now address) }
 {
     match &source.line.statement {
-        Some(statement) => behind_statement(statement, address, limit),
+        Some(statement) => end_of_statement(statement, address, limit),
         None => at_most(address, 0, limit),
     }
 }
@@ -213,7 +213,7 @@ fn add_label(
 /// Where the lines of a program stand, if each ends at the limit or before it.
 pub(crate) fn lay_out(alloc: Global, program: &[Source], limit: u32) -> Result<Layout, AsmError>
     requires { first_address ≤ limit }
-    ensures { MatchResult result (λ l. IsLayout limit program.now (labels_of l.labels.entries) l.rows.items l.end) (λ e. Tells e (spec.place_error limit [] (spec.places first_address program.now))) }
+    ensures { MatchResult result (λ l. IsLayout limit program.now (labels_of l.labels.entries) l.rows.items l.end) (λ e. Reports e (spec.place_error limit [] (spec.places first_address program.now))) }
 {
     let mut layout = Layout {
         labels: IndexMap::new(alloc),
@@ -222,7 +222,7 @@ pub(crate) fn lay_out(alloc: Global, program: &[Source], limit: u32) -> Result<L
     };
     for source in program {
         if let Err(kind) = place(alloc, &mut layout, source, limit) {
-            return Err(AsmError::told_at(source.number, kind));
+            return Err(AsmError::reported_at(source.number, kind));
         }
     }
     Ok(layout)
@@ -240,8 +240,8 @@ fn place(
     ensures fits { OnOk result (spec.misplaced limit (labels_of layout.old.labels.entries) (spec.place layout.old.end source.now) ≡ None) }
     ensures labels { OnOk result (labels_of layout.new.labels.entries ≡ labels_of layout.old.labels.entries ++ spec.labels_at (spec.place layout.old.end source.now)) }
     ensures rows { OnOk result (layout.new.rows.items ≡ layout.old.rows.items ++ spec.rows_at (spec.place layout.old.end source.now)) }
-    ensures end { OnOk result (layout.new.end ≡ spec.behind source.now layout.old.end) }
-    ensures err { IfErr result (λ kind. told_kind kind (spec.misplaced limit (labels_of layout.old.labels.entries) (spec.place layout.old.end source.now))) }
+    ensures end { OnOk result (layout.new.end ≡ spec.end_of_line source.now layout.old.end) }
+    ensures err { IfErr result (λ kind. reported_kind kind (spec.misplaced limit (labels_of layout.old.labels.entries) (spec.place layout.old.end source.now))) }
 {
     let address = layout.end;
     let names = source.line.labels.as_slice();
@@ -251,7 +251,7 @@ fn place(
     if is_aligned(&source.line) && address % 4 != 0 {
         return Err(AsmErrorKind::OutOfRange);
     }
-    let Some(end) = behind(source, address, limit) else {
+    let Some(end) = end_of_line(source, address, limit) else {
         return Err(AsmErrorKind::TooLarge);
     };
     if let Err(kind) = add_row(

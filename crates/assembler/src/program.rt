@@ -2,7 +2,7 @@
 ghost use Rattle.std.specs.Prelude.{◌≡◌, ◌≤◌, ◌<◌, ◌+◌, ◌^◌, ◌++◌, [], Ok, Err, Result, length, MatchResult, OnOk, IfErr};
 ghost use Rattle.std.specs.Str.Lines.{lines};
 ghost use Rattle.statements.specs.Reading.{read};
-ghost use Rattle.assembler.specs.Errors.{error_in, no_memory, Tells};
+ghost use Rattle.assembler.specs.Errors.{error_in, no_memory, Reports};
 ghost use Rattle.assembler.specs.Program as spec;
 ghost use Rattle.assembler.specs.Steps.{after, said};
 
@@ -24,7 +24,7 @@ pub(crate) struct Source<'a> {
 
 /// The lines of a text that say something.
 pub(crate) fn read_program<'a>(alloc: Global, text: &'a [u8]) -> Result<Vec<Source<'a>>, AsmError>
-    ensures answers { MatchResult result (λ p. spec.read_text text.now ≡ Ok p.items) (λ e. Tells e (error_in (spec.read_text text.now))) }
+    ensures answers { MatchResult result (λ p. spec.read_text text.now ≡ Ok p.items) (λ e. Reports e (error_in (spec.read_text text.now))) }
     ensures long { spec.IsTooLong text.now → result ≡ Err spec.too_long }
 {
     if text.len() > TEXT_LIMIT {
@@ -42,19 +42,19 @@ pub(crate) fn read_program<'a>(alloc: Global, text: &'a [u8]) -> Result<Vec<Sour
     }
 }
 
-// The line on which the byte at a place stands.
-fn line_at(text: &[u8], place: usize) -> u32
-    requires within { place ≤ length text.now }
+// The line on which the byte at an index stands.
+fn line_at(text: &[u8], index: usize) -> u32
+    requires within { index ≤ length text.now }
     requires few { length text.now ≤ 1048576 }
-    ensures { result ≡ spec.line_at text.now place }
+    ensures { result ≡ spec.line_at text.now index }
 {
-    let before = &text[..place];
+    let before = &text[..index];
     before.iter().filter(|b| **b == b'\n').count() as u32 + 1
 }
 
 fn read_lines<'a>(alloc: Global, text: &'a str) -> Result<Vec<Source<'a>>, AsmError>
     requires { length text.now ≤ 1048576 }
-    ensures { MatchResult result (λ p. spec.read_lines 1 (lines text.now) ≡ Ok p.items) (λ e. Tells e (error_in (spec.read_lines 1 (lines text.now)))) }
+    ensures { MatchResult result (λ p. spec.read_lines 1 (lines text.now) ≡ Ok p.items) (λ e. Reports e (error_in (spec.read_lines 1 (lines text.now)))) }
 {
     let mut program = Vec::new(alloc);
     let mut number = 0;
@@ -74,7 +74,7 @@ fn read_one<'a>(
     number: u32,
     text: &'a [u8],
 ) -> Result<(), AsmError>
-    ensures { MatchResult result (λ _. after program.old.items (said number (read text.now)) ≡ Ok program.new.items) (λ e. Tells e (error_in (said number (read text.now)))) }
+    ensures { MatchResult result (λ _. after program.old.items (said number (read text.now)) ≡ Ok program.new.items) (λ e. Reports e (error_in (said number (read text.now)))) }
 {
     match read_line(alloc, text) {
         Ok(line) => keep(program, number, line),

@@ -1,3 +1,3 @@
 pub mod Listed
-pub mod Only
+pub mod Unique
 pub mod Written

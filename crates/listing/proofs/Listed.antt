@@ -7,7 +7,7 @@ use Rattle.image.specs.Memory.{first_address}
 use Rattle.image.specs.declared.Image.{Image}
 use Rattle.listing.specs.Entries.{addresses_in, AreEntries, IsListing, listed, words_from}
 
--- what stands behind entries, and they before it
+-- entries with others after them
 pub joined : (bytes : List ℕ) (test : Bool) (address : ℕ) (others : List ℕ) (part more : List ℕ) → AreEntries bytes (cond test (address ∷ []) []) part → AreEntries bytes others more → AreEntries bytes (cond test (address ∷ others) others) (part ++ more)
 joined bytes true address others part more (line, rest, entry, none, e) h =
     let same : part ≡ line = e ∙ ap (λ r. line ++ r) none ∙ append-nil line in
@@ -49,7 +49,7 @@ all_made image index lines p end =
     let nothing : AreEntries image.bytes (listed image.lines (words_from (first_address + 4 * index) (length image.bytes / 4 - index))) [] = subst (λ n. AreEntries image.bytes (listed image.lines (words_from (first_address + 4 * index) n)) []) (sym none) refl in
     subst (AreEntries image.bytes (addresses_in image)) (append-nil lines) (p.entries [] nothing)
 
--- six parts that are written one behind the other
+-- six parts that are written one after the other
 pub six_parts : (old a b c d e f s1 s2 s3 s4 s5 s6 : List ℕ) → s1 ≡ old ++ a → s2 ≡ s1 ++ b → s3 ≡ s2 ++ c → s4 ≡ s3 ++ d → s5 ≡ s4 ++ e → s6 ≡ s5 ++ f → s6 ≡ old ++ (a ++ (b ++ (c ++ (d ++ (e ++ f)))))
 six_parts old a b c d e f s1 s2 s3 s4 s5 s6 p q r s t u =
     u ∙ ap (λ l. l ++ f) (t ∙ ap (λ l. l ++ e) (s ∙ ap (λ l. l ++ d) (r ∙ ap (λ l. l ++ c) (q ∙ ap (λ l. l ++ b) p))))

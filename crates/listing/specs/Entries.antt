@@ -1,8 +1,8 @@
 -- The listing of an image: a line for each instruction, in the order of their addresses.
 --
--- An instruction stands at a multiple of 4 that the image's line table gives a source line. Its line of the listing is its
--- address and its word, each in eight hexadecimal digits, and the text that stands for it at that address, divided by single
--- spaces, with a line feed at the end. A word that is no instruction is written as a `.word`.
+-- An instruction stands at a multiple of 4 that the image's line table gives a source line. Its line of the listing is
+-- its address and its word, each in eight hexadecimal digits, and the disassembly of the word at that address, divided
+-- by single spaces, with a line feed at the end. A word that is no instruction is written as a `.word`.
 use Rattle.std.specs.Prelude.{◌≡◌, ℕ, zero, suc, ◌+◌, ◌/◌, is_some, List, [], ◌∷◌, ◌++◌, length, filter, codes, refl}
 use Rattle.image.specs.Lines.{line_of, Table}
 use Rattle.image.specs.Memory.{bytes_at, first_address, little_endian}
@@ -24,7 +24,8 @@ addresses_in image = listed image.lines (words_from first_address (length image.
 
 -- a line of a listing
 abbrev pub entry : ℕ → ℕ → List ℕ → List ℕ
-entry address word text = eight_digits address ++ (codes " " ++ (eight_digits word ++ (codes " " ++ (text ++ codes "\n"))))
+entry address word text = eight_digits address ++
+    (codes " " ++ (eight_digits word ++ (codes " " ++ (text ++ codes "\n"))))
 
 first_entry : entry 0x10000 0x73 (codes "ecall") ≡ codes "00010000 00000073 ecall\n"
 first_entry = refl
@@ -42,7 +43,8 @@ pub record IsEntry (bytes : List ℕ) (address : ℕ) (line : List ℕ) : Type 0
 -- The lines for some addresses, in order.
 abbrev pub AreEntries : List ℕ → List ℕ → List ℕ → Type 0
 AreEntries bytes [] lines = lines ≡ []
-AreEntries bytes (address ∷ others) lines = (line : List ℕ) × (rest : List ℕ) × IsEntry bytes address line × AreEntries bytes others rest × (lines ≡ line ++ rest)
+AreEntries bytes (address ∷ others) lines = (line : List ℕ) × (rest : List ℕ) × IsEntry bytes address line
+    × AreEntries bytes others rest × (lines ≡ line ++ rest)
 
 -- A listing of an image.
 abbrev pub IsListing : Image → List ℕ → Type 0

@@ -1,3 +1,9 @@
+-- The definitions of `listing`, in reading order.
+
+-- the listing of an image: a line for each instruction
 pub mod Entries
+-- what `listing` writes, and what it reports
 pub mod Listing
+-- ---- what only private clauses cite
+-- how the code makes a listing
 pub mod Steps

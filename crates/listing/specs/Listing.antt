@@ -1,8 +1,8 @@
--- What `listing` leaves behind.
+-- What `listing` writes, and what it reports.
 --
--- A text that has an image, for memory of 1 MiB, is listed wholly. Where the writer fails on the way, it has a part of the
--- listing, up to some byte. A text that has no image is told its error, and then the writer has what it had; so it has where
--- no memory was left. A text has at most one listing.
+-- A text that has an image, for memory of 1 MiB, is listed wholly. Where the writer fails on the way, it has a part of
+-- the listing, up to some byte. Of a text that has no image its error is reported, and then the writer has what it had;
+-- so it has where no memory was left. A text has at most one listing.
 use Rattle.std.specs.Prelude.{◌≡◌, ℕ, ◌<◌, List, length, take, Option, Some}
 use Rattle.std.specs.Io.KnownBytes.{Appends, Keeps}
 use Rattle.image.specs.declared.Image.{Image}
@@ -24,31 +24,31 @@ pub record IsListed (text lines : List ℕ) : Type 0 where
   pub placed : Placed text memory_size image
   pub is_listing : IsListing image lines
 
--- It is only one.
-abbrev pub ListingIsOnly : Type 0
-ListingIsOnly = (text lines other : List ℕ) → IsListed text lines → IsListed text other → lines ≡ other
+-- A text has at most one.
+abbrev pub ListingIsUnique : Type 0
+ListingIsUnique = (text lines other : List ℕ) → IsListed text lines → IsListed text other → lines ≡ other
 
--- A text's listing stands behind what a writer had before.
+-- A writer has a text's listing after what it had before.
 pub record Lists (text : List ℕ) (before after : Option (List ℕ)) : Type 0 where
   pub lines : List ℕ
   pub listed : IsListed text lines
-  pub behind : Appends before after lines
+  pub appended : Appends before after lines
 
--- So does a part of it: its first bytes, and not all.
+-- A writer has a part of it: its first bytes, and not all.
 pub record ListsPart (text : List ℕ) (before after : Option (List ℕ)) : Type 0 where
   pub lines : List ℕ
   pub listed : IsListed text lines
   pub count : ℕ
   pub short : count < length lines
-  pub behind : Appends before after (take count lines)
+  pub appended : Appends before after (take count lines)
 
--- What stands where a fault is told.
+-- What holds where a fault is reported.
 abbrev pub Faults : ListFault → List ℕ → Option (List ℕ) → Option (List ℕ) → Type 0
 Faults (Assembly error) text before after = (error_of text memory_size ≡ Some error) × Keeps before after
 Faults Write text before after = ListsPart text before after
 Faults NoMemory text before after = Keeps before after
 
--- what is told of an error of the assembler
+-- the fault for an error of the assembler
 abbrev pub fault_of : AsmErrorKind → AsmError → ListFault
 fault_of k.NoMemory error = NoMemory
 fault_of k.NotUtf8 error = Assembly error

@@ -28,7 +28,7 @@ pub fn listing<W: Write>(alloc: Global, text: &[u8], writer: &mut W) -> Result<(
     ensures err { IfErr result (λ fault. Faults fault text.now (W.contents writer.old) (W.contents writer.new)) }
 {
     match lines_of(alloc, text) {
-        Ok(lines) => told(write_whole(writer, lines.as_bytes())),
+        Ok(lines) => reported(write_whole(writer, lines.as_bytes())),
         Err(fault) => Err(fault),
     }
 }
@@ -48,8 +48,8 @@ fn lines_of(alloc: Global, text: &[u8]) -> Result<String, ListFault>
     }
 }
 
-fn told(answer: io::Result<()>) -> Result<(), ListFault>
-    ensures { result ≡ steps.told answer }
+fn reported(answer: io::Result<()>) -> Result<(), ListFault>
+    ensures { result ≡ steps.reported answer }
 {
     match answer {
         Ok(()) => Ok(()),

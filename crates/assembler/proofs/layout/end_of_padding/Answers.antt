@@ -1,6 +1,6 @@
 use Rattle.std.proofs.Common.{arith}
 use Rattle.assembler.proofs.Padded.{too_wide, at_multiple}
-use Rattle.assembler.proofs.layout.behind_padding.Goals as goal
+use Rattle.assembler.proofs.layout.end_of_padding.Goals as goal
 
 pub returns-then-power-ge32 : goal.returns-then-power-ge32
 returns-then-power-ge32 c = too_wide c.args.power c.args.address c.args.limit c.if-power-ge32.true c.requires.some c.requires.within (omega arith)

@@ -3,7 +3,7 @@ use Rattle.image.specs.Lines.{labels_of}
 use Rattle.statements.specs.Spelling.{named}
 use Rattle.assembler.specs.Contents.{defined}
 use Rattle.assembler.proofs.Labelled.{looked_up}
-use Rattle.assembler.proofs.contents.place_of.Goals as goal
+use Rattle.assembler.proofs.contents.address_of.Goals as goal
 
 pub returns-in-Some : goal.returns-in-Some
 returns-in-Some c = ap defined (c.in-Some.ensures.value ∙ looked_up c.args.labels.now.entries c.as_str.result.now ∙ ap (named (labels_of c.args.labels.now.entries)) c.as_str.ensures)
