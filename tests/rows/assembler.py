@@ -284,7 +284,7 @@ KINDS = (
     (b"jal 0x10001\n", 1, "OutOfRange"),
 )
 
-# Which of several errors is told.
+# Which of several errors is reported.
 FIRST = (
     # An earlier pass before a later one.
     (b"1 2\nnop \xff\n", 2, "NotUtf8"),
@@ -295,7 +295,7 @@ FIRST = (
     (b"j x\na:\na:\n", 3, "TwiceDefined"),
     (b"j x\n.byte 1\nnop\n", 3, "OutOfRange"),
     (b"j x\n.space 4096\n", 2, "TooLarge"),
-    # A target that is no address is told before any address is known, and a distance at the end.
+    # A target that is no address is reported before any address is known, and a distance at the end.
     (b"a: a:\nj 4294967296\n", 2, "OutOfRange"),
     (b"j x\nbeqz a0, -1\n", 2, "OutOfRange"),
     (b"beqz a0, 0\na: a:\n", 2, "TwiceDefined"),
@@ -345,8 +345,8 @@ ROWS = [
         label_at(0x1000f, "b", 11),
         label_at(0x10010, "none"),
     ], BY_HAND),
-    Row("each error is told", [fails(*row) for row in KINDS], PROFILE),
-    Row("the first error is told", [fails(*row) for row in FIRST], PROFILE),
+    Row("each error is reported", [fails(*row) for row in KINDS], PROFILE),
+    Row("the first error is reported", [fails(*row) for row in FIRST], PROFILE),
     Row("a text has 1048576 bytes at most", [
         assemble(b"\n" * 1048576),
         fails(b"\n" * 1048577, 0, "TooLarge"),

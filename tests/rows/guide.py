@@ -1,6 +1,6 @@
 """The examples of docs/MACHINE.md: what it says of a text, a number or an address is what comes of it.
 
-Each piece of code in the first cell of a table's row is a line of the row's text.
+Each span of code in the first cell of a table's row is a line of the row's text.
 """
 import os
 import re
@@ -169,7 +169,7 @@ def ranges():
 
 
 def spellings():
-    """The pieces of code that the section on numbers calls bad operands, and those that it calls numbers."""
+    """The spans of code that the section on numbers calls bad operands, and those that it calls numbers."""
     said = section("Numbers").partition("\n| ")[0].replace("\n", " ")
     wrong, right = said.partition("There is no ")[2].partition("each of these")[0], said.partition("There is no ")[0]
     for start in code(wrong):
@@ -234,10 +234,10 @@ def from_the_guide(name, steps, source):
 
 def with_operands(text):
     """A statement with registers and a target for the letters that stand for them."""
-    word, _, operands = text.partition(" ")
+    mnemonic, _, operands = text.partition(" ")
     for letter, operand in (("d", "a0"), ("s", "s1"), ("r", "t2"), ("t", "65536")):
         operands = re.sub(r"\b%s\b" % letter, operand, operands)
-    return ("%s %s" % (word, operands)).encode()
+    return ("%s %s" % (mnemonic, operands)).encode()
 
 
 def each_is_reported(header):

@@ -76,7 +76,7 @@ ROWS = [
         address_of(10, "none"), bind(10, "none"),
         address_of(0xffffffff, "none"), bind(0xffffffff, "none"),
     ], PROFILE),
-    Row("the first of the nearest labels is told", table(labels=(
+    Row("the first of the nearest labels is answered", table(labels=(
         ("early", 0x8000),
         ("first", 0x10000),
         ("again", 0x10000),
@@ -91,7 +91,7 @@ ROWS = [
         (0x1001f, "later", 0x17),
         (0x10020, "none"),
     ), PROFILE),
-    Row("labels that fall are told alike", table(labels=(
+    Row("labels that fall are answered alike", table(labels=(
         ("high", 0x10008),
         ("low", 0x10004),
         ("high_again", 0x10008),

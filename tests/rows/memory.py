@@ -9,7 +9,7 @@ PROFILE = "docs/MACHINE.md, \"Memory\""
 BY_HAND = "worked by hand from docs/MACHINE.md, \"Memory\""
 
 # 251 does not divide its length, so that no two parts of it of a like length are the same.
-PIECE = bytes(i * 7 % 251 for i in range(1048576))
+BLOCK = bytes(i * 7 % 251 for i in range(1048576))
 
 
 def new(size=4096):
@@ -41,8 +41,8 @@ def write_word(address, value, answer="ok"):
     return "memory write_word %d %d" % (address, value), answer
 
 
-def write(address, piece, answer="ok"):
-    return "memory write %d %s" % (address, piece.hex()), answer
+def write(address, block, answer="ok"):
+    return "memory write %d %s" % (address, block.hex()), answer
 
 
 ROWS = [
@@ -90,17 +90,17 @@ ROWS = [
     ], BY_HAND),
     Row("memory of 16 MiB holds what is written at its ends", [
         new(16777216),
-        write(BASE, PIECE),
-        write(0x1010000 - len(PIECE), PIECE),
-        write(0x1010001 - len(PIECE), PIECE, "Outside"),
-        read(BASE, bytes(len(PIECE)), PIECE),
-        read(0x1010000 - len(PIECE), bytes(len(PIECE)), PIECE),
-        byte(BASE + len(PIECE), 0),
-        byte(0x100ffff - len(PIECE), 0),
+        write(BASE, BLOCK),
+        write(0x1010000 - len(BLOCK), BLOCK),
+        write(0x1010001 - len(BLOCK), BLOCK, "Outside"),
+        read(BASE, bytes(len(BLOCK)), BLOCK),
+        read(0x1010000 - len(BLOCK), bytes(len(BLOCK)), BLOCK),
+        byte(BASE + len(BLOCK), 0),
+        byte(0x100ffff - len(BLOCK), 0),
         write_word(0x100fffc, 0xfffefdfc),
         write_half(0x100fffa, 0xfbfa),
         write_byte(0x100fff9, 0xf9),
-        read(0x100fff8, bytes(8), PIECE[-8:-7] + b"\xf9\xfa\xfb\xfc\xfd\xfe\xff"),
+        read(0x100fff8, bytes(8), BLOCK[-8:-7] + b"\xf9\xfa\xfb\xfc\xfd\xfe\xff"),
         byte(0x100ffff, 255),
     ], BY_HAND),
     Row("memory that was not there is there when it is asked for again", [new(8192), write_word(0x11ffc, 7), word(0x11ffc, 7), byte(BASE, 0)],

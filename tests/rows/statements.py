@@ -163,7 +163,7 @@ WRONG = (
     ("OutOfRange", "li a0, -2147483649"),
 )
 
-# More of them: numbers just outside the ranges of their places.
+# More of them: numbers just outside the ranges of their operands.
 OUTSIDE = (
     "li a0, 4294967296",
     "lw a0, 2048(sp)",
@@ -197,8 +197,8 @@ ROWS = [
     Row("lines of one instruction have their words", [says(line, "One %d" % word) for word, line in ONE], ASSEMBLER),
     Row("constants of two instructions have their words", [says(line, "Two %d %d" % (first, second)) for first, second, line in TWO], ASSEMBLER),
     Row("jumps and branches have their words", [towards(line, word) for word, line in TOWARDS], ASSEMBLER),
-    Row("what is wrong with a line is told", [says(line, error) for error, line in WRONG], PROFILE),
-    Row("numbers outside their ranges are told", [says(line, "OutOfRange") for line in OUTSIDE], PROFILE),
+    Row("what is wrong with a line is reported", [says(line, error) for error, line in WRONG], PROFILE),
+    Row("numbers outside their ranges are reported", [says(line, "OutOfRange") for line in OUTSIDE], PROFILE),
     Row("a byte that is no text is no operand", [says(b"add a0, a1, \xff", "BadOperand")], PROFILE),
     Row("blanks comments and labels change nothing", [says(line, "%sOne %d" % (labels, 0x00812503)) for line, labels in SAME], ASSEMBLER),
     Row("labels stand before a statement or alone", [
@@ -226,12 +226,12 @@ ROWS = [
     Row("each kind of statement is read", [
         says("jal t0, there", "Jump 5 there"),
         says("j 0x10000", "Jump 0 65536"),
-        says("bltu a0, s1, there", "Branch Below 10 9 there"),
+        says("bltu a0, s1, there", "Branch LessThanUnsigned 10 9 there"),
         says("bgez a0, 65536", "Branch GreaterOrEqual 10 0 65536"),
         says("beqz a0, there", "Branch Equal 10 0 there"),
         says("bnez a0, there", "Branch NotEqual 10 0 there"),
-        says("bgtz a0, there", "Branch Less 0 10 there"),
-        says("bleu a0, a1, there", "Branch AboveOrEqual 11 10 there"),
+        says("bgtz a0, there", "Branch LessThan 0 10 there"),
+        says("bleu a0, a1, there", "Branch GreaterOrEqualUnsigned 11 10 there"),
         says("lui a0, %hi(x)", "Upper 10 x"),
         says("addi a0, a1, %lo(x)", "Lower Addi 10 11 x"),
         says("lhu a0, %lo(x)(a1)", "Lower Lhu 10 11 x"),

@@ -1,6 +1,6 @@
 //! Assembles the text on standard input: what `bench/assembler/run` times.
 //!
-//! Words: how often; then the count of bytes is printed. Or `image`; then the image's bytes are written.
+//! Arguments: how often; then the count of bytes is printed. Or `image`; then the image's bytes are written.
 #![tactic(auto)]
 
 use assembler::assemble;
@@ -22,8 +22,8 @@ enum Task {
 }
 
 fn main(rt: HostRuntime) -> io::Result<ExitCode> {
-    let words: Vec<String> = env::args(&rt)?.collect(rt.alloc())?;
-    let Some(task) = task_of(words.as_slice()) else {
+    let arguments: Vec<String> = env::args(&rt)?.collect(rt.alloc())?;
+    let Some(task) = task_of(arguments.as_slice()) else {
         eprintln!(rt; "usage: bench_assembler ROUNDS|image < TEXT")?;
         return Ok(ExitCode::from(2));
     };
@@ -35,11 +35,11 @@ fn main(rt: HostRuntime) -> io::Result<ExitCode> {
     }
 }
 
-fn task_of(words: &[String]) -> Option<Task> {
-    let [_, word] = words else {
+fn task_of(arguments: &[String]) -> Option<Task> {
+    let [_, argument] = arguments else {
         return None;
     };
-    match word.as_str() {
+    match argument.as_str() {
         "image" => Some(Task::Write),
         rounds => Some(Task::Count(rounds.parse().ok()?)),
     }

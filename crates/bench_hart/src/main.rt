@@ -1,6 +1,6 @@
 //! Runs a program on a hart, step by step: what `bench/hart/run` times.
 //!
-//! Words: the program (`tight`, `sort` or `fib`), and its argument.
+//! Arguments: the program (`tight`, `sort` or `fib`), and its argument.
 #![tactic(auto)]
 
 mod programs;
@@ -23,8 +23,8 @@ struct Ending {
 }
 
 fn main(rt: HostRuntime) -> io::Result<ExitCode> {
-    let words: Vec<String> = env::args(&rt)?.collect(rt.alloc())?;
-    let Some((program, argument)) = load_of(words.as_slice()) else {
+    let arguments: Vec<String> = env::args(&rt)?.collect(rt.alloc())?;
+    let Some((program, argument)) = load_of(arguments.as_slice()) else {
         eprintln!(rt; "usage: bench_hart tight|sort|fib ARGUMENT")?;
         return Ok(ExitCode::from(2));
     };
@@ -39,8 +39,8 @@ fn main(rt: HostRuntime) -> io::Result<ExitCode> {
     Ok(ExitCode::SUCCESS)
 }
 
-fn load_of(words: &[String]) -> Option<(&'static [u32], u32)> {
-    let [_, program, argument] = words else {
+fn load_of(arguments: &[String]) -> Option<(&'static [u32], u32)> {
+    let [_, program, argument] = arguments else {
         return None;
     };
     let argument = argument.as_str().parse().ok()?;

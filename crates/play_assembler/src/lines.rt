@@ -11,8 +11,8 @@ use std::alloc::{AllocError, Global};
 use std::fmt::Debug;
 
 /// What is answered of a line.
-pub(crate) fn answer_line(alloc: Global, words: &[&str]) -> Result<String, Fault> {
-    match words {
+pub(crate) fn answer_line(alloc: Global, arguments: &[&str]) -> Result<String, Fault> {
+    match arguments {
         ["read", bytes] => {
             let text = bytes_of(alloc, bytes)?;
             match read_line(alloc, &text) {

@@ -24,8 +24,8 @@ impl Listed {
     }
 
     /// What is answered of listings.
-    pub(crate) fn answer(&mut self, alloc: Global, words: &[&str]) -> Result<String, Fault> {
-        match words {
+    pub(crate) fn answer(&mut self, alloc: Global, arguments: &[&str]) -> Result<String, Fault> {
+        match arguments {
             ["writer", room] => {
                 self.writer = Taker::new(alloc, parsed(room)?)?;
                 told(alloc, "ok")

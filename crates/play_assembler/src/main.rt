@@ -23,8 +23,8 @@ struct Assembler {
 }
 
 impl Player for Assembler {
-    fn answer(&mut self, alloc: Global, words: &[&str]) -> Result<String, Fault> {
-        match words {
+    fn answer(&mut self, alloc: Global, arguments: &[&str]) -> Result<String, Fault> {
+        match arguments {
             ["line", rest @ ..] => answer_line(alloc, rest),
             ["list", rest @ ..] => self.listed.answer(alloc, rest),
             ["assemble", size, text] => assembled(alloc, &mut self.image, size, text),

@@ -1,7 +1,7 @@
 //! Whole texts and their images.
 //!
 //! - `assemble SIZE BYTES`: assembles a text for a memory of so many bytes, and keeps its image.
-//! - `image entry`, `image bytes`: the image's; other words after `image` are asked of its lines, as
+//! - `image entry`, `image bytes`: the image's; other arguments after `image` are asked of its lines, as
 //!   `play_image` says.
 
 use assembler::{AsmError, AsmErrorKind, assemble};
@@ -10,7 +10,7 @@ use play::{Fault, bytes_of, hexadecimal, parsed, told};
 use play_image::ask_lines;
 use std::alloc::Global;
 
-/// What is told where no memory is left.
+/// What is reported where no memory is left.
 const NO_MEMORY: AsmError = AsmError {
     line: 0,
     kind: AsmErrorKind::NoMemory,
@@ -36,10 +36,14 @@ pub(crate) fn assembled(
 }
 
 /// What an image answers.
-pub(crate) fn answer_image(alloc: Global, image: &Image, words: &[&str]) -> Result<String, Fault> {
-    match words {
+pub(crate) fn answer_image(
+    alloc: Global,
+    image: &Image,
+    arguments: &[&str],
+) -> Result<String, Fault> {
+    match arguments {
         ["entry"] => told(alloc, image.entry),
         ["bytes"] => hexadecimal(alloc, image.bytes.as_slice()),
-        words => ask_lines(alloc, &image.lines, words),
+        arguments => ask_lines(alloc, &image.lines, arguments),
     }
 }

@@ -1,6 +1,6 @@
 //! What a line table is asked.
 
-use crate::telling::{found, pair};
+use crate::answers::{found, pair};
 use image::LineTable;
 use play::{Fault, parsed, told};
 use std::alloc::Global;
@@ -12,8 +12,8 @@ use std::alloc::Global;
 /// - `bind LINE`: a line and an address, or `none`.
 /// - `starts ADDRESS`: `true` or `false`.
 /// - `label_at ADDRESS`: a name and a number of bytes, or `none`.
-pub fn ask_lines(alloc: Global, table: &LineTable, words: &[&str]) -> Result<String, Fault> {
-    match words {
+pub fn ask_lines(alloc: Global, table: &LineTable, arguments: &[&str]) -> Result<String, Fault> {
+    match arguments {
         ["line_of", address] => found(alloc, table.line_of(parsed(address)?)),
         ["address_of", line] => found(alloc, table.address_of(parsed(line)?)),
         ["bind", line] => pair(alloc, table.bind(parsed(line)?)),

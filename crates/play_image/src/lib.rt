@@ -1,8 +1,8 @@
 //! What the players of a line table share.
 #![tactic(auto)]
 
+mod answers;
 mod asking;
-mod telling;
 
+pub use answers::{found, pair};
 pub use asking::ask_lines;
-pub use telling::{found, pair};

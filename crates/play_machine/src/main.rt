@@ -1,6 +1,6 @@
-//! Plays the machine: memory, a line table, words with their texts, and a hart that steps.
+//! Plays the machine: memory, a line table, words with their disassembly, and a hart that steps.
 //!
-//! The first word of a command is the part that it is for; each part's file has its commands.
+//! The first argument of a command is the part that it is for; each part's file has its commands.
 #![tactic(auto)]
 
 mod memories;
@@ -29,8 +29,8 @@ struct Machine {
 }
 
 impl Player for Machine {
-    fn answer(&mut self, alloc: Global, words: &[&str]) -> Result<String, Fault> {
-        match words {
+    fn answer(&mut self, alloc: Global, arguments: &[&str]) -> Result<String, Fault> {
+        match arguments {
             ["memory", "new", size] => {
                 self.memory = new_memory(alloc, size)?;
                 Ok(String::from_str(alloc, "ok")?)

@@ -23,9 +23,9 @@ pub(crate) fn new_memory(alloc: Global, size: &str) -> Result<Memory, Fault> {
 pub(crate) fn answer_memory(
     alloc: Global,
     memory: &mut Memory,
-    words: &[&str],
+    arguments: &[&str],
 ) -> Result<String, Fault> {
-    match words {
+    match arguments {
         ["byte", address] => found(alloc, memory.byte(parsed(address)?)),
         ["word", address] => match memory.word(parsed(address)?) {
             Ok(word) => told(alloc, word),

@@ -10,8 +10,8 @@ use std::alloc::Global;
 use std::str;
 
 /// What is answered of a register.
-pub(crate) fn answer_register(alloc: Global, words: &[&str]) -> Result<String, Fault> {
-    match words {
+pub(crate) fn answer_register(alloc: Global, arguments: &[&str]) -> Result<String, Fault> {
+    match arguments {
         ["name", number] => named(alloc, number),
         ["of", bytes] => {
             let bytes = bytes_of(alloc, bytes)?;
@@ -22,8 +22,8 @@ pub(crate) fn answer_register(alloc: Global, words: &[&str]) -> Result<String, F
     }
 }
 
-fn named(alloc: Global, word: &str) -> Result<String, Fault> {
-    let number: u32 = parsed(word)?;
+fn named(alloc: Global, number: &str) -> Result<String, Fault> {
+    let number: u32 = parsed(number)?;
     if number < 32 {
         told(alloc, reg_name(number))
     } else {

@@ -15,9 +15,9 @@ pub(crate) fn answer_hart(
     alloc: Global,
     hart: &mut Hart,
     memory: &mut Memory,
-    words: &[&str],
+    arguments: &[&str],
 ) -> Result<String, Fault> {
-    match words {
+    match arguments {
         ["new", entry, sp] => {
             *hart = Hart::new(parsed(entry)?, parsed(sp)?);
             told(alloc, "ok")

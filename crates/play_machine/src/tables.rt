@@ -34,8 +34,8 @@ impl Tables {
     }
 
     /// What is answered of tables and images.
-    pub(crate) fn answer(&mut self, alloc: Global, words: &[&str]) -> Result<String, Fault> {
-        match words {
+    pub(crate) fn answer(&mut self, alloc: Global, arguments: &[&str]) -> Result<String, Fault> {
+        match arguments {
             ["row", line, address, count] => {
                 let row = (parsed(line)?, parsed(address)?, parsed(count)?);
                 self.rows.push(row).map_err(AllocError::from)?;
@@ -49,8 +49,8 @@ impl Tables {
             ["image", entry, bytes] => self.make_image(alloc, parsed(entry)?, bytes),
             ["bytes"] => self.bytes(alloc),
             ["parts"] => self.parts(alloc),
-            words => match &self.table {
-                Some(table) => ask_lines(alloc, table, words),
+            arguments => match &self.table {
+                Some(table) => ask_lines(alloc, table, arguments),
                 None => Err(Fault::NoCommand),
             },
         }

@@ -1,8 +1,8 @@
-//! Words of instructions, and their texts.
+//! Words of instructions, and their disassembly.
 //!
 //! - `decode WORD`: the instruction, or `none`.
 //! - `encode WORD`: the word of that instruction, or `none`.
-//! - `text WORD ADDRESS`: that instruction's text at an address, or `none`; `word_text WORD ADDRESS`: any word's.
+//! - `text WORD ADDRESS`: that instruction's disassembly at an address, or `none`; `word_text WORD ADDRESS`: any word's.
 //! - `digits TEXT WORD`: the text with the word's digits after it.
 
 use play::{Fault, called, parsed, told};
@@ -10,8 +10,8 @@ use rv32i::{decode, encode, push_digits, text_of, text_of_word};
 use std::alloc::Global;
 
 /// What is answered of a word.
-pub(crate) fn answer_word(alloc: Global, words: &[&str]) -> Result<String, Fault> {
-    match words {
+pub(crate) fn answer_word(alloc: Global, arguments: &[&str]) -> Result<String, Fault> {
+    match arguments {
         ["decode", word] => decoded(alloc, parsed(word)?),
         ["encode", word] => encoded(alloc, parsed(word)?),
         ["text", word, address] => text(alloc, parsed(word)?, parsed(address)?),
