@@ -135,12 +135,7 @@ pub(crate) fn perform(
         Instr::Sh { rs1, rs2, imm } => store_half(memory, address(x, rs1, imm), read(x, rs2), next),
         Instr::Sw { rs1, rs2, imm } => store_word(memory, address(x, rs1, imm), read(x, rs2), next),
         Instr::Addi { rd, rs1, imm } => put(read(x, rs1).wrapping_add(imm.bits()), rd, x, next),
-        Instr::Slti { rd, rs1, imm } => put(
-            flag(is_less_than(read(x, rs1), imm.bits())),
-            rd,
-            x,
-            next,
-        ),
+        Instr::Slti { rd, rs1, imm } => put(set_less_than(read(x, rs1), imm.bits()), rd, x, next),
         Instr::Sltiu { rd, rs1, imm } => put(flag(read(x, rs1) < imm.bits()), rd, x, next),
         Instr::Xori { rd, rs1, imm } => put(read(x, rs1) ^ imm.bits(), rd, x, next),
         Instr::Ori { rd, rs1, imm } => put(read(x, rs1) | imm.bits(), rd, x, next),
@@ -151,12 +146,7 @@ pub(crate) fn perform(
         Instr::Add { rd, rs1, rs2 } => put(read(x, rs1).wrapping_add(read(x, rs2)), rd, x, next),
         Instr::Sub { rd, rs1, rs2 } => put(read(x, rs1).wrapping_sub(read(x, rs2)), rd, x, next),
         Instr::Sll { rd, rs1, rs2 } => put(read(x, rs1).wrapping_shl(read(x, rs2)), rd, x, next),
-        Instr::Slt { rd, rs1, rs2 } => put(
-            flag(is_less_than(read(x, rs1), read(x, rs2))),
-            rd,
-            x,
-            next,
-        ),
+        Instr::Slt { rd, rs1, rs2 } => put(set_less_than(read(x, rs1), read(x, rs2)), rd, x, next),
         Instr::Sltu { rd, rs1, rs2 } => put(flag(read(x, rs1) < read(x, rs2)), rd, x, next),
         Instr::Xor { rd, rs1, rs2 } => put(read(x, rs1) ^ read(x, rs2), rd, x, next),
         Instr::Srl { rd, rs1, rs2 } => put(read(x, rs1).wrapping_shr(read(x, rs2)), rd, x, next),
@@ -191,6 +181,14 @@ fn is_less_than(a: u32, b: u32) -> bool
     ensures { result ≡ is_less_than a b }
 {
     a.cast_signed() < b.cast_signed()
+}
+
+// 1 where a is less than b, as signed numbers; 0 where it is not.
+#[inline]
+fn set_less_than(a: u32, b: u32) -> u32
+    ensures { result ≡ flag (is_less_than a b) }
+{
+    flag(is_less_than(a, b))
 }
 
 // Shifts right, copying the sign; the low 5 bits say how far.

@@ -26,9 +26,9 @@ use crate::fields::{BranchOffset, FenceSet, Imm, Reg, Shamt, Upper};
 use crate::names::reg_name;
 use std::alloc::{AllocError, Global};
 
-/// The disassembly of an instruction at an address: the statement that stands for it. The targets of jumps and
-/// branches are written as absolute addresses, `pc` and the offset, wrapping. A FENCE for which there is
-/// no statement is written as its word, `.word 0x` and eight digits. `Err`: no memory was left.
+/// The disassembly of an instruction at an address: the statement that stands for it. The targets of jumps
+/// and branches are written as absolute addresses, `pc` and the offset, wrapping. A FENCE for which there
+/// is no statement is written as its word, `.word 0x` and eight digits. `Err`: no memory was left.
 pub fn text_of(alloc: Global, instr: Instr, pc: u32) -> Result<String, AllocError>
     ensures { IfOk result (λ text. HasText instr pc (string_bytes text)) }
 {
@@ -37,24 +37,12 @@ pub fn text_of(alloc: Global, instr: Instr, pc: u32) -> Result<String, AllocErro
         Instr::Auipc { rd, imm } => upper_text(alloc, "auipc", rd, imm),
         Instr::Jal { rd, offset } => jump_text(alloc, "jal", rd, pc.wrapping_add(offset.bits())),
         Instr::Jalr { rd, rs1, imm } => access_text(alloc, "jalr", rd, rs1, imm),
-        Instr::Beq { rs1, rs2, offset } => branch_text(alloc, "beq", rs1, rs2, target(pc, offset)),
-        Instr::Bne { rs1, rs2, offset } => branch_text(alloc, "bne", rs1, rs2, target(pc, offset)),
-        Instr::Blt { rs1, rs2, offset } => branch_text(alloc, "blt", rs1, rs2, target(pc, offset)),
-        Instr::Bge { rs1, rs2, offset } => branch_text(alloc, "bge", rs1, rs2, target(pc, offset)),
-        Instr::Bltu { rs1, rs2, offset } => branch_text(
-            alloc,
-            "bltu",
-            rs1,
-            rs2,
-            target(pc, offset),
-        ),
-        Instr::Bgeu { rs1, rs2, offset } => branch_text(
-            alloc,
-            "bgeu",
-            rs1,
-            rs2,
-            target(pc, offset),
-        ),
+        Instr::Beq { rs1, rs2, offset } => branch_text(alloc, "beq", rs1, rs2, sum(pc, offset)),
+        Instr::Bne { rs1, rs2, offset } => branch_text(alloc, "bne", rs1, rs2, sum(pc, offset)),
+        Instr::Blt { rs1, rs2, offset } => branch_text(alloc, "blt", rs1, rs2, sum(pc, offset)),
+        Instr::Bge { rs1, rs2, offset } => branch_text(alloc, "bge", rs1, rs2, sum(pc, offset)),
+        Instr::Bltu { rs1, rs2, offset } => branch_text(alloc, "bltu", rs1, rs2, sum(pc, offset)),
+        Instr::Bgeu { rs1, rs2, offset } => branch_text(alloc, "bgeu", rs1, rs2, sum(pc, offset)),
         Instr::Lb { rd, rs1, imm } => access_text(alloc, "lb", rd, rs1, imm),
         Instr::Lh { rd, rs1, imm } => access_text(alloc, "lh", rd, rs1, imm),
         Instr::Lw { rd, rs1, imm } => access_text(alloc, "lw", rd, rs1, imm),
@@ -94,8 +82,8 @@ pub fn text_of(alloc: Global, instr: Instr, pc: u32) -> Result<String, AllocErro
     }
 }
 
-// Where a branch leads to.
-fn target(pc: u32, offset: BranchOffset) -> u32
+// The target of a branch: pc and its offset, wrapping.
+fn sum(pc: u32, offset: BranchOffset) -> u32
     ensures { result ≡ sum pc offset }
 {
     pc.wrapping_add(offset.bits())

@@ -29,7 +29,7 @@ said_named mnemonic name text h all =
       | false ↦ λ t. let none : Some name ≡ None = h ∙ rw t refl in cc
     ] in go refl
 
--- a line whose statement is that, or want of memory
+-- a line whose statement is that, or no memory was left
 pub or_line : (labels : List (List ℕ)) (r s : Result (Option Statement) LineError) → OrNoMemory r s → OrNoMemory (line_of labels r) (line_of labels s)
 or_line labels (Ok a) s h = ap (line_of labels) h
 or_line labels (Err NoMemory) s h = tt
