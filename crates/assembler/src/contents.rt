@@ -287,7 +287,7 @@ fn put_call(bytes: &mut Vec<u8>, far: Result<u32, AsmErrorKind>) -> Result<(), A
 fn put_zeros(bytes: &mut Vec<u8>, count: u32) -> Result<(), AsmErrorKind>
     ensures { Writes result (Ok (Plain (replicate count 0))) bytes.old.items bytes.new.items }
 {
-    for _place in 0..count {
+    for _index in 0..count {
         if bytes.push(0).is_err() {
             return Err(AsmErrorKind::NoMemory);
         }

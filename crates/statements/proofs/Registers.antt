@@ -80,7 +80,7 @@ named_is_name name n h =
       ]
     ]
 
--- what is in no list has no place
+-- what is in no list has no index
 no_index : (name : List ℕ) (list : List (List ℕ)) → ((i : ℕ) → i < length list → name ≡ get_or list i [] → ⊥) → index_of name list ≡ None
 no_index name list h = go (index_of name list) refl where
   go : (o : Option ℕ) → index_of name list ≡ o → o ≡ None

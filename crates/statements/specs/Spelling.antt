@@ -41,7 +41,7 @@ stripped prefix text = if bytes_eq (take (length prefix) text) prefix then Some 
 fields_of : fields 44 (codes "a,,b") ≡ codes "a" ∷ [] ∷ codes "b" ∷ []
 fields_of = refl
 
--- the fields after the first
+-- the fields after the first, which only private clauses cite
 abbrev pub fields_after : ℕ → Option (List ℕ) → List (List ℕ)
 fields_after byte None = []
 fields_after byte (Some text) = fields byte text

@@ -18,5 +18,5 @@ returns-in-Ok-clause-answers c =
 pub returns-in-Err-clause-answers : goal.returns-in-Err-clause-answers
 returns-in-Err-clause-answers c =
     let few : length c.args.text.now ≤ 1048576 = omega arith in
-    let place = c.valid_up_to.ensures ∙ c.in-Err.ensures.valid_len in
-    no_text c.args.text.now c.line_at.result few c.in-Err.ensures.cases.0 (c.line_at.ensures ∙ ap (line_at c.args.text.now) place)
+    let index = c.valid_up_to.ensures ∙ c.in-Err.ensures.valid_len in
+    no_text c.args.text.now c.line_at.result few c.in-Err.ensures.cases.0 (c.line_at.ensures ∙ ap (line_at c.args.text.now) index)
