@@ -61,14 +61,14 @@ names_length name = str_eq_ignore_ascii_case name (codes "Content-Length")
 abbrev pub length_fields : List Field → List Field
 length_fields fields = filter (λ f. names_length f.name) fields
 
--- A value says a length: it is 1 to 10 digits, blanks before and behind them, and the length is their value.
+-- A value says a length: it is 1 to 10 digits, blanks before and after them, and the length is their value.
 pub record SaysLength (value : List ℕ) (n : ℕ) : Type 0 where
   pub before : List ℕ
   pub digits : List ℕ
-  pub behind : List ℕ
-  pub spelled : value ≡ before ++ digits ++ behind
+  pub after : List ℕ
+  pub spelled : value ≡ before ++ digits ++ after
   pub blank_before : list_all is_blank before ≡ true
-  pub blank_behind : list_all is_blank behind ≡ true
+  pub blank_after : list_all is_blank after ≡ true
   pub all_digits : list_all is_ascii_digit digits ≡ true
   pub some : 0 < length digits
   pub few : length digits ≤ 10

@@ -37,7 +37,7 @@ abbrev pub fields_in : List (List ℕ) → Option (List Field)
 fields_in [] = Some []
 fields_in (line ∷ lines) = with_field (field_in line) (fields_in lines)
 
--- c at the front of the first line
+-- c before the first line
 abbrev pub onto_first : ℕ → List (List ℕ) → List (List ℕ)
 onto_first c [] = (c ∷ []) ∷ []
 onto_first c (line ∷ lines) = (c ∷ line) ∷ lines
@@ -72,7 +72,7 @@ length_by limit (Some fields) = length_among limit (length_fields fields)
 abbrev pub content_length : ℕ → List ℕ → Result ℕ FrameError
 content_length limit text = length_by limit (fields_in (lines_of text))
 
--- how many bytes the header part at the front of these bytes has, if it is whole and not too long
+-- how many bytes the header part that these bytes begin with has, if it is whole and not too long
 abbrev pub size_by : Option ℕ → Option ℕ
 size_by None = None
 size_by (Some size) = if nat_le size 4096 then Some size else None
@@ -89,7 +89,7 @@ abbrev pub start_at : ℕ → List ℕ → Option ℕ → Start
 start_at limit bytes None = if nat_lt (length bytes) 4096 then Waits else Breaks HeaderTooLong
 start_at limit bytes (Some size) = start_by size (content_length limit (take (size - 4) bytes))
 
--- how the frame at the front of these bytes starts
+-- how the frame that these bytes begin with starts
 unfoldable pub start_of : ℕ → List ℕ → Start
 start_of limit bytes = start_at limit bytes (size_of bytes)
 
@@ -103,7 +103,7 @@ pub record Reading : Type 0 where
   pub bodies : List (List ℕ)
   pub tail : Tail
 
--- a reading behind one more body, and behind more bodies
+-- a reading after one more body, and after more bodies
 abbrev pub with_body : List ℕ → Reading → Reading
 with_body body r = record { bodies = body ∷ r.bodies; tail = r.tail }
 

@@ -34,7 +34,7 @@ abbrev pub reading_after : ℕ → Tail → List ℕ → Reading
 reading_after limit (Partial rest) piece = reading_of limit (rest ++ piece)
 reading_after limit (Faulty fault) piece = record { bodies = []; tail = Faulty fault }
 
--- what is kept after a piece: new bodies wait behind the others, and the piece can be taken back
+-- what is kept after a piece: new bodies wait after the others, and the piece can be taken back
 abbrev pub with_reading : Unframed → Reading → Unframed
 with_reading kept r = record { limit = kept.limit; waiting = kept.waiting ++ r.bodies; tail = r.tail; before = Some (record { waiting = kept.waiting; tail = kept.tail }) }
 
@@ -83,7 +83,7 @@ tail_before tail (Some b) = b.tail
 abbrev pub retracted : Unframed → Unframed
 retracted kept = record { limit = kept.limit; waiting = waiting_before kept.waiting kept.before; tail = tail_before kept.tail kept.before; before = None }
 
--- A piece is taken back behind a loan: what is left is what was kept before it.
+-- A piece is taken back after a loan: what is left is what was kept before it.
 goes_back : (kept : Unframed) (piece : List ℕ) → retracted (lent_from (fed kept piece)) ≡ record kept { before = None }
 goes_back kept piece = refl
 
