@@ -8,7 +8,8 @@ use Rattle.std.specs.Prelude.{◌≡◌, ℕ, ◌<◌, ◌≤◌, true, List, []
 use Rattle.std.specs.List.{list_all}
 use Rattle.framing.specs.Headers.{Field, Head, SaysLength, end_of, end_of_line, header_of, is_field, length_fields}
 use Rattle.framing.specs.declared.error.FrameError.{FrameError}
-use Rattle.framing.specs.declared.error.FrameError.TheVariants.{Header, NoLength, TwoLengths, BadLength, TooLong, HeaderTooLong, NoMemory}
+use Rattle.framing.specs.declared.error.FrameError.TheVariants.{Header, NoLength, TwoLengths, BadLength, TooLong}
+use Rattle.framing.specs.declared.error.FrameError.TheVariants.{HeaderTooLong, NoMemory}
 
 -- the smallest frame of a body: its length in decimal digits, without leading zeros, and no other field
 abbrev pub minimal_frame : List ℕ → List ℕ
@@ -23,7 +24,8 @@ pub record Frame (limit : ℕ) (f body : List ℕ) : Type 0 where
 -- these bytes are frames of the bodies, in order
 abbrev pub AreFrames : ℕ → List ℕ → List (List ℕ) → Type 0
 AreFrames limit bytes [] = bytes ≡ []
-AreFrames limit bytes (body ∷ bodies) = (f : List ℕ) × (others : List ℕ) × (bytes ≡ f ++ others) × Frame limit f body × AreFrames limit others bodies
+AreFrames limit bytes (body ∷ bodies) = (f : List ℕ) × (others : List ℕ) × (bytes ≡ f ++ others) × Frame limit f body
+    × AreFrames limit others bodies
 
 -- The stream is frames of the bodies, in order, and then the rest, no prefix of which is a frame.
 pub record Framed (limit : ℕ) (stream : List ℕ) (bodies : List (List ℕ)) (rest : List ℕ) : Type 0 where
@@ -47,10 +49,13 @@ pub record HasFields (bytes : List ℕ) (fields : List Field) : Type 0 where
 -- Bytes that are to begin with a frame have the fault: the first in this order that they have. Only a header part that
 -- is too long has a fault before it is whole.
 abbrev pub Fault : ℕ → List ℕ → FrameError → Type 0
-Fault limit bytes Header = (header : List ℕ) × HasHeader bytes header × ((fields : List Field) → list_all is_field fields ≡ true → header ≡ header_of fields → ⊥)
+Fault limit bytes Header = (header : List ℕ) × HasHeader bytes header
+    × ((fields : List Field) → list_all is_field fields ≡ true → header ≡ header_of fields → ⊥)
 Fault limit bytes NoLength = (fields : List Field) × HasFields bytes fields × (length_fields fields ≡ [])
 Fault limit bytes TwoLengths = (fields : List Field) × HasFields bytes fields × (1 < length (length_fields fields))
-Fault limit bytes BadLength = (fields : List Field) × (field : Field) × HasFields bytes fields × (length_fields fields ≡ field ∷ []) × ((n : ℕ) → SaysLength field.value n → ⊥)
-Fault limit bytes TooLong = (fields : List Field) × (field : Field) × (n : ℕ) × HasFields bytes fields × (length_fields fields ≡ field ∷ []) × SaysLength field.value n × (limit < n)
+Fault limit bytes BadLength = (fields : List Field) × (field : Field) × HasFields bytes fields
+    × (length_fields fields ≡ field ∷ []) × ((n : ℕ) → SaysLength field.value n → ⊥)
+Fault limit bytes TooLong = (fields : List Field) × (field : Field) × (n : ℕ) × HasFields bytes fields
+    × (length_fields fields ≡ field ∷ []) × SaysLength field.value n × (limit < n)
 Fault limit bytes HeaderTooLong = (4096 ≤ length bytes) × ((size : ℕ) → end_of bytes ≡ Some size → 4096 < size)
 Fault limit bytes NoMemory = ⊥

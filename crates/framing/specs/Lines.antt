@@ -1,4 +1,4 @@
--- How the code goes over the lines of a header part.
+-- For private clauses alone: how the code goes over the lines of a header part.
 use Rattle.std.specs.Prelude.{◌≡◌, ℕ, ◌<◌, List, [], Option, Some, None, Result, Err, if◌then◌else◌}
 use Rattle.framing.specs.Headers.{Field, names_length, end_of}
 use Rattle.framing.specs.Reading.{lines_of, number_in, length_or_fault}

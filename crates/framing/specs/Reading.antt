@@ -3,14 +3,16 @@
 -- `Frames` says what frames are, as statements. Here the same is computed, for layers that go on from the
 -- bodies: a stream has one reading, which is its whole bodies in order and its tail. The tail is what has come
 -- of the next frame, or the fault that the stream has there.
-use Rattle.std.specs.Prelude.{◌≡◌, ℕ, zero, suc, ◌+◌, ◌-◌, ◌==◌, nat_lt, nat_le, if◌then◌else◌, ◌&&◌, not, List, [], ◌∷◌, ◌++◌, length, take, drop, position, Option, Some, None, Result, Ok, Err, codes, refl}
+use Rattle.std.specs.Prelude.{◌≡◌, ℕ, zero, suc, ◌+◌, ◌-◌, ◌==◌, nat_lt, nat_le, if◌then◌else◌, ◌&&◌, not, List, []}
+use Rattle.std.specs.Prelude.{◌∷◌, ◌++◌, length, take, drop, position, Option, Some, None, Result, Ok, Err, codes, refl}
 use Rattle.std.specs.List.{list_all}
 use Rattle.std.specs.Char.{is_ascii_digit}
 use Rattle.std.specs.Str.Parse.{digits_value}
 use Rattle.framing.specs.Headers.{Field, is_name, is_value, length_fields, end_of, end_of_line}
 use Rattle.byte_strings.specs.Blanks.{trimmed}
 use Rattle.framing.specs.declared.error.FrameError.{FrameError}
-use Rattle.framing.specs.declared.error.FrameError.TheVariants.{Header, NoLength, TwoLengths, BadLength, TooLong, HeaderTooLong}
+use Rattle.framing.specs.declared.error.FrameError.TheVariants.{Header, NoLength, TwoLengths, BadLength, TooLong}
+use Rattle.framing.specs.declared.error.FrameError.TheVariants.{HeaderTooLong}
 use Rattle.framing.specs.declared.start.Start.{Start}
 use Rattle.framing.specs.declared.start.Start.TheVariants.{Waits, Breaks, Begins}
 
@@ -50,7 +52,8 @@ lines_of (c ∷ d ∷ text) = if (c == 13) && (d == 10) then [] ∷ lines_of tex
 
 -- the number that 1 to 10 digits are
 abbrev pub number_in : List ℕ → Option ℕ
-number_in text = if not (length text == 0) && nat_le (length text) 10 && list_all is_ascii_digit text then Some (digits_value 10 text) else None
+number_in text = if not (length text == 0) && nat_le (length text) 10 && list_all is_ascii_digit text
+    then Some (digits_value 10 text) else None
 
 -- the length that a number is, if it is one and within the limit, or the fault
 abbrev pub length_or_fault : ℕ → Option ℕ → Result ℕ FrameError
@@ -114,7 +117,9 @@ with_bodies bodies r = record { bodies = bodies ++ r.bodies; tail = r.tail }
 abbrev pub reading_by : (List ℕ → Reading) → List ℕ → Start → Reading
 reading_by others bytes Waits = record { bodies = []; tail = Partial bytes }
 reading_by others bytes (Breaks fault) = record { bodies = []; tail = Faulty fault }
-reading_by others bytes (Begins size n) = if nat_lt (length bytes) (size + n) then record { bodies = []; tail = Partial bytes } else with_body (take n (drop size bytes)) (others (drop (size + n) bytes))
+reading_by others bytes (Begins size n) = if nat_lt (length bytes) (size + n)
+    then record { bodies = []; tail = Partial bytes }
+    else with_body (take n (drop size bytes)) (others (drop (size + n) bytes))
 
 -- the reading of a stream of at most so many frames
 abbrev pub reading_within : ℕ → ℕ → List ℕ → Reading
@@ -127,7 +132,8 @@ reading_of limit bytes = reading_within (length bytes) limit bytes
 
 -- A frame and part of another: names in letters of either case, blanks round the value, other fields.
 frames : List ℕ
-frames = codes "content-length:  2" ++ end_of_line ++ codes "X-A: b" ++ end_of_line ++ end_of_line ++ codes "{}Content-Le"
+frames = codes "content-length:  2" ++ end_of_line ++ codes "X-A: b" ++ end_of_line ++ end_of_line
+    ++ codes "{}Content-Le"
 
 frames_are_read : reading_of 9 frames ≡ record { bodies = codes "{}" ∷ []; tail = Partial (codes "Content-Le") }
 unfolding frames reading_of start_of
@@ -139,6 +145,7 @@ unfolding reading_of start_of
 no_length = refl
 
 -- a length above the limit
-too_long : reading_of 9 (codes "Content-Length: 10" ++ end_of_line ++ end_of_line) ≡ record { bodies = []; tail = Faulty TooLong }
+too_long : reading_of 9 (codes "Content-Length: 10" ++ end_of_line ++ end_of_line)
+    ≡ record { bodies = []; tail = Faulty TooLong }
 unfolding reading_of start_of
 too_long = refl

@@ -36,7 +36,12 @@ reading_after limit (Faulty fault) piece = record { bodies = []; tail = Faulty f
 
 -- what is kept after a piece: new bodies wait after the others, and the piece can be taken back
 abbrev pub with_reading : Unframed → Reading → Unframed
-with_reading kept r = record { limit = kept.limit; waiting = kept.waiting ++ r.bodies; tail = r.tail; before = Some (record { waiting = kept.waiting; tail = kept.tail }) }
+with_reading kept r = record {
+  limit = kept.limit;
+  waiting = kept.waiting ++ r.bodies;
+  tail = r.tail;
+  before = Some (record { waiting = kept.waiting; tail = kept.tail });
+}
 
 abbrev pub fed : Unframed → List ℕ → Unframed
 fed kept piece = with_reading kept (reading_after kept.limit kept.tail piece)
@@ -81,13 +86,19 @@ tail_before tail (Some b) = b.tail
 
 -- what is kept after the last piece was taken back: what was kept before it. No piece is left to take back.
 abbrev pub retracted : Unframed → Unframed
-retracted kept = record { limit = kept.limit; waiting = waiting_before kept.waiting kept.before; tail = tail_before kept.tail kept.before; before = None }
+retracted kept = record {
+  limit = kept.limit;
+  waiting = waiting_before kept.waiting kept.before;
+  tail = tail_before kept.tail kept.before;
+  before = None;
+}
 
 -- A piece is taken back after a loan: what is left is what was kept before it.
 goes_back : (kept : Unframed) (piece : List ℕ) → retracted (lent_from (fed kept piece)) ≡ record kept { before = None }
 goes_back kept piece = refl
 
--- A reading as statements: the stream is frames of these bodies and a rest, which is the partial tail, or has the fault.
+-- A reading as statements: the stream is frames of these bodies and a rest, which is the partial tail, or has the
+-- fault.
 abbrev pub TailIs : ℕ → List ℕ → Tail → Type 0
 TailIs limit rest (Partial bytes) = (rest ≡ bytes) × ((fault : FrameError) → Fault limit rest fault → ⊥)
 TailIs limit rest (Faulty fault) = Fault limit rest fault
@@ -125,14 +136,17 @@ with_lent s (Some body) = record { fed = s.fed; lent = s.lent ++ body ∷ [] }
 pub record StandsFor (kept : Unframed) (s : Stream) : Type 0 where
   pub reads : reading_of kept.limit s.fed ≡ record { bodies = s.lent ++ kept.waiting; tail = kept.tail }
 
--- What was kept before the last piece stands for a stream in the same way. Without a piece to take back, what is kept does.
+-- What was kept before the last piece stands for a stream in the same way. Without a piece to take back, what is kept
+-- does.
 pub record StandsBefore (kept : Unframed) (s : Stream) : Type 0 where
-  pub reads : reading_of kept.limit s.fed ≡ record { bodies = s.lent ++ waiting_before kept.waiting kept.before; tail = tail_before kept.tail kept.before }
+  pub reads : reading_of kept.limit s.fed
+      ≡ record { bodies = s.lent ++ waiting_before kept.waiting kept.before; tail = tail_before kept.tail kept.before }
 
 -- `feed` for a stream: what is kept then stands for the stream with the piece. An error is the fault of that stream;
 -- without an error it has none. Without memory what is kept stands for the stream of before.
 abbrev pub Takes : {T : Type 0} → Unframed → Stream → List ℕ → Result T FrameError → Unframed → Type 0
-Takes old s piece (Ok _) new = StandsFor new (with_piece s piece) × ((fault : FrameError) → HasFault old.limit (s.fed ++ piece) fault → ⊥)
+Takes old s piece (Ok _) new = StandsFor new (with_piece s piece)
+    × ((fault : FrameError) → HasFault old.limit (s.fed ++ piece) fault → ⊥)
 Takes old s piece (Err NoMemory) new = StandsFor new s
 Takes old s piece (Err fault) new = StandsFor new (with_piece s piece) × HasFault old.limit (s.fed ++ piece) fault
 
@@ -144,7 +158,8 @@ Remembers old s (Err NoMemory) new = StandsBefore old s → StandsBefore new s
 Remembers old s (Err fault) new = StandsFor old s → StandsBefore new s
 
 -- so it is for each stream that the value stood for
-pub record TakesPiece {T : Type 0} (old : Unframed) (piece : List ℕ) (result : Result T FrameError) (new : Unframed) : Type 0 where
+pub record TakesPiece {T : Type 0} (old : Unframed) (piece : List ℕ) (result : Result T FrameError) (new : Unframed)
+    : Type 0 where
   pub to_each : (s : Stream) → StandsFor old s → Takes old s piece result new
   pub before : (s : Stream) → Remembers old s result new
 

@@ -1,16 +1,17 @@
 -- The requests that came on a connection and wait for their answers (DAP specification, `Request`, `CancelRequest`;
 -- `ProtocolMessage.seq`).
 --
--- An editor numbers its requests, and each number is above those before it; it may leave gaps. A request whose number is
--- not is a repeat: it will be refused, and counts for nothing else.
+-- An editor numbers its requests, and each number is above those before it; it may leave gaps. A request whose number
+-- is not is a repeat: it will be refused, and counts for nothing else.
 --
 -- A `cancel` acts when it comes, not when it is answered. It names a request by its number; where that one came before
 -- it and still waits, the one named will be answered as cancelled. So a `cancel` can come too late, and then it is what
 -- will be refused. One that names nothing cancels nothing. A `cancel` is a request like others, and can itself be
 -- cancelled; what it did stays.
 --
--- What is no request is passed over. What is no message at all ends the reading: nothing behind it is looked at.
-use Rattle.std.specs.Prelude.{◌≡◌, ℕ, ℤ, pos, negsuc, Bool, true, false, not, ◌&&◌, ◌==◌, nat_lt, if◌then◌else◌, List, [], ◌∷◌, ◌++◌, map, fold, Option, Some, None, Result, Ok, Err, refl}
+-- What is no request is passed over. What is no message at all ends the reading: nothing after it is looked at.
+use Rattle.std.specs.Prelude.{◌≡◌, ℕ, ℤ, pos, negsuc, Bool, true, false, not, ◌&&◌, ◌==◌, nat_lt, if◌then◌else◌, List}
+use Rattle.std.specs.Prelude.{[], ◌∷◌, ◌++◌, map, fold, Option, Some, None, Result, Ok, Err, refl}
 use Rattle.std.specs.List.{list_any}
 use Rattle.protocol.specs.Commands.{name_of}
 use Rattle.protocol.specs.Reading.{incoming_of}
@@ -107,20 +108,21 @@ is_named id p = not (is_repeat p.fate) && is_number id (number_of p.ask)
 abbrev pub cancelled_by : ℤ → Pending → Pending
 cancelled_by id p = if is_named id p then record p { fate = Cancelled } else p
 
--- what will become of a `cancel` of that number, behind these
+-- what will become of a `cancel` of that number, after these
 abbrev pub fate_of_cancel : ℤ → List Pending → Fate
 fate_of_cancel id pending = if list_any (is_named id) pending then Waits else NamesNone
 
 -- a request more, which is no repeat, by what it cancels
-abbrev pub behind : Option ℤ → List Pending → Ask → List Pending
-behind None pending ask = pending ++ record { ask = ask; fate = Waits } ∷ []
-behind (Some id) pending ask = map (cancelled_by id) pending ++ record { ask = ask; fate = fate_of_cancel id pending } ∷ []
+abbrev pub pending_with : Option ℤ → List Pending → Ask → List Pending
+pending_with None pending ask = pending ++ record { ask = ask; fate = Waits } ∷ []
+pending_with (Some id) pending ask = map (cancelled_by id) pending
+    ++ record { ask = ask; fate = fate_of_cancel id pending } ∷ []
 
 -- a request more
 abbrev pub joined : Arrivals → Ask → Arrivals
 joined came ask =
     if is_above came.highest (number_of ask)
-    then record { highest = Some (number_of ask); pending = behind (cancels ask) came.pending ask }
+    then record { highest = Some (number_of ask); pending = pending_with (cancels ask) came.pending ask }
     else record { highest = came.highest; pending = came.pending ++ record { ask = ask; fate = Repeated } ∷ [] }
 
 -- requests more, one after the other

@@ -7,7 +7,8 @@ use Rattle.std.specs.Prelude.{◌≡◌, true, List, [], ◌∷◌, Result, Ok, 
 use Rattle.session.specs.declared.event.Applied.{Applied}
 use Rattle.session.specs.declared.event.Event.{Event}
 use Rattle.session.specs.declared.event.EventError.{EventError}
-use Rattle.session.specs.declared.event.EventError.TheVariants.{NotConnected, AlreadyConnected, Busy, SentTooMuch, PieceTooLong, Closing, NoMemory, Spent}
+use Rattle.session.specs.declared.event.EventError.TheVariants.{NotConnected, AlreadyConnected, Busy, SentTooMuch}
+use Rattle.session.specs.declared.event.EventError.TheVariants.{PieceTooLong, Closing, NoMemory, Spent}
 use Rattle.session.specs.Outcomes.{Seen, Act, outcome, needs_memory}
 
 pub record World (S : Type 0) : Type 0 where
@@ -30,8 +31,8 @@ abbrev pub after_all : {S : Type 0} → World S → List Event → S → S
 after_all w [] s = s
 after_all w (e ∷ es) s = after_all w es (effect w e s)
 
--- The answer is the event's, and P holds of what the event leaves. Memory runs out only where the event would be done and needs
--- some; then nothing happened.
+-- The answer is the event's, and P holds of what the event leaves. Memory runs out only where the event would be done
+-- and needs some; then nothing happened.
 abbrev pub Ends : {S : Type 0} → World S → S → Event → Result Applied EventError → (S → Type 0) → Type 0
 Ends w s e (Ok x) P = (answer w e s ≡ Ok x) × P (effect w e s)
 Ends w s e (Err NoMemory) P = (needs_memory (outcome (w.see s) e).acts ≡ true) × P s

@@ -6,10 +6,11 @@
 --
 -- A connection takes pieces of a stream until it is closing. It is closing once its stream has a fault, once
 -- `disconnect` was answered, and once its last number was given to a message. A fault is a body that is no message, or
--- a stream that goes on as no frame can, whichever comes first; what comes behind it is dropped, and what came before
+-- a stream that goes on as no frame can, whichever comes first; what comes after it is dropped, and what came before
 -- it is still answered. When the last number was given, nothing can be answered any more, and the requests that wait
 -- are dropped.
-use Rattle.std.specs.Prelude.{◌≡◌, refl, ℕ, ◌+◌, ◌==◌, ◌<◌, ◌≤◌, nat_lt, nat_le, Bool, true, false, ◌&&◌, if◌then◌else◌, List, [], ◌∷◌, ◌++◌, length, Option, Some, None, is_some, option_map, Result, Ok, Err}
+use Rattle.std.specs.Prelude.{◌≡◌, refl, ℕ, ◌+◌, ◌==◌, ◌<◌, ◌≤◌, nat_lt, nat_le, Bool, true, false, ◌&&◌, if◌then◌else◌}
+use Rattle.std.specs.Prelude.{List, [], ◌∷◌, ◌++◌, length, Option, Some, None, is_some, option_map, Result, Ok, Err}
 use Rattle.std.specs.List.{list_any}
 use Rattle.framing.specs.Reading.{Tail, Reading}
 use Rattle.framing.specs.Reading.Tail.{Partial}
@@ -22,11 +23,13 @@ use Rattle.replies.specs.declared.response.Outcome.{Outcome as AnOutcome}
 use Rattle.session.specs.declared.TheConstants.{BODY_LIMIT}
 use Rattle.session.specs.declared.state.TheConstants.{MOST_PIECE, MOST_PENDING, FULL, LAST_CONNECTION}
 use Rattle.session.specs.declared.event.Applied.{Applied}
-use Rattle.session.specs.declared.event.Applied.TheVariants.{Connect as Connected, Recv as Received, Turn as DidTurn, Sent as DidSend, DropConnection as Dropped}
+use Rattle.session.specs.declared.event.Applied.TheVariants.{Connect as Connected, Recv as Received, Turn as DidTurn}
+use Rattle.session.specs.declared.event.Applied.TheVariants.{Sent as DidSend, DropConnection as Dropped}
 use Rattle.session.specs.declared.event.Event.{Event}
 use Rattle.session.specs.declared.event.Event.TheVariants.{Connect, Recv, Turn, Sent, DropConnection}
 use Rattle.session.specs.declared.event.EventError.{EventError}
-use Rattle.session.specs.declared.event.EventError.TheVariants.{NotConnected, AlreadyConnected, Busy, SentTooMuch, PieceTooLong, Closing, Spent}
+use Rattle.session.specs.declared.event.EventError.TheVariants.{NotConnected, AlreadyConnected, Busy, SentTooMuch}
+use Rattle.session.specs.declared.event.EventError.TheVariants.{PieceTooLong, Closing, Spent}
 use Rattle.session.specs.declared.event.LinkFault.{LinkFault}
 use Rattle.session.specs.declared.event.LinkFault.TheVariants.{Frame, Message}
 use Rattle.session.specs.declared.event.Turned.TheVariants.{Answered, Nothing, Full}
@@ -36,7 +39,8 @@ use Rattle.session.specs.declared.pending.Pending.{Pending}
 use Rattle.session.specs.declared.phase.Phase.{Phase}
 use Rattle.session.specs.declared.phase.Phase.TheVariants.{Fresh, Initialized, Left}
 use Rattle.session.specs.Refusals.{answer_to, response_to}
-use Rattle.session.specs.Arrivals.{Arrivals, no_arrivals, first_pending, others_pending, all_joined, asks_of, message_fault_of}
+use Rattle.session.specs.Arrivals.{Arrivals, no_arrivals, first_pending, others_pending, all_joined, asks_of}
+use Rattle.session.specs.Arrivals.{message_fault_of}
 
 -- a body has at most 1 MiB, and a piece at most 65,536 bytes
 greatest_body : BODY_LIMIT ≡ 1048576
@@ -181,13 +185,14 @@ abbrev pub tail_kept : Option LinkFault → Tail → Tail
 tail_kept None tail = tail
 tail_kept (Some fault) tail = Partial []
 
--- what a piece is read as, behind what has come of the next frame
+-- what a piece is read as, after what has come of the next frame
 abbrev pub read_on : Now → List ℕ → Reading
 read_on now piece = reading_after BODY_LIMIT now.tail piece
 
 -- the requests of a reading join, and its fault closes
 abbrev pub taken_in : Now → Reading → Now
-taken_in now r = record now { arrivals = all_joined now.arrivals (asks_of r.bodies); tail = tail_kept (fault_of_reading r) r.tail }
+taken_in now r =
+    record now { arrivals = all_joined now.arrivals (asks_of r.bodies); tail = tail_kept (fault_of_reading r) r.tail }
 
 abbrev pub accepted : Now → Reading → Link → Now
 accepted now r link = record (taken_in now r) {
@@ -204,7 +209,8 @@ numbered limits link = record link {
 
 -- the requests that wait, after the first was answered with that number
 abbrev pub left_to_answer : Limits → ℕ → Arrivals → Arrivals
-left_to_answer limits seq came = record came { pending = if seq == limits.last_seq then [] else others_pending came.pending }
+left_to_answer limits seq came =
+    record came { pending = if seq == limits.last_seq then [] else others_pending came.pending }
 
 abbrev pub replied : Now → Link → Option Pending → Now
 replied now link None = now

@@ -5,7 +5,8 @@
 -- request, and the connection goes on in the phase that the request leads to.
 use Rattle.std.specs.Prelude.{ℕ, Bool, true, false, not, List, [], ◌∷◌, Option, Some, None, if◌then◌else◌}
 use Rattle.protocol.specs.declared.refusal.Refusal.{Refusal}
-use Rattle.protocol.specs.declared.refusal.Refusal.TheVariants.{RepeatedSequence, Cancelled as IsCancelled, WrongPhase, RequestGone}
+use Rattle.protocol.specs.declared.refusal.Refusal.TheVariants.{RepeatedSequence, Cancelled as IsCancelled, WrongPhase}
+use Rattle.protocol.specs.declared.refusal.Refusal.TheVariants.{RequestGone}
 use Rattle.protocol.specs.declared.request.Request.{Request as ARequest}
 use Rattle.replies.specs.declared.response.Outcome.TheVariants.{Done, Refused}
 use Rattle.replies.specs.declared.response.Outcome.{Outcome}
@@ -70,7 +71,8 @@ abbrev pub refused : Phase → Refusal → Answer
 refused phase refusal = record { outcome = Refused refusal None; phase = phase }
 
 abbrev pub succeeded : Phase → ARequest → Answer
-succeeded phase r = record { outcome = Done (success_of phase r.command).body; phase = (success_of phase r.command).phase }
+succeeded phase r =
+    record { outcome = Done (success_of phase r.command).body; phase = (success_of phase r.command).phase }
 
 abbrev pub answer_by : Option Refusal → Phase → Ask → Answer
 answer_by (Some refusal) phase ask = refused phase refusal

@@ -3,7 +3,8 @@
 -- Nothing that was queued, taken or asked is forgotten here: a session is what it is now, and the histories of all its
 -- connections. A connection has a number, from 1. Its bytes are the frames of the messages that were queued for it, in
 -- order; those that were not taken yet wait, as long as the connection lasts.
-use Rattle.std.specs.Prelude.{ℕ, ◌==◌, Bool, ◌||◌, if◌then◌else◌, List, [], ◌∷◌, ◌++◌, length, take, drop, map, filter, Option, Some, None, is_some, Result}
+use Rattle.std.specs.Prelude.{ℕ, ◌==◌, Bool, ◌||◌, if◌then◌else◌, List, [], ◌∷◌, ◌++◌, length, take, drop, map, filter}
+use Rattle.std.specs.Prelude.{Option, Some, None, is_some, Result}
 use Rattle.std.specs.List.{flat_map}
 use Rattle.framing.specs.Reading.{reading_of}
 use Rattle.framing.specs.Reading.Tail.{Partial}
@@ -18,7 +19,8 @@ use Rattle.session.specs.declared.pending.Ask.{Ask}
 use Rattle.session.specs.Arrivals.{no_arrivals, asks_of}
 use Rattle.session.specs.Effects.{World, effect, answer, after_all}
 use Rattle.session.specs.Writing.{frame_of}
-use Rattle.session.specs.Outcomes.{Now, Numbered, Act, Open, Close, Accept, Enter, Reply, HangUp, Take, now_after, queued_by, read_on, fault_of_reading}
+use Rattle.session.specs.Outcomes.{Now, Numbered, Act, Open, Close, Accept, Enter, Reply, HangUp, Take, now_after}
+use Rattle.session.specs.Outcomes.{queued_by, read_on, fault_of_reading}
 
 -- something on a connection, which has a number
 pub record On (X : Type 0) : Type 0 where
@@ -131,7 +133,8 @@ Answer s e = answer histories e s
 
 -- before anything happened
 abbrev pub nothing_yet : Limits → Now
-nothing_yet limits = record { limits = limits; connections = 0; link = None; arrivals = no_arrivals; tail = Partial []; fault = None }
+nothing_yet limits =
+    record { limits = limits; connections = 0; link = None; arrivals = no_arrivals; tail = Partial []; fault = None }
 
 abbrev pub start : Limits → Session
 start limits = record { now = nothing_yet limits; queued = []; taken = []; asked = []; accepted = [] }

@@ -1,7 +1,7 @@
--- Whether what a call of a stream answered ends serving, and as what.
+-- For private clauses alone: whether what a call of a stream answered ends serving, and as what.
 --
--- A read of no bytes is the end of the input. A write of none is a fault, since it would be tried for ever. A call that a
--- signal interrupted is made again, and any other error is a fault.
+-- A read of no bytes is the end of the input. A write of none is a fault, since it would be tried for ever. A call that
+-- a signal interrupted is made again, and any other error is a fault.
 use Rattle.std.specs.Prelude.{ℕ, Bool, true, false, ◌==◌, if◌then◌else◌, Option, Some, None, Result, Ok, Err}
 use Rattle.std.specs.IoError.{error_kind}
 use Rattle.std.specs.declared.io.Error.{Error}

@@ -50,7 +50,8 @@ and_gave heard incoming = record heard { given = heard.given ++ Ok incoming ∷ 
 
 -- the next of the messages is none, for this reason
 abbrev pub NextFails : Heard → MessageError → Type 0
-NextFails heard e = (later : List (Result Incoming MessageError)) × (messages_in heard.read ≡ heard.given ++ Err e ∷ later)
+NextFails heard e = (later : List (Result Incoming MessageError))
+    × (messages_in heard.read ≡ heard.given ++ Err e ∷ later)
 
 -- what a server has read and not yet given: the unframer, and a piece that it was not yet fed
 pub record Unread : Type 0 where

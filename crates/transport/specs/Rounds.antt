@@ -7,7 +7,8 @@
 --
 -- A reader may say which bytes it has left, and a writer which bytes it holds (`Rattle.std.specs.Io.KnownBytes`); what
 -- is said here of bytes read and written is held against both.
-use Rattle.std.specs.Prelude.{◌≡◌, ℕ, ◌<◌, ◌≤◌, nat_lt, if◌then◌else◌, List, [], ◌∷◌, ◌++◌, length, take, Option, Some, None, IsOk, ◌⊎◌}
+use Rattle.std.specs.Prelude.{◌≡◌, ℕ, ◌<◌, ◌≤◌, nat_lt, if◌then◌else◌, List, [], ◌∷◌, ◌++◌, length, take, Option, Some}
+use Rattle.std.specs.Prelude.{None, IsOk, ◌⊎◌}
 use Rattle.std.specs.Io.KnownBytes.{Consumes, Appends, IsAtEnd}
 use Rattle.transport.specs.declared.end.StreamEnd.{StreamEnd}
 use Rattle.transport.specs.declared.end.StreamEnd.TheVariants.{Closed, Fault, Turns, NoMemory}
@@ -115,7 +116,8 @@ sent s (r ∷ rounds) = sent_in s r ++ sent (after_round s r) rounds
 -- connection ends. `NoMemory`: no memory was left before the first round, or to answer the request that is due; or for
 -- the piece that was received, and then it is lost, and the connection ends. `Turns`: all turns were made.
 abbrev pub EndsAs : StreamEnd → Option (List ℕ) → ℕ → ℕ → List ℕ → Session → Kept → Type 0
-EndsAs Closed left turns made lost s new = Stands new (Effect s DropConnection) × (lost ≡ []) × ((due_in s ≡ Leave) ⊎ ((due_in s ≡ Receive) × IsAtEnd left))
+EndsAs Closed left turns made lost s new = Stands new (Effect s DropConnection) × (lost ≡ [])
+    × ((due_in s ≡ Leave) ⊎ ((due_in s ≡ Receive) × IsAtEnd left))
 EndsAs Fault left turns made lost s new = Stands new (Effect s DropConnection) × (lost ≡ []) × UsesStream (due_in s)
 EndsAs NoMemory left turns made lost s new =
     (Stands new s × (lost ≡ []) × ((due_in s ≡ Answer) ⊎ (made ≡ 0)))
@@ -124,7 +126,8 @@ EndsAs Turns left turns made lost s new = Stands new s × (lost ≡ []) × (made
 
 -- There are rounds, each of which does what is due; the pieces that they received are what the reader gave, but for a
 -- piece that was lost at the end; the bytes that they sent are what the writer took; and after them serving ends.
-pub record Served (left_before left held_before held : Option (List ℕ)) (turns : ℕ) (s : Session) (new : Kept) (end : StreamEnd) : Type 0 where
+pub record Served (left_before left held_before held : Option (List ℕ)) (turns : ℕ) (s : Session) (new : Kept)
+    (end : StreamEnd) : Type 0 where
   pub rounds : List Round
   pub lost : List ℕ
   pub are_rounds : AreRounds s rounds
@@ -132,7 +135,7 @@ pub record Served (left_before left held_before held : Option (List ℕ)) (turns
   pub appended : Appends held_before held (sent s rounds)
   pub ends : EndsAs end left turns (length rounds) lost (after_rounds s rounds) new
 
--- ---- one turn of the loop
+-- ---- one turn of the loop, for private clauses alone
 
 -- What a piece leaves: the session takes it, or no memory was left for it and the connection has ended.
 abbrev pub Took : Option StreamEnd → List ℕ → Session → Kept → Type 0
@@ -148,7 +151,8 @@ pub record GoesOn (left_before left held_before held : Option (List ℕ)) (s : S
   pub stands : Stands new (after_round s round)
 
 -- Or it ends serving, however many rounds there were.
-pub record Stops (end : StreamEnd) (left_before left held_before held : Option (List ℕ)) (s : Session) (new : Kept) : Type 0 where
+pub record Stops (end : StreamEnd) (left_before left held_before held : Option (List ℕ)) (s : Session) (new : Kept)
+    : Type 0 where
   pub lost : List ℕ
   pub consumed : Consumes left_before left lost
   pub appended : Appends held_before held []
@@ -159,7 +163,8 @@ Went None left_before left held_before held s new = GoesOn left_before left held
 Went (Some end) left_before left held_before held s new = Stops end left_before left held_before held s new
 
 -- A session has been served since it was this one, for so many rounds.
-pub record Serving (left_before left held_before held : Option (List ℕ)) (made : ℕ) (s : Session) (new : Kept) : Type 0 where
+pub record Serving (left_before left held_before held : Option (List ℕ)) (made : ℕ) (s : Session) (new : Kept)
+    : Type 0 where
   pub rounds : List Round
   pub are_rounds : AreRounds s rounds
   pub count : length rounds ≡ made
