@@ -27,6 +27,8 @@ pub mod Outcomes
 pub mod Effects
 -- a session with all of its past, and its bytes
 pub mod Sessions
+-- a whole session, computed: the bytes that it gets and those that it sends
+pub mod Example
 -- a prefix of a list
 pub mod Prefixes
 -- what the code keeps, which sessions that stands for (`Stands`), and what a call does for each of them (`Happens`);
