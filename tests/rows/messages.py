@@ -333,7 +333,7 @@ RESPONSES = [
         *written(1, refuse(1, "threads", "WrongPhase"), REFUSED_TEXT),
         *written(3, ack(3, "disconnect"), DISCONNECT_TEXT),
     ], PROFILE, refused=True),
-    Row("no memory is told apart from bad bodies", [
+    Row("no memory is another answer than that of bad bodies", [
         read(INITIALIZE_TEXT, 1, is_done(1, "initialize", "Initialize")),
         read(REFUSED_TEXT, 1, is_refused(1, "threads", "WrongPhase")),
         no_message("{", "NotJson"),

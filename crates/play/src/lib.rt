@@ -1,4 +1,4 @@
-//! What the players share. A player does to a layer what it reads and tells what each call answered: a
+//! What the players share. A player does to a layer what it reads and prints what each call answered: a
 //! command is a line of words on standard input, and its answer a line on standard output. It expects
 //! nothing; the tables that are played do.
 #![tactic(auto)]
@@ -9,4 +9,4 @@ mod words;
 
 pub use fault::Fault;
 pub use playing::{Player, play};
-pub use words::{bytes_of, called, hexadecimal, parsed, told};
+pub use words::{bytes_of, called, hexadecimal, parsed, shown};

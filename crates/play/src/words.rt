@@ -30,7 +30,7 @@ pub fn hexadecimal(alloc: Global, bytes: &[u8]) -> Result<String, Fault>
 }
 
 /// The answer that a value is, as it is displayed.
-pub fn told<D: Display + Drop>(alloc: Global, value: D) -> Result<String, Fault> {
+pub fn shown<D: Display + Drop>(alloc: Global, value: D) -> Result<String, Fault> {
     Ok(value.to_string(alloc)?)
 }
 

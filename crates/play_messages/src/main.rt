@@ -5,7 +5,7 @@ mod errors;
 mod requests;
 mod responses;
 
-use play::{Fault, Player, bytes_of, called, hexadecimal, parsed, play, told};
+use play::{Fault, Player, bytes_of, called, hexadecimal, parsed, play, shown};
 use protocol::json::json_value;
 use protocol::{MessageError, Text, read_request};
 use replies::{Message, Response, read_message, write_message};
@@ -31,7 +31,7 @@ impl Player for Messages {
             ["json", body] => json(alloc, &bytes_of(alloc, body)?),
             ["text", bytes] => text(alloc, responses::text_of(alloc, bytes)?),
             ["refusal", name] => errors::refusal_words(alloc, errors::refusal_named(name)?),
-            ["error", name] => told(alloc, errors::error_named(name)?),
+            ["error", name] => shown(alloc, errors::error_named(name)?),
             ["write", seq] => self.write(alloc, parsed(seq)?),
             ["read", body] => self.read(alloc, &bytes_of(alloc, body)?),
             _ => {
@@ -43,7 +43,7 @@ impl Player for Messages {
 }
 
 impl Messages {
-    /// Keeps the response, and tells what it is.
+    /// Keeps the response, and says what it is.
     fn keep(&mut self, alloc: Global, response: Response) -> Result<String, Fault> {
         let words = response_words(alloc, &response)?;
         self.last = Some(Message::Response(response));

@@ -1,6 +1,6 @@
 //! Requests as words.
 
-use play::{Fault, hexadecimal, parsed, told};
+use play::{Fault, hexadecimal, parsed, shown};
 use protocol::{
     CancelArguments, Command, DisconnectArguments, Incoming, InitializeArguments, Request,
 };
@@ -23,7 +23,7 @@ pub(crate) fn incoming_words(alloc: Global, incoming: Incoming) -> Result<String
             let name = hexadecimal(alloc, command.as_str().as_bytes())?;
             Ok(format!(in alloc; "bad {seq} {name} {refusal:?}")?)
         }
-        Incoming::Ignored => told(alloc, "ignored"),
+        Incoming::Ignored => shown(alloc, "ignored"),
     }
 }
 
