@@ -1,4 +1,4 @@
--- Where a header part ends: the places of CR LF CR LF.
+-- Where a header part ends: where CR LF CR LF stands.
 use Rattle.std.proofs.Common.{◌≡◌, ℕ, ◌+◌, ◌-◌, ◌<◌, ◌≤◌, zero, suc, Bool, true, false, cond, ◌&&◌, eqb, leb, List, [], ◌∷◌, ◌++◌, length, get_or, Option, Some, None, refl, sym, ap, ◌∙◌, arith, length-append, ◌⊎◌}
 use Rattle.std.specs.Option.{option_map}
 use Rattle.std.proofs.lemmas.List.{get_or_append_left}
