@@ -43,10 +43,11 @@ is_name_byte b = nat_le 33 b && nat_le b 126 && not (b == 58)
 abbrev pub is_value_byte : ℕ → Bool
 is_value_byte b = (nat_le 32 b && nat_le b 126) || (b == 9)
 
--- what can be a field's name, and its value
+-- what can be a field's name
 abbrev pub is_name : List ℕ → Bool
 is_name name = not (length name == 0) && list_all is_name_byte name
 
+-- what can be a field's value
 abbrev pub is_value : List ℕ → Bool
 is_value value = list_all is_value_byte value
 
@@ -86,11 +87,12 @@ pub record Head (limit : ℕ) (h : List ℕ) (n : ℕ) : Type 0 where
   pub says : SaysLength field.value n
   pub within : n ≤ limit
 
--- how many bytes a stream has up to and with its first CR LF CR LF
+-- whether a stream begins with CR LF CR LF
 abbrev pub begins_with_end : List ℕ → Bool
 begins_with_end (a ∷ b ∷ c ∷ d ∷ bytes) = (a == 13) && (b == 10) && (c == 13) && (d == 10)
 begins_with_end bytes = false
 
+-- how many bytes a stream has up to and with its first CR LF CR LF, if it has one
 abbrev pub end_of : List ℕ → Option ℕ
 end_of [] = None
 end_of (b ∷ bytes) = if begins_with_end (b ∷ bytes) then Some 4 else option_map suc (end_of bytes)

@@ -14,11 +14,12 @@ abbrev pub ReadingIsUnique : Type 0
 ReadingIsUnique = (limit : ℕ) (stream : List ℕ) (reading : Reading) → Reads limit stream reading
     → reading ≡ reading_of limit stream
 
--- A stream has no other bodies, no other rest and no other fault.
+-- A stream has no other bodies and no other rest.
 abbrev pub FramesAreUnique : Type 0
 FramesAreUnique = (limit : ℕ) (stream : List ℕ) (bodies others : List (List ℕ)) (rest left : List ℕ)
     → Framed limit stream bodies rest → Framed limit stream others left → (bodies ≡ others) × (rest ≡ left)
 
+-- A rest has no other fault.
 abbrev pub FaultIsUnique : Type 0
 FaultIsUnique = (limit : ℕ) (rest : List ℕ) (fault other : FrameError) → Fault limit rest fault → Fault limit rest other
     → fault ≡ other

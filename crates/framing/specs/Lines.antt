@@ -19,6 +19,7 @@ one_more No f = One (number_in (trimmed f.value))
 one_more (One n) f = More
 one_more More f = More
 
+-- what is known of the length after one more field
 abbrev pub with_length : Lengths → Field → Lengths
 with_length lengths f = if names_length f.name then one_more lengths f else lengths
 

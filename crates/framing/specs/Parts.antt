@@ -47,6 +47,7 @@ pub record Starts (limit : ℕ) (start : Start) (rest : List ℕ) : Type 0 where
   pub so : is_broken start ≡ false → start ≡ start_of limit rest
   pub no_other : start ≡ Breaks NoMemory → ⊥
 
+-- what a mark goes back to starts as the mark says, if there is one
 abbrev pub MarkStarts : ℕ → List ℕ → Option Mark → Type 0
 MarkStarts limit bytes None = Unit {0}
 MarkStarts limit bytes (Some m) = Starts limit m.start (take m.size bytes)

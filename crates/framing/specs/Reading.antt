@@ -25,6 +25,7 @@ abbrev pub field_at : List ℕ → Option ℕ → Option Field
 field_at line None = None
 field_at line (Some i) = field_of (take i line) (drop (i + 1) line)
 
+-- the field on a line, if it is one
 abbrev pub field_in : List ℕ → Option Field
 field_in line = field_at line (position (λ b. b == 58) line)
 
@@ -75,11 +76,12 @@ length_by limit (Some fields) = length_among limit (length_fields fields)
 abbrev pub content_length : ℕ → List ℕ → Result ℕ FrameError
 content_length limit text = length_by limit (fields_in (lines_of text))
 
--- how many bytes the header part that these bytes begin with has, if it is whole and not too long
+-- the size of a header part, where its end is found and it is not too long
 abbrev pub size_by : Option ℕ → Option ℕ
 size_by None = None
 size_by (Some size) = if nat_le size 4096 then Some size else None
 
+-- the size in bytes of the header part that these bytes begin with, if it is whole and not too long
 abbrev pub size_of : List ℕ → Option ℕ
 size_of bytes = size_by (end_of bytes)
 
@@ -88,6 +90,7 @@ abbrev pub start_by : ℕ → Result ℕ FrameError → Start
 start_by size (Ok n) = Begins size n
 start_by size (Err fault) = Breaks fault
 
+-- how a frame starts, by the size of its header part, if that is whole
 abbrev pub start_at : ℕ → List ℕ → Option ℕ → Start
 start_at limit bytes None = if nat_lt (length bytes) 4096 then Waits else Breaks HeaderTooLong
 start_at limit bytes (Some size) = start_by size (content_length limit (take (size - 4) bytes))
@@ -106,10 +109,11 @@ pub record Reading : Type 0 where
   pub bodies : List (List ℕ)
   pub tail : Tail
 
--- a reading after one more body, and after more bodies
+-- a reading after one more body
 abbrev pub with_body : List ℕ → Reading → Reading
 with_body body r = record { bodies = body ∷ r.bodies; tail = r.tail }
 
+-- a reading after more bodies
 abbrev pub with_bodies : List (List ℕ) → Reading → Reading
 with_bodies bodies r = record { bodies = bodies ++ r.bodies; tail = r.tail }
 

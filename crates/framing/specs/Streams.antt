@@ -34,7 +34,7 @@ abbrev pub reading_after : ℕ → Tail → List ℕ → Reading
 reading_after limit (Partial rest) piece = reading_of limit (rest ++ piece)
 reading_after limit (Faulty fault) piece = record { bodies = []; tail = Faulty fault }
 
--- what is kept after a piece: new bodies wait after the others, and the piece can be taken back
+-- what is kept after a piece that was read so: new bodies wait after the others, and the piece can be taken back
 abbrev pub with_reading : Unframed → Reading → Unframed
 with_reading kept r = record {
   limit = kept.limit;
@@ -43,6 +43,7 @@ with_reading kept r = record {
   before = Some (record { waiting = kept.waiting; tail = kept.tail });
 }
 
+-- what is kept after a piece
 abbrev pub fed : Unframed → List ℕ → Unframed
 fed kept piece = with_reading kept (reading_after kept.limit kept.tail piece)
 
@@ -57,11 +58,12 @@ Feeds old piece (Ok _) new = (new ≡ fed old piece) × (fault_of new.tail ≡ N
 Feeds old piece (Err NoMemory) new = new ≡ old
 Feeds old piece (Err fault) new = (new ≡ fed old piece) × (fault_of new.tail ≡ Some fault)
 
--- the first body that waits, and the others
+-- the first body that waits
 abbrev pub first_of : List (List ℕ) → Option (List ℕ)
 first_of [] = None
 first_of (body ∷ bodies) = Some body
 
+-- the bodies after the first that waits
 abbrev pub others_of : List (List ℕ) → List (List ℕ)
 others_of [] = []
 others_of (body ∷ bodies) = bodies
@@ -75,11 +77,12 @@ abbrev pub lent_times : ℕ → Unframed → Unframed
 lent_times zero kept = kept
 lent_times (suc loans) kept = lent_times loans (lent_from kept)
 
--- the bodies that waited before the last piece, and the tail of then; without a piece to take back, those of now
+-- the bodies that waited before the last piece; without a piece to take back, those of now
 abbrev pub waiting_before : List (List ℕ) → Option Before → List (List ℕ)
 waiting_before waiting None = waiting
 waiting_before waiting (Some b) = b.waiting
 
+-- the tail of before the last piece; without a piece to take back, that of now
 abbrev pub tail_before : Tail → Option Before → Tail
 tail_before tail None = tail
 tail_before tail (Some b) = b.tail
@@ -97,12 +100,12 @@ retracted kept = record {
 goes_back : (kept : Unframed) (piece : List ℕ) → retracted (lent_from (fed kept piece)) ≡ record kept { before = None }
 goes_back kept piece = refl
 
--- A reading as statements: the stream is frames of these bodies and a rest, which is the partial tail, or has the
--- fault.
+-- a tail as a statement: the rest is the partial tail and has no fault, or it has the fault
 abbrev pub TailIs : ℕ → List ℕ → Tail → Type 0
 TailIs limit rest (Partial bytes) = (rest ≡ bytes) × ((fault : FrameError) → Fault limit rest fault → ⊥)
 TailIs limit rest (Faulty fault) = Fault limit rest fault
 
+-- A reading as statements: the stream is frames of its bodies, in order, and a rest that its tail is.
 pub record Reads (limit : ℕ) (stream : List ℕ) (reading : Reading) : Type 0 where
   pub rest : List ℕ
   pub framed : Framed limit stream reading.bodies rest
@@ -124,10 +127,11 @@ pub record Stream : Type 0 where
 abbrev pub nothing_came : Stream
 nothing_came = record { fed = []; lent = [] }
 
--- the stream after a piece, and after a body was lent, if there was one
+-- the stream after a piece
 abbrev pub with_piece : Stream → List ℕ → Stream
 with_piece s piece = record { fed = s.fed ++ piece; lent = s.lent }
 
+-- the stream after a body was lent, if there was one
 abbrev pub with_lent : Stream → Option (List ℕ) → Stream
 with_lent s None = s
 with_lent s (Some body) = record { fed = s.fed; lent = s.lent ++ body ∷ [] }

@@ -26,11 +26,12 @@ use Rattle.session.specs.declared.pending.Fate.{Fate}
 use Rattle.session.specs.declared.pending.Fate.TheVariants.{Waits, Repeated, Cancelled, NamesNone}
 use Rattle.session.specs.declared.pending.Pending.{Pending}
 
--- the number of what is asked, and its name
+-- the number of what is asked
 abbrev pub number_of : Ask → ℕ
 number_of (Request r) = r.seq
 number_of (Bad seq command refusal) = seq
 
+-- the name of what is asked
 abbrev pub name_asked : Ask → List ℕ
 name_asked (Request r) = name_of r.command
 name_asked (Bad seq command refusal) = command
@@ -42,6 +43,7 @@ cancels_by Threads = None
 cancels_by (Cancel arguments) = arguments.request_id
 cancels_by (Disconnect arguments) = None
 
+-- the number that a request cancels, if it cancels one
 abbrev pub cancels : Ask → Option ℤ
 cancels (Request r) = cancels_by r.command
 cancels (Bad seq command refusal) = None
@@ -60,9 +62,11 @@ fault_in [] = None
 fault_in (Ok incoming ∷ messages) = fault_in messages
 fault_in (Err fault ∷ messages) = Some fault
 
+-- the requests in bodies, up to the first that is no message
 abbrev pub asks_of : List (List ℕ) → List Ask
 asks_of bodies = asks_in (map incoming_of bodies)
 
+-- why the first body that is no message is none, if there is one
 abbrev pub message_fault_of : List (List ℕ) → Option MessageError
 message_fault_of bodies = fault_in (map incoming_of bodies)
 
@@ -75,11 +79,12 @@ pub record Arrivals : Type 0 where
 abbrev pub no_arrivals : Arrivals
 no_arrivals = record { highest = None; pending = [] }
 
--- the first that waits, and the others
+-- the first that waits
 abbrev pub first_pending : List Pending → Option Pending
 first_pending [] = None
 first_pending (p ∷ rest) = Some p
 
+-- those after the first
 abbrev pub others_pending : List Pending → List Pending
 others_pending [] = []
 others_pending (p ∷ rest) = rest
@@ -89,6 +94,7 @@ abbrev pub is_above : Option ℕ → ℕ → Bool
 is_above None n = true
 is_above (Some highest) n = nat_lt highest n
 
+-- whether it is a repeat
 abbrev pub is_repeat : Fate → Bool
 is_repeat Waits = false
 is_repeat Repeated = true

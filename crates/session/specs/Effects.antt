@@ -11,18 +11,21 @@ use Rattle.session.specs.declared.event.EventError.TheVariants.{NotConnected, Al
 use Rattle.session.specs.declared.event.EventError.TheVariants.{PieceTooLong, Closing, NoMemory, Spent}
 use Rattle.session.specs.Outcomes.{Seen, Act, outcome, needs_memory}
 
+-- a world of sessions: what is seen of each, and what an act makes of it
 pub record World (S : Type 0) : Type 0 where
   pub see : S → Seen
   pub perform : Act → S → S
 
+-- what acts make of a session, one after the other
 abbrev pub performed : {S : Type 0} → World S → List Act → S → S
 performed w [] s = s
 performed w (act ∷ acts) s = performed w acts (w.perform act s)
 
--- what an event leaves, and what it answers
+-- what an event leaves
 abbrev pub effect : {S : Type 0} → World S → Event → S → S
 effect w e s = performed w (outcome (w.see s) e).acts s
 
+-- what an event answers
 abbrev pub answer : {S : Type 0} → World S → Event → S → Result Applied EventError
 answer w e s = (outcome (w.see s) e).answer
 

@@ -20,20 +20,22 @@ use Rattle.session.specs.Writing.{frame_of}
 abbrev header : List ℕ → List ℕ
 header digits = codes "Content-Length: " ++ digits ++ end_of_line ++ end_of_line
 
--- what the editor sends, in two pieces
+-- what the editor sends first: `threads`, and the beginning of `disconnect`
 abbrev first_piece : List ℕ
 first_piece = header (codes "46") ++ codes "{\"seq\":1,\"type\":\"request\",\"command\":\"threads\"}"
     ++ header (codes "49") ++ codes "{\"seq\":2,\"type\""
 
+-- the rest of `disconnect`
 abbrev second_piece : List ℕ
 second_piece = codes ":\"request\",\"command\":\"disconnect\"}"
 
--- what it gets: a refusal of `threads`, and the success of `disconnect`
+-- the answer to `threads`
 abbrev refusal : List ℕ
 refusal = header (codes "150")
     ++ codes "{\"body\":{\"error\":{\"format\":\"wrongPhase\",\"id\":3}},\"command\":\"threads\","
     ++ codes "\"message\":\"wrongPhase\",\"request_seq\":1,\"seq\":1,\"success\":false,\"type\":\"response\"}"
 
+-- the answer to `disconnect`
 abbrev success : List ℕ
 success = header (codes "81")
     ++ codes "{\"command\":\"disconnect\",\"request_seq\":2,\"seq\":2,\"success\":true,\"type\":\"response\"}"

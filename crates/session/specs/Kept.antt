@@ -15,6 +15,7 @@ pub record Kept : Type 0 where
   pub now : Now
   pub waiting : List ℕ
 
+-- the frame of a message, if there is one
 abbrev pub frame_if : Option Numbered → List ℕ
 frame_if None = []
 frame_if (Some m) = numbered_frame m
@@ -29,6 +30,7 @@ waiting_after (Accept piece) k = k.waiting
 waiting_after (Enter phase) k = k.waiting
 waiting_after HangUp k = k.waiting
 
+-- what an act makes of what is kept
 abbrev pub kept_performed : Act → Kept → Kept
 kept_performed act k = record { now = now_after act k.now; waiting = waiting_after act k }
 
@@ -36,6 +38,7 @@ kept_performed act k = record { now = now_after act k.now; waiting = waiting_aft
 abbrev pub keepings : World Kept
 keepings = record { see = λ k. record { now = k.now; waits = length k.waiting }; perform = kept_performed }
 
+-- what is seen of what is kept
 abbrev pub see_kept : Kept → Seen
 see_kept k = keepings.see k
 

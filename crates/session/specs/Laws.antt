@@ -34,11 +34,12 @@ pub record EveryByteIsTakenOrWaits (s : Session) : Type 0 where
   pub rest : (link : Link) → s.now.link ≡ Some link
       → bytes_of s.now.connections s.queued ≡ taken_of s.now.connections s.taken ++ waiting_of s
 
--- the messages of a connection have the numbers 1, 2, 3 and so on
+-- messages have the numbers from this one on
 abbrev pub AreNumberedFrom : ℕ → List Numbered → Type 0
 AreNumberedFrom n [] = Unit {0}
 AreNumberedFrom n (m ∷ messages) = (m.seq ≡ n) × AreNumberedFrom (n + 1) messages
 
+-- The messages of each connection have the numbers 1, 2, 3 and so on.
 abbrev pub NumbersRise : Session → Type 0
 NumbersRise s = (c : ℕ) → AreNumberedFrom 1 (on_connection c s.queued)
 
@@ -49,21 +50,27 @@ pub record Named : Type 0 where
   pub number : ℕ
   pub name : List ℕ
 
+-- a request by its number and name
 abbrev pub asked_as : Ask → Named
 asked_as ask = record { number = number_of ask; name = name_asked ask }
 
+-- the request that a message answers
 abbrev pub names : Message → Named
 names (IsResponse r) = record { number = r.request_seq; name = r.command }
 
+-- the request that a numbered message answers
 abbrev pub answered_as : Numbered → Named
 answered_as m = names m.message
 
+-- the requests that came on a connection
 abbrev pub asked_on : ℕ → Session → List Named
 asked_on c s = map asked_as (on_connection c s.asked)
 
+-- the requests that were answered on a connection
 abbrev pub answered_on : ℕ → Session → List Named
 answered_on c s = map answered_as (on_connection c s.queued)
 
+-- the requests that wait
 abbrev pub pending_as : List Pending → List Named
 pending_as pending = map (λ p. asked_as p.ask) pending
 
@@ -86,11 +93,12 @@ abbrev pub FaultIsOfTheBytes : Session → Type 0
 FaultIsOfTheBytes s = (link : Link) → s.now.link ≡ Some link
     → s.now.fault ≡ fault_of_reading (reading_of BODY_LIMIT s.accepted)
 
--- Two pieces, one after the other, leave what they leave as one: where all three are accepted, or where the first
--- closes the connection.
+-- a piece is accepted
 abbrev pub IsTaken : Session → List ℕ → Type 0
 IsTaken s piece = Answer s (Recv piece) ≡ Ok Received
 
+-- Two pieces, one after the other, leave what they leave as one: where all three are accepted, or where the first
+-- closes the connection.
 abbrev pub CutsDoNotMatter : Session → Type 0
 CutsDoNotMatter s = (prefix after : List ℕ) → IsTaken s prefix → IsTaken s (prefix ++ after)
     → IsTaken (Effect s (Recv prefix)) after ⊎ (Answer (Effect s (Recv prefix)) (Recv after) ≡ Err Closing)
@@ -100,11 +108,12 @@ CutsDoNotMatter s = (prefix after : List ℕ) → IsTaken s prefix → IsTaken s
 abbrev pub RefusedChangesNothing : Session → Type 0
 RefusedChangesNothing s = (e : Event) (error : EventError) → Answer s e ≡ Err error → Effect s e ≡ s
 
--- each answer is one that an adapter may send: a success has the body of its request, and a refusal a text exactly if
--- it is of the kind that has one
+-- a message is one that an adapter may send: a success has the body of its request, and a refusal a text exactly if it
+-- is of the kind that has one
 abbrev pub IsProper : Message → Type 0
 IsProper (IsResponse r) = IsProperResponse r
 
+-- Each answer is such a message.
 abbrev pub AnswersAreProper : Session → Type 0
 AnswersAreProper s = All (λ (m : On Numbered). IsProper m.is.message) s.queued
 
@@ -113,6 +122,7 @@ abbrev pub initializes : Outcome → ℕ
 initializes (Done Initialize) = 1
 initializes outcome = 0
 
+-- the same of a message
 abbrev pub initializes_by : Message → ℕ
 initializes_by (IsResponse r) = initializes r.outcome
 

@@ -92,7 +92,7 @@ pub data Act : Type 0 where
   -- the first of the waiting bytes were sent
   Take : ℕ → Act
 
--- taking a piece and queueing an answer need memory, and nothing else does
+-- whether an act needs memory: taking a piece and queueing an answer do, and nothing else
 abbrev pub grows : Act → Bool
 grows Open = false
 grows Close = false
@@ -102,16 +102,20 @@ grows (Reply outcome) = true
 grows HangUp = false
 grows (Take n) = false
 
+-- whether one of the acts does
 abbrev pub needs_memory : List Act → Bool
 needs_memory acts = list_any grows acts
 
+-- what comes of an event: its answer, and its acts
 pub record Outcome : Type 0 where
   pub answer : Result Applied EventError
   pub acts : List Act
 
+-- a refusal: nothing is done
 abbrev pub refused : EventError → Outcome
 refused e = record { answer = Err e; acts = [] }
 
+-- a success, with its acts
 abbrev pub done : Applied → List Act → Outcome
 done x acts = record { answer = Ok x; acts = acts }
 
@@ -125,6 +129,7 @@ leaving Left = HangUp ∷ []
 abbrev pub answering : Link → Pending → List Act
 answering link p = let a = answer_to link.phase p in Enter a.phase ∷ Reply a.outcome ∷ leaving a.phase
 
+-- what a turn comes to, by the first request that waits, if one does
 abbrev pub next_turn : Link → Option Pending → Outcome
 next_turn link None = done (DidTurn Nothing) []
 next_turn link (Some p) = done (DidTurn Answered) (answering link p)
@@ -153,6 +158,7 @@ with_no_link seen (Turn file) = refused NotConnected
 with_no_link seen (Sent n) = refused NotConnected
 with_no_link seen DropConnection = refused NotConnected
 
+-- what an event comes to, by the connection, if there is one
 abbrev pub outcome_at : Seen → Option Link → Event → Outcome
 outcome_at seen None e = with_no_link seen e
 outcome_at seen (Some link) e = on_link seen link e
@@ -166,17 +172,19 @@ abbrev pub is_finished_on : Option Link → List Pending → ℕ → Bool
 is_finished_on None pending waits = false
 is_finished_on (Some link) pending waits = link.is_closing && (length pending == 0) && (waits == 0)
 
+-- whether all is said, on a connection
 abbrev pub is_finished : Seen → Bool
 is_finished seen = is_finished_on seen.now.link seen.now.arrivals.pending seen.waits
 
 -- ---- what an act makes of what a session is now
 
--- the fault of a stream in this reading: that of its first body that is no message, or else that of its tail
+-- the first fault of a stream, by that of a body and that of the tail
 abbrev pub fault_or : Option MessageError → Option FrameError → Option LinkFault
 fault_or (Some fault) frame_fault = Some (Message fault)
 fault_or None (Some fault) = Some (Frame fault)
 fault_or None None = None
 
+-- the fault of a stream in this reading: that of its first body that is no message, or else that of its tail
 abbrev pub fault_of_reading : Reading → Option LinkFault
 fault_of_reading r = fault_or (message_fault_of r.bodies) (fault_of r.tail)
 
@@ -189,11 +197,12 @@ tail_kept (Some fault) tail = Partial []
 abbrev pub read_on : Now → List ℕ → Reading
 read_on now piece = reading_after BODY_LIMIT now.tail piece
 
--- the requests of a reading join, and its fault closes
+-- the requests of a reading join, and its tail is kept
 abbrev pub taken_in : Now → Reading → Now
 taken_in now r =
     record now { arrivals = all_joined now.arrivals (asks_of r.bodies); tail = tail_kept (fault_of_reading r) r.tail }
 
+-- the requests of a reading join, and its fault closes the connection
 abbrev pub accepted : Now → Reading → Link → Now
 accepted now r link = record (taken_in now r) {
   link = Some (record link { is_closing = is_some (fault_of_reading r) });
@@ -212,6 +221,7 @@ abbrev pub left_to_answer : Limits → ℕ → Arrivals → Arrivals
 left_to_answer limits seq came =
     record came { pending = if seq == limits.last_seq then [] else others_pending came.pending }
 
+-- what is there after the first request that waits was answered, if there is a number left for that
 abbrev pub replied : Now → Link → Option Pending → Now
 replied now link None = now
 replied now link (Some p) = if nat_lt link.seq now.limits.last_seq then record now {
@@ -219,7 +229,7 @@ replied now link (Some p) = if nat_lt link.seq now.limits.last_seq then record n
   arrivals = left_to_answer now.limits (link.seq + 1) now.arrivals;
 } else now
 
--- what is there when a connection is made, and when there is none
+-- what is there when a connection is made
 abbrev pub opened : Now → Now
 opened now = record now {
   connections = now.connections + 1;
@@ -229,6 +239,7 @@ opened now = record now {
   fault = None;
 }
 
+-- what is there when it has ended
 abbrev pub closed : Now → Now
 closed now = record now { link = None; arrivals = no_arrivals; tail = Partial [] }
 
@@ -237,6 +248,7 @@ abbrev pub to_link : (Link → Now) → Option Link → Now → Now
 to_link f None now = now
 to_link f (Some link) now = f link
 
+-- what is there after an act
 abbrev pub now_after : Act → Now → Now
 now_after Open now = opened now
 now_after Close now = closed now
@@ -258,6 +270,7 @@ reply_on limits outcome link (Some p) =
     if nat_lt link.seq limits.last_seq
     then Some (record { seq = link.seq + 1; message = IsResponse (response_to p.ask outcome) }) else None
 
+-- the message by which the first request that waits is answered
 abbrev pub reply_at : Now → AnOutcome → Option Link → Option Numbered
 reply_at now outcome None = None
 reply_at now outcome (Some link) = reply_on now.limits outcome link (first_pending now.arrivals.pending)

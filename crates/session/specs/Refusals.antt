@@ -21,12 +21,14 @@ use Rattle.session.specs.declared.pending.Pending.{Pending}
 use Rattle.session.specs.Arrivals.{number_of, name_asked, is_repeat}
 use Rattle.session.specs.Requests.{is_taken_in, success_of}
 
+-- whether a later `cancel` named the request
 abbrev pub is_cancelled : Fate → Bool
 is_cancelled Waits = false
 is_cancelled Repeated = false
 is_cancelled Cancelled = true
 is_cancelled NamesNone = false
 
+-- whether it is a `cancel` that names no request that waits
 abbrev pub names_none : Fate → Bool
 names_none Waits = false
 names_none Repeated = false
@@ -70,10 +72,12 @@ first_refusal (Some refusal ∷ rest) = Some refusal
 abbrev pub refused : Phase → Refusal → Answer
 refused phase refusal = record { outcome = Refused refusal None; phase = phase }
 
+-- A success has the body of its request, and leads to a phase.
 abbrev pub succeeded : Phase → ARequest → Answer
 succeeded phase r =
     record { outcome = Done (success_of phase r.command).body; phase = (success_of phase r.command).phase }
 
+-- the answer, by the refusal that applies, if one does
 abbrev pub answer_by : Option Refusal → Phase → Ask → Answer
 answer_by (Some refusal) phase ask = refused phase refusal
 answer_by None phase (Request r) = succeeded phase r

@@ -64,6 +64,7 @@ pub record HasRead (unread : Unread) (heard : Heard) : Type 0 where
   pub has_heard : HasHeard unread.unframer (record { read = fed; given = heard.given })
   pub read : heard.read ≡ fed ++ unread.pending
 
+-- more bytes were read
 abbrev pub and_read : Heard → List ℕ → Heard
 and_read heard piece = record heard { read = heard.read ++ piece }
 
@@ -71,6 +72,7 @@ and_read heard piece = record heard { read = heard.read ++ piece }
 abbrev pub AllGiven : Heard → Type 0
 AllGiven heard = messages_in heard.read ≡ heard.given
 
+-- a stream may still go on
 abbrev pub IsUnfinished : Tail → Type 0
 IsUnfinished (Partial rest) = Unit {0}
 IsUnfinished (Faulty fault) = ⊥

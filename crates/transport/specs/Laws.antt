@@ -15,33 +15,37 @@ use Rattle.transport.specs.Servers.{Responds, lasting}
 use Rattle.transport.specs.declared.server.ServerError.{ServerError}
 use Rattle.transport.specs.declared.server.ServerError.TheVariants.{Write}
 
+-- a server: its lasting error, what it has queued, and what its writer holds
 pub record Served : Type 0 where
   pub fault : Option ServerError
   pub outbox : Queued
   pub held : Option (List ℕ)
 
+-- a call, with its answer
 pub data Call : Type 0 where
   Poll : Result (Option Incoming) ServerError → Call
   Respond : Response → Result (Unit {0}) ServerError → Call
 
--- What a call leaves. After a lasting error each call answers it; else a poll writes nothing, and a response is
--- written.
+-- What a poll leaves. After a lasting error it answers that; else it writes nothing.
 pub record Polled (old : Served) (result : Result (Option Incoming) ServerError) (new : Served) : Type 0 where
   pub stays : IfSome old.fault (λ e. (result ≡ Err e) × (new ≡ old))
   pub fault : old.fault ≡ None → new.fault ≡ lasting result
   pub outbox : new.outbox ≡ old.outbox
   pub held : new.held ≡ old.held
 
+-- What a response leaves. After a lasting error it is answered that; else it is written.
 pub record Responded (old : Served) (response : Response) (result : Result (Unit {0}) ServerError) (new : Served)
     : Type 0 where
   pub stays : IfSome old.fault (λ e. (result ≡ Err e) × (new ≡ old))
   pub responds : old.fault ≡ None → old.outbox.waiting ≡ []
       → Responds old.held new.held old.outbox response result new.outbox new.fault
 
+-- what a call leaves
 abbrev pub Did : Served → Call → Served → Type 0
 Did old (Poll result) new = Polled old result new
 Did old (Respond response result) new = Responded old response result new
 
+-- what calls leave, one after the other
 abbrev pub DidAll : Served → List Call → Served → Type 0
 DidAll old [] new = new ≡ old
 DidAll old (call ∷ calls) new = (mid : Served) × Did old call mid × DidAll mid calls new

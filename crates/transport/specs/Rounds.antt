@@ -25,6 +25,7 @@ pub data Due : Type 0 where
   Answer : Due
   Receive : Due
 
+-- what is due, by what is seen of a session
 abbrev pub due : Seen → Due
 due seen =
     if nat_lt 0 seen.waits then Send
@@ -32,6 +33,7 @@ due seen =
     else if nat_lt 0 (length seen.now.arrivals.pending) then Answer
     else Receive
 
+-- what is due in a session with its past
 abbrev pub due_in : Session → Due
 due_in s = due (histories.see s)
 
@@ -59,15 +61,17 @@ UsesStream Receive = Unit {0}
 abbrev pub IsTaken : Session → Event → Type 0
 IsTaken s e = (s.now.link ≡ None) ⊎ IsOk (answer_of s e)
 
+-- The round is one of this session.
 abbrev pub IsRound : Session → Round → Type 0
 IsRound s (Did e) = DoesWhatIsDue (due_in s) (length (waiting_of s)) e × IsTaken s e
 IsRound s Interrupted = UsesStream (due_in s)
 
+-- the session after a round
 abbrev pub after_round : Session → Round → Session
 after_round s (Did e) = Effect s e
 after_round s Interrupted = s
 
--- the bytes that a round received, and those that it sent
+-- the bytes that an event received
 abbrev pub received_by : Event → List ℕ
 received_by (Recv piece) = piece
 received_by Connect = []
@@ -75,10 +79,12 @@ received_by (Turn file) = []
 received_by (Sent n) = []
 received_by DropConnection = []
 
+-- the bytes that a round received
 abbrev pub received_in : Round → List ℕ
 received_in (Did e) = received_by e
 received_in Interrupted = []
 
+-- the bytes that an event sent
 abbrev pub sent_by : Session → Event → List ℕ
 sent_by s (Sent n) = take n (waiting_of s)
 sent_by s Connect = []
@@ -86,24 +92,29 @@ sent_by s (Recv piece) = []
 sent_by s (Turn file) = []
 sent_by s DropConnection = []
 
+-- the bytes that a round sent
 abbrev pub sent_in : Session → Round → List ℕ
 sent_in s (Did e) = sent_by s e
 sent_in s Interrupted = []
 
 -- ---- one round after the other
 
+-- each is a round of the session after those before it
 abbrev pub AreRounds : Session → List Round → Type 0
 AreRounds s [] = Unit {0}
 AreRounds s (r ∷ rounds) = IsRound s r × AreRounds (after_round s r) rounds
 
+-- the session after rounds
 abbrev pub after_rounds : Session → List Round → Session
 after_rounds s [] = s
 after_rounds s (r ∷ rounds) = after_rounds (after_round s r) rounds
 
+-- the bytes that they received
 abbrev pub received : List Round → List ℕ
 received [] = []
 received (r ∷ rounds) = received_in r ++ received rounds
 
+-- the bytes that they sent
 abbrev pub sent : Session → List Round → List ℕ
 sent s [] = []
 sent s (r ∷ rounds) = sent_in s r ++ sent (after_round s r) rounds
@@ -158,6 +169,7 @@ pub record Stops (end : StreamEnd) (left_before left held_before held : Option (
   pub appended : Appends held_before held []
   pub ends : (turns made : ℕ) → EndsAs end left turns made lost s new
 
+-- It makes a round, or it ends serving.
 abbrev pub Went : Option StreamEnd → (left_before left held_before held : Option (List ℕ)) → Session → Kept → Type 0
 Went None left_before left held_before held s new = GoesOn left_before left held_before held s new
 Went (Some end) left_before left held_before held s new = Stops end left_before left held_before held s new
