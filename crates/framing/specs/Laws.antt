@@ -29,13 +29,13 @@ abbrev pub CutsDoNotMatter : Type 0
 CutsDoNotMatter =
     (limit : ℕ) (prefix after : List ℕ)
     → reading_of limit (prefix ++ after)
-        ≡ with_bodies (reading_of limit prefix).bodies (reading_after limit (reading_of limit prefix).tail after)
+    ≡ with_bodies (reading_of limit prefix).bodies (reading_after limit (reading_of limit prefix).tail after)
 
 -- The smallest frame of a body within the limit is a frame of it, and is read as it, whatever follows.
 abbrev pub FramesAreRead : Type 0
 FramesAreRead = (limit : ℕ) (body more : List ℕ) → limit < 2 ^ 32 → length body ≤ limit
     → Frame limit (minimal_frame body) body
-        × (reading_of limit (minimal_frame body ++ more) ≡ with_body body (reading_of limit more))
+    × (reading_of limit (minimal_frame body ++ more) ≡ with_body body (reading_of limit more))
 
 -- What is kept of a stream: the bodies that were lent and those that wait are the stream's, in order and no others,
 -- and the tail is its tail.

@@ -6,9 +6,7 @@ pub mod Refusals
 pub mod Json
 -- the properties of an object, and their types
 pub mod Properties
-
--- The requests.
-
+-- ---- the requests
 -- `initialize`: what its arguments mean
 pub mod Initialize
 -- `threads`, likewise
@@ -19,9 +17,7 @@ pub mod Cancel
 pub mod Disconnect
 -- the table of the requests, by their names
 pub mod Commands
-
--- The whole.
-
+-- ---- the whole
 -- what a body means: a request, one that is refused, nothing to be answered, or no message
 pub mod Reading
 -- what follows for every body

@@ -12,21 +12,15 @@ pub mod Messages
 pub mod Reading
 -- what follows for every message
 pub mod Laws
-
--- What `exact` of `read_message` and private clauses cite: the same reading as a function, which finds the message.
-
+-- ---- for `exact` of `read_message` and private clauses: the same reading as a function, which finds the message
 -- whether two JSON values are one
 pub mod Same
 -- the one message that a JSON value can be
 pub mod Claims
-
--- What private clauses cite alone.
-
+-- ---- for private clauses alone
 -- the tokens of a message, in the order in which they are written
 pub mod Written
-
--- Of `protocol`.
-
+-- ---- of `protocol`
 -- the names of the requests
 pub use Rattle.protocol.specs.Commands
 -- the numbers and the names of the refusals

@@ -28,7 +28,7 @@ ReadsAs bytes (Err NotJson) = json_of bytes ≡ None
 ReadsAs bytes (Err NotAMessage) =
     IsSome (json_of bytes)
     × ((seq : ℕ) (message : Message) → IsNumber seq → IsProper message
-        → json_of bytes ≢ Some (message_data seq message))
+    → json_of bytes ≢ Some (message_data seq message))
 ReadsAs bytes (Err BadSeq) = ⊥
 ReadsAs bytes (Err NoMemory) = ⊤
 

@@ -16,9 +16,7 @@ pub mod Arrivals
 pub mod Refusals
 -- the frame of a message with its number
 pub mod Writing
-
--- Events.
-
+-- ---- events
 -- the last numbers that a session gives
 pub mod Limits
 -- what an event answers, and the acts that it comes to; what acts make of what a session is now
@@ -34,14 +32,10 @@ pub mod Prefixes
 -- what the code keeps, which sessions that stands for (`Stands`), and what a call does for each of them (`Happens`);
 -- of these definitions `Goes` and what it needs are for private clauses alone
 pub mod Kept
-
--- What follows.
-
+-- ---- what follows
 -- what holds after every list of events
 pub mod Laws
-
--- Of the layers below.
-
+-- ---- of the layers below
 -- frames, and each fault of one
 pub use Rattle.framing.specs.Frames
 -- the bodies and the tail of a stream

@@ -3,9 +3,7 @@
 -- what is due in each round, the rounds, and how serving ends; at the end of the file one turn of the loop, which
 -- private clauses cite alone
 pub mod Rounds
-
--- A server, for a program that answers by itself.
-
+-- ---- a server, for a program that answers by itself
 -- the messages of what was read, and those that were given
 pub mod Heard
 -- what waits to be written
@@ -14,16 +12,12 @@ pub mod Outbox
 pub mod Servers
 -- what follows for every list of calls
 pub mod Laws
-
--- What private clauses cite alone.
-
+-- ---- for private clauses alone
 -- whether the answer of a read or a write ends serving
 pub mod Ends
 -- what a server keeps of what it read, step by step
 pub mod Inbox
-
--- Of `session`.
-
+-- ---- of `session`
 -- a session with all of its past
 pub use Rattle.session.specs.Sessions
 -- what the code keeps of it
