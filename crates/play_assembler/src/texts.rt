@@ -6,7 +6,7 @@
 
 use assembler::{AsmError, AsmErrorKind, assemble};
 use image::Image;
-use play::{Fault, bytes_of, hexadecimal, parsed, told};
+use play::{Fault, bytes_of, hexadecimal, parsed, shown};
 use play_image::ask_lines;
 use std::alloc::Global;
 
@@ -28,17 +28,17 @@ pub(crate) fn assembled(
     match assemble(alloc, &text, parsed(size)?) {
         Ok(made) => {
             *image = Some(made);
-            told(alloc, "ok")
+            shown(alloc, "ok")
         }
         Err(NO_MEMORY) => Err(Fault::NoMemoryInCall),
-        Err(error) => told(alloc, error),
+        Err(error) => shown(alloc, error),
     }
 }
 
 /// What an image answers.
 pub(crate) fn answer_image(alloc: Global, image: &Image, words: &[&str]) -> Result<String, Fault> {
     match words {
-        ["entry"] => told(alloc, image.entry),
+        ["entry"] => shown(alloc, image.entry),
         ["bytes"] => hexadecimal(alloc, image.bytes.as_slice()),
         words => ask_lines(alloc, &image.lines, words),
     }
