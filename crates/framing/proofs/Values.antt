@@ -40,10 +40,10 @@ says_from_number value n h =
     record {
       before = t.before;
       digits = trimmed value;
-      after = t.after;
+      after = t.behind;
       spelled = t.parted;
       blank_before = t.blank_before;
-      blank_after = t.blank_after;
+      blank_after = t.blank_behind;
       all_digits = r.2;
       some = grind (arith, nat_tests);
       few = grind (arith, nat_tests);

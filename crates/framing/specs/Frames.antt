@@ -46,7 +46,7 @@ pub record HasFields (bytes : List ℕ) (fields : List Field) : Type 0 where
   pub header : HasHeader bytes (header_of fields)
   pub each : list_all is_field fields ≡ true
 
--- Bytes that are to begin with a frame have the fault: the first in this order that they have. Only a header part that
+-- The bytes where a frame is to begin have the fault: the first in this order that they have. Only a header part that
 -- is too long has a fault before it is whole.
 abbrev pub Fault : ℕ → List ℕ → FrameError → Type 0
 Fault limit bytes Header = (header : List ℕ) × HasHeader bytes header

@@ -95,7 +95,7 @@ abbrev pub start_at : ℕ → List ℕ → Option ℕ → Start
 start_at limit bytes None = if nat_lt (length bytes) 4096 then Waits else Breaks HeaderTooLong
 start_at limit bytes (Some size) = start_by size (content_length limit (take (size - 4) bytes))
 
--- how the frame that these bytes begin with starts
+-- how the first frame in these bytes starts
 unfoldable pub start_of : ℕ → List ℕ → Start
 start_of limit bytes = start_at limit bytes (size_of bytes)
 

@@ -1,4 +1,4 @@
-//! How the frame that some bytes begin with starts.
+//! How the first frame in some bytes starts.
 
 ghost use Rattle.std.specs.Prelude.{◌≡◌, ◌≤◌, length, take};
 ghost use Rattle.std.specs.Option.{option_map};
@@ -9,7 +9,7 @@ ghost use Rattle.framing.specs.Reading.{start_of};
 use crate::FrameError;
 use crate::header::{HEADER_LIMIT, content_length, header_size};
 
-/// What the bytes that a frame begins with say of it.
+/// What the first bytes of a frame say of it.
 #[derive(Clone, Copy)]
 pub(crate) enum Start {
     /// The header part is not whole.
@@ -26,7 +26,7 @@ pub(crate) enum Start {
 }
 
 impl Start {
-    /// How the frame that some bytes begin with starts. The end of the header part is not among the
+    /// How the first frame in some bytes starts. The end of the header part is not among the
     /// bytes that were searched for it before.
     #[tactic(auto, unfolding(crate::specs::Reading::start_of))]
     pub(crate) fn of(limit: u32, bytes: &[u8], searched: usize) -> Start
