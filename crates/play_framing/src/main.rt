@@ -18,8 +18,8 @@ fn main(rt: HostRuntime) -> ExitCode {
 }
 
 impl Player for Framing {
-    fn answer(&mut self, alloc: Global, words: &[&str]) -> Result<String, Fault> {
-        match words {
+    fn answer(&mut self, alloc: Global, arguments: &[&str]) -> Result<String, Fault> {
+        match arguments {
             ["new", limit] => {
                 self.unframer = Unframer::new(alloc, parsed(limit)?);
                 shown(alloc, "ok")

@@ -20,8 +20,8 @@ fn main(rt: HostRuntime) -> ExitCode {
 }
 
 impl Player for Events {
-    fn answer(&mut self, alloc: Global, words: &[&str]) -> Result<String, Fault> {
-        match words {
+    fn answer(&mut self, alloc: Global, arguments: &[&str]) -> Result<String, Fault> {
+        match arguments {
             ["new", last_seq, last_ref, last_retired] => {
                 let limits = Limits {
                     last_seq: parsed(last_seq)?,
@@ -34,7 +34,7 @@ impl Player for Events {
             ["text", name] => text_of(alloc, name),
             ["apply", event @ ..] => applied(alloc, self.session.apply(&event_of(alloc, event)?)),
             [name] => self.call(alloc, name),
-            [name, word] => self.call_with(alloc, name, word),
+            [name, argument] => self.call_with(alloc, name, argument),
             _ => Err(Fault::NoCommand),
         }
     }
@@ -71,18 +71,18 @@ impl Events {
         }
     }
 
-    fn call_with(&mut self, alloc: Global, name: &str, word: &str) -> Result<String, Fault> {
+    fn call_with(&mut self, alloc: Global, name: &str, argument: &str) -> Result<String, Fault> {
         match name {
             "recv" => {
-                let piece = bytes_of(alloc, word)?;
+                let piece = bytes_of(alloc, argument)?;
                 done(alloc, self.session.recv(&piece))
             }
             "sent" => {
-                let count = parsed(word)?;
+                let count = parsed(argument)?;
                 done(alloc, self.session.sent(count))
             }
             "bytes" => {
-                let bytes = Bytes::from_vec(bytes_of(alloc, word)?);
+                let bytes = Bytes::from_vec(bytes_of(alloc, argument)?);
                 let text = hexadecimal(alloc, bytes.as_slice())?;
                 let held = bytes.into_vec();
                 Ok(format!(in alloc; "{text} {}", held.len())?)
@@ -120,8 +120,8 @@ fn link_fault_of(alloc: Global, fault: Option<LinkFault>) -> Result<String, Faul
     }
 }
 
-fn event_of(alloc: Global, words: &[&str]) -> Result<Event, Fault> {
-    match words {
+fn event_of(alloc: Global, arguments: &[&str]) -> Result<Event, Fault> {
+    match arguments {
         ["connect"] => Ok(Event::Connect),
         ["recv", piece] => Ok(Event::Recv(Bytes::from_vec(bytes_of(alloc, piece)?))),
         ["turn"] => Ok(Event::Turn(None)),

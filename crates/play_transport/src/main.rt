@@ -39,8 +39,8 @@ fn main(rt: HostRuntime) -> ExitCode {
 }
 
 impl Player for Connection {
-    fn answer(&mut self, alloc: Global, words: &[&str]) -> Result<String, Fault> {
-        match words {
+    fn answer(&mut self, alloc: Global, arguments: &[&str]) -> Result<String, Fault> {
+        match arguments {
             ["input", bytes] => {
                 self.reader = Drip::new(bytes_of(alloc, bytes)?);
                 shown(alloc, "ok")
