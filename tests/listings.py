@@ -1,4 +1,4 @@
-"""The built program's `asm FILE`: listings on standard output, and what is told where there is none."""
+"""The built program's `asm FILE`: listings on standard output, and what is said where there is none."""
 import os
 import subprocess
 import tempfile
@@ -80,7 +80,7 @@ def data_is_left_out():
     expect_listing(b"", b"")
 
 
-def an_error_is_told_at_its_line():
+def an_error_is_reported_at_its_line():
     for text, reason in (
         (b"nop\naddi a0, a0, 2048\n", b"line 2: OutOfRange"),
         (b"nop nop\nf: nop\nf: nop\n", b"line 1: BadOperand"),
@@ -136,17 +136,17 @@ def help_of_asm_has_an_example():
 
 
 def help_of_asm_has_a_line_for_each_error_under_its_pass():
-    told, number = [], None
+    reported, number = [], None
     for line in listed("--help")[0].decode().splitlines():
         if line.startswith("Pass "):
             number = int(line.split()[1].rstrip(","))
         elif number is not None and line[:2] == "  " and line[2:3].isupper():
-            told.append((number, line.split()[0]))
+            reported.append((number, line.split()[0]))
             expect(len(line.split()) > 5, True, "what %s means" % line.split()[0])
-    expect(told, [(number, kind) for number, kind, _ in ERRORS], "the errors in the help")
+    expect(reported, [(number, kind) for number, kind, _ in ERRORS], "the errors in the help")
 
 
-def an_earlier_pass_is_told_first():
+def an_earlier_pass_is_reported_first():
     for number, kind, text in ERRORS:
         expect_fault(text, b"line %d: %s" % (text.count(b"\n") + 1, kind.encode()))
         for other, _, before in ERRORS:
@@ -171,7 +171,7 @@ def checks():
         a_text_on_six_lines_has_the_same_listing,
         a_listing_is_assembled_to_the_same_words,
         data_is_left_out,
-        an_error_is_told_at_its_line,
+        an_error_is_reported_at_its_line,
         a_file_of_the_greatest_length_is_listed,
         a_file_that_is_too_long_is_not_read,
         a_file_that_is_not_there_is_not_read,
@@ -180,6 +180,6 @@ def checks():
         help_of_asm,
         help_of_asm_has_an_example,
         help_of_asm_has_a_line_for_each_error_under_its_pass,
-        an_earlier_pass_is_told_first,
+        an_earlier_pass_is_reported_first,
         a_listing_ends_well_without_memory,
     )]

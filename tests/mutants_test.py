@@ -1,4 +1,4 @@
-"""The runner of the mutants, on edits of its own: it tells of each that is not refused, and why."""
+"""The runner of the mutants, on edits of its own: it reports each that is not refused, and why."""
 import os
 import subprocess
 
@@ -7,7 +7,7 @@ from program import TOP, expect
 RUNNER = os.path.join(TOP, "tests", "mutants", "run")
 OWN = os.path.join(TOP, "tests", "mutants", "own")
 # How the line of each begins. `is_wrong` changes the function that the one of `means_the_same` calls, and is refused.
-TOLD = {
+REPORTED = {
     "framing/changes_a_text_that_is_not_there": "cannot be read: its old text stands 0 times in src/unframer.rt",
     "framing/changes_no_function": "cannot be read: it changes more than functions",
     "framing/does_not_compile": "cannot be read: src/unframer.rt:",
@@ -16,17 +16,17 @@ TOLD = {
 }
 
 
-def each_mutant_that_is_not_refused_is_told():
+def each_mutant_that_is_not_refused_is_reported():
     ran = subprocess.run([RUNNER, "--from", OWN, "framing"], stdout=subprocess.PIPE, stderr=subprocess.STDOUT, text=True)
     lines = ran.stdout.splitlines()
-    told = dict(line.split(": ", 1) for line in lines[:-1])
-    expect(sorted(told), sorted(TOLD), "the mutants that are told of")
-    for name, why in TOLD.items():
-        expect(told[name][:len(why)], why, name)
+    reported = dict(line.split(": ", 1) for line in lines[:-1])
+    expect(sorted(reported), sorted(REPORTED), "the mutants that are reported")
+    for name, why in REPORTED.items():
+        expect(reported[name][:len(why)], why, name)
     expect(lines[-1].split(" (")[0], "mutants: 1 refused, 5 not", "the last line")
     expect(ran.returncode, 1, "status")
 
 
 def checks():
     """Each check with its name."""
-    return [(check.__name__.replace("_", " "), check) for check in (each_mutant_that_is_not_refused_is_told,)]
+    return [(check.__name__.replace("_", " "), check) for check in (each_mutant_that_is_not_refused_is_reported,)]

@@ -1,7 +1,7 @@
 """The tables in tests/rows, played: for each row what a layer is asked, command by command, and what it has to answer.
 
 A table is a module with PLAYER, the crate of the program that plays it, and ROWS. A player reads commands, each of them a line of
-words, and prints for each a line with what the layer answered; it expects nothing.
+arguments, and prints for each a line with what the layer answered; it expects nothing.
 """
 import glob
 import importlib

@@ -83,8 +83,8 @@ class Talk:
             if not piece:
                 raise AssertionError("the output ended after %r" % self.read_so_far)
             self.read_so_far += piece
-        front, self.read_so_far = self.read_so_far[:count], self.read_so_far[count:]
-        return front
+        answer, self.read_so_far = self.read_so_far[:count], self.read_so_far[count:]
+        return answer
 
     def end(self):
         """Closes the input, and answers the status and what is on standard error."""

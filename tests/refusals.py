@@ -38,7 +38,7 @@ def the_program_ends_well_without_memory():
         if status == 0:
             expect((out, err), (ANSWERS, b""), "a whole session")
         else:
-            expect((err, status), (b"rvdap: no memory\n", 1), "want of memory")
+            expect((err, status), (b"rvdap: no memory\n", 1), "out of memory")
             expect(out, ANSWERS[:len(out)], "the answers before it")
 
     expect(each_refusal(once) > 5, True, "some allocations were refused")

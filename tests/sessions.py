@@ -62,7 +62,7 @@ def the_example_session_is_the_first_session():
     expect((played.stdout, played.stderr, played.returncode), (wanted, b"", 0), "what examples/play prints")
 
 
-def the_example_of_a_late_cancel_is_told_that_the_request_is_gone():
+def the_example_of_a_late_cancel_is_answered_that_the_request_is_gone():
     path = os.path.join(TOP, "examples", "late-cancel")
     played = subprocess.run([os.path.join(TOP, "examples", "play"), path, PROGRAM], capture_output=True, timeout=20)
     answers = [CAPABILITIES % (1, 1), THREADS % (2, 2), REFUSED % ("requestGone", 20, "cancel", "requestGone", 3, 3), CANCELLED % (4, 4), DISCONNECTED % (5, 5)]
@@ -146,27 +146,27 @@ def a_cancelled_disconnect_does_not_end_the_session():
     expect_run(piece, FIRST_ANSWER + refused("cancelled", 5, "disconnect", 2, 2) + frame(CANCELLED % (3, 3)) + frame(THREADS % (4, 4)))
 
 
-def requests_in_the_piece_of_a_disconnect_are_refused_behind_it():
-    behind = request(4, "threads") + request(5, "cancel") + request(6, "disconnect")
+def requests_in_the_piece_of_a_disconnect_are_refused_after_it():
+    more = request(4, "threads") + request(5, "cancel") + request(6, "disconnect")
     answers = ANSWERS + b"".join(refused("wrongPhase", 3, name, n, n) for n, name in ((4, "threads"), (5, "cancel"), (6, "disconnect")))
-    expect_run(SESSION + behind, answers)
+    expect_run(SESSION + more, answers)
 
 
 def what_is_no_message_in_the_piece_of_a_disconnect_ends_with_one_line():
-    for behind in (b"no frame at all\r\n\r\n", frame("no JSON"), b"\0" * 5000):
-        expect_run(None, ANSWERS, b"rvdap: bad message\n", 1, pieces=[SESSION + behind])
+    for more in (b"no frame at all\r\n\r\n", frame("no JSON"), b"\0" * 5000):
+        expect_run(None, ANSWERS, b"rvdap: bad message\n", 1, pieces=[SESSION + more])
     expect_run(SESSION + b"an unfinished frame", ANSWERS)
 
 
 def what_comes_after_a_disconnect_was_answered_is_not_read():
-    for behind in (b"no frame at all\r\n\r\n", frame("no JSON"), request(4, "threads"), b"\0" * 100000):
+    for more in (b"no frame at all\r\n\r\n", frame("no JSON"), request(4, "threads"), b"\0" * 100000):
         with Talk() as talk:
             expect(talk.answers(SESSION, ANSWERS), ANSWERS, "the answers")
             try:
-                talk.write(behind)
+                talk.write(more)
             except BrokenPipeError:
                 pass
-            expect(talk.end(), (0, b""), "the end, with %r behind it" % behind[:20])
+            expect(talk.end(), (0, b""), "the end, with %r after it" % more[:20])
 
 
 def the_headers_of_a_frame_may_vary():
@@ -351,7 +351,7 @@ def checks():
         the_first_session_byte_by_byte,
         each_answer_comes_before_more_is_read,
         the_example_session_is_the_first_session,
-        the_example_of_a_late_cancel_is_told_that_the_request_is_gone,
+        the_example_of_a_late_cancel_is_answered_that_the_request_is_gone,
         an_empty_input_is_answered_with_nothing,
         an_unfinished_frame_is_dropped,
         requests_out_of_phase_are_refused,
@@ -361,7 +361,7 @@ def checks():
         a_cancel_in_the_same_piece_cancels_a_request,
         a_cancel_of_an_answered_request_comes_too_late,
         a_cancelled_disconnect_does_not_end_the_session,
-        requests_in_the_piece_of_a_disconnect_are_refused_behind_it,
+        requests_in_the_piece_of_a_disconnect_are_refused_after_it,
         what_is_no_message_in_the_piece_of_a_disconnect_ends_with_one_line,
         what_comes_after_a_disconnect_was_answered_is_not_read,
         the_headers_of_a_frame_may_vary,

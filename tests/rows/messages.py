@@ -15,19 +15,19 @@ DOCUMENTED = "what the variants are documented to say"
 
 
 def spelled(text):
-    """Text or bytes as a word."""
+    """Text or bytes as an argument."""
     return (text if isinstance(text, bytes) else text.encode()).hex()
 
 
-def word(value):
-    """A number, a flag, or None as a word."""
+def argument(value):
+    """A number, a flag, or None as an argument."""
     return "none" if value is None else str(value).lower()
 
 
 # Requests, and the JSON values of bodies.
 
 def is_initialize(seq, lines, columns):
-    return "%d initialize %s %s" % (seq, word(lines), word(columns))
+    return "%d initialize %s %s" % (seq, argument(lines), argument(columns))
 
 
 def is_threads(seq):
@@ -35,11 +35,11 @@ def is_threads(seq):
 
 
 def is_cancel(seq, request_id):
-    return "%d cancel %s" % (seq, word(request_id))
+    return "%d cancel %s" % (seq, argument(request_id))
 
 
 def is_disconnect(seq, terminate, suspend):
-    return "%d disconnect %s %s" % (seq, word(terminate), word(suspend))
+    return "%d disconnect %s %s" % (seq, argument(terminate), argument(suspend))
 
 
 def is_bad(seq, name, refusal):
@@ -246,7 +246,7 @@ THREADS_BODY = '{"threads":[{"id":1,"name":"hart 0"}]}'
 
 def response(seq, command, request_seq, body=None, success=True, **more):
     """The text of a response whose parts need not belong together; a number may be any text."""
-    members = '"command":"%s","request_seq":%s,"seq":%s,"success":%s,"type":"response"}' % (command, request_seq, seq, word(success))
+    members = '"command":"%s","request_seq":%s,"seq":%s,"success":%s,"type":"response"}' % (command, request_seq, seq, argument(success))
     return '{%s%s%s' % ("".join('"%s":%s,' % member for member in more.items()), '"body":%s,\n' % body if body else "", members)
 
 
@@ -333,7 +333,7 @@ RESPONSES = [
         *written(1, refuse(1, "threads", "WrongPhase"), REFUSED_TEXT),
         *written(3, ack(3, "disconnect"), DISCONNECT_TEXT),
     ], PROFILE, refused=True),
-    Row("no memory is told apart from bad bodies", [
+    Row("no memory is another answer than that of bad bodies", [
         read(INITIALIZE_TEXT, 1, is_done(1, "initialize", "Initialize")),
         read(REFUSED_TEXT, 1, is_refused(1, "threads", "WrongPhase")),
         no_message("{", "NotJson"),

@@ -111,7 +111,7 @@ CONVERSATIONS = [
         [succeeds(0, "initialize"), succeeds(2000000000, "threads"), succeeds(2147483647, "threads")]]),
     ("a refused request's number counts, and that of a repeat does not", [
         [fails(WRONG_PHASE, 7, "threads"), fails(REPEATED, 7, "initialize"), fails(REPEATED, 6, "initialize"), succeeds(8, "initialize")]]),
-    ("a repeat is told before what is unknown, and before the wrong phase", [
+    ("a repeat is reported before what is unknown, and before the wrong phase", [
         [fails(UNKNOWN, 3, "fly"), fails(REPEATED, 3, "fly"), fails(REPEATED, 3, "threads")]]),
     ("a repeated disconnect does not end the session", [
         [succeeds(1, "initialize"), fails(REPEATED, 1, "disconnect"), succeeds(2, "threads")]]),
@@ -138,14 +138,14 @@ CONVERSATIONS = [
         [fails(WAS_CANCELLED, 1, "initialize"), fails(WRONG_PHASE, 2, "threads"), succeeds(3, "cancel", 1), succeeds(4, "initialize")]]),
     ("a cancelled disconnect does not end the session", [
         [succeeds(1, "initialize"), fails(WAS_CANCELLED, 2, "disconnect"), succeeds(3, "cancel", 2)], [succeeds(4, "threads")]]),
-    ("a request of no known name is cancelled before that is told", [
+    ("a request of no known name is cancelled before that is reported", [
         [fails(WAS_CANCELLED, 1, "fly"), succeeds(2, "cancel", 1), fails(UNKNOWN, 3, "fly")]]),
     ("after a disconnect no request is taken, however it was numbered", [
         [succeeds(1, "initialize"), succeeds(2, "disconnect"), fails(WRONG_PHASE, 3, "threads"), fails(WRONG_PHASE, 4, "disconnect"),
          fails(WRONG_PHASE, 5, "initialize"), fails(WRONG_PHASE, 6, "cancel"), fails(REPEATED, 6, "threads"), fails(UNKNOWN, 7, "fly")]]),
     ("a cancel after a disconnect acts when it comes, and is not taken", [
         [succeeds(1, "initialize"), succeeds(2, "disconnect"), fails(WAS_CANCELLED, 3, "threads"), fails(WRONG_PHASE, 4, "cancel", 3)]]),
-    ("the wrong phase is told before that the request is gone", [
+    ("the wrong phase is reported before that the request is gone", [
         [succeeds(1, "disconnect"), fails(WRONG_PHASE, 2, "cancel", 77)]]),
     ("a disconnect may come first", [
         [succeeds(4, "disconnect"), fails(WRONG_PHASE, 5, "initialize")]]),
@@ -240,7 +240,7 @@ ROWS = [Row(name, conversation(*pieces), PROFILE) for name, pieces in CONVERSATI
         sent(len(FIRST_ANSWER + frame(DISCONNECTED % (2, 2)) + refused("wrongPhase", 3, "threads", 3, 3)) - 1), UNFINISHED,
         sent(1), FINISHED, recv(b"x", "Closing"), NO_FAULT,
     ], PROFILE),
-    Row("a fault is told until the next connection", [
+    Row("a fault is reported until the next connection", [
         CONNECT, recv(NO_MESSAGE), faulty("Message(NotAMessage)"), recv(b"x", "Closing"), DROPPED, ("drop", "NotConnected"),
         faulty("Message(NotAMessage)"), ("connect", "2"), NO_FAULT,
     ], PROFILE),

@@ -1,6 +1,6 @@
 //! Feeds frames to an unframer in pieces, and reads them back: what `bench/run` times.
 //!
-//! Words: how many frames, the bytes of each body, the bytes of each piece.
+//! Arguments: how many frames, the bytes of each body, the bytes of each piece.
 #![tactic(auto)]
 
 use framing::{FrameError, Unframer, frame};
@@ -20,8 +20,8 @@ struct Load {
 }
 
 fn main(rt: HostRuntime) -> io::Result<ExitCode> {
-    let words: Vec<String> = env::args(&rt)?.collect(rt.alloc())?;
-    let Some(load) = load_of(words.as_slice()) else {
+    let arguments: Vec<String> = env::args(&rt)?.collect(rt.alloc())?;
+    let Some(load) = load_of(arguments.as_slice()) else {
         eprintln!(rt; "usage: bench_framing FRAMES BODY PIECE")?;
         return Ok(ExitCode::from(2));
     };
@@ -33,8 +33,8 @@ fn main(rt: HostRuntime) -> io::Result<ExitCode> {
     Ok(ExitCode::SUCCESS)
 }
 
-fn load_of(words: &[String]) -> Option<Load> {
-    let [_, frames, body, piece] = words else {
+fn load_of(arguments: &[String]) -> Option<Load> {
+    let [_, frames, body, piece] = arguments else {
         return None;
     };
     Some(Load {

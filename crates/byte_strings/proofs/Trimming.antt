@@ -60,38 +60,38 @@ pub record Round (text : List ℕ) : Type 0 where
 
 -- what is left without leading blanks is what is left without any, and blanks
 pub record Ended (text : List ℕ) : Type 0 where
-  pub behind : List ℕ
-  pub blank : list_all is_blank behind ≡ true
-  pub parted : text ≡ without_trailing_blanks text ++ behind
+  pub after : List ℕ
+  pub blank : list_all is_blank after ≡ true
+  pub parted : text ≡ without_trailing_blanks text ++ after
 
 pub ended : (text : List ℕ) → Ended text
 ended text =
     let back = led (reverse text) in record {
-      behind = reverse back.blanks;
+      after = reverse back.blanks;
       blank = all_reverse is_blank back.blanks back.all;
       parted = sym (reverse-reverse text) ∙ ap reverse back.parted ∙ reverse-append back.blanks (without_leading_blanks (reverse text));
     }
 
 pub round : (text : List ℕ) → Round text
 round text =
-    let front = led text in
+    let lead = led text in
     let back = ended (without_leading_blanks text) in record {
-      before = front.blanks;
-      behind = back.behind;
-      blank_before = front.all;
+      before = lead.blanks;
+      behind = back.after;
+      blank_before = lead.all;
       blank_behind = back.blank;
-      parted = front.parted ∙ ap (λ (l : List ℕ). front.blanks ++ l) back.parted ∙ sym (append_assoc front.blanks (trimmed text) back.behind);
-      some = front.some;
+      parted = lead.parted ∙ ap (λ (l : List ℕ). lead.blanks ++ l) back.parted ∙ sym (append_assoc lead.blanks (trimmed text) back.after);
+      some = lead.some;
     }
 
-front_begins : (front back text : List ℕ) → text ≡ front ++ back → begins_blank text ≡ false → begins_blank front ≡ false
-front_begins [] back text e h = refl
-front_begins (b ∷ front) back text e h = sym (ap begins_blank e) ∙ h
+prefix_begins : (prefix rest text : List ℕ) → text ≡ prefix ++ rest → begins_blank text ≡ false → begins_blank prefix ≡ false
+prefix_begins [] rest text e h = refl
+prefix_begins (b ∷ prefix) rest text e h = sym (ap begins_blank e) ∙ h
 
 -- what is left begins with no blank, and ends with none
 pub trimmed_begins : (text : List ℕ) → begins_blank (trimmed text) ≡ false
 trimmed_begins text =
-    let back = ended (without_leading_blanks text) in front_begins (trimmed text) back.behind (without_leading_blanks text) back.parted (none_left text)
+    let back = ended (without_leading_blanks text) in prefix_begins (trimmed text) back.after (without_leading_blanks text) back.parted (none_left text)
 
 pub trimmed_ends : (text : List ℕ) → begins_blank (reverse (trimmed text)) ≡ false
 trimmed_ends text = ap begins_blank (reverse-reverse (without_leading_blanks (reverse (without_leading_blanks text)))) ∙ none_left (reverse (without_leading_blanks text))
@@ -107,14 +107,14 @@ pub all_gone : (text : List ℕ) → list_all is_blank text ≡ true → without
 all_gone text h = ap without_leading_blanks (sym (append-nil text)) ∙ blanks_go text [] h
 
 -- what stands between blanks
-pub between : (before text behind : List ℕ) → list_all is_blank before ≡ true → list_all is_blank behind ≡ true → trimmed text ≡ text → trimmed (before ++ text ++ behind) ≡ text
-between before [] behind a b h =
-    let none : without_leading_blanks (before ++ [] ++ behind) ≡ [] = ap (λ (l : List ℕ). without_leading_blanks (l ++ behind)) (append-nil before) ∙ all_gone (before ++ behind) (all_append is_blank before behind a b) in
+pub between : (before text after : List ℕ) → list_all is_blank before ≡ true → list_all is_blank after ≡ true → trimmed text ≡ text → trimmed (before ++ text ++ after) ≡ text
+between before [] after a b h =
+    let none : without_leading_blanks (before ++ [] ++ after) ≡ [] = ap (λ (l : List ℕ). without_leading_blanks (l ++ after)) (append-nil before) ∙ all_gone (before ++ after) (all_append is_blank before after a b) in
     ap without_trailing_blanks none
-between before (c ∷ text) behind a b h =
+between before (c ∷ text) after a b h =
     let whole : List ℕ = c ∷ text in
     let first : begins_blank whole ≡ false = sym (ap begins_blank h) ∙ trimmed_begins whole in
     let last : begins_blank (reverse whole) ≡ false = sym (ap (λ l. begins_blank (reverse l)) h) ∙ trimmed_ends whole in
-    let lead : without_leading_blanks (before ++ whole ++ behind) ≡ whole ++ behind = ap without_leading_blanks (append_assoc before whole behind) ∙ blanks_go before (whole ++ behind) a ∙ others_stay (whole ++ behind) first in
-    let tail : without_leading_blanks (reverse (whole ++ behind)) ≡ reverse whole = ap without_leading_blanks (reverse-append whole behind) ∙ blanks_go (reverse behind) (reverse whole) (all_reverse is_blank behind b) ∙ others_stay (reverse whole) last in
+    let lead : without_leading_blanks (before ++ whole ++ after) ≡ whole ++ after = ap without_leading_blanks (append_assoc before whole after) ∙ blanks_go before (whole ++ after) a ∙ others_stay (whole ++ after) first in
+    let tail : without_leading_blanks (reverse (whole ++ after)) ≡ reverse whole = ap without_leading_blanks (reverse-append whole after) ∙ blanks_go (reverse after) (reverse whole) (all_reverse is_blank after b) ∙ others_stay (reverse whole) last in
     ap without_trailing_blanks lead ∙ ap reverse tail ∙ reverse-reverse whole

@@ -1,1 +1,2 @@
+-- Blanks, and a text without those round it.
 pub mod Blanks

@@ -1,4 +1,4 @@
--- Where a header part ends: the places of CR LF CR LF.
+-- Where a header part ends: where CR LF CR LF stands.
 use Rattle.std.proofs.Common.{◌≡◌, ℕ, ◌+◌, ◌-◌, ◌<◌, ◌≤◌, zero, suc, Bool, true, false, cond, ◌&&◌, eqb, leb, List, [], ◌∷◌, ◌++◌, length, get_or, Option, Some, None, refl, sym, ap, ◌∙◌, arith, length-append, ◌⊎◌}
 use Rattle.std.specs.Option.{option_map}
 use Rattle.std.proofs.lemmas.List.{get_or_append_left}
@@ -8,7 +8,7 @@ use Rattle.framing.specs.Headers.{begins_with_end, end_of}
 use Rattle.framing.specs.Reading.{size_of, size_by}
 use Rattle.framing.specs.Lines.{EndsPast}
 
--- the four bytes from a place on are CR LF CR LF
+-- the four bytes from an index on are CR LF CR LF
 pub record MarkAt (bytes : List ℕ) (at : ℕ) : Type 0 where
   pub first : get_or bytes at 0 ≡ 13
   pub second : get_or bytes (at + 1) 0 ≡ 10
@@ -80,7 +80,7 @@ end_by (b ∷ bytes) (suc at) m =
       | false ↦ (suc r.0, ap (option_map suc) r.1, omega (arith, r.2))
     ]
 
--- the search, one place on: no mark ends at i
+-- the search, one index on: no mark ends at i
 pub past_more : (bytes : List ℕ) (i : ℕ) → EndsPast i bytes → ((at : ℕ) → i ≡ at + 3 → MarkAt bytes at → ⊥) → EndsPast (i + 1) bytes
 past_more bytes i past none size e =
     let m = mark_at bytes size e in
@@ -104,7 +104,7 @@ size_here bytes i at past e small m =
     let t : leb (i + 1) 4096 ≡ true = grind (arith, nat_tests) in
     rw there (rw t refl)
 
--- no end among the first 4,096 bytes, or no byte behind those that were searched
+-- no end among the first 4,096 bytes, or no byte after those that were searched
 pub by_end : (o : Option ℕ) → ((size : ℕ) → o ≡ Some size → 4096 < size) → size_by o ≡ None
 by_end None past = refl
 by_end (Some size) past = let lt : 4096 < size = past size refl in let t : leb size 4096 ≡ false = grind (arith, nat_tests) in rw t refl
@@ -146,7 +146,7 @@ not_fourth bytes i none at e m = none (ap (λ n. get_or bytes n 0) e ∙ m.fourt
 pub past_nothing : (bytes : List ℕ) → EndsPast 0 bytes
 past_nothing bytes size e = let m = mark_at bytes size e in omega (arith, m.1)
 
--- more bytes behind, and the marks of before
+-- more bytes after these, and the marks of before
 keeps_mark : (a b : List ℕ) (at : ℕ) → MarkAt a at → MarkAt (a ++ b) at
 keeps_mark a b at m =
     let room : at + 4 ≤ length a = m.room in
@@ -189,12 +189,12 @@ end_keeps a b size e =
     let same : there.0 ≡ size = omega (arith, n.1, m.1, here.2, early, size_is) in
     end_moved (a ++ b) there.0 size there.1 same
 
--- a new end is behind the bytes that had none
+-- a new end is past the bytes that had none
 pub end_later : (a b : List ℕ) → end_of a ≡ None → EndsPast (length a) (a ++ b)
 end_later a b none size e =
     let m = mark_at (a ++ b) size e in
-    let behind : m.0 + 4 ≤ length a → ⊥ = λ room. (let here = end_by a m.0 (had_mark a b m.0 m.2 room) in none_is here.0 (sym none ∙ here.1)) in
-    omega (arith, m.1, behind) where
+    let after : m.0 + 4 ≤ length a → ⊥ = λ room. (let here = end_by a m.0 (had_mark a b m.0 m.2 room) in none_is here.0 (sym none ∙ here.1)) in
+    omega (arith, m.1, after) where
       none_is : (n : ℕ) → (let x : Option ℕ = None in x) ≡ Some n → ⊥
       none_is n h = cc
 

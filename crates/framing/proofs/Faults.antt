@@ -27,7 +27,7 @@ header_at limit bytes size h none = ap (start_at limit bytes) h ∙ ap (λ (o : 
 
 -- the whole header part is taken
 header_taken : (bytes header : List ℕ) → HasHeader bytes header → take (length header) bytes ≡ header
-header_taken bytes header h = ap (take (length header)) h.whole ∙ taken header h.behind where
+header_taken bytes header h = ap (take (length header)) h.whole ∙ taken header h.after where
   taken : (xs ys : List ℕ) → take (length xs) (xs ++ ys) ≡ xs
   taken [] ys = refl
   taken (x ∷ xs) ys = ap (λ (l : List ℕ). x ∷ l) (taken xs ys)
@@ -122,7 +122,7 @@ no_header limit bytes size h none =
 
       with_first : (f : Field) (fs : List Field) → list_all is_field (f ∷ fs) ≡ true → HasHeader bytes (header_of (f ∷ fs)) → ⊥
       with_first f fs each has =
-          let text = ap (λ (k : ℕ). take (k - 4) bytes) (size_is (f ∷ fs) has) ∙ ap (take (length (header_of (f ∷ fs)) - 4)) has.whole ∙ text_taken f fs has.behind in
+          let text = ap (λ (k : ℕ). take (k - 4) bytes) (size_is (f ∷ fs) has) ∙ ap (take (length (header_of (f ∷ fs)) - 4)) has.whole ∙ text_taken f fs has.after in
           none_some (f ∷ fs) (sym none ∙ ap (λ (t : List ℕ). fields_in (lines_of t)) text ∙ ap fields_in (lines_are f fs each) ∙ fields_are (f ∷ fs) each)
 
       unspelled : (fields : List Field) → list_all is_field fields ≡ true → HasHeader bytes (header_of fields) → ⊥

@@ -22,7 +22,7 @@ pub known_is : (s : Start) → ((fault : FrameError) × (s ≡ Breaks fault)) �
 known_is s (inl e) = ap is_waiting e.1
 known_is s (inr e) = ap is_waiting e.2
 
--- no stream has want of memory for its fault
+-- no stream has out of memory for its fault
 abbrev NotMemory : Result ℕ FrameError → Type 0
 NotMemory r = r ≡ Err NoMemory → ⊥
 
@@ -86,27 +86,27 @@ fed_is limit waiting (Breaks fault) rest piece before bodies tail whole h = absu
 
 -- The bodies that wait now, how the next frame starts and what came of it, and what the mark goes back to, are what a
 -- piece makes of the bodies that waited and of what had come.
-pub record Went (limit : ℕ) (waiting : List (List ℕ)) (start : Start) (rest piece : List ℕ) (now : List (List ℕ)) (next : Start) (left : ℕ) (waited : List (List ℕ)) (front : List ℕ) : Type 0 where
+pub record Went (limit : ℕ) (waiting : List (List ℕ)) (start : Start) (rest piece : List ℕ) (now : List (List ℕ)) (next : Start) (left : ℕ) (waited : List (List ℕ)) (prefix : List ℕ) : Type 0 where
   pub bodies : List (List ℕ)
   pub whole : is_broken start ≡ false
   pub parts : Parts limit (rest ++ piece) bodies next left
   pub added : now ≡ waiting ++ bodies
   pub waited_is : waited ≡ waiting
-  pub front_is : front ≡ rest
+  pub prefix_is : prefix ≡ rest
 
--- what has come of the next frame, behind the whole ones
-abbrev behind : ℕ → List ℕ → List ℕ
-behind left bytes = drop (length bytes - left) bytes
+-- what has come of the next frame, after the whole ones
+abbrev after_frames : ℕ → List ℕ → List ℕ
+after_frames left bytes = drop (length bytes - left) bytes
 
-went_fed : (limit : ℕ) (waiting : List (List ℕ)) (start : Start) (rest piece : List ℕ) (before : Option Before) (now : List (List ℕ)) (next : Start) (left : ℕ) (waited : List (List ℕ)) (front : List ℕ) (tail : Tail)
-    → Went limit waiting start rest piece now next left waited front → tail ≡ tail_by next (behind left (rest ++ piece))
-    → gone_on limit now waited tail (tail_by start front) ≡ fed (held_at limit waiting start rest before) piece
-went_fed limit waiting start rest piece before now next left waited front tail w tail_is =
-    ap (λ (n : List (List ℕ)). gone_on limit n waited tail (tail_by start front)) w.added
-    ∙ ap (λ (n : List (List ℕ)). gone_on limit (waiting ++ w.bodies) n tail (tail_by start front)) w.waited_is
-    ∙ ap (λ (t : Tail). gone_on limit (waiting ++ w.bodies) waiting t (tail_by start front)) tail_is
-    ∙ ap (λ (l : List ℕ). gone_on limit (waiting ++ w.bodies) waiting (tail_by next (behind left (rest ++ piece))) (tail_by start l)) w.front_is
-    ∙ sym (fed_is limit waiting start rest piece before w.bodies (tail_by next (behind left (rest ++ piece))) w.whole w.parts.reads)
+went_fed : (limit : ℕ) (waiting : List (List ℕ)) (start : Start) (rest piece : List ℕ) (before : Option Before) (now : List (List ℕ)) (next : Start) (left : ℕ) (waited : List (List ℕ)) (prefix : List ℕ) (tail : Tail)
+    → Went limit waiting start rest piece now next left waited prefix → tail ≡ tail_by next (after_frames left (rest ++ piece))
+    → gone_on limit now waited tail (tail_by start prefix) ≡ fed (held_at limit waiting start rest before) piece
+went_fed limit waiting start rest piece before now next left waited prefix tail w tail_is =
+    ap (λ (n : List (List ℕ)). gone_on limit n waited tail (tail_by start prefix)) w.added
+    ∙ ap (λ (n : List (List ℕ)). gone_on limit (waiting ++ w.bodies) n tail (tail_by start prefix)) w.waited_is
+    ∙ ap (λ (t : Tail). gone_on limit (waiting ++ w.bodies) waiting t (tail_by start prefix)) tail_is
+    ∙ ap (λ (l : List ℕ). gone_on limit (waiting ++ w.bodies) waiting (tail_by next (after_frames left (rest ++ piece))) (tail_by start l)) w.prefix_is
+    ∙ sym (fed_is limit waiting start rest piece before w.bodies (tail_by next (after_frames left (rest ++ piece))) w.whole w.parts.reads)
 
 -- a fault is answered
 feeds_fault : (T : Type 0) (old : Unframed) (piece : List ℕ) (new : Unframed) (fault : FrameError) → new ≡ fed old piece → fault_of new.tail ≡ Some fault → (fault ≡ NoMemory → new ≡ old) → Feeds {T = T} old piece (Err fault) new
@@ -118,19 +118,19 @@ feeds_fault T old piece new TooLong e f m = (e, f)
 feeds_fault T old piece new HeaderTooLong e f m = (e, f)
 feeds_fault T old piece new NoMemory e f m = m refl
 
--- a piece that brings a fault: what has come behind it does not matter
+-- a piece that brings a fault: what has come after it does not matter
 broken_tail : (next : Start) (fault : FrameError) (a b : List ℕ) → next ≡ Breaks fault → tail_by next a ≡ tail_by next b
 broken_tail next fault a b e = ap (λ s. tail_by s a) e ∙ sym (ap (λ s. tail_by s b) e)
 
-pub fault_came : (T : Type 0) (old : Unframed) (limit : ℕ) (waiting : List (List ℕ)) (start : Start) (rest piece : List ℕ) (before : Option Before) (now : List (List ℕ)) (next : Start) (left : ℕ) (waited : List (List ℕ)) (front kept : List ℕ) (fault : FrameError)
-    → held_at limit waiting start rest before ≡ old → Went limit waiting start rest piece now next left waited front → next ≡ Breaks fault
-    → Feeds {T = T} old piece (Err fault) (gone_on limit now waited (tail_by next kept) (tail_by start front))
-fault_came T old limit waiting start rest piece before now next left waited front kept fault was w breaks =
-    let new : Unframed = gone_on limit now waited (tail_by next kept) (tail_by start front) in
+pub fault_came : (T : Type 0) (old : Unframed) (limit : ℕ) (waiting : List (List ℕ)) (start : Start) (rest piece : List ℕ) (before : Option Before) (now : List (List ℕ)) (next : Start) (left : ℕ) (waited : List (List ℕ)) (prefix kept : List ℕ) (fault : FrameError)
+    → held_at limit waiting start rest before ≡ old → Went limit waiting start rest piece now next left waited prefix → next ≡ Breaks fault
+    → Feeds {T = T} old piece (Err fault) (gone_on limit now waited (tail_by next kept) (tail_by start prefix))
+fault_came T old limit waiting start rest piece before now next left waited prefix kept fault was w breaks =
+    let new : Unframed = gone_on limit now waited (tail_by next kept) (tail_by start prefix) in
     let e : new ≡ fed old piece =
-    went_fed limit waiting start rest piece before now next left waited front (tail_by next kept) w (broken_tail next fault kept (behind left (rest ++ piece)) breaks) ∙ ap (λ (o : Unframed). fed o piece) was in
+    went_fed limit waiting start rest piece before now next left waited prefix (tail_by next kept) w (broken_tail next fault kept (after_frames left (rest ++ piece)) breaks) ∙ ap (λ (o : Unframed). fed o piece) was in
     let f : fault_of (tail_by next kept) ≡ Some fault = ap (λ s. fault_of (tail_by s kept)) breaks in
-    feeds_fault T old piece new fault e f (λ m. absurd (no_memory_fault limit (behind left (rest ++ piece)) (sym w.parts.starts ∙ breaks ∙ ap (λ x. Breaks x) m)))
+    feeds_fault T old piece new fault e f (λ m. absurd (no_memory_fault limit (after_frames left (rest ++ piece)) (sym w.parts.starts ∙ breaks ∙ ap (λ x. Breaks x) m)))
 
 -- a piece that brings none
 no_fault_by : (next : Start) (rest : List ℕ) → is_broken next ≡ false → fault_of (tail_by next rest) ≡ None
@@ -140,28 +140,28 @@ no_fault_by (Breaks fault) rest h = absurd (not_false h) where
   not_false : true ≡ false → ⊥
   not_false e = cc
 
-pub piece_came : (T : Type 0) (x : T) (old : Unframed) (limit : ℕ) (waiting : List (List ℕ)) (start : Start) (rest piece : List ℕ) (before : Option Before) (now : List (List ℕ)) (next : Start) (left : ℕ) (waited : List (List ℕ)) (front kept : List ℕ)
-    → held_at limit waiting start rest before ≡ old → Went limit waiting start rest piece now next left waited front → is_broken next ≡ false → kept ≡ behind left (rest ++ piece)
-    → Feeds {T = T} old piece (Ok x) (gone_on limit now waited (tail_by next kept) (tail_by start front))
-piece_came T x old limit waiting start rest piece before now next left waited front kept was w some kept_is =
-    (went_fed limit waiting start rest piece before now next left waited front (tail_by next kept) w (ap (tail_by next) kept_is) ∙ ap (λ (o : Unframed). fed o piece) was, no_fault_by next kept some)
+pub piece_came : (T : Type 0) (x : T) (old : Unframed) (limit : ℕ) (waiting : List (List ℕ)) (start : Start) (rest piece : List ℕ) (before : Option Before) (now : List (List ℕ)) (next : Start) (left : ℕ) (waited : List (List ℕ)) (prefix kept : List ℕ)
+    → held_at limit waiting start rest before ≡ old → Went limit waiting start rest piece now next left waited prefix → is_broken next ≡ false → kept ≡ after_frames left (rest ++ piece)
+    → Feeds {T = T} old piece (Ok x) (gone_on limit now waited (tail_by next kept) (tail_by start prefix))
+piece_came T x old limit waiting start rest piece before now next left waited prefix kept was w some kept_is =
+    (went_fed limit waiting start rest piece before now next left waited prefix (tail_by next kept) w (ap (tail_by next) kept_is) ∙ ap (λ (o : Unframed). fed o piece) was, no_fault_by next kept some)
 
--- a piece behind a fault
+-- a piece after a fault
 fed_broken : (limit : ℕ) (waiting : List (List ℕ)) (rest piece : List ℕ) (before : Option Before) (fault : FrameError) → fed (held_at limit waiting (Breaks fault) rest before) piece ≡ gone_on limit waiting waiting (Faulty fault) (Faulty fault)
 fed_broken limit waiting rest piece before fault = ap (λ (n : List (List ℕ)). gone_on limit n waiting (Faulty fault) (Faulty fault)) (append-nil waiting)
 
-pub fault_stays : (old : Unframed) (limit : ℕ) (waiting : List (List ℕ)) (start : Start) (rest : List ℕ) (before : Option Before) (now waited : List (List ℕ)) (kept front piece : List ℕ)
+pub fault_stays : (old : Unframed) (limit : ℕ) (waiting : List (List ℕ)) (start : Start) (rest : List ℕ) (before : Option Before) (now waited : List (List ℕ)) (kept prefix piece : List ℕ)
     → held_at limit waiting start rest before ≡ old → is_broken start ≡ true → now ≡ waiting → waited ≡ waiting
-    → gone_on limit now waited (tail_by start kept) (tail_by start front) ≡ fed old piece
-fault_stays old limit waiting (Breaks fault) rest before now waited kept front piece was broken now_is waited_is =
+    → gone_on limit now waited (tail_by start kept) (tail_by start prefix) ≡ fed old piece
+fault_stays old limit waiting (Breaks fault) rest before now waited kept prefix piece was broken now_is waited_is =
     ap (λ (n : List (List ℕ)). gone_on limit n waited (Faulty fault) (Faulty fault)) now_is
     ∙ ap (λ (n : List (List ℕ)). gone_on limit waiting n (Faulty fault) (Faulty fault)) waited_is
     ∙ sym (fed_broken limit waiting rest piece before fault)
     ∙ ap (λ (o : Unframed). fed o piece) was
-fault_stays old limit waiting Waits rest before now waited kept front piece was broken now_is waited_is = absurd (not_true broken) where
+fault_stays old limit waiting Waits rest before now waited kept prefix piece was broken now_is waited_is = absurd (not_true broken) where
   not_true : false ≡ true → ⊥
   not_true e = cc
-fault_stays old limit waiting (Begins size n) rest before now waited kept front piece was broken now_is waited_is = absurd (not_true broken) where
+fault_stays old limit waiting (Begins size n) rest before now waited kept prefix piece was broken now_is waited_is = absurd (not_true broken) where
   not_true : false ≡ true → ⊥
   not_true e = cc
 

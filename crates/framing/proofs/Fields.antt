@@ -106,10 +106,10 @@ field_back f h = rw h refl
 pub field_is : (f : Field) → is_field f ≡ true → field_in (text_of_field f) ≡ Some f
 field_is f h =
     let p = position_is f.name f.value (name_all f.name (and_left _ _ h)) in
-    let front : take (length f.name) (text_of_field f) ≡ f.name = take_at f.name (58 ∷ f.value) (length f.name) refl in
+    let prefix : take (length f.name) (text_of_field f) ≡ f.name = take_at f.name (58 ∷ f.value) (length f.name) refl in
     let colon : f.name ++ 58 ∷ f.value ≡ (f.name ++ 58 ∷ []) ++ f.value = sym (append_assoc f.name (58 ∷ []) f.value) in
     let back : drop (length f.name + 1) (text_of_field f) ≡ f.value = ap (drop (length f.name + 1)) colon ∙ drop_at (f.name ++ 58 ∷ []) f.value (length f.name + 1) (length-append f.name (58 ∷ [])) in
-    ap (field_at (text_of_field f)) p ∙ ap (λ (x : List ℕ). field_of x (drop (length f.name + 1) (text_of_field f))) front ∙ ap (field_of f.name) back ∙ field_back f h
+    ap (field_at (text_of_field f)) p ∙ ap (λ (x : List ℕ). field_of x (drop (length f.name + 1) (text_of_field f))) prefix ∙ ap (field_of f.name) back ∙ field_back f h
 
 pub fields_are : (fields : List Field) → list_all is_field fields ≡ true → fields_in (map text_of_field fields) ≡ Some fields
 fields_are [] h = refl

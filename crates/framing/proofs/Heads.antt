@@ -17,7 +17,7 @@ use Rattle.framing.proofs.Fields.{end_mark, text_of_fields, header_is, lines_are
 
 -- From the statement to the function.
 --
--- The header part at the front of some bytes is made of these fields: then it is read so.
+-- The header part that some bytes begin with is made of these fields: then it is read so.
 pub size_small : (bytes : List ℕ) (size : ℕ) → end_of bytes ≡ Some size → size ≤ 4096 → size_of bytes ≡ Some size
 size_small bytes size e small = let t : leb size 4096 ≡ true = grind (arith, nat_tests) in rw e (rw t refl)
 
@@ -28,20 +28,20 @@ some_field bytes [] h =
     absurd (omega (arith, m.1))
 some_field bytes (f ∷ fs) h = (f, fs, refl)
 
-pub text_taken : (f : Field) (fs : List Field) (behind : List ℕ) → take (length (header_of (f ∷ fs)) - 4) (header_of (f ∷ fs) ++ behind) ≡ text_of_fields f fs
-text_taken f fs behind =
+pub text_taken : (f : Field) (fs : List Field) (after : List ℕ) → take (length (header_of (f ∷ fs)) - 4) (header_of (f ∷ fs) ++ after) ≡ text_of_fields f fs
+text_taken f fs after =
     let text = text_of_fields f fs in
-    let shape : header_of (f ∷ fs) ++ behind ≡ text ++ (end_mark ++ behind) = ap (λ (x : List ℕ). x ++ behind) (header_is f fs) ∙ append_assoc text end_mark behind in
+    let shape : header_of (f ∷ fs) ++ after ≡ text ++ (end_mark ++ after) = ap (λ (x : List ℕ). x ++ after) (header_is f fs) ∙ append_assoc text end_mark after in
     let size : length (header_of (f ∷ fs)) ≡ length text + 4 = ap length (header_is f fs) ∙ length-append text end_mark in
     let n : length (header_of (f ∷ fs)) - 4 ≡ length text = omega (arith, size) in
-    ap (λ (k : ℕ). take k (header_of (f ∷ fs) ++ behind)) n ∙ ap (take (length text)) shape ∙ take_at text (end_mark ++ behind) (length text) refl
+    ap (λ (k : ℕ). take k (header_of (f ∷ fs) ++ after)) n ∙ ap (take (length text)) shape ∙ take_at text (end_mark ++ after) (length text) refl
 
-read_some : (limit : ℕ) (bytes behind : List ℕ) (f : Field) (fs : List Field) → bytes ≡ header_of (f ∷ fs) ++ behind → end_of bytes ≡ Some (length (header_of (f ∷ fs))) → length (header_of (f ∷ fs)) ≤ 4096 → list_all is_field (f ∷ fs) ≡ true
+read_some : (limit : ℕ) (bytes after : List ℕ) (f : Field) (fs : List Field) → bytes ≡ header_of (f ∷ fs) ++ after → end_of bytes ≡ Some (length (header_of (f ∷ fs))) → length (header_of (f ∷ fs)) ≤ 4096 → list_all is_field (f ∷ fs) ≡ true
     → start_of limit bytes ≡ start_by (length (header_of (f ∷ fs))) (length_among limit (length_fields (f ∷ fs)))
 unfolding start_of
-read_some limit bytes behind f fs whole ends short each =
+read_some limit bytes after f fs whole ends short each =
     let size = length (header_of (f ∷ fs)) in
-    let text : take (size - 4) bytes ≡ text_of_fields f fs = ap (take (size - 4)) whole ∙ text_taken f fs behind in
+    let text : take (size - 4) bytes ≡ text_of_fields f fs = ap (take (size - 4)) whole ∙ text_taken f fs after in
     let parsed : fields_in (lines_of (take (size - 4) bytes)) ≡ Some (f ∷ fs) = ap (λ (t : List ℕ). fields_in (lines_of t)) text ∙ ap fields_in (lines_are f fs each) ∙ fields_are (f ∷ fs) each in
     ap (start_at limit bytes) (size_small bytes size ends short) ∙ ap (λ (o : Option (List Field)). start_by size (length_by limit o)) parsed
 
@@ -52,7 +52,7 @@ read_fields limit bytes fields h =
     let P : List Field → Type 0 = λ fs. HasFields bytes fs in
     let moved : HasFields bytes (s.0 ∷ s.1) = subst P same h in
     let Q : List Field → Type 0 = λ fs. start_of limit bytes ≡ start_by (length (header_of fs)) (length_among limit (length_fields fs)) in
-    subst Q (sym same) (read_some limit bytes moved.header.behind s.0 s.1 moved.header.whole moved.header.ends moved.header.short moved.each)
+    subst Q (sym same) (read_some limit bytes moved.header.after s.0 s.1 moved.header.whole moved.header.ends moved.header.short moved.each)
 
 pub read_once : (limit : ℕ) (bytes : List ℕ) (fields : List Field) (field : Field) → HasFields bytes fields → length_fields fields ≡ field ∷ [] → start_of limit bytes ≡ start_by (length (header_of fields)) (length_or_fault limit (number_in (trimmed field.value)))
 read_once limit bytes fields field h once = read_fields limit bytes fields h ∙ ap (λ (fs : List Field). start_by (length (header_of fields)) (length_among limit fs)) once
@@ -71,7 +71,7 @@ head_fields limit h n more head = by_fields head.fields head.field head.spelled 
       let small : length (header_of (f ∷ fs)) ≤ 4096 = subst (λ (x : List ℕ). length x ≤ 4096) spelled short in
       record {
         header = record {
-          behind = more;
+          after = more;
           whole = ap (λ (x : List ℕ). x ++ more) spelled;
           ends = ap (λ (x : List ℕ). end_of (x ++ more)) spelled ∙ ends;
           short = small;
@@ -113,7 +113,7 @@ found_header bytes size h =
     let room = size_room bytes size h in
     let n : length (take size bytes) ≡ size = length-take-le size bytes room.1 in
     record {
-      behind = drop size bytes;
+      after = drop size bytes;
       whole = sym (take-append-drop size bytes);
       ends = r.0 ∙ ap (λ k. Some k) (sym n);
       short = subst (λ (k : ℕ). k ≤ 4096) (sym n) r.1;

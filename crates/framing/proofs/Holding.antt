@@ -12,7 +12,7 @@ use Rattle.framing.specs.declared.start.Start.TheVariants.{Breaks}
 use Rattle.framing.specs.declared.state.Mark.{Mark}
 use Rattle.framing.proofs.Feeding.{Went, no_memory_fault}
 
--- the first body that waits, and those behind it
+-- the first body that waits, and those after it
 pub first_at : (vectors : List (Vec ℕ Global)) (lent : ℕ) (v : Vec ℕ Global) → lent < length vectors → v ≡ get_or vectors lent v → Some v.items ≡ first_of (drop lent (bodies_of vectors))
 first_at vectors lent v h e =
     ap (λ (x : Vec ℕ Global). Some x.items) e
@@ -61,12 +61,12 @@ rest_count bytes done count h =
 pub rest_with : (bytes piece more drained : List ℕ) (done : ℕ) → done ≤ length bytes → more ≡ bytes ++ piece → drained ≡ drop done more → drained ≡ drop done bytes ++ piece
 rest_with bytes piece more drained done h e d = d ∙ ap (drop done) e ∙ drop-append-le done bytes piece h
 
--- the front of a list, by how long it is
-pub front_here : {A : Type 0} → (front behind l : List A) (n : ℕ) → l ≡ front ++ behind → n ≡ length front → take n l ≡ front
-front_here front behind l n e h = ap (take n) e ∙ take_at front behind n (sym h)
+-- a prefix of a list, by its length
+pub prefix_here : {A : Type 0} → (prefix after l : List A) (n : ℕ) → l ≡ prefix ++ after → n ≡ length prefix → take n l ≡ prefix
+prefix_here prefix after l n e h = ap (take n) e ∙ take_at prefix after n (sym h)
 
-pub front_whole : {A : Type 0} → (front l : List A) (n : ℕ) → l ≡ front → n ≡ length front → take n l ≡ front
-front_whole front l n e h = front_here front [] l n (e ∙ sym (append-nil front)) h
+pub prefix_whole : {A : Type 0} → (prefix l : List A) (n : ℕ) → l ≡ prefix → n ≡ length prefix → take n l ≡ prefix
+prefix_whole prefix l n e h = prefix_here prefix [] l n (e ∙ sym (append-nil prefix)) h
 
 -- the same, as a range of all that is held
 abbrev pub rest_of : List ℕ → ℕ → List ℕ
@@ -75,17 +75,17 @@ rest_of bytes done = take (length bytes - done) (drop done bytes)
 rest_of-with : (bytes piece more : List ℕ) (done : ℕ) → done ≤ length bytes → more ≡ bytes ++ piece → rest_of more done ≡ drop done bytes ++ piece
 rest_of-with bytes piece more done h e =
     let rest = rest_with bytes piece more (drop done more) done h e refl in
-    front_whole (drop done bytes ++ piece) (drop done more) (length more - done) rest (sym (length-drop done more) ∙ ap length rest)
+    prefix_whole (drop done bytes ++ piece) (drop done more) (length more - done) rest (sym (length-drop done more) ∙ ap length rest)
 
-pub behind_is : (left count : ℕ) (bytes whole : List ℕ) → count ≡ length bytes → bytes ≡ whole → drop (count - left) bytes ≡ drop (length whole - left) whole
-behind_is left count bytes whole h e = ap (λ (n : ℕ). drop (n - left) bytes) h ∙ ap (λ (l : List ℕ). drop (length l - left) l) e
+pub after_is : (left count : ℕ) (bytes whole : List ℕ) → count ≡ length bytes → bytes ≡ whole → drop (count - left) bytes ≡ drop (length whole - left) whole
+after_is left count bytes whole h e = ap (λ (n : ℕ). drop (n - left) bytes) h ∙ ap (λ (l : List ℕ). drop (length l - left) l) e
 
 -- what comes of a piece
-pub went_by : (limit lent done left count : ℕ) (vectors frames passed : List (Vec ℕ Global)) (bytes piece more front : List ℕ) (start next : Start) (mark : Option Mark)
+pub went_by : (limit lent done left count : ℕ) (vectors frames passed : List (Vec ℕ Global)) (bytes piece more prefix : List ℕ) (start next : Start) (mark : Option Mark)
     → Fits limit (bodies_of vectors) lent bytes done start mark → is_broken start ≡ false → more ≡ bytes ++ piece → TakesFrames limit (rest_of more done) vectors frames next left
-    → passed ≡ drop lent frames → count ≡ length vectors → front ≡ drop done bytes
-    → Went limit (drop lent (bodies_of vectors)) start (drop done bytes) piece (bodies_of passed) next left (take (count - lent) (bodies_of passed)) front
-went_by limit lent done left count vectors frames passed bytes piece more front start next mark fits whole more_is took passed_of count_is front_is =
+    → passed ≡ drop lent frames → count ≡ length vectors → prefix ≡ drop done bytes
+    → Went limit (drop lent (bodies_of vectors)) start (drop done bytes) piece (bodies_of passed) next left (take (count - lent) (bodies_of passed)) prefix
+went_by limit lent done left count vectors frames passed bytes piece more prefix start next mark fits whole more_is took passed_of count_is prefix_is =
     let rest : rest_of more done ≡ drop done bytes ++ piece = rest_of-with bytes piece more done fits.done_within more_is in
     let added : bodies_of passed ≡ drop lent (bodies_of vectors) ++ took.bodies = passed_is lent frames passed passed_of ∙ ap (drop lent) took.added ∙ drop-append-le lent (bodies_of vectors) took.bodies fits.lent_within in
     record {
@@ -93,11 +93,11 @@ went_by limit lent done left count vectors frames passed bytes piece more front 
       whole = whole;
       parts = subst (λ (x : List ℕ). Parts limit x took.bodies next left) rest took.parts;
       added = added;
-      waited_is = front_here (drop lent (bodies_of vectors)) took.bodies (bodies_of passed) (count - lent) added (waiting_count vectors lent count count_is);
-      front_is = front_is;
+      waited_is = prefix_here (drop lent (bodies_of vectors)) took.bodies (bodies_of passed) (count - lent) added (waiting_count vectors lent count count_is);
+      prefix_is = prefix_is;
     }
 
--- how the frame behind a fault starts, if there is one
+-- how the frame after a fault starts, if there is one
 pub starts_broken : (limit : ℕ) (next : Start) (fault : FrameError) (bytes rest : List ℕ) → next ≡ Breaks fault → next ≡ start_of limit bytes → Starts limit next rest
 starts_broken limit next fault bytes rest breaks starts = record {
   so = λ whole. absurd (not_false (sym (ap is_broken breaks) ∙ whole));
@@ -106,16 +106,16 @@ starts_broken limit next fault bytes rest breaks starts = record {
   not_false : true ≡ false → ⊥
   not_false e = cc
 
-pub starts_here : (limit : ℕ) (start : Start) (rest front : List ℕ) → Starts limit start rest → front ≡ rest → Starts limit start front
-starts_here limit start rest front s e = subst (λ (x : List ℕ). Starts limit start x) (sym e) s
+pub starts_here : (limit : ℕ) (start : Start) (rest prefix : List ℕ) → Starts limit start rest → prefix ≡ rest → Starts limit start prefix
+starts_here limit start rest prefix s e = subst (λ (x : List ℕ). Starts limit start x) (sym e) s
 
 -- what is held after a piece was taken back
-pub taken_back : (old : Unframed) (limit : ℕ) (vectors cut : List (Vec ℕ Global)) (lent done : ℕ) (bytes front : List ℕ) (start : Start) (mark : Option Mark) (m : Mark)
-    → held_by limit (bodies_of vectors) lent bytes done start mark ≡ old → mark ≡ Some m → cut ≡ take m.waiting vectors → front ≡ take m.size bytes
-    → held_by limit (bodies_of cut) 0 front 0 m.start None ≡ retracted old
-taken_back old limit vectors cut lent done bytes front start mark m was marked cut_is front_is =
+pub taken_back : (old : Unframed) (limit : ℕ) (vectors cut : List (Vec ℕ Global)) (lent done : ℕ) (bytes prefix : List ℕ) (start : Start) (mark : Option Mark) (m : Mark)
+    → held_by limit (bodies_of vectors) lent bytes done start mark ≡ old → mark ≡ Some m → cut ≡ take m.waiting vectors → prefix ≡ take m.size bytes
+    → held_by limit (bodies_of cut) 0 prefix 0 m.start None ≡ retracted old
+taken_back old limit vectors cut lent done bytes prefix start mark m was marked cut_is prefix_is =
     let bodies : bodies_of cut ≡ take m.waiting (bodies_of vectors) = ap bodies_of cut_is ∙ sym (take-map (λ (x : Vec ℕ Global). x.items) m.waiting vectors) in
-    ap (λ (l : List (List ℕ)). held_by limit l 0 front 0 m.start None) bodies
-    ∙ ap (λ (l : List ℕ). held_by limit (take m.waiting (bodies_of vectors)) 0 l 0 m.start None) front_is
+    ap (λ (l : List (List ℕ)). held_by limit l 0 prefix 0 m.start None) bodies
+    ∙ ap (λ (l : List ℕ). held_by limit (take m.waiting (bodies_of vectors)) 0 l 0 m.start None) prefix_is
     ∙ ap (λ (k : Option Mark). retracted (held_by limit (bodies_of vectors) lent bytes done start k)) (sym marked)
     ∙ ap retracted was

@@ -10,7 +10,7 @@ use Rattle.framing.specs.declared.error.FrameError.TheVariants.{Header}
 use Rattle.framing.specs.declared.header.Lengths.{Lengths}
 use Rattle.framing.specs.declared.header.Lengths.TheVariants.{No, More}
 
--- bytes at the front of the first line
+-- bytes put before the first line
 abbrev pub onto_line : List ℕ → List (List ℕ) → List (List ℕ)
 onto_line bytes [] = bytes ∷ []
 onto_line bytes (line ∷ lines) = (bytes ++ line) ∷ lines
@@ -55,11 +55,11 @@ pub onto_none : (lines : List ℕ) → lines_of lines ≡ onto_line [] (lines_of
 onto_none lines = onto_nothing (lines_of lines) (some_line lines)
 
 -- bytes before one more byte
-onto_next : (front : List ℕ) (c : ℕ) (lines : List (List ℕ)) → onto_line front (onto_first c lines) ≡ onto_line (front ++ c ∷ []) lines
-onto_next front c [] = refl
-onto_next front c (line ∷ lines) = ap (λ x. x ∷ lines) (sym (append_assoc front (c ∷ []) line))
+onto_next : (prefix : List ℕ) (c : ℕ) (lines : List (List ℕ)) → onto_line prefix (onto_first c lines) ≡ onto_line (prefix ++ c ∷ []) lines
+onto_next prefix c [] = refl
+onto_next prefix c (line ∷ lines) = ap (λ x. x ∷ lines) (sym (append_assoc prefix (c ∷ []) line))
 
--- two bytes at the front of what is left
+-- two bytes before what is left
 two_left : (text : List ℕ) (i : ℕ) → 1 ≤ i → i < length text → drop (i - 1) text ≡ get_or text (i - 1) 0 ∷ get_or text i 0 ∷ drop (i + 1) text
 two_left text i from room =
     let e : i - 1 + 1 ≡ i = omega arith in
@@ -71,19 +71,19 @@ not_both c d none = grind (arith, nat_tests)
 no_end : (c d : ℕ) (text : List ℕ) → (c ≡ 13 → d ≡ 10 → ⊥) → lines_of (c ∷ d ∷ text) ≡ onto_first c (lines_of (d ∷ text))
 no_end c d text none = let t : (eqb c 13 && eqb d 10) ≡ false = not_both c d none in rw t refl
 
--- the search for the end of a line, one place on
+-- the search for the end of a line, one index on
 pub line_more : (text : List ℕ) (i : ℕ) → 1 ≤ i → i < length text → (get_or text (i - 1) 0 ≡ 13 → get_or text i 0 ≡ 10 → ⊥)
     → lines_of text ≡ onto_line (take (i - 1) text) (lines_of (drop (i - 1) text))
     → lines_of text ≡ onto_line (take i text) (lines_of (drop i text))
 line_more text i from room none h =
     let e : i - 1 + 1 ≡ i = omega arith in
     let left : drop i text ≡ get_or text i 0 ∷ drop (i + 1) text = drop_more text i 0 room in
-    let front : take i text ≡ take (i - 1) text ++ get_or text (i - 1) 0 ∷ [] = ap (λ n. take n text) (sym e) ∙ take_more text (i - 1) 0 (omega arith) in
+    let prefix : take i text ≡ take (i - 1) text ++ get_or text (i - 1) 0 ∷ [] = ap (λ n. take n text) (sym e) ∙ take_more text (i - 1) 0 (omega arith) in
     h
     ∙ ap (λ x. onto_line (take (i - 1) text) (lines_of x)) (two_left text i from room)
     ∙ ap (onto_line (take (i - 1) text)) (no_end (get_or text (i - 1) 0) (get_or text i 0) (drop (i + 1) text) none)
     ∙ onto_next (take (i - 1) text) (get_or text (i - 1) 0) (lines_of (get_or text i 0 ∷ drop (i + 1) text))
-    ∙ ap (λ x. onto_line x (lines_of (get_or text i 0 ∷ drop (i + 1) text))) (sym front)
+    ∙ ap (λ x. onto_line x (lines_of (get_or text i 0 ∷ drop (i + 1) text))) (sym prefix)
     ∙ ap (λ x. onto_line (take i text) (lines_of x)) (sym left)
 
 -- the end of a line is at i

@@ -116,41 +116,41 @@ pub reading_none : (limit : ℕ) (bytes : List ℕ) (s : Start) → s ≡ start_
 reading_none limit bytes s e h = reading_next limit bytes ∙ ap (reading_by (reading_of limit) bytes) (sym e) ∙ by_none (reading_of limit) bytes s h
 
 -- where a frame is whole, its body comes before the others
-pub record OneFrame (limit : ℕ) (bytes body behind : List ℕ) : Type 0 where
-  pub reads : reading_of limit bytes ≡ with_body body (reading_of limit behind)
-  pub smaller : length behind < length bytes
+pub record OneFrame (limit : ℕ) (bytes body after : List ℕ) : Type 0 where
+  pub reads : reading_of limit bytes ≡ with_body body (reading_of limit after)
+  pub smaller : length after < length bytes
   pub size : ℕ
-  pub behind_is : behind ≡ drop size bytes
-  pub size_is : size + length behind ≡ length bytes
+  pub after_is : after ≡ drop size bytes
+  pub size_is : size + length after ≡ length bytes
 
-by_some : (limit : ℕ) (bytes body behind : List ℕ) (s : Start) → s ≡ start_of limit bytes → parts_of s bytes ≡ Some (body, behind) → OneFrame limit bytes body behind
-by_some limit bytes body behind Waits e h = cc
-by_some limit bytes body behind (Breaks fault) e h = cc
-by_some limit bytes body behind (Begins size n) e h =
+by_some : (limit : ℕ) (bytes body after : List ℕ) (s : Start) → s ≡ start_of limit bytes → parts_of s bytes ≡ Some (body, after) → OneFrame limit bytes body after
+by_some limit bytes body after Waits e h = cc
+by_some limit bytes body after (Breaks fault) e h = cc
+by_some limit bytes body after (Begins size n) e h =
     let whole = take n (drop size bytes) in
     let rest = drop (size + n) bytes in
     let room = begins_size limit bytes size n (sym e) in
-    let P : Bool → Type 0 = λ t. ltb (length bytes) (size + n) ≡ t → cond t None (some_of whole rest) ≡ some_of body behind
-    → cond t (let r : Reading = record { bodies = []; tail = Partial bytes } in r) (with_body whole (reading_of limit rest)) ≡ reading_of limit bytes → OneFrame limit bytes body behind in
+    let P : Bool → Type 0 = λ t. ltb (length bytes) (size + n) ≡ t → cond t None (some_of whole rest) ≡ some_of body after
+    → cond t (let r : Reading = record { bodies = []; tail = Partial bytes } in r) (with_body whole (reading_of limit rest)) ≡ reading_of limit bytes → OneFrame limit bytes body after in
     let go : P (ltb (length bytes) (size + n)) = elim (ltb (length bytes) (size + n)) as P [
-      | true ↦ λ t q r. absurd (none_some body behind q)
+      | true ↦ λ t q r. absurd (none_some body after q)
       | false ↦ λ t q r.
-          let parts = some_parts whole rest body behind q in
+          let parts = some_parts whole rest body after q in
           let body_is : whole ≡ body = parts.0 in
-          let rest_is : rest ≡ behind = parts.1 in
+          let rest_is : rest ≡ after = parts.1 in
           let fits : size + n ≤ length bytes = grind (arith, nat_tests) in
-          let len : length behind ≡ length bytes - (size + n) = ap length (sym rest_is) ∙ length-drop (size + n) bytes in
+          let len : length after ≡ length bytes - (size + n) = ap length (sym rest_is) ∙ length-drop (size + n) bytes in
           record {
             reads = sym r ∙ ap (λ x. with_body x (reading_of limit rest)) body_is ∙ ap (λ x. with_body body (reading_of limit x)) rest_is;
             smaller = omega (arith, len, room, fits);
             size = size + n;
-            behind_is = sym rest_is;
+            after_is = sym rest_is;
             size_is = omega (arith, len, fits);
           }
     ] in go refl h (sym (reading_next limit bytes ∙ ap (reading_by (reading_of limit) bytes) (sym e)))
 
-pub reading_some : (limit : ℕ) (bytes body behind : List ℕ) (s : Start) → s ≡ start_of limit bytes → parts_of s bytes ≡ Some (body, behind) → OneFrame limit bytes body behind
-reading_some limit bytes body behind s e h = by_some limit bytes body behind s e h
+pub reading_some : (limit : ℕ) (bytes body after : List ℕ) (s : Start) → s ≡ start_of limit bytes → parts_of s bytes ≡ Some (body, after) → OneFrame limit bytes body after
+reading_some limit bytes body after s e h = by_some limit bytes body after s e h
 
 -- How far the code has come: these bodies were found, and the rest starts so.
 pub record Reached (limit : ℕ) (bytes : List ℕ) (bodies : List (List ℕ)) (start : Start) (rest : List ℕ) : Type 0 where
@@ -167,17 +167,17 @@ reached_start limit bytes start e = record {
   reads = refl;
 }
 
-pub reached_more : (limit : ℕ) (bytes : List ℕ) (bodies : List (List ℕ)) (start : Start) (rest body behind : List ℕ) (next : Start) → Reached limit bytes bodies start rest → parts_of start rest ≡ Some (body, behind) → next ≡ start_of limit behind → Reached limit bytes (bodies ++ body ∷ []) next behind
-reached_more limit bytes bodies start rest body behind next r h e =
-    let one = reading_some limit rest body behind start r.starts h in
+pub reached_more : (limit : ℕ) (bytes : List ℕ) (bodies : List (List ℕ)) (start : Start) (rest body after : List ℕ) (next : Start) → Reached limit bytes bodies start rest → parts_of start rest ≡ Some (body, after) → next ≡ start_of limit after → Reached limit bytes (bodies ++ body ∷ []) next after
+reached_more limit bytes bodies start rest body after next r h e =
+    let one = reading_some limit rest body after start r.starts h in
     let within : length rest ≤ length bytes = r.within in
-    let size_is : one.size + length behind ≡ length rest = one.size_is in
-    let n : length bytes - length rest + one.size ≡ length bytes - length behind = omega arith in
+    let size_is : one.size + length after ≡ length rest = one.size_is in
+    let n : length bytes - length rest + one.size ≡ length bytes - length after = omega arith in
     record {
       within = omega arith;
-      there = one.behind_is ∙ ap (drop one.size) r.there ∙ drop-drop one.size (length bytes - length rest) bytes ∙ ap (λ k. drop k bytes) n;
+      there = one.after_is ∙ ap (drop one.size) r.there ∙ drop-drop one.size (length bytes - length rest) bytes ∙ ap (λ k. drop k bytes) n;
       starts = e;
-      reads = with_more bodies body (reading_of limit behind) ∙ ap (with_bodies bodies) (sym one.reads) ∙ r.reads;
+      reads = with_more bodies body (reading_of limit after) ∙ ap (with_bodies bodies) (sym one.reads) ∙ r.reads;
     } where
       with_more : (bodies : List (List ℕ)) (body : List ℕ) (x : Reading) → with_bodies (bodies ++ body ∷ []) x ≡ with_bodies bodies (with_body body x)
       with_more bodies body x = ap (λ (l : List (List ℕ)). let y : Reading = record { bodies = l; tail = x.tail } in y) (append_assoc bodies (body ∷ []) x.bodies)
@@ -203,7 +203,7 @@ pub mapped_none : {A B : Type 0} {r : Option B} (f : A → B) (o : Option A) →
 mapped_none f None h e = sym e
 mapped_none f (Some x) h e = cc
 
--- More bytes behind those that say how a frame starts change nothing.
+-- More bytes after those that say how a frame starts change nothing.
 size_of_end : (bytes : List ℕ) (size : ℕ) → end_of bytes ≡ Some size → size ≤ 4096 → size_of bytes ≡ Some size
 size_of_end bytes size e small = let t : leb size 4096 ≡ true = grind (arith, nat_tests) in rw e (rw t refl)
 
@@ -281,12 +281,12 @@ pub waits_past : (limit : ℕ) (a b : List ℕ) → start_of limit a ≡ Waits �
 waits_past limit a b h = let w = waits_is limit a h in end_later a b (no_end_short a (end_of a) refl w.0 w.1)
 
 -- the same, for the first bytes of a list
-pub front_waits : (limit : ℕ) (bytes : List ℕ) (before : ℕ) → before ≤ length bytes → start_of limit (take before bytes) ≡ Waits → EndsPast before bytes
-front_waits limit bytes before within h =
+pub start_waits : (limit : ℕ) (bytes : List ℕ) (before : ℕ) → before ≤ length bytes → start_of limit (take before bytes) ≡ Waits → EndsPast before bytes
+start_waits limit bytes before within h =
     let n : length (take before bytes) ≡ before = length-take-le before bytes within in
     let past = waits_past limit (take before bytes) (drop before bytes) h in
     subst (λ (k : ℕ). EndsPast k bytes) n (subst (EndsPast (length (take before bytes))) (take-append-drop before bytes) past)
 
-pub front_stays : (limit : ℕ) (bytes : List ℕ) (before : ℕ) (s : Start) → s ≡ start_of limit (take before bytes) → is_waiting s ≡ false → s ≡ start_of limit bytes
-front_stays limit bytes before s e h =
+pub start_stays : (limit : ℕ) (bytes : List ℕ) (before : ℕ) (s : Start) → s ≡ start_of limit (take before bytes) → is_waiting s ≡ false → s ≡ start_of limit bytes
+start_stays limit bytes before s e h =
     e ∙ sym (starts_keep limit (take before bytes) (drop before bytes) (ap is_waiting (sym e) ∙ h)) ∙ ap (start_of limit) (take-append-drop before bytes)

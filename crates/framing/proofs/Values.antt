@@ -19,9 +19,9 @@ digits_begin : (digits : List ℕ) → list_all is_ascii_digit digits ≡ true �
 digits_begin [] h = refl
 digits_begin (d ∷ digits) h = not_blank d (and_left (is_ascii_digit d) _ h)
 
-pub trimmed_is : (before digits behind : List ℕ) → list_all is_blank before ≡ true → list_all is_blank behind ≡ true → list_all is_ascii_digit digits ≡ true → trimmed (before ++ digits ++ behind) ≡ digits
-trimmed_is before digits behind a b d =
-    between before digits behind a b (bare digits (digits_begin digits d) (digits_begin (reverse digits) (all_reverse is_ascii_digit digits d)))
+pub trimmed_is : (before digits after : List ℕ) → list_all is_blank before ≡ true → list_all is_blank after ≡ true → list_all is_ascii_digit digits ≡ true → trimmed (before ++ digits ++ after) ≡ digits
+trimmed_is before digits after a b d =
+    between before digits after a b (bare digits (digits_begin digits d) (digits_begin (reverse digits) (all_reverse is_ascii_digit digits d)))
 
 -- the tests of a number
 
@@ -40,10 +40,10 @@ says_from_number value n h =
     record {
       before = t.before;
       digits = trimmed value;
-      behind = t.behind;
+      after = t.behind;
       spelled = t.parted;
       blank_before = t.blank_before;
-      blank_behind = t.blank_behind;
+      blank_after = t.blank_behind;
       all_digits = r.2;
       some = grind (arith, nat_tests);
       few = grind (arith, nat_tests);
@@ -52,7 +52,7 @@ says_from_number value n h =
 
 pub number_from_says : (value : List ℕ) (n : ℕ) → SaysLength value n → number_in (trimmed value) ≡ Some n
 number_from_says value n s =
-    let t : trimmed value ≡ s.digits = ap trimmed s.spelled ∙ trimmed_is s.before s.digits s.behind s.blank_before s.blank_behind s.all_digits in
+    let t : trimmed value ≡ s.digits = ap trimmed s.spelled ∙ trimmed_is s.before s.digits s.after s.blank_before s.blank_after s.all_digits in
     let some : not (eqb (length s.digits) 0) ≡ true = (let p : 0 < length s.digits = s.some in grind (arith, nat_tests)) in
     let few : leb (length s.digits) 10 ≡ true = (let p : length s.digits ≤ 10 = s.few in grind (arith, nat_tests)) in
     ap number_in t ∙ rw (some, few, s.all_digits) (ap (λ x. Some x) (sym s.number))

@@ -6,7 +6,8 @@
 -- do not count. The field `Content-Length`, in letters of either case, says in 1 to 10 decimal digits how many
 -- bytes the content part has. It stands once, and is at most a limit that the reader sets. Other fields are
 -- allowed, and ignored. A header part has at most 4,096 bytes.
-use Rattle.std.specs.Prelude.{◌≡◌, ℕ, suc, ◌<◌, ◌≤◌, Bool, true, false, ◌==◌, nat_le, if◌then◌else◌, ◌&&◌, ◌||◌, not, List, [], ◌∷◌, ◌++◌, length, filter, Option, Some, None, codes, refl}
+use Rattle.std.specs.Prelude.{◌≡◌, ℕ, suc, ◌<◌, ◌≤◌, Bool, true, false, ◌==◌, nat_le, if◌then◌else◌, ◌&&◌, ◌||◌, not}
+use Rattle.std.specs.Prelude.{List, [], ◌∷◌, ◌++◌, length, filter, Option, Some, None, codes, refl}
 use Rattle.std.specs.List.{list_all, flat_map}
 use Rattle.std.specs.Option.{option_map}
 use Rattle.std.specs.Char.{is_ascii_digit}
@@ -42,10 +43,11 @@ is_name_byte b = nat_le 33 b && nat_le b 126 && not (b == 58)
 abbrev pub is_value_byte : ℕ → Bool
 is_value_byte b = (nat_le 32 b && nat_le b 126) || (b == 9)
 
--- what can be a field's name, and its value
+-- what can be a field's name
 abbrev pub is_name : List ℕ → Bool
 is_name name = not (length name == 0) && list_all is_name_byte name
 
+-- what can be a field's value
 abbrev pub is_value : List ℕ → Bool
 is_value value = list_all is_value_byte value
 
@@ -61,14 +63,14 @@ names_length name = str_eq_ignore_ascii_case name (codes "Content-Length")
 abbrev pub length_fields : List Field → List Field
 length_fields fields = filter (λ f. names_length f.name) fields
 
--- A value says a length: it is 1 to 10 digits, blanks before and behind them, and the length is their value.
+-- A value says a length: it is 1 to 10 digits, blanks before and after them, and the length is their value.
 pub record SaysLength (value : List ℕ) (n : ℕ) : Type 0 where
   pub before : List ℕ
   pub digits : List ℕ
-  pub behind : List ℕ
-  pub spelled : value ≡ before ++ digits ++ behind
+  pub after : List ℕ
+  pub spelled : value ≡ before ++ digits ++ after
   pub blank_before : list_all is_blank before ≡ true
-  pub blank_behind : list_all is_blank behind ≡ true
+  pub blank_after : list_all is_blank after ≡ true
   pub all_digits : list_all is_ascii_digit digits ≡ true
   pub some : 0 < length digits
   pub few : length digits ≤ 10
@@ -85,11 +87,12 @@ pub record Head (limit : ℕ) (h : List ℕ) (n : ℕ) : Type 0 where
   pub says : SaysLength field.value n
   pub within : n ≤ limit
 
--- how many bytes a stream has up to and with its first CR LF CR LF
+-- whether a stream begins with CR LF CR LF
 abbrev pub begins_with_end : List ℕ → Bool
 begins_with_end (a ∷ b ∷ c ∷ d ∷ bytes) = (a == 13) && (b == 10) && (c == 13) && (d == 10)
 begins_with_end bytes = false
 
+-- how many bytes a stream has up to and with its first CR LF CR LF, if it has one
 abbrev pub end_of : List ℕ → Option ℕ
 end_of [] = None
 end_of (b ∷ bytes) = if begins_with_end (b ∷ bytes) then Some 4 else option_map suc (end_of bytes)

@@ -1,4 +1,4 @@
--- How the code goes over the lines of a header part.
+-- For private clauses alone: how the code goes over the lines of a header part.
 use Rattle.std.specs.Prelude.{◌≡◌, ℕ, ◌<◌, List, [], Option, Some, None, Result, Err, if◌then◌else◌}
 use Rattle.framing.specs.Headers.{Field, names_length, end_of}
 use Rattle.framing.specs.Reading.{lines_of, number_in, length_or_fault}
@@ -19,6 +19,7 @@ one_more No f = One (number_in (trimmed f.value))
 one_more (One n) f = More
 one_more More f = More
 
+-- what is known of the length after one more field
 abbrev pub with_length : Lengths → Field → Lengths
 with_length lengths f = if names_length f.name then one_more lengths f else lengths
 

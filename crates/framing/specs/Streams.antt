@@ -34,10 +34,16 @@ abbrev pub reading_after : ℕ → Tail → List ℕ → Reading
 reading_after limit (Partial rest) piece = reading_of limit (rest ++ piece)
 reading_after limit (Faulty fault) piece = record { bodies = []; tail = Faulty fault }
 
--- what is kept after a piece: new bodies wait behind the others, and the piece can be taken back
+-- what is kept after a piece that was read so: new bodies wait after the others, and the piece can be taken back
 abbrev pub with_reading : Unframed → Reading → Unframed
-with_reading kept r = record { limit = kept.limit; waiting = kept.waiting ++ r.bodies; tail = r.tail; before = Some (record { waiting = kept.waiting; tail = kept.tail }) }
+with_reading kept r = record {
+  limit = kept.limit;
+  waiting = kept.waiting ++ r.bodies;
+  tail = r.tail;
+  before = Some (record { waiting = kept.waiting; tail = kept.tail });
+}
 
+-- what is kept after a piece
 abbrev pub fed : Unframed → List ℕ → Unframed
 fed kept piece = with_reading kept (reading_after kept.limit kept.tail piece)
 
@@ -52,11 +58,12 @@ Feeds old piece (Ok _) new = (new ≡ fed old piece) × (fault_of new.tail ≡ N
 Feeds old piece (Err NoMemory) new = new ≡ old
 Feeds old piece (Err fault) new = (new ≡ fed old piece) × (fault_of new.tail ≡ Some fault)
 
--- the first body that waits, and the others
+-- the first body that waits
 abbrev pub first_of : List (List ℕ) → Option (List ℕ)
 first_of [] = None
 first_of (body ∷ bodies) = Some body
 
+-- the bodies after the first that waits
 abbrev pub others_of : List (List ℕ) → List (List ℕ)
 others_of [] = []
 others_of (body ∷ bodies) = bodies
@@ -70,28 +77,35 @@ abbrev pub lent_times : ℕ → Unframed → Unframed
 lent_times zero kept = kept
 lent_times (suc loans) kept = lent_times loans (lent_from kept)
 
--- the bodies that waited before the last piece, and the tail of then; without a piece to take back, those of now
+-- the bodies that waited before the last piece; without a piece to take back, those of now
 abbrev pub waiting_before : List (List ℕ) → Option Before → List (List ℕ)
 waiting_before waiting None = waiting
 waiting_before waiting (Some b) = b.waiting
 
+-- the tail of before the last piece; without a piece to take back, that of now
 abbrev pub tail_before : Tail → Option Before → Tail
 tail_before tail None = tail
 tail_before tail (Some b) = b.tail
 
 -- what is kept after the last piece was taken back: what was kept before it. No piece is left to take back.
 abbrev pub retracted : Unframed → Unframed
-retracted kept = record { limit = kept.limit; waiting = waiting_before kept.waiting kept.before; tail = tail_before kept.tail kept.before; before = None }
+retracted kept = record {
+  limit = kept.limit;
+  waiting = waiting_before kept.waiting kept.before;
+  tail = tail_before kept.tail kept.before;
+  before = None;
+}
 
--- A piece is taken back behind a loan: what is left is what was kept before it.
+-- A piece is taken back after a loan: what is left is what was kept before it.
 goes_back : (kept : Unframed) (piece : List ℕ) → retracted (lent_from (fed kept piece)) ≡ record kept { before = None }
 goes_back kept piece = refl
 
--- A reading as statements: the stream is frames of these bodies and a rest, which is the partial tail, or has the fault.
+-- a tail as a statement: the rest is the partial tail and has no fault, or it has the fault
 abbrev pub TailIs : ℕ → List ℕ → Tail → Type 0
 TailIs limit rest (Partial bytes) = (rest ≡ bytes) × ((fault : FrameError) → Fault limit rest fault → ⊥)
 TailIs limit rest (Faulty fault) = Fault limit rest fault
 
+-- A reading as statements: the stream is frames of its bodies, in order, and a rest that its tail is.
 pub record Reads (limit : ℕ) (stream : List ℕ) (reading : Reading) : Type 0 where
   pub rest : List ℕ
   pub framed : Framed limit stream reading.bodies rest
@@ -113,10 +127,11 @@ pub record Stream : Type 0 where
 abbrev pub nothing_came : Stream
 nothing_came = record { fed = []; lent = [] }
 
--- the stream after a piece, and after a body was lent, if there was one
+-- the stream after a piece
 abbrev pub with_piece : Stream → List ℕ → Stream
 with_piece s piece = record { fed = s.fed ++ piece; lent = s.lent }
 
+-- the stream after a body was lent, if there was one
 abbrev pub with_lent : Stream → Option (List ℕ) → Stream
 with_lent s None = s
 with_lent s (Some body) = record { fed = s.fed; lent = s.lent ++ body ∷ [] }
@@ -125,14 +140,17 @@ with_lent s (Some body) = record { fed = s.fed; lent = s.lent ++ body ∷ [] }
 pub record StandsFor (kept : Unframed) (s : Stream) : Type 0 where
   pub reads : reading_of kept.limit s.fed ≡ record { bodies = s.lent ++ kept.waiting; tail = kept.tail }
 
--- What was kept before the last piece stands for a stream in the same way. Without a piece to take back, what is kept does.
+-- What was kept before the last piece stands for a stream in the same way. Without a piece to take back, what is kept
+-- does.
 pub record StandsBefore (kept : Unframed) (s : Stream) : Type 0 where
-  pub reads : reading_of kept.limit s.fed ≡ record { bodies = s.lent ++ waiting_before kept.waiting kept.before; tail = tail_before kept.tail kept.before }
+  pub reads : reading_of kept.limit s.fed
+      ≡ record { bodies = s.lent ++ waiting_before kept.waiting kept.before; tail = tail_before kept.tail kept.before }
 
 -- `feed` for a stream: what is kept then stands for the stream with the piece. An error is the fault of that stream;
 -- without an error it has none. Without memory what is kept stands for the stream of before.
 abbrev pub Takes : {T : Type 0} → Unframed → Stream → List ℕ → Result T FrameError → Unframed → Type 0
-Takes old s piece (Ok _) new = StandsFor new (with_piece s piece) × ((fault : FrameError) → HasFault old.limit (s.fed ++ piece) fault → ⊥)
+Takes old s piece (Ok _) new = StandsFor new (with_piece s piece)
+    × ((fault : FrameError) → HasFault old.limit (s.fed ++ piece) fault → ⊥)
 Takes old s piece (Err NoMemory) new = StandsFor new s
 Takes old s piece (Err fault) new = StandsFor new (with_piece s piece) × HasFault old.limit (s.fed ++ piece) fault
 
@@ -144,7 +162,8 @@ Remembers old s (Err NoMemory) new = StandsBefore old s → StandsBefore new s
 Remembers old s (Err fault) new = StandsFor old s → StandsBefore new s
 
 -- so it is for each stream that the value stood for
-pub record TakesPiece {T : Type 0} (old : Unframed) (piece : List ℕ) (result : Result T FrameError) (new : Unframed) : Type 0 where
+pub record TakesPiece {T : Type 0} (old : Unframed) (piece : List ℕ) (result : Result T FrameError) (new : Unframed)
+    : Type 0 where
   pub to_each : (s : Stream) → StandsFor old s → Takes old s piece result new
   pub before : (s : Stream) → Remembers old s result new
 

@@ -56,8 +56,8 @@ impl Lengths {
     }
 }
 
-/// How many bytes the header part at the front of some bytes has, with its CR LF CR LF. `None`: the
-/// first 4,096 bytes hold no end. The search goes on behind the bytes that were searched before.
+/// The size in bytes of the header part that some bytes begin with, its CR LF CR LF included. `None`:
+/// the first 4,096 bytes hold no end. The search goes on after the bytes that were searched before.
 pub(crate) fn header_size(bytes: &[u8], searched: usize) -> Option<usize>
     requires { EndsPast searched bytes.now }
     ensures size { result ≡ size_of bytes.now }

@@ -3,10 +3,10 @@
 ghost use Rattle.framing.specs.Laws.{
   BodiesAreRight,
   CutsDoNotMatter,
-  FaultIsOnly,
-  FramesAreOnly,
+  FaultIsUnique,
+  FramesAreUnique,
   FramesAreRead,
-  ReadingIsOnly,
+  ReadingIsUnique,
   ReadingIsRight,
   RetractGoesBack,
   RetractsOnce,
@@ -18,18 +18,18 @@ pub fn reading_is_right()
 {}
 
 /// No other reading is.
-pub fn reading_is_only()
-    ensures { ReadingIsOnly }
+pub fn reading_is_unique()
+    ensures { ReadingIsUnique }
 {}
 
-/// A stream has no other bodies, and no other rest behind them.
-pub fn frames_are_only()
-    ensures { FramesAreOnly }
+/// A stream has no other bodies, and no other rest after them.
+pub fn frames_are_unique()
+    ensures { FramesAreUnique }
 {}
 
 /// A stream has at most one fault.
-pub fn fault_is_only()
-    ensures { FaultIsOnly }
+pub fn fault_is_unique()
+    ensures { FaultIsUnique }
 {}
 
 /// The bodies that an unframer lent, and those that wait, are those of all that was ever fed.
@@ -37,7 +37,7 @@ pub fn bodies_are_right()
     ensures { BodiesAreRight }
 {}
 
-/// However a stream is cut, its reading is that of the front, gone on with.
+/// However a stream is cut, its reading is that of a prefix, gone on with.
 pub fn cuts_do_not_matter()
     ensures { CutsDoNotMatter }
 {}
@@ -53,7 +53,7 @@ pub fn retract_goes_back()
     ensures { RetractGoesBack }
 {}
 
-/// Behind a piece that was taken back none is, however many bodies were lent since.
+/// After a piece that was taken back none is, however many bodies were lent since.
 pub fn retracts_once()
     ensures { RetractsOnce }
 {}

@@ -8,7 +8,7 @@ use crate::start::Start;
 use std::alloc::{AllocError, Global};
 use std::collections::VecDeque;
 
-/// Whole frames, and what is left behind them.
+/// Whole frames, and what is left after them.
 #[derive(Drop)]
 pub(crate) struct WholeFrames {
     /// The bodies of the frames, in order.
@@ -19,7 +19,7 @@ pub(crate) struct WholeFrames {
     pub left: usize,
 }
 
-/// The whole frames at the front of some bytes, of which the first starts so.
+/// The whole frames that some bytes begin with, of which the first starts so.
 pub(crate) fn split(
     alloc: Global,
     limit: u32,
@@ -32,9 +32,9 @@ pub(crate) fn split(
     let mut bodies = VecDeque::new(alloc);
     let mut rest = bytes;
     let mut start = start;
-    while let Some((body, behind)) = start.parts(rest) {
+    while let Some((body, after)) = start.parts(rest) {
         bodies.push_back(Vec::from_slice(alloc, body)?)?;
-        rest = behind;
+        rest = after;
         start = Start::of(limit, rest, 0);
     }
     Ok(WholeFrames {
@@ -53,7 +53,7 @@ pub(crate) struct NextFrame {
     pub size: usize,
 }
 
-/// Takes the whole frames at the front of some bytes, of which the first starts so, and adds their
+/// Takes the whole frames that some bytes begin with, of which the first starts so, and adds their
 /// bodies to those that wait. An error adds none.
 pub(crate) fn take_frames(
     alloc: Global,

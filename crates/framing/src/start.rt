@@ -1,4 +1,4 @@
-//! How the frame at the front of some bytes starts.
+//! How the first frame in some bytes starts.
 
 ghost use Rattle.std.specs.Prelude.{◌≡◌, ◌≤◌, length, take};
 ghost use Rattle.std.specs.Option.{option_map};
@@ -9,7 +9,7 @@ ghost use Rattle.framing.specs.Reading.{start_of};
 use crate::FrameError;
 use crate::header::{HEADER_LIMIT, content_length, header_size};
 
-/// What the bytes at the front of a frame say of it.
+/// What the first bytes of a frame say of it.
 #[derive(Clone, Copy)]
 pub(crate) enum Start {
     /// The header part is not whole.
@@ -26,7 +26,7 @@ pub(crate) enum Start {
 }
 
 impl Start {
-    /// How the frame at the front of some bytes starts. The end of the header part is not among the
+    /// How the first frame in some bytes starts. The end of the header part is not among the
     /// bytes that were searched for it before.
     #[tactic(auto, unfolding(crate::specs::Reading::start_of))]
     pub(crate) fn of(limit: u32, bytes: &[u8], searched: usize) -> Start
@@ -55,7 +55,7 @@ impl Start {
         }
     }
 
-    /// The content part of the frame that starts so, and the bytes behind it. `None`: the frame is not
+    /// The content part of the frame that starts so, and the bytes after it. `None`: the frame is not
     /// whole.
     pub(crate) fn parts(self, bytes: &[u8]) -> Option<(&[u8], &[u8])>
         ensures parts { option_map (λ p. (p.0.now, p.1.now)) result ≡ parts_of self bytes.now }
@@ -63,8 +63,8 @@ impl Start {
         match self {
             Start::Begins { header, content }
                 if header <= bytes.len() && content <= bytes.len() - header => {
-                let behind = header + content;
-                Some((&bytes[header..behind], &bytes[behind..]))
+                let end = header + content;
+                Some((&bytes[header..end], &bytes[end..]))
             }
             _ => None,
         }

@@ -30,11 +30,11 @@ pub(crate) struct Mark {
 pub(crate) struct State {
     alloc: Global,
     limit: u32,
-    /// The bodies that were lent since the last piece, and behind them those that wait.
+    /// The bodies that were lent since the last piece, and after them those that wait.
     bodies: VecDeque<Vec<u8>>,
     /// How many of them were lent.
     lent: usize,
-    /// The bytes of the frames that the last piece made whole, and behind them what has come of the
+    /// The bytes of the frames that the last piece made whole, and after them what has come of the
     /// next frame. After a fault only what had come of that frame before the last piece is kept.
     bytes: Vec<u8>,
     /// How many of them are in whole frames.
@@ -101,7 +101,7 @@ impl State {
             self.bytes.truncate(come);
             return Err(FrameError::NoMemory);
         };
-        drop_front(&mut self.bodies, self.lent);
+        drop_bodies(&mut self.bodies, self.lent);
         self.lent = 0;
         drop_bytes(&mut self.bytes, self.done);
         self.mark = Some(Mark {
@@ -121,13 +121,13 @@ impl State {
         Ok(())
     }
 
-    /// Takes a piece behind a fault: nothing comes of it, and no byte is needed to take it back.
+    /// Takes a piece after a fault: nothing comes of it, and no byte is needed to take it back.
     fn feed_faulty(&mut self)
         requires { IsSome (fault_of self.old.tail) }
         ensures { (piece : List ℕ) → self.new ≡ fed self.old piece }
     {
         let waiting = self.bodies.len() - self.lent;
-        drop_front(&mut self.bodies, self.lent);
+        drop_bodies(&mut self.bodies, self.lent);
         self.lent = 0;
         self.bytes = Vec::new(self.alloc);
         self.done = 0;
@@ -173,7 +173,7 @@ impl State {
     }
 }
 
-/// Drops the bytes at the front.
+/// Drops the first bytes.
 fn drop_bytes(bytes: &mut Vec<u8>, count: usize)
     requires { count ≤ vec_len bytes.old }
     ensures { bytes.new.items ≡ drop count bytes.old.items }
@@ -183,8 +183,8 @@ fn drop_bytes(bytes: &mut Vec<u8>, count: usize)
     }
 }
 
-/// Drops the bodies at the front.
-fn drop_front(bodies: &mut VecDeque<Vec<u8>>, count: usize)
+/// Drops the first bodies.
+fn drop_bodies(bodies: &mut VecDeque<Vec<u8>>, count: usize)
     requires { count ≤ length bodies.old.items }
     ensures { bodies.new.items ≡ drop count bodies.old.items }
 {

@@ -8,13 +8,13 @@ use std::str;
 
 /// A layer that is played.
 pub trait Player {
-    /// Makes the call that the words say, and gives the line that tells what it answered.
-    /// `NoMemoryInCall` where it answered that no memory was left: the same words then come again.
-    fn answer(&mut self, alloc: Global, words: &[&str]) -> Result<String, Fault>;
+    /// Makes the call that the arguments say, and gives the line that says what it answered.
+    /// `NoMemoryInCall` where it answered that no memory was left: the same arguments then come again.
+    fn answer(&mut self, alloc: Global, arguments: &[&str]) -> Result<String, Fault>;
 }
 
 /// Reads all of standard input and plays it, line by line, with a line of output for each. Where a
-/// call answered that no memory was left, this is told on a line of its own, and the call is made
+/// call answered that no memory was left, this is printed on a line of its own, and the call is made
 /// once more.
 ///
 /// Status 0 where all lines were played, 1 where a read or a write failed, 2 with the line `?` where
@@ -42,11 +42,11 @@ fn play_input<P: Player>(rt: &HostRuntime, player: &mut P) -> Result<(), Fault> 
 }
 
 fn play_line<P: Player>(rt: &HostRuntime, player: &mut P, line: &str) -> Result<(), Fault> {
-    let words: Vec<&str> = line.split(' ').collect(rt.alloc())?;
-    let mut answer = player.answer(rt.alloc(), &words);
+    let arguments: Vec<&str> = line.split(' ').collect(rt.alloc())?;
+    let mut answer = player.answer(rt.alloc(), &arguments);
     if matches!(&answer, Err(Fault::NoMemoryInCall)) {
         println!(rt; "NoMemory")?;
-        answer = player.answer(rt.alloc(), &words);
+        answer = player.answer(rt.alloc(), &arguments);
     }
     println!(rt; "{}", answer?)?;
     Ok(())

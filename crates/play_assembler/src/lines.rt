@@ -4,7 +4,7 @@
 //!   instructions, the numbers of registers, and labels and numbers as they are.
 //! - `towards BYTES`: the word of the line's jump or branch where it goes 8 bytes on.
 
-use play::{Fault, bytes_of, told};
+use play::{Fault, bytes_of, shown};
 use rv32i::{BranchOffset, Instr, JumpOffset, Reg, encode};
 use statements::{Condition, Item, Line, LineError, Name, Statement, Target, Width, read_line};
 use std::alloc::{AllocError, Global};
@@ -23,7 +23,7 @@ pub(crate) fn answer_line(alloc: Global, arguments: &[&str]) -> Result<String, F
         ["towards", bytes] => {
             let text = bytes_of(alloc, bytes)?;
             match read_line(alloc, &text) {
-                Ok(line) => told(alloc, word_towards(&line)?),
+                Ok(line) => shown(alloc, word_towards(&line)?),
                 Err(error) => wrong(alloc, error),
             }
         }

@@ -6,7 +6,7 @@
 
 use crate::writer::Taker;
 use listing::{ListFault, listing};
-use play::{Fault, bytes_of, hexadecimal, parsed, told};
+use play::{Fault, bytes_of, hexadecimal, parsed, shown};
 use std::alloc::Global;
 
 /// A writer, and what it took.
@@ -28,7 +28,7 @@ impl Listed {
         match arguments {
             ["writer", room] => {
                 self.writer = Taker::new(alloc, parsed(room)?)?;
-                told(alloc, "ok")
+                shown(alloc, "ok")
             }
             ["text", bytes] => {
                 let text = bytes_of(alloc, bytes)?;
@@ -41,9 +41,9 @@ impl Listed {
 
     fn list(&mut self, alloc: Global, text: &[u8]) -> Result<String, Fault> {
         match listing(alloc, text, &mut self.writer) {
-            Ok(()) => told(alloc, "ok"),
+            Ok(()) => shown(alloc, "ok"),
             Err(ListFault::NoMemory) => Err(Fault::NoMemoryInCall),
-            Err(fault) => told(alloc, fault),
+            Err(fault) => shown(alloc, fault),
         }
     }
 }

@@ -6,7 +6,7 @@
 
 use assembler::{AsmError, AsmErrorKind, assemble};
 use image::Image;
-use play::{Fault, bytes_of, hexadecimal, parsed, told};
+use play::{Fault, bytes_of, hexadecimal, parsed, shown};
 use play_image::ask_lines;
 use std::alloc::Global;
 
@@ -28,10 +28,10 @@ pub(crate) fn assembled(
     match assemble(alloc, &text, parsed(size)?) {
         Ok(made) => {
             *image = Some(made);
-            told(alloc, "ok")
+            shown(alloc, "ok")
         }
         Err(NO_MEMORY) => Err(Fault::NoMemoryInCall),
-        Err(error) => told(alloc, error),
+        Err(error) => shown(alloc, error),
     }
 }
 
@@ -42,7 +42,7 @@ pub(crate) fn answer_image(
     arguments: &[&str],
 ) -> Result<String, Fault> {
     match arguments {
-        ["entry"] => told(alloc, image.entry),
+        ["entry"] => shown(alloc, image.entry),
         ["bytes"] => hexadecimal(alloc, image.bytes.as_slice()),
         arguments => ask_lines(alloc, &image.lines, arguments),
     }

@@ -2,7 +2,7 @@
 #![tactic(auto)]
 
 use framing::{FrameError, Unframer, frame};
-use play::{Fault, Player, bytes_of, called, hexadecimal, parsed, play, told};
+use play::{Fault, Player, bytes_of, called, hexadecimal, parsed, play, shown};
 use std::alloc::Global;
 use std::process::ExitCode;
 
@@ -18,11 +18,11 @@ fn main(rt: HostRuntime) -> ExitCode {
 }
 
 impl Player for Framing {
-    fn answer(&mut self, alloc: Global, words: &[&str]) -> Result<String, Fault> {
-        match words {
+    fn answer(&mut self, alloc: Global, arguments: &[&str]) -> Result<String, Fault> {
+        match arguments {
             ["new", limit] => {
                 self.unframer = Unframer::new(alloc, parsed(limit)?);
-                told(alloc, "ok")
+                shown(alloc, "ok")
             }
             ["feed", piece] => match self.unframer.feed(&bytes_of(alloc, piece)?) {
                 Err(FrameError::NoMemory) => Err(Fault::NoMemoryInCall),
@@ -31,12 +31,12 @@ impl Player for Framing {
             ["feed_once", piece] => name_of(alloc, self.unframer.feed(&bytes_of(alloc, piece)?)),
             ["retract"] => {
                 self.unframer.retract();
-                told(alloc, "ok")
+                shown(alloc, "ok")
             }
             ["peek"] => body_of(alloc, self.unframer.peek_body()),
             ["next"] => body_of(alloc, self.unframer.next_body()),
             ["frame", body] => hexadecimal(alloc, &called(frame(alloc, &bytes_of(alloc, body)?))?),
-            ["text", name] => told(alloc, error_of(name)?),
+            ["text", name] => shown(alloc, error_of(name)?),
             _ => Err(Fault::NoCommand),
         }
     }
@@ -45,7 +45,7 @@ impl Player for Framing {
 /// What `feed` answered.
 fn name_of(alloc: Global, fed: Result<(), FrameError>) -> Result<String, Fault> {
     match fed {
-        Ok(()) => told(alloc, "ok"),
+        Ok(()) => shown(alloc, "ok"),
         Err(error) => Ok(format!(in alloc; "{error:?}")?),
     }
 }
@@ -54,7 +54,7 @@ fn name_of(alloc: Global, fed: Result<(), FrameError>) -> Result<String, Fault> 
 fn body_of(alloc: Global, lent: Option<&[u8]>) -> Result<String, Fault> {
     match lent {
         Some(body) => hexadecimal(alloc, body),
-        None => told(alloc, "none"),
+        None => shown(alloc, "none"),
     }
 }
 

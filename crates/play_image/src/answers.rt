@@ -1,7 +1,7 @@
 //! Answers that may be missing, and answers of two values.
 ghost use Rattle.std.specs.Prelude.{◌≡◌, None, IfOk, codes, string_bytes};
 
-use play::{Fault, told};
+use play::{Fault, shown};
 use std::alloc::Global;
 use std::fmt::Display;
 
@@ -10,7 +10,7 @@ pub fn found<D: Display + Drop>(alloc: Global, value: Option<D>) -> Result<Strin
     ensures { value ≡ None → IfOk result (λ text. string_bytes text ≡ codes "none") }
 {
     match value {
-        Some(value) => told(alloc, value),
+        Some(value) => shown(alloc, value),
         None => Ok("none".to_string(alloc)?),
     }
 }
@@ -22,6 +22,6 @@ pub fn pair<D: Display + Drop, E: Display + Drop>(
 ) -> Result<String, Fault> {
     match values {
         Some((first, second)) => Ok(format!(in alloc; "{first} {second}")?),
-        None => told(alloc, "none"),
+        None => shown(alloc, "none"),
     }
 }

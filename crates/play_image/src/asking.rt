@@ -2,7 +2,7 @@
 
 use crate::answers::{found, pair};
 use image::LineTable;
-use play::{Fault, parsed, told};
+use play::{Fault, parsed, shown};
 use std::alloc::Global;
 
 /// What a line table answers.
@@ -17,7 +17,7 @@ pub fn ask_lines(alloc: Global, table: &LineTable, arguments: &[&str]) -> Result
         ["line_of", address] => found(alloc, table.line_of(parsed(address)?)),
         ["address_of", line] => found(alloc, table.address_of(parsed(line)?)),
         ["bind", line] => pair(alloc, table.bind(parsed(line)?)),
-        ["starts", address] => told(alloc, table.starts(parsed(address)?)),
+        ["starts", address] => shown(alloc, table.starts(parsed(address)?)),
         ["label_at", address] => pair(alloc, table.label_at(parsed(address)?)),
         _ => Err(Fault::NoCommand),
     }

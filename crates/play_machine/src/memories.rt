@@ -6,7 +6,7 @@
 //! - `write_byte ADDRESS VALUE`, `write_half`, `write_word`; `write ADDRESS BYTES`.
 
 use image::{MemFault, Memory};
-use play::{Fault, bytes_of, called, hexadecimal, parsed, told};
+use play::{Fault, bytes_of, called, hexadecimal, parsed, shown};
 use play_image::found;
 use std::alloc::Global;
 
@@ -28,7 +28,7 @@ pub(crate) fn answer_memory(
     match arguments {
         ["byte", address] => found(alloc, memory.byte(parsed(address)?)),
         ["word", address] => match memory.word(parsed(address)?) {
-            Ok(word) => told(alloc, word),
+            Ok(word) => shown(alloc, word),
             Err(fault) => failed(alloc, fault),
         },
         ["read", address, bytes] => read(alloc, memory, parsed(address)?, bytes),
@@ -51,15 +51,15 @@ pub(crate) fn answer_memory(
 
 fn done(alloc: Global, answer: Result<(), MemFault>) -> Result<String, Fault> {
     match answer {
-        Ok(()) => told(alloc, "ok"),
+        Ok(()) => shown(alloc, "ok"),
         Err(fault) => failed(alloc, fault),
     }
 }
 
 fn failed(alloc: Global, fault: MemFault) -> Result<String, Fault> {
     match fault {
-        MemFault::Misaligned => told(alloc, "Misaligned"),
-        MemFault::Outside => told(alloc, "Outside"),
+        MemFault::Misaligned => shown(alloc, "Misaligned"),
+        MemFault::Outside => shown(alloc, "Outside"),
         MemFault::NoMemory => Err(Fault::NoMemoryInCall),
     }
 }

@@ -3,7 +3,7 @@
 //! - `name NUMBER`: the name.
 //! - `of BYTES`: the number of the register that these bytes name, or `none`.
 
-use play::{Fault, bytes_of, parsed, told};
+use play::{Fault, bytes_of, parsed, shown};
 use play_image::found;
 use rv32i::{reg_name, reg_of};
 use std::alloc::Global;
@@ -25,7 +25,7 @@ pub(crate) fn answer_register(alloc: Global, arguments: &[&str]) -> Result<Strin
 fn named(alloc: Global, number: &str) -> Result<String, Fault> {
     let number: u32 = parsed(number)?;
     if number < 32 {
-        told(alloc, reg_name(number))
+        shown(alloc, reg_name(number))
     } else {
         Err(Fault::NoCommand)
     }

@@ -6,7 +6,7 @@
 //! - `pc`; `x NUMBER`: the value of a register; `registers`: the values of all.
 
 use image::Memory;
-use play::{Fault, called, parsed, told};
+use play::{Fault, called, parsed, shown};
 use rv32i::Hart;
 use std::alloc::Global;
 
@@ -20,18 +20,18 @@ pub(crate) fn answer_hart(
     match arguments {
         ["new", entry, sp] => {
             *hart = Hart::new(parsed(entry)?, parsed(sp)?);
-            told(alloc, "ok")
+            shown(alloc, "ok")
         }
         ["set", register, value] => set(alloc, hart, register, parsed(value)?),
         ["go", address] => {
             hart.pc = parsed(address)?;
-            told(alloc, "ok")
+            shown(alloc, "ok")
         }
         ["step"] => {
             let stepped = called(hart.step(memory))?;
             Ok(format!(in alloc; "{stepped:?}")?)
         }
-        ["pc"] => told(alloc, hart.pc),
+        ["pc"] => shown(alloc, hart.pc),
         ["x", register] => value(alloc, hart, register),
         ["registers"] => registers(alloc, hart),
         _ => Err(Fault::NoCommand),
@@ -44,7 +44,7 @@ fn set(alloc: Global, hart: &mut Hart, register: &str, value: u32) -> Result<Str
         return Err(Fault::NoCommand);
     }
     hart.x[register as usize] = value;
-    told(alloc, "ok")
+    shown(alloc, "ok")
 }
 
 fn value(alloc: Global, hart: &Hart, register: &str) -> Result<String, Fault> {
@@ -52,14 +52,14 @@ fn value(alloc: Global, hart: &Hart, register: &str) -> Result<String, Fault> {
     if register >= 32 {
         return Err(Fault::NoCommand);
     }
-    told(alloc, hart.x[register as usize])
+    shown(alloc, hart.x[register as usize])
 }
 
 fn registers(alloc: Global, hart: &Hart) -> Result<String, Fault> {
-    let mut answer = told(alloc, hart.x[0])?;
+    let mut answer = shown(alloc, hart.x[0])?;
     for value in &hart.x[1..] {
         answer.push(' ')?;
-        answer.push_str(told(alloc, *value)?.as_str())?;
+        answer.push_str(shown(alloc, *value)?.as_str())?;
     }
     Ok(answer)
 }

@@ -8,7 +8,7 @@ ghost use Rattle.image.specs.Lines.{RowsRise};
 
 use image::{Bytes, Image, LineTable};
 use indexmap::IndexMap;
-use play::{Fault, bytes_of, hexadecimal, parsed, told};
+use play::{Fault, bytes_of, hexadecimal, parsed, shown};
 use play_image::ask_lines;
 use std::alloc::{AllocError, Global};
 use std::mem;
@@ -39,11 +39,11 @@ impl Tables {
             ["row", line, address, count] => {
                 let row = (parsed(line)?, parsed(address)?, parsed(count)?);
                 self.rows.push(row).map_err(AllocError::from)?;
-                told(alloc, "ok")
+                shown(alloc, "ok")
             }
             ["label", name, address] => {
                 self.label(alloc, name, parsed(address)?)?;
-                told(alloc, "ok")
+                shown(alloc, "ok")
             }
             ["new", end] => self.make(alloc, parsed(end)?),
             ["image", entry, bytes] => self.make_image(alloc, parsed(entry)?, bytes),
@@ -68,7 +68,7 @@ impl Tables {
             return Err(Fault::NoCommand);
         }
         self.table = Some(LineTable::new(rows, labels, end));
-        told(alloc, "ok")
+        shown(alloc, "ok")
     }
 
     fn make_image(&mut self, alloc: Global, entry: u32, bytes: &str) -> Result<String, Fault> {
@@ -81,7 +81,7 @@ impl Tables {
             entry,
             lines,
         });
-        told(alloc, "ok")
+        shown(alloc, "ok")
     }
 
     fn bytes(&self, alloc: Global) -> Result<String, Fault> {

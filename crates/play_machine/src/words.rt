@@ -5,7 +5,7 @@
 //! - `text WORD ADDRESS`: that instruction's disassembly at an address, or `none`; `word_text WORD ADDRESS`: any word's.
 //! - `digits TEXT WORD`: the text with the word's digits after it.
 
-use play::{Fault, called, parsed, told};
+use play::{Fault, called, parsed, shown};
 use rv32i::{decode, encode, push_digits, text_of, text_of_word};
 use std::alloc::Global;
 
@@ -30,20 +30,20 @@ pub(crate) fn answer_word(alloc: Global, arguments: &[&str]) -> Result<String, F
 fn decoded(alloc: Global, word: u32) -> Result<String, Fault> {
     match decode(word) {
         Some(instr) => Ok(format!(in alloc; "{instr:?}")?),
-        None => told(alloc, "none"),
+        None => shown(alloc, "none"),
     }
 }
 
 fn encoded(alloc: Global, word: u32) -> Result<String, Fault> {
     match decode(word) {
-        Some(instr) => told(alloc, encode(instr)),
-        None => told(alloc, "none"),
+        Some(instr) => shown(alloc, encode(instr)),
+        None => shown(alloc, "none"),
     }
 }
 
 fn text(alloc: Global, word: u32, address: u32) -> Result<String, Fault> {
     match decode(word) {
         Some(instr) => called(text_of(alloc, instr, address)),
-        None => told(alloc, "none"),
+        None => shown(alloc, "none"),
     }
 }

@@ -18,7 +18,7 @@ pub(crate) fn refusal_named(name: &str) -> Result<Refusal, Fault> {
 }
 
 /// The number and the name that a response gives for a refusal.
-pub(crate) fn refusal_words(alloc: Global, refusal: Refusal) -> Result<String, Fault> {
+pub(crate) fn shown_refusal(alloc: Global, refusal: Refusal) -> Result<String, Fault> {
     let id = refusal.id();
     let name = refusal.name();
     Ok(format!(in alloc; "{id} {name}")?)

@@ -5,12 +5,12 @@ mod errors;
 mod requests;
 mod responses;
 
-use play::{Fault, Player, bytes_of, called, hexadecimal, parsed, play, told};
+use play::{Fault, Player, bytes_of, called, hexadecimal, parsed, play, shown};
 use protocol::json::json_value;
 use protocol::{MessageError, Text, read_request};
 use replies::{Message, Response, read_message, write_message};
-use requests::{incoming_words, request_named};
-use responses::{body_named, done, refused, response_words};
+use requests::{request_named, shown_incoming};
+use responses::{body_named, done, refused, shown_response};
 use std::alloc::Global;
 use std::process::ExitCode;
 
@@ -25,17 +25,17 @@ fn main(rt: HostRuntime) -> ExitCode {
 }
 
 impl Player for Messages {
-    fn answer(&mut self, alloc: Global, words: &[&str]) -> Result<String, Fault> {
-        match words {
+    fn answer(&mut self, alloc: Global, arguments: &[&str]) -> Result<String, Fault> {
+        match arguments {
             ["request", body] => request(alloc, &bytes_of(alloc, body)?),
             ["json", body] => json(alloc, &bytes_of(alloc, body)?),
             ["text", bytes] => text(alloc, responses::text_of(alloc, bytes)?),
-            ["refusal", name] => errors::refusal_words(alloc, errors::refusal_named(name)?),
-            ["error", name] => told(alloc, errors::error_named(name)?),
+            ["refusal", name] => errors::shown_refusal(alloc, errors::refusal_named(name)?),
+            ["error", name] => shown(alloc, errors::error_named(name)?),
             ["write", seq] => self.write(alloc, parsed(seq)?),
             ["read", body] => self.read(alloc, &bytes_of(alloc, body)?),
             _ => {
-                let response = response(alloc, words)?;
+                let response = response(alloc, arguments)?;
                 self.keep(alloc, response)
             }
         }
@@ -43,11 +43,11 @@ impl Player for Messages {
 }
 
 impl Messages {
-    /// Keeps the response, and tells what it is.
+    /// Keeps the response, and says what it is.
     fn keep(&mut self, alloc: Global, response: Response) -> Result<String, Fault> {
-        let words = response_words(alloc, &response)?;
+        let line = shown_response(alloc, &response)?;
         self.last = Some(Message::Response(response));
-        Ok(words)
+        Ok(line)
     }
 
     fn write(&self, alloc: Global, seq: u32) -> Result<String, Fault> {
@@ -60,8 +60,8 @@ impl Messages {
     fn read(&mut self, alloc: Global, body: &[u8]) -> Result<String, Fault> {
         match read_message(alloc, body) {
             Ok((seq, Message::Response(response))) => {
-                let words = self.keep(alloc, response)?;
-                Ok(format!(in alloc; "{seq} {words}")?)
+                let line = self.keep(alloc, response)?;
+                Ok(format!(in alloc; "{seq} {line}")?)
             }
             Err(error) => fault(alloc, error),
         }
@@ -70,7 +70,7 @@ impl Messages {
 
 fn request(alloc: Global, body: &[u8]) -> Result<String, Fault> {
     match read_request(alloc, body) {
-        Ok(incoming) => incoming_words(alloc, incoming),
+        Ok(incoming) => shown_incoming(alloc, incoming),
         Err(error) => fault(alloc, error),
     }
 }
@@ -99,8 +99,8 @@ fn fault(alloc: Global, error: MessageError) -> Result<String, Fault> {
 }
 
 /// The response that a command makes: to a request, or of its parts.
-fn response(alloc: Global, words: &[&str]) -> Result<Response, Fault> {
-    match words {
+fn response(alloc: Global, arguments: &[&str]) -> Result<Response, Fault> {
+    match arguments {
         ["success", seq, name, body] => {
             let request = request_named(seq, name)?;
             called(Response::success(alloc, &request, body_named(body)?))

@@ -1,6 +1,6 @@
-//! Requests as words.
+//! Requests as they are shown.
 
-use play::{Fault, hexadecimal, parsed, told};
+use play::{Fault, hexadecimal, parsed, shown};
 use protocol::{
     CancelArguments, Command, DisconnectArguments, Incoming, InitializeArguments, Request,
 };
@@ -8,11 +8,11 @@ use std::alloc::{AllocError, Global};
 use std::fmt::Display;
 
 /// What a body is to the adapter.
-pub(crate) fn incoming_words(alloc: Global, incoming: Incoming) -> Result<String, Fault> {
+pub(crate) fn shown_incoming(alloc: Global, incoming: Incoming) -> Result<String, Fault> {
     match incoming {
         Incoming::Request(Request { seq, command }) => {
             let name = command.name();
-            let arguments = arguments_words(alloc, &command)?;
+            let arguments = shown_arguments(alloc, &command)?;
             Ok(format!(in alloc; "{seq} {name}{arguments}")?)
         }
         Incoming::Bad {
@@ -23,12 +23,12 @@ pub(crate) fn incoming_words(alloc: Global, incoming: Incoming) -> Result<String
             let name = hexadecimal(alloc, command.as_str().as_bytes())?;
             Ok(format!(in alloc; "bad {seq} {name} {refusal:?}")?)
         }
-        Incoming::Ignored => told(alloc, "ignored"),
+        Incoming::Ignored => shown(alloc, "ignored"),
     }
 }
 
 /// The arguments, each with a space before it.
-fn arguments_words(alloc: Global, command: &Command) -> Result<String, AllocError> {
+fn shown_arguments(alloc: Global, command: &Command) -> Result<String, AllocError> {
     match command {
         Command::Initialize(arguments) => {
             let lines = arguments.lines_start_at1;

@@ -1,4 +1,4 @@
-//! Responses as words.
+//! Responses as they are shown.
 
 use crate::errors::refusal_named;
 use play::{Fault, bytes_of, hexadecimal, parsed};
@@ -7,7 +7,7 @@ use replies::{Outcome, Response, ResponseBody};
 use std::alloc::Global;
 
 /// The parts of a response: the request's number and name, and what became of it.
-pub(crate) fn response_words(alloc: Global, response: &Response) -> Result<String, Fault> {
+pub(crate) fn shown_response(alloc: Global, response: &Response) -> Result<String, Fault> {
     let seq = response.request_seq;
     let name = hexadecimal(alloc, response.command.as_str().as_bytes())?;
     let outcome = match &response.outcome {
@@ -59,9 +59,9 @@ pub(crate) fn body_named(name: &str) -> Result<ResponseBody, Fault> {
     }
 }
 
-/// The text whose bytes a word gives.
-pub(crate) fn text_of(alloc: Global, word: &str) -> Result<Text, Fault> {
-    match String::from_utf8(bytes_of(alloc, word)?) {
+/// The text whose bytes an argument gives.
+pub(crate) fn text_of(alloc: Global, argument: &str) -> Result<Text, Fault> {
+    match String::from_utf8(bytes_of(alloc, argument)?) {
         Ok(string) => Ok(Text::from_string(string)),
         Err(_) => Err(Fault::NoCommand),
     }

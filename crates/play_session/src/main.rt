@@ -1,7 +1,7 @@
 //! Plays `session`: the events of a session, and what it says of itself.
 #![tactic(auto)]
 
-use play::{Fault, Player, bytes_of, hexadecimal, parsed, play, told};
+use play::{Fault, Player, bytes_of, hexadecimal, parsed, play, shown};
 use session::{Applied, Bytes, ConfigError, Event, EventError, Limits, LinkFault, Session};
 use std::alloc::Global;
 use std::process::ExitCode;
@@ -20,8 +20,8 @@ fn main(rt: HostRuntime) -> ExitCode {
 }
 
 impl Player for Events {
-    fn answer(&mut self, alloc: Global, words: &[&str]) -> Result<String, Fault> {
-        match words {
+    fn answer(&mut self, alloc: Global, arguments: &[&str]) -> Result<String, Fault> {
+        match arguments {
             ["new", last_seq, last_ref, last_retired] => {
                 let limits = Limits {
                     last_seq: parsed(last_seq)?,
@@ -34,7 +34,7 @@ impl Player for Events {
             ["text", name] => text_of(alloc, name),
             ["apply", event @ ..] => applied(alloc, self.session.apply(&event_of(alloc, event)?)),
             [name] => self.call(alloc, name),
-            [name, word] => self.call_with(alloc, name, word),
+            [name, argument] => self.call_with(alloc, name, argument),
             _ => Err(Fault::NoCommand),
         }
     }
@@ -45,7 +45,7 @@ impl Events {
         match Session::new(alloc, limits) {
             Ok(session) => {
                 self.session = session;
-                told(alloc, "ok")
+                shown(alloc, "ok")
             }
             Err(error) => Ok(format!(in alloc; "{error:?}")?),
         }
@@ -55,7 +55,7 @@ impl Events {
     fn call(&mut self, alloc: Global, name: &str) -> Result<String, Fault> {
         match name {
             "connect" => match self.session.connect() {
-                Ok(number) => told(alloc, number),
+                Ok(number) => shown(alloc, number),
                 Err(error) => error_of(alloc, error),
             },
             "turn" => match self.session.turn(None) {
@@ -64,25 +64,25 @@ impl Events {
             },
             "drop" => done(alloc, self.session.drop_connection()),
             "waiting" => hexadecimal(alloc, self.session.waiting()),
-            "pending" => told(alloc, self.session.pending()),
-            "finished" => told(alloc, self.session.finished()),
+            "pending" => shown(alloc, self.session.pending()),
+            "finished" => shown(alloc, self.session.finished()),
             "link_fault" => link_fault_of(alloc, self.session.link_fault()),
             _ => Err(Fault::NoCommand),
         }
     }
 
-    fn call_with(&mut self, alloc: Global, name: &str, word: &str) -> Result<String, Fault> {
+    fn call_with(&mut self, alloc: Global, name: &str, argument: &str) -> Result<String, Fault> {
         match name {
             "recv" => {
-                let piece = bytes_of(alloc, word)?;
+                let piece = bytes_of(alloc, argument)?;
                 done(alloc, self.session.recv(&piece))
             }
             "sent" => {
-                let count = parsed(word)?;
+                let count = parsed(argument)?;
                 done(alloc, self.session.sent(count))
             }
             "bytes" => {
-                let bytes = Bytes::from_vec(bytes_of(alloc, word)?);
+                let bytes = Bytes::from_vec(bytes_of(alloc, argument)?);
                 let text = hexadecimal(alloc, bytes.as_slice())?;
                 let held = bytes.into_vec();
                 Ok(format!(in alloc; "{text} {}", held.len())?)
@@ -94,7 +94,7 @@ impl Events {
 
 fn done(alloc: Global, answer: Result<(), EventError>) -> Result<String, Fault> {
     match answer {
-        Ok(()) => told(alloc, "ok"),
+        Ok(()) => shown(alloc, "ok"),
         Err(error) => error_of(alloc, error),
     }
 }
@@ -116,12 +116,12 @@ fn error_of(alloc: Global, error: EventError) -> Result<String, Fault> {
 fn link_fault_of(alloc: Global, fault: Option<LinkFault>) -> Result<String, Fault> {
     match fault {
         Some(fault) => Ok(format!(in alloc; "{fault:?}")?),
-        None => told(alloc, "none"),
+        None => shown(alloc, "none"),
     }
 }
 
-fn event_of(alloc: Global, words: &[&str]) -> Result<Event, Fault> {
-    match words {
+fn event_of(alloc: Global, arguments: &[&str]) -> Result<Event, Fault> {
+    match arguments {
         ["connect"] => Ok(Event::Connect),
         ["recv", piece] => Ok(Event::Recv(Bytes::from_vec(bytes_of(alloc, piece)?))),
         ["turn"] => Ok(Event::Turn(None)),
@@ -135,15 +135,15 @@ fn event_of(alloc: Global, words: &[&str]) -> Result<Event, Fault> {
 /// The text of the error of this name.
 fn text_of(alloc: Global, name: &str) -> Result<String, Fault> {
     match name {
-        "NotConnected" => told(alloc, EventError::NotConnected),
-        "AlreadyConnected" => told(alloc, EventError::AlreadyConnected),
-        "Busy" => told(alloc, EventError::Busy),
-        "SentTooMuch" => told(alloc, EventError::SentTooMuch),
-        "PieceTooLong" => told(alloc, EventError::PieceTooLong),
-        "Closing" => told(alloc, EventError::Closing),
-        "NoMemory" => told(alloc, EventError::NoMemory),
-        "Spent" => told(alloc, EventError::Spent),
-        "BadLimit" => told(alloc, ConfigError::BadLimit),
+        "NotConnected" => shown(alloc, EventError::NotConnected),
+        "AlreadyConnected" => shown(alloc, EventError::AlreadyConnected),
+        "Busy" => shown(alloc, EventError::Busy),
+        "SentTooMuch" => shown(alloc, EventError::SentTooMuch),
+        "PieceTooLong" => shown(alloc, EventError::PieceTooLong),
+        "Closing" => shown(alloc, EventError::Closing),
+        "NoMemory" => shown(alloc, EventError::NoMemory),
+        "Spent" => shown(alloc, EventError::Spent),
+        "BadLimit" => shown(alloc, ConfigError::BadLimit),
         _ => Err(Fault::NoCommand),
     }
 }

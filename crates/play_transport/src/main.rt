@@ -5,7 +5,7 @@
 mod polling;
 mod streams;
 
-use play::{Fault, Player, bytes_of, hexadecimal, parsed, play, told};
+use play::{Fault, Player, bytes_of, hexadecimal, parsed, play, shown};
 use polling::polled;
 use session::{EventError, Limits, Session};
 use std::alloc::Global;
@@ -39,19 +39,19 @@ fn main(rt: HostRuntime) -> ExitCode {
 }
 
 impl Player for Connection {
-    fn answer(&mut self, alloc: Global, words: &[&str]) -> Result<String, Fault> {
-        match words {
+    fn answer(&mut self, alloc: Global, arguments: &[&str]) -> Result<String, Fault> {
+        match arguments {
             ["input", bytes] => {
                 self.reader = Drip::new(bytes_of(alloc, bytes)?);
-                told(alloc, "ok")
+                shown(alloc, "ok")
             }
             ["reader", most, calls, interruptions] => {
                 self.reader.pace = pace_of(most, calls, interruptions)?;
-                told(alloc, "ok")
+                shown(alloc, "ok")
             }
             ["writer", most, calls, interruptions] => {
                 self.writer.pace = pace_of(most, calls, interruptions)?;
-                told(alloc, "ok")
+                shown(alloc, "ok")
             }
             ["whole", input] => whole(alloc, &bytes_of(alloc, input)?),
             ["server", calls @ ..] => polled(alloc, &mut self.reader, &mut self.writer, calls),
@@ -85,7 +85,7 @@ impl Connection {
     fn look(&mut self, alloc: Global, name: &str) -> Result<String, Fault> {
         match name {
             "connect" => match self.session.connect() {
-                Ok(number) => told(alloc, number),
+                Ok(number) => shown(alloc, number),
                 Err(error) => done(alloc, Err(error)),
             },
             "turn" => match self.session.turn(None) {
@@ -93,10 +93,10 @@ impl Connection {
                 Err(error) => done(alloc, Err(error)),
             },
             "waiting" => hexadecimal(alloc, self.session.waiting()),
-            "pending" => told(alloc, self.session.pending()),
+            "pending" => shown(alloc, self.session.pending()),
             "link_fault" => match self.session.link_fault() {
                 Some(fault) => Ok(format!(in alloc; "{fault:?}")?),
-                None => told(alloc, "none"),
+                None => shown(alloc, "none"),
             },
             "written" => hexadecimal(alloc, self.writer.bytes.as_slice()),
             "left" => hexadecimal(alloc, self.reader.left()),
@@ -116,7 +116,7 @@ fn pace_of(most: &str, calls: &str, interruptions: &str) -> Result<Pace, Fault> 
 
 fn done(alloc: Global, answer: Result<(), EventError>) -> Result<String, Fault> {
     match answer {
-        Ok(()) => told(alloc, "ok"),
+        Ok(()) => shown(alloc, "ok"),
         Err(EventError::NoMemory) => Err(Fault::NoMemoryInCall),
         Err(error) => Ok(format!(in alloc; "{error:?}")?),
     }
@@ -142,13 +142,13 @@ fn whole(alloc: Global, input: &[u8]) -> Result<String, Fault> {
 /// The text of the error of this name.
 fn text_of(alloc: Global, name: &str) -> Result<String, Fault> {
     match name {
-        "Frame" => told(alloc, ServerError::Frame),
-        "Message" => told(alloc, ServerError::Message),
-        "Read" => told(alloc, ServerError::Read),
-        "Write" => told(alloc, ServerError::Write),
-        "TooManyReads" => told(alloc, ServerError::TooManyReads),
-        "NoMemory" => told(alloc, ServerError::NoMemory),
-        "SeqSpent" => told(alloc, ServerError::SeqSpent),
+        "Frame" => shown(alloc, ServerError::Frame),
+        "Message" => shown(alloc, ServerError::Message),
+        "Read" => shown(alloc, ServerError::Read),
+        "Write" => shown(alloc, ServerError::Write),
+        "TooManyReads" => shown(alloc, ServerError::TooManyReads),
+        "NoMemory" => shown(alloc, ServerError::NoMemory),
+        "SeqSpent" => shown(alloc, ServerError::SeqSpent),
         _ => Err(Fault::NoCommand),
     }
 }

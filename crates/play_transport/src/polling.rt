@@ -7,8 +7,8 @@ use replies::{Response, ResponseBody};
 use std::alloc::Global;
 use transport::{Server, ServerError};
 
-/// Makes calls of a new server, and tells what each answered: `poll`, `threads=N` (the success of a
-/// `threads` request with that number), `ack=N` (its bare success). A call that found no memory is told
+/// Makes calls of a new server, and says what each answered: `poll`, `threads=N` (the success of a
+/// `threads` request with that number), `ack=N` (its bare success). A call that found no memory is reported
 /// on a line before, and made again.
 pub(crate) fn polled(
     alloc: Global,

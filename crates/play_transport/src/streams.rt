@@ -1,4 +1,4 @@
-//! Streams in memory that give and take as they are told.
+//! Streams in memory that give and take as a command says.
 ghost use Rattle.std.specs.Prelude.{◌≤◌, IfOk};
 
 use std::alloc::{AllocError, Global};

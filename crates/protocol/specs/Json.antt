@@ -25,7 +25,7 @@ use Rattle.protocol.specs.declared.request.MessageError.TheVariants.{NotJson, No
 unfoldable pub json_of : List ℕ → Option Data
 json_of bytes = if is_utf8 bytes then read bytes else None
 
--- why the library gives no value
+-- why the library gives no value, for a private clause alone
 abbrev pub fault_of : Category → MessageError
 fault_of Memory = NoMemory
 fault_of _ = NotJson

@@ -7,7 +7,8 @@
 -- A property has the type that the schema gives it, or the message is not taken as it stands: 1 is
 -- not true, and "true" is not true either. Where the schema says integer, a whole number from
 -- -2,147,483,648 to 2,147,483,647 is taken, and no other. `1.0`, `1e2` and `-0` are floats.
-use Rattle.std.specs.Prelude.{◌≡◌, ℕ, List, Bool, Option, Some, None, codes, option_and_then, option_map, nat_le, ℤ, pos, neg_ℤ, int_le, ◌&&◌, Float, refl, if◌then◌else◌}
+use Rattle.std.specs.Prelude.{◌≡◌, ℕ, List, Bool, Option, Some, None, codes, option_and_then, option_map, nat_le, ℤ}
+use Rattle.std.specs.Prelude.{pos, neg_ℤ, int_le, ◌&&◌, Float, refl, if◌then◌else◌}
 use Rattle.serde_json.specs.Data.{Data, null, number, string, unsigned, negative, float, Members, no_members, member}
 use Rattle.serde_json.specs.Find.{get_member, as_bool, as_i64, as_number, as_object, as_str, as_u64}
 

@@ -8,7 +8,7 @@
 -- A request has a name, which is a text, and a number from 0 to 2,147,483,647; without them there
 -- is nothing to name in an answer. One that has both is answered, if only by a refusal.
 --
--- The faults have an order, which is that of the lines below: what is told is the first.
+-- The faults have an order, which is that of the lines below: what is reported is the first.
 use Rattle.std.specs.Prelude.{ℕ, List, Result, Ok, Err, IsOk, ok_or, bytes_eq, codes, refl, ◌||◌, ◌≡◌, if◌then◌else◌}
 use Rattle.serde_json.specs.Data.{Data, array, no_items, number, string, unsigned, Members, no_members, member}
 use Rattle.serde_json.specs.Find.{as_object}
@@ -97,7 +97,8 @@ abbrev pub Gives : Result Incoming MessageError → Result Incoming MessageError
 Gives (Err NoMemory) meant = Unit {0}
 Gives result meant = result ≡ meant
 
--- A call that takes memory only for a request gives what is meant, or it finds none for a request.
+-- For private clauses alone: a call that takes memory only for a request gives what is meant, or it finds none for a
+-- request.
 abbrev pub GivesMeaning : Result Incoming MessageError → Result Incoming MessageError → Type 0
 GivesMeaning (Err NoMemory) meant = IsOk meant
 GivesMeaning result meant = result ≡ meant

@@ -10,7 +10,7 @@ use Rattle.replies.specs.Claims.{kept_if, claim_in}
 use Rattle.replies.specs.Reading.{IsMessage, ReadsAs, message_in, reading_in, reading_of}
 use Rattle.replies.proofs.Claiming.{claim_in-message_data, claim_in-proper}
 use Rattle.replies.proofs.Sameness.{same_from, same_itself}
-use Rattle.replies.proofs.Told.{has_float-message_data}
+use Rattle.replies.proofs.Values.{has_float-message_data}
 
 -- a value that is a message is found to be it
 pub message_in-IsMessage : (value : Data) (seq : ℕ) (message : Message) → IsMessage value seq message → message_in value ≡ Some (seq, message)

@@ -1,7 +1,7 @@
 pub mod Bodies
 pub mod Sameness
 pub mod Texts
-pub mod Told
+pub mod Values
 pub mod Appending
 pub mod Printing
 pub mod Claiming

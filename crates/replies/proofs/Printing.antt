@@ -11,7 +11,7 @@ use Rattle.replies.specs.declared.message.Message.{Message}
 use Rattle.replies.specs.Messages.{message_data}
 use Rattle.replies.specs.Written.{Appends, HasNumbers, tokens_of}
 use Rattle.replies.proofs.Texts.{json_of-tokens}
-use Rattle.replies.proofs.Told.{HasSmallNumbers-message_data, is_ordered-message_data, depth-message_data}
+use Rattle.replies.proofs.Values.{HasSmallNumbers-message_data, is_ordered-message_data, depth-message_data}
 
 -- it has written this value, and nothing else
 pub record Holds (items : List ℕ) (end : Written) (value : Data) : Type 0 where

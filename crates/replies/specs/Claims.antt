@@ -1,15 +1,17 @@
--- Which message a JSON value claims to be.
+-- For `exact` of `read_message` and private clauses: which message a JSON value claims to be.
 --
 -- Most of a message is fixed by a few members: its number, the request's number and command, whether the request
--- succeeded, and the number of the refusal where it did not. These are the ones that are looked at here. What they claim
--- may be false, as where another member is wrong or missing.
-use Rattle.std.specs.Prelude.{◌==◌, ℕ, ◌^◌, ◌&&◌, List, Bool, true, false, nat_lt, if◌then◌else◌, Option, Some, None, option_map, option_and_then, codes}
+-- succeeded, and the number of the refusal where it did not. These are the ones that are looked at here. What they
+-- claim may be false, as where another member is wrong or missing.
+use Rattle.std.specs.Prelude.{◌==◌, ℕ, ◌^◌, ◌&&◌, List, Bool, true, false, nat_lt, if◌then◌else◌, Option, Some, None}
+use Rattle.std.specs.Prelude.{option_map, option_and_then, codes}
 use Rattle.std.specs.List.{list_any}
 use Rattle.std.specs.Str.{bytes_eq}
 use Rattle.serde_json.specs.Data.{Data}
 use Rattle.serde_json.specs.Find.{get, as_bool, as_number, as_str, as_u64}
 use Rattle.protocol.specs.declared.refusal.Refusal.{Refusal}
-use Rattle.protocol.specs.declared.refusal.Refusal.TheVariants.{RepeatedSequence, Cancelled, UnknownCommand, BadArguments, WrongPhase, RequestGone}
+use Rattle.protocol.specs.declared.refusal.Refusal.TheVariants.{RepeatedSequence, Cancelled, UnknownCommand}
+use Rattle.protocol.specs.declared.refusal.Refusal.TheVariants.{BadArguments, WrongPhase, RequestGone}
 use Rattle.replies.specs.declared.response.Response as response
 use Rattle.replies.specs.declared.response.Outcome.{Outcome}
 use Rattle.replies.specs.declared.response.Outcome.TheVariants.{Done, Refused}

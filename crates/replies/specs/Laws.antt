@@ -5,7 +5,8 @@
 use Rattle.std.specs.Prelude.{◌≡◌, ℕ, List, Bool, true, ◌&&◌, Some, Ok, IsUtf8, IfSome, IsTrue}
 use Rattle.std.specs.Cmp.Lexicographic.{slice_cmp}
 use Rattle.std.specs.Ordering.{nat_cmp, is_lt}
-use Rattle.serde_json.specs.Data.{Data, null, boolean, number, string, array, object, Items, no_items, item, Members, no_members, member}
+use Rattle.serde_json.specs.Data.{Data, null, boolean, number, string, array, object, Items, no_items, item, Members}
+use Rattle.serde_json.specs.Data.{no_members, member}
 use Rattle.replies.specs.declared.message.Message.{Message}
 use Rattle.replies.specs.declared.message.Message.TheVariants.{Response}
 use Rattle.replies.specs.declared.response.Outcome.{Outcome}
@@ -27,15 +28,18 @@ HasTexts (Response response) = IsUtf8 response.command × HasOutcomeTexts respon
 
 -- the text of a message has the JSON value of the message
 abbrev pub TextHasValue : Type 0
-TextHasValue = (seq : ℕ) (message : Message) → IsNumber seq → IsProper message → HasTexts message → json_of (text_of seq message) ≡ Some (message_data seq message)
+TextHasValue = (seq : ℕ) (message : Message) → IsNumber seq → IsProper message → HasTexts message
+    → json_of (text_of seq message) ≡ Some (message_data seq message)
 
 -- what is written for a message is read as that message
 abbrev pub WrittenIsRead : Type 0
-WrittenIsRead = (seq : ℕ) (message : Message) → IsNumber seq → IsProper message → HasTexts message → reading_of (text_of seq message) ≡ Ok (seq, message)
+WrittenIsRead = (seq : ℕ) (message : Message) → IsNumber seq → IsProper message → HasTexts message
+    → reading_of (text_of seq message) ≡ Ok (seq, message)
 
 -- no two messages have one JSON value
 abbrev pub ValuesDiffer : Type 0
-ValuesDiffer = (value : Data) (seq other_seq : ℕ) (message other : Message) → IsMessage value seq message → IsMessage value other_seq other → (seq ≡ other_seq) × (message ≡ other)
+ValuesDiffer = (value : Data) (seq other_seq : ℕ) (message other : Message) → IsMessage value seq message
+    → IsMessage value other_seq other → (seq ≡ other_seq) × (message ≡ other)
 
 -- what bytes are read as is what they are
 abbrev pub ReadingIsRight : Type 0
@@ -64,7 +68,8 @@ abbrev mutual
 
   pub are_members_ordered : Members → Bool
   are_members_ordered no_members = true
-  are_members_ordered (member name value rest) = begins_above name rest && (is_ordered value && are_members_ordered rest)
+  are_members_ordered (member name value rest) =
+      begins_above name rest && (is_ordered value && are_members_ordered rest)
 
 -- in each object of a message the names rise, byte for byte
 abbrev pub NamesRise : Type 0

@@ -1,12 +1,29 @@
-pub mod Same
+-- What the adapter answers, as JSON and as bytes. First the two bodies that are fixed.
+
+-- the body that answers `initialize`: the capabilities
 pub mod Initialize
+-- the body that answers `threads`: the one hart
 pub mod Threads
+-- a response as a JSON value, and which responses are the adapter's
 pub mod Responses
+-- a message with its number, as a JSON value and as text
 pub mod Messages
-pub mod Written
-pub mod Claims
+-- what a body is read as: a message exactly where it has the JSON value of one
 pub mod Reading
+-- what follows for every message
 pub mod Laws
+-- ---- for `exact` of `read_message` and private clauses: the same reading as a function, which finds the message
+-- whether two JSON values are one
+pub mod Same
+-- the one message that a JSON value can be
+pub mod Claims
+-- ---- for private clauses alone
+-- the tokens of a message, in the order in which they are written
+pub mod Written
+-- ---- of `protocol`
+-- the names of the requests
 pub use Rattle.protocol.specs.Commands
+-- the numbers and the names of the refusals
 pub use Rattle.protocol.specs.Refusals
+-- the JSON value of a body
 pub use Rattle.protocol.specs.Json

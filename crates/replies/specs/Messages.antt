@@ -3,8 +3,9 @@
 -- A message of the adapter (DAP specification, `ProtocolMessage`) is a response to a request. Each has a number, which
 -- is no part of the message itself: the first that is sent on a connection has the number 1, and each next one is 1
 -- greater. The text is the compact one (RFC 8259 without insignificant whitespace), so a message has one text.
-use Rattle.std.specs.Prelude.{◌≡◌, ℕ, ◌^◌, ◌≤◌, ◌<◌, List, None, codes, refl}
+use Rattle.std.specs.Prelude.{◌≡◌, ℕ, ◌^◌, ◌≤◌, ◌<◌, List, ◌++◌, None, codes, refl, ⊤}
 use Rattle.std.specs.Fmt.{digits}
+use Rattle.std.specs.Str.{chars, is_utf8}
 use Rattle.serde_json.specs.Data.{Data}
 use Rattle.serde_json.specs.Written.{compact_text}
 use Rattle.serde_json.proofs.OnLiterals.{serde_json_on_literals}
@@ -33,20 +34,29 @@ IsNumber seq = (1 ≤ seq) × (seq < 2 ^ 31)
 
 -- ---- examples
 
+-- what an example unfolds so that the checker computes JSON texts that are literals
+unfoldable pub json_on_literals : ⊤
+unfolding serde_json_on_literals digits is_utf8 chars
+json_on_literals = tt
+
 -- the answer to `disconnect`, as the third message, to the third request
-example-acknowledgement : text_of 3 (Response (record { request_seq = 3; command = codes "disconnect"; outcome = Done Empty }))
+example-acknowledgement :
+    text_of 3 (Response (record { request_seq = 3; command = codes "disconnect"; outcome = Done Empty }))
     ≡ codes "{\"command\":\"disconnect\",\"request_seq\":3,\"seq\":3,\"success\":true,\"type\":\"response\"}"
-unfolding serde_json_on_literals digits
+unfolding json_on_literals
 example-acknowledgement = refl
 
 -- the threads, as the second message, to the second request
 example-threads : text_of 2 (Response (record { request_seq = 2; command = codes "threads"; outcome = Done Threads }))
-    ≡ codes "{\"body\":{\"threads\":[{\"id\":1,\"name\":\"hart 0\"}]},\"command\":\"threads\",\"request_seq\":2,\"seq\":2,\"success\":true,\"type\":\"response\"}"
-unfolding serde_json_on_literals digits
+    ≡ codes "{\"body\":{\"threads\":[{\"id\":1,\"name\":\"hart 0\"}]},\"command\":\"threads\","
+    ++ codes "\"request_seq\":2,\"seq\":2,\"success\":true,\"type\":\"response\"}"
+unfolding json_on_literals
 example-threads = refl
 
 -- the answer to a `threads` that comes before `initialize`
-example-refusal : text_of 1 (Response (record { request_seq = 1; command = codes "threads"; outcome = Refused WrongPhase None }))
-    ≡ codes "{\"body\":{\"error\":{\"format\":\"wrongPhase\",\"id\":3}},\"command\":\"threads\",\"message\":\"wrongPhase\",\"request_seq\":1,\"seq\":1,\"success\":false,\"type\":\"response\"}"
-unfolding serde_json_on_literals digits
+example-refusal :
+    text_of 1 (Response (record { request_seq = 1; command = codes "threads"; outcome = Refused WrongPhase None }))
+    ≡ codes "{\"body\":{\"error\":{\"format\":\"wrongPhase\",\"id\":3}},\"command\":\"threads\","
+    ++ codes "\"message\":\"wrongPhase\",\"request_seq\":1,\"seq\":1,\"success\":false,\"type\":\"response\"}"
+unfolding json_on_literals
 example-refusal = refl

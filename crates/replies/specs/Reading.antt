@@ -1,8 +1,8 @@
 -- How a message of the adapter is found again in a body.
 --
--- A body is a message exactly where it has the JSON value of one, whose numbers are in their ranges and whose body is of
--- its command: spaces and the order of members do not matter, and a member more, a member less or another value makes it
--- none. No two messages have one JSON value, so there is at most one answer.
+-- A body is a message exactly where it has the JSON value of one, whose numbers are in their ranges and whose body is
+-- of its command: spaces and the order of members do not matter, and a member more, a member less or another value
+-- makes it none. No two messages have one JSON value, so there is at most one answer.
 --
 -- It can be found: what a value claims to be is one certain message, and the value is a message exactly where it is the
 -- value of that one.
@@ -25,11 +25,14 @@ IsMessage value seq message = IsNumber seq × IsProper message × (value ≡ mes
 abbrev pub ReadsAs : List ℕ → Result (ℕ × Message) MessageError → Type 0
 ReadsAs bytes (Ok found) = IsNumber found.0 × IsProper found.1 × (json_of bytes ≡ Some (message_data found.0 found.1))
 ReadsAs bytes (Err NotJson) = json_of bytes ≡ None
-ReadsAs bytes (Err NotAMessage) = IsSome (json_of bytes) × ((seq : ℕ) (message : Message) → IsNumber seq → IsProper message → json_of bytes ≢ Some (message_data seq message))
+ReadsAs bytes (Err NotAMessage) =
+    IsSome (json_of bytes)
+    × ((seq : ℕ) (message : Message) → IsNumber seq → IsProper message
+    → json_of bytes ≢ Some (message_data seq message))
 ReadsAs bytes (Err BadSeq) = ⊥
 ReadsAs bytes (Err NoMemory) = ⊤
 
--- ---- the same as functions
+-- ---- the same as functions, for `exact` of `read_message` and private clauses
 
 -- the number and the message that a JSON value is
 abbrev pub message_in : Data → Option (ℕ × Message)

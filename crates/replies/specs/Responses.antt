@@ -6,12 +6,14 @@
 -- one, else its name.
 --
 -- The members of each object stand in byte order of their names, which is where `put` puts them.
-use Rattle.std.specs.Prelude.{◌≡◌, ℕ, ◌^◌, ◌<◌, List, [], ◌∷◌, Bool, true, false, Option, Some, None, is_some, IsTrue, codes}
+use Rattle.std.specs.Prelude.{◌≡◌, ℕ, ◌^◌, ◌<◌, List, [], ◌∷◌, Bool, true, false, Option, Some, None, is_some, IsTrue}
+use Rattle.std.specs.Prelude.{codes}
 use Rattle.std.specs.List.{list_any}
 use Rattle.std.specs.Str.{bytes_eq}
 use Rattle.serde_json.specs.Data.{Data, boolean, number, unsigned, string, object, Members, no_members, member, put}
 use Rattle.protocol.specs.declared.refusal.Refusal.{Refusal}
-use Rattle.protocol.specs.declared.refusal.Refusal.TheVariants.{RepeatedSequence, Cancelled, UnknownCommand, BadArguments, WrongPhase, RequestGone}
+use Rattle.protocol.specs.declared.refusal.Refusal.TheVariants.{RepeatedSequence, Cancelled, UnknownCommand}
+use Rattle.protocol.specs.declared.refusal.Refusal.TheVariants.{BadArguments, WrongPhase, RequestGone}
 use Rattle.protocol.specs.Refusals.{id_of, name_of}
 use Rattle.replies.specs.declared.response.Response.{Response}
 use Rattle.replies.specs.declared.response.Outcome.{Outcome}

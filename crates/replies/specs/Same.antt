@@ -1,10 +1,11 @@
--- Whether two JSON values are one.
+-- For `exact` of `read_message` and private clauses: whether two JSON values are one.
 --
 -- A float is the same as nothing, itself included: no message of the adapter has one.
 use Rattle.std.specs.Prelude.{Bool, true, false, not, ◌&&◌, nat_eq}
 use Rattle.std.specs.Ordering.{int_eq}
 use Rattle.std.specs.Str.{bytes_eq}
-use Rattle.serde_json.specs.Data.{Num, unsigned, negative, Data, null, boolean, number, string, array, object, Items, no_items, item, Members, no_members, member}
+use Rattle.serde_json.specs.Data.{Num, unsigned, negative, Data, null, boolean, number, string, array, object, Items}
+use Rattle.serde_json.specs.Data.{no_items, item, Members, no_members, member}
 
 -- two truth values
 abbrev pub is_same_truth : Bool → Bool → Bool

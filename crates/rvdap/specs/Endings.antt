@@ -14,6 +14,7 @@ ending_of Fault fault = ReadOrWriteFault
 ending_of Turns fault = ReadOrWriteFault
 ending_of OutOfMemory fault = NoMemory
 
+-- the status of an ending
 abbrev pub status_of : Ending → ℕ
 status_of Success = 0
 status_of BadMessage = 1

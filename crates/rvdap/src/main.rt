@@ -10,7 +10,7 @@ mod serving;
 use asm::{AsmFault, list_file};
 use ending::Ending;
 use listing::ListFault;
-use options::{Words, read_words};
+use options::{Task, task_of};
 use serving::serve;
 use session::{Limits, Session};
 use std::fmt::Display;
@@ -18,13 +18,13 @@ use std::process::ExitCode;
 
 /// Status 0 where the input ended or a `disconnect` succeeded, where a file was listed, and where help or
 /// the version was asked; 1 with one line on standard error where serving or listing failed; 2 where the
-/// words are not taken.
+/// arguments are not taken.
 fn main(rt: HostRuntime) -> ExitCode {
-    match read_words(&rt) {
-        Words::Serve => end(&rt, serve_editor(&rt)),
-        Words::List(file) => list(&rt, file.as_str()),
-        Words::Told(status) => ExitCode::from(status),
-        Words::NoMemory => end(&rt, Ending::NoMemory),
+    match task_of(&rt) {
+        Task::Serve => end(&rt, serve_editor(&rt)),
+        Task::List(file) => list(&rt, file.as_str()),
+        Task::Printed(status) => ExitCode::from(status),
+        Task::NoMemory => end(&rt, Ending::NoMemory),
     }
 }
 
@@ -45,7 +45,7 @@ fn list(rt: &HostRuntime, file: &str) -> ExitCode {
 }
 
 // The line on standard error, if there is one, and the status. Where the line can't be written, the
-// status still tells.
+// status still says it.
 fn end(rt: &impl Eprint, ending: Ending) -> ExitCode {
     if let Some(reason) = ending.reason() {
         let _ = eprintln!(rt; "rvdap: {reason}");

@@ -52,77 +52,77 @@ const AFTER_HELP_OF_ASM: &str = "\
     \n`cannot read` in place of an error: FILE is not there, is not a file, or is too\
     \nlong. docs/MACHINE.md has the language, and examples of each error.";
 
-/// What the words after the program's name come to.
-pub(crate) enum Words {
+/// What the arguments of the program ask for.
+pub(crate) enum Task {
     /// An editor is to be served over standard streams.
     Serve,
     /// The text in this file is to be listed.
     List(String),
     /// Something was printed, and the program ends with this status.
-    Told(u8),
+    Printed(u8),
     /// No memory was left.
     NoMemory,
 }
 
-/// Reads the words of the process: none, or `asm FILE`. `--help` and `--version` are answered on
-/// standard output, with status 0; other words are a fault of usage, told on standard error, with
-/// status 2.
-pub(crate) fn read_words<R: Env + AllocGlobal + Print + Eprint>(rt: &R) -> Words {
-    match words_of(rt) {
-        Ok(words) => asked(rt, words.as_slice()),
+/// Reads the arguments of the program: none, or `asm FILE`. `--help` and `--version` are answered on
+/// standard output, with status 0; other arguments are a fault of usage, reported on standard error,
+/// with status 2.
+pub(crate) fn task_of<R: Env + AllocGlobal + Print + Eprint>(rt: &R) -> Task {
+    match arguments(rt) {
+        Ok(arguments) => asked(rt, arguments.as_slice()),
         Err(error) => unreadable(rt, &error),
     }
 }
 
-fn asked<R: AllocGlobal + Print + Eprint>(rt: &R, words: &[String]) -> Words {
-    match matched(rt.alloc(), words) {
+fn asked<R: AllocGlobal + Print + Eprint>(rt: &R, arguments: &[String]) -> Task {
+    match matched(rt.alloc(), arguments) {
         Ok(matches) => mode_of(rt.alloc(), &matches),
-        Err(error) => told(rt, &error),
+        Err(error) => printed(rt, &error),
     }
 }
 
-fn matched<'a>(alloc: Global, words: &'a [String]) -> Result<ArgMatches<'a>, clap::Error> {
-    command(alloc)?.try_get_matches_from(words)
+fn matched<'a>(alloc: Global, arguments: &'a [String]) -> Result<ArgMatches<'a>, clap::Error> {
+    command(alloc)?.try_get_matches_from(arguments)
 }
 
-// What is asked for, by words that are taken.
-fn mode_of(alloc: Global, matches: &ArgMatches) -> Words {
+// What is asked for, by arguments that are taken.
+fn mode_of(alloc: Global, matches: &ArgMatches) -> Task {
     let Some(matches) = matches.subcommand_matches("asm") else {
-        return Words::Serve;
+        return Task::Serve;
     };
     let Some(file) = matches.get_str("FILE") else {
-        return Words::Serve;
+        return Task::Serve;
     };
     match String::from_str(alloc, file) {
-        Ok(file) => Words::List(file),
-        Err(_) => Words::NoMemory,
+        Ok(file) => Task::List(file),
+        Err(_) => Task::NoMemory,
     }
 }
 
-// What clap has to say. Where it can't be printed, the status still tells.
-fn told<R: Print + Eprint>(rt: &R, error: &clap::Error) -> Words {
+// Prints what clap has to say. Where it can't be printed, the status still says it.
+fn printed<R: Print + Eprint>(rt: &R, error: &clap::Error) -> Task {
     if error.kind() == ErrorKind::OutOfMemory {
-        return Words::NoMemory;
+        return Task::NoMemory;
     }
     let _ = error.print(rt);
     if error.use_stderr() {
-        Words::Told(2)
+        Task::Printed(2)
     } else {
-        Words::Told(0)
+        Task::Printed(0)
     }
 }
 
-fn words_of<R: Env + AllocGlobal>(rt: &R) -> io::Result<Vec<String>> {
-    let words = env::args(rt)?.collect(rt.alloc())?;
-    Ok(words)
+fn arguments<R: Env + AllocGlobal>(rt: &R) -> io::Result<Vec<String>> {
+    let arguments = env::args(rt)?.collect(rt.alloc())?;
+    Ok(arguments)
 }
 
-fn unreadable<R: Eprint>(rt: &R, error: &io::Error) -> Words {
+fn unreadable<R: Eprint>(rt: &R, error: &io::Error) -> Task {
     if error.kind() == io::ErrorKind::OutOfMemory {
-        return Words::NoMemory;
+        return Task::NoMemory;
     }
     let _ = eprintln!(rt; "rvdap: {error}");
-    Words::Told(2)
+    Task::Printed(2)
 }
 
 fn command<'a>(alloc: Global) -> Result<Command<'a>, AllocError> {

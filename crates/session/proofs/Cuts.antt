@@ -180,69 +180,69 @@ left_by s l r came asked stream = record s {
 }
 
 -- the second piece is taken too
-both : (s : Session) (l : Link) (front behind : List ℕ) → fault_of_reading (read_on s.now front) ≡ None → (k : Link) → k ≡ record l { is_closing = is_some (fault_of_reading (read_on s.now front)) }
-    → accepting (accepting s l front (Some l)) k behind (Some k) ≡ accepting s l (front ++ behind) (Some l)
-both s l front behind none k e =
+both : (s : Session) (l : Link) (prefix after : List ℕ) → fault_of_reading (read_on s.now prefix) ≡ None → (k : Link) → k ≡ record l { is_closing = is_some (fault_of_reading (read_on s.now prefix)) }
+    → accepting (accepting s l prefix (Some l)) k after (Some k) ≡ accepting s l (prefix ++ after) (Some l)
+both s l prefix after none k e =
     let c = s.now.connections in
-    let r1 = read_on s.now front in
-    let r2 = reading_after BODY_LIMIT r1.tail behind in
-    let r12 = read_on s.now (front ++ behind) in
+    let r1 = read_on s.now prefix in
+    let r2 = reading_after BODY_LIMIT r1.tail after in
+    let r12 = read_on s.now (prefix ++ after) in
     let first = asks_of r1.bodies in
     let second = asks_of r2.bodies in
-    let stream = up_to_fault s.accepted (front ++ behind) in
+    let stream = up_to_fault s.accepted (prefix ++ after) in
     let no_fault : message_fault_of r1.bodies ≡ None = no_message_fault (message_fault_of r1.bodies) _ none in
-    let joins : r12 ≡ with_bodies r1.bodies r2 = reading_after-append s.now.tail front behind in
+    let joins : r12 ≡ with_bodies r1.bodies r2 = reading_after-append s.now.tail prefix after in
     let fault : fault_of_reading r12 ≡ fault_of_reading r2 = ap fault_of_reading joins ∙ ap (λ m. fault_or m (fault_of r2.tail)) (message_fault_of-append r1.bodies r2.bodies no_fault) in
     let asks : asks_of r12.bodies ≡ first ++ second = ap (λ (r : Reading). asks_of r.bodies) joins ∙ asks_of-append r1.bodies r2.bodies no_fault in
-    ap (λ x. accepting (accepting s l front (Some l)) x behind (Some x)) e
-    ∙ ap (λ t. let r = reading_after BODY_LIMIT t behind in left_by s l r (all_joined (all_joined s.now.arrivals first) (asks_of r.bodies)) ((s.asked ++ map (put c) first) ++ map (put c) (asks_of r.bodies)) (up_to_fault (up_to_fault s.accepted front) behind))
+    ap (λ x. accepting (accepting s l prefix (Some l)) x after (Some x)) e
+    ∙ ap (λ t. let r = reading_after BODY_LIMIT t after in left_by s l r (all_joined (all_joined s.now.arrivals first) (asks_of r.bodies)) ((s.asked ++ map (put c) first) ++ map (put c) (asks_of r.bodies)) (up_to_fault (up_to_fault s.accepted prefix) after))
     (ap (λ f. tail_kept f r1.tail) none)
-    ∙ ap (λ came. left_by s l r2 came ((s.asked ++ map (put c) first) ++ map (put c) second) (up_to_fault (up_to_fault s.accepted front) behind)) (all_joined-append first second s.now.arrivals)
-    ∙ ap (λ asked. left_by s l r2 (all_joined s.now.arrivals (first ++ second)) asked (up_to_fault (up_to_fault s.accepted front) behind))
+    ∙ ap (λ came. left_by s l r2 came ((s.asked ++ map (put c) first) ++ map (put c) second) (up_to_fault (up_to_fault s.accepted prefix) after)) (all_joined-append first second s.now.arrivals)
+    ∙ ap (λ asked. left_by s l r2 (all_joined s.now.arrivals (first ++ second)) asked (up_to_fault (up_to_fault s.accepted prefix) after))
     (append_assoc s.asked (map (put c) first) (map (put c) second) ∙ ap (λ x. s.asked ++ x) (sym (map-append (put c) first second)))
-    ∙ ap (λ x. left_by s l r2 (all_joined s.now.arrivals (first ++ second)) (s.asked ++ map (put c) (first ++ second)) x) (up_to_fault-append s.accepted front behind)
+    ∙ ap (λ x. left_by s l r2 (all_joined s.now.arrivals (first ++ second)) (s.asked ++ map (put c) (first ++ second)) x) (up_to_fault-append s.accepted prefix after)
     ∙ ap (λ x. final s l (fault_of_reading r2) x r2.tail stream) (sym asks)
     ∙ ap (λ x. final s l x (asks_of r12.bodies) r2.tail stream) (sym fault)
     ∙ ap (λ (r : Reading). final s l (fault_of_reading r12) (asks_of r12.bodies) r.tail stream) (sym joins)
 
 -- the first piece closes the connection
-closes : (s : Session) (l : Link) (front behind : List ℕ) → (reading_of BODY_LIMIT s.accepted).tail ≡ s.now.tail → fault_of_reading (reading_of BODY_LIMIT s.accepted) ≡ None → is_some (fault_of_reading (read_on s.now front)) ≡ true
-    → accepting s l front (Some l) ≡ accepting s l (front ++ behind) (Some l)
-closes s l front behind tail fine h =
-    let r1 = read_on s.now front in
-    let r12 = read_on s.now (front ++ behind) in
-    let same = fault_stays r1 behind h in
-    let joins : r12 ≡ with_bodies r1.bodies (reading_after BODY_LIMIT r1.tail behind) = reading_after-append s.now.tail front behind in
+closes : (s : Session) (l : Link) (prefix after : List ℕ) → (reading_of BODY_LIMIT s.accepted).tail ≡ s.now.tail → fault_of_reading (reading_of BODY_LIMIT s.accepted) ≡ None → is_some (fault_of_reading (read_on s.now prefix)) ≡ true
+    → accepting s l prefix (Some l) ≡ accepting s l (prefix ++ after) (Some l)
+closes s l prefix after tail fine h =
+    let r1 = read_on s.now prefix in
+    let r12 = read_on s.now (prefix ++ after) in
+    let same = fault_stays r1 after h in
+    let joins : r12 ≡ with_bodies r1.bodies (reading_after BODY_LIMIT r1.tail after) = reading_after-append s.now.tail prefix after in
     let fault : fault_of_reading r12 ≡ fault_of_reading r1 = ap fault_of_reading joins ∙ same.fault in
     let asks : asks_of r12.bodies ≡ asks_of r1.bodies = ap (λ (r : Reading). asks_of r.bodies) joins ∙ same.asks in
-    let stream : up_to_fault s.accepted front ≡ up_to_fault s.accepted (front ++ behind) = ends_at_fault s.accepted front behind (ap is_some (whole_fault s front tail fine) ∙ h) in
-    ap (λ t. record (final s l (fault_of_reading r1) (asks_of r1.bodies) r1.tail (up_to_fault s.accepted front)) { now = record (final s l (fault_of_reading r1) (asks_of r1.bodies) r1.tail (up_to_fault s.accepted front)).now { tail = t } })
+    let stream : up_to_fault s.accepted prefix ≡ up_to_fault s.accepted (prefix ++ after) = ends_at_fault s.accepted prefix after (ap is_some (whole_fault s prefix tail fine) ∙ h) in
+    ap (λ t. record (final s l (fault_of_reading r1) (asks_of r1.bodies) r1.tail (up_to_fault s.accepted prefix)) { now = record (final s l (fault_of_reading r1) (asks_of r1.bodies) r1.tail (up_to_fault s.accepted prefix)).now { tail = t } })
     (tail_gone (fault_of_reading r1) r1.tail r12.tail h)
     ∙ ap (λ x. final s l (fault_of_reading r1) (asks_of r1.bodies) r12.tail x) stream
-    ∙ ap (λ x. final s l (fault_of_reading r1) x r12.tail (up_to_fault s.accepted (front ++ behind))) (sym asks)
-    ∙ ap (λ x. final s l x (asks_of r12.bodies) r12.tail (up_to_fault s.accepted (front ++ behind))) (sym fault)
+    ∙ ap (λ x. final s l (fault_of_reading r1) x r12.tail (up_to_fault s.accepted (prefix ++ after))) (sym asks)
+    ∙ ap (λ x. final s l x (asks_of r12.bodies) r12.tail (up_to_fault s.accepted (prefix ++ after))) (sym fault)
 
 cut : (s : Session) → Reads s → CutsDoNotMatter s
-cut s h front behind taken as_one then =
-    let w = taken_is s front taken in
+cut s h prefix after taken as_one then =
+    let w = taken_is s prefix taken in
     let l = w.link in
-    let left : Effect s (Recv front) ≡ accepting s l front (Some l) = leaves s front w l w.is in
-    let one : Effect s (Recv (front ++ behind)) ≡ accepting s l (front ++ behind) (Some l) = leaves s (front ++ behind) (taken_is s (front ++ behind) as_one) l w.is in
+    let left : Effect s (Recv prefix) ≡ accepting s l prefix (Some l) = leaves s prefix w l w.is in
+    let one : Effect s (Recv (prefix ++ after)) ≡ accepting s l (prefix ++ after) (Some l) = leaves s (prefix ++ after) (taken_is s (prefix ++ after) as_one) l w.is in
     let so = h.goes_on l w.is w.goes_on in
-    ap (λ x. Effect x (Recv behind)) left ∙ second w l w.is so.0 so.1 (subst (λ x. IsTaken x behind ⊎ (Answer x (Recv behind) ≡ Err Closing)) left then) ∙ sym one where
-      second : (w : Taken s front) (l : Link) → s.now.link ≡ Some l → (reading_of BODY_LIMIT s.accepted).tail ≡ s.now.tail → fault_of_reading (reading_of BODY_LIMIT s.accepted) ≡ None
-          → IsTaken (accepting s l front (Some l)) behind ⊎ (Answer (accepting s l front (Some l)) (Recv behind) ≡ Err Closing) → Effect (accepting s l front (Some l)) (Recv behind) ≡ accepting s l (front ++ behind) (Some l)
+    ap (λ x. Effect x (Recv after)) left ∙ second w l w.is so.0 so.1 (subst (λ x. IsTaken x after ⊎ (Answer x (Recv after) ≡ Err Closing)) left then) ∙ sym one where
+      second : (w : Taken s prefix) (l : Link) → s.now.link ≡ Some l → (reading_of BODY_LIMIT s.accepted).tail ≡ s.now.tail → fault_of_reading (reading_of BODY_LIMIT s.accepted) ≡ None
+          → IsTaken (accepting s l prefix (Some l)) after ⊎ (Answer (accepting s l prefix (Some l)) (Recv after) ≡ Err Closing) → Effect (accepting s l prefix (Some l)) (Recv after) ≡ accepting s l (prefix ++ after) (Some l)
       second w l e tail fine (inl t) =
-          let mid = accepting s l front (Some l) in
-          let v = taken_is mid behind t in
+          let mid = accepting s l prefix (Some l) in
+          let v = taken_is mid after t in
           let k = v.link in
-          let same : record l { is_closing = is_some (fault_of_reading (read_on s.now front)) } ≡ k = some_is _ k v.is in
-          let none : fault_of_reading (read_on s.now front) ≡ None = none_if (fault_of_reading (read_on s.now front)) (ap (λ (x : Link). x.is_closing) same ∙ v.goes_on) in
-          leaves mid behind v k v.is ∙ both s l front behind none k (sym same)
+          let same : record l { is_closing = is_some (fault_of_reading (read_on s.now prefix)) } ≡ k = some_is _ k v.is in
+          let none : fault_of_reading (read_on s.now prefix) ≡ None = none_if (fault_of_reading (read_on s.now prefix)) (ap (λ (x : Link). x.is_closing) same ∙ v.goes_on) in
+          leaves mid after v k v.is ∙ both s l prefix after none k (sym same)
       second w l e tail fine (inr t) =
-          let mid = accepting s l front (Some l) in
-          let c = closed_to mid behind (record l { is_closing = is_some (fault_of_reading (read_on s.now front)) }) refl t in
-          c.1 ∙ closes s l front behind tail fine c.0
+          let mid = accepting s l prefix (Some l) in
+          let c = closed_to mid after (record l { is_closing = is_some (fault_of_reading (read_on s.now prefix)) }) refl t in
+          c.1 ∙ closes s l prefix after tail fine c.0
 
 pub cuts_do_not_matter : (limits : Limits) (events : List Event) → CutsDoNotMatter (After limits events)
 cuts_do_not_matter limits events = cut (After limits events) (reached Reads reads limits (reads_start limits) events)

@@ -7,7 +7,7 @@ pub mod Reaching
 pub mod Answering
 pub mod Order
 pub mod Once
-pub mod Telling
+pub mod Waiting
 pub mod Reading
 pub mod Cuts
 pub mod Proper

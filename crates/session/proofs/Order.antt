@@ -12,13 +12,13 @@ use Rattle.session.specs.declared.pending.Pending.{Pending}
 use Rattle.session.specs.declared.phase.Phase.{Phase}
 use Rattle.session.specs.declared.event.Event.{Event}
 use Rattle.session.specs.Refusals.{answer_to}
-use Rattle.session.specs.Arrivals.{Arrivals, first_pending, others_pending, is_above, number_of, is_named, cancels, cancelled_by, behind, joined, all_joined, asks_of}
+use Rattle.session.specs.Arrivals.{Arrivals, first_pending, others_pending, is_above, number_of, is_named, cancels, cancelled_by, pending_with, joined, all_joined, asks_of}
 use Rattle.session.specs.Effects.{performed}
-use Rattle.session.specs.Fronts.{IsFrontOf}
+use Rattle.session.specs.Prefixes.{IsPrefixOf}
 use Rattle.session.specs.Outcomes.{Now, Numbered, Open, Close, Accept, Take, answering, to_link, read_on, accepted, fault_of_reading}
 use Rattle.session.specs.Sessions.{Session, On, on_connection, on_now, performed_on, histories, start, After, up_to_fault, with_asks}
 use Rattle.session.specs.Laws.{Named, asked_as, answered_as, asked_on, answered_on, pending_as, AnswersInOrder, AreNumberedFrom, NumbersRise}
-use Rattle.session.proofs.Standing.{on_connection-append, none_later, one_on, front_of_more}
+use Rattle.session.proofs.Standing.{on_connection-append, none_later, one_on, prefix_of_more}
 use Rattle.session.proofs.Reaching.{KeptByEvents, reached}
 use Rattle.session.proofs.Answering.{Answered, Replied, NotReplied, reply_to, answered_by}
 
@@ -34,15 +34,15 @@ same_asks id (p ∷ pending) = ap (λ (n : Named). n ∷ pending_as (map (cancel
 pending_as-append : (xs ys : List Pending) → pending_as (xs ++ ys) ≡ pending_as xs ++ pending_as ys
 pending_as-append xs ys = map-append (λ (p : Pending). asked_as p.ask) xs ys
 
-behind_as : (id : Option ℤ) (pending : List Pending) (ask : Ask) → pending_as (behind id pending ask) ≡ pending_as pending ++ asked_as ask ∷ []
-behind_as None pending ask = pending_as-append pending (record { ask = ask; fate = Waits } ∷ [])
-behind_as (Some id) pending ask = pending_as-append (map (cancelled_by id) pending) _ ∙ ap (λ l. l ++ asked_as ask ∷ []) (same_asks id pending)
+pending_with_as : (id : Option ℤ) (pending : List Pending) (ask : Ask) → pending_as (pending_with id pending ask) ≡ pending_as pending ++ asked_as ask ∷ []
+pending_with_as None pending ask = pending_as-append pending (record { ask = ask; fate = Waits } ∷ [])
+pending_with_as (Some id) pending ask = pending_as-append (map (cancelled_by id) pending) _ ∙ ap (λ l. l ++ asked_as ask ∷ []) (same_asks id pending)
 
 joined_as : (came : Arrivals) (ask : Ask) → pending_as (joined came ask).pending ≡ pending_as came.pending ++ asked_as ask ∷ []
 joined_as came ask = by_test (is_above came.highest (number_of ask)) where
-  by_test : (b : Bool) → pending_as (let a : Arrivals = if b then record { highest = Some (number_of ask); pending = behind (cancels ask) came.pending ask } else record { highest = came.highest; pending = came.pending ++ record { ask = ask; fate = Repeated } ∷ [] } in a).pending
+  by_test : (b : Bool) → pending_as (let a : Arrivals = if b then record { highest = Some (number_of ask); pending = pending_with (cancels ask) came.pending ask } else record { highest = came.highest; pending = came.pending ++ record { ask = ask; fate = Repeated } ∷ [] } in a).pending
       ≡ pending_as came.pending ++ asked_as ask ∷ []
-  by_test true = behind_as (cancels ask) came.pending ask
+  by_test true = pending_with_as (cancels ask) came.pending ask
   by_test false = pending_as-append came.pending (record { ask = ask; fate = Repeated } ∷ [])
 
 pub all_joined_as : (asks : List Ask) (came : Arrivals) → pending_as (all_joined came asks).pending ≡ pending_as came.pending ++ map asked_as asks
@@ -80,11 +80,11 @@ same_on c d xs more e = on_connection-append d xs (map (put c) more) ∙ ap (λ 
 abbrev Rest : ℕ → List (On Numbered) → List (On Ask) → List Pending → Type 0
 Rest c queued asked pending = map asked_as (on_connection c asked) ≡ map answered_as (on_connection c queued) ++ pending_as pending
 
-abbrev Front : ℕ → List (On Numbered) → List (On Ask) → Type 0
-Front c queued asked = IsFrontOf (map answered_as (on_connection c queued)) (map asked_as (on_connection c asked))
+abbrev AnswersPrefix : ℕ → List (On Numbered) → List (On Ask) → Type 0
+AnswersPrefix c queued asked = IsPrefixOf (map answered_as (on_connection c queued)) (map asked_as (on_connection c asked))
 
 pub record Ordered (s : Session) : Type 0 where
-  pub fronts : (c : ℕ) → Front c s.queued s.asked
+  pub prefixes : (c : ℕ) → AnswersPrefix c s.queued s.asked
   pub rest : (link : Link) → s.now.link ≡ Some link → link.seq < s.now.limits.last_seq → Rest s.now.connections s.queued s.asked s.now.arrivals.pending
   pub queued_by_now : All (λ (m : On Numbered). m.connection ≤ s.now.connections) s.queued
   pub asked_by_now : All (λ (a : On Ask). a.connection ≤ s.now.connections) s.asked
@@ -97,7 +97,7 @@ some_is x y h = cc
 
 ordered_opens : (s : Session) → s.now.link ≡ None → Ordered s → Ordered (performed_on Open s)
 ordered_opens s e h = record {
-  fronts = h.fronts;
+  prefixes = h.prefixes;
   rest = λ link f g.
       ap (map asked_as) (none_later s.now.connections s.asked h.asked_by_now)
       ∙ sym (ap (λ l. map answered_as l ++ []) (none_later s.now.connections s.queued h.queued_by_now));
@@ -106,7 +106,7 @@ ordered_opens s e h = record {
 }
 
 ordered_closes : (s : Session) → Ordered s → Ordered (performed_on Close s)
-ordered_closes s h = record { fronts = h.fronts; rest = λ link f g. absurd (none_is link f); queued_by_now = h.queued_by_now; asked_by_now = h.asked_by_now }
+ordered_closes s h = record { prefixes = h.prefixes; rest = λ link f g. absurd (none_is link f); queued_by_now = h.queued_by_now; asked_by_now = h.asked_by_now }
 
 -- a piece on a connection
 abbrev pub accepting : Session → Link → List ℕ → Option Link → Session
@@ -121,7 +121,7 @@ ordered_accepts s l piece e n h =
     let c = s.now.connections in
     let asks = asks_of (read_on s.now piece).bodies in
     subst (λ x. Ordered (accepting s l piece x)) (sym e) (record {
-      fronts = λ d. by_test d (eqb c d) refl;
+      prefixes = λ d. by_test d (eqb c d) refl;
       rest = λ link f g.
           let same : record l { is_closing = is_some (fault_of_reading (read_on s.now piece)) } ≡ link = some_is _ _ f in
           let before = h.rest l e (subst (λ (k : Link). k.seq < s.now.limits.last_seq) (sym same) g) in
@@ -132,14 +132,14 @@ ordered_accepts s l piece e n h =
       queued_by_now = h.queued_by_now;
       asked_by_now = all_by_now c asks s.asked h.asked_by_now;
     }) where
-      by_test : (d : ℕ) (b : Bool) → eqb s.now.connections d ≡ b → Front d s.queued (s.asked ++ map (put s.now.connections) (asks_of (read_on s.now piece).bodies))
+      by_test : (d : ℕ) (b : Bool) → eqb s.now.connections d ≡ b → AnswersPrefix d s.queued (s.asked ++ map (put s.now.connections) (asks_of (read_on s.now piece).bodies))
       by_test d true f =
           let c = s.now.connections in
           let asks = asks_of (read_on s.now piece).bodies in
-          subst (λ x. Front x s.queued (s.asked ++ map (put c) asks)) (eqb-true c d f)
-          (subst (IsFrontOf (answered_on c s)) (sym (ap (map asked_as) (more_on c s.asked asks) ∙ map-append asked_as (on_connection c s.asked) asks))
-          (front_of_more (answered_on c s) (asked_on c s) (map asked_as asks) (h.fronts c)))
-      by_test d false f = subst (λ l. IsFrontOf (answered_on d s) (map asked_as l)) (sym (same_on s.now.connections d s.asked (asks_of (read_on s.now piece).bodies) f)) (h.fronts d)
+          subst (λ x. AnswersPrefix x s.queued (s.asked ++ map (put c) asks)) (eqb-true c d f)
+          (subst (IsPrefixOf (answered_on c s)) (sym (ap (map asked_as) (more_on c s.asked asks) ∙ map-append asked_as (on_connection c s.asked) asks))
+          (prefix_of_more (answered_on c s) (asked_on c s) (map asked_as asks) (h.prefixes c)))
+      by_test d false f = subst (λ l. IsPrefixOf (answered_on d s) (map asked_as l)) (sym (same_on s.now.connections d s.asked (asks_of (read_on s.now piece).bodies) f)) (h.prefixes d)
 
 pub first_is : (pending : List Pending) (p : Pending) → first_pending pending ≡ Some p → pending ≡ p ∷ others_pending pending
 first_is [] p e = absurd (none_is p e)
@@ -148,8 +148,8 @@ first_is (q ∷ rest) p e = ap (λ (x : Pending). x ∷ rest) (some_is q p e)
 rest_same : (c d : ℕ) (q r : List (On Numbered)) (a b : List (On Ask)) (x y : List Pending) → c ≡ d → q ≡ r → a ≡ b → x ≡ y → Rest c q a x → Rest d r b y
 rest_same c d q r a b x y e f g i h = subst (λ n. Rest n r b y) e (subst (λ l. Rest c l b y) f (subst (λ l. Rest c q l y) g (subst (Rest c q a) i h)))
 
-front_same : (d : ℕ) (q r : List (On Numbered)) (a b : List (On Ask)) → q ≡ r → a ≡ b → Front d q a → Front d r b
-front_same d q r a b e f h = subst (λ l. Front d l b) e (subst (Front d q) f h)
+prefix_same : (d : ℕ) (q r : List (On Numbered)) (a b : List (On Ask)) → q ≡ r → a ≡ b → AnswersPrefix d q a → AnswersPrefix d r b
+prefix_same d q r a b e f h = subst (λ l. AnswersPrefix d l b) e (subst (AnswersPrefix d q) f h)
 
 pub by_now_same : {X : Type 0} (c d : ℕ) (xs ys : List (On X)) → c ≡ d → xs ≡ ys → All (λ (x : On X). x.connection ≤ c) xs → All (λ (x : On X). x.connection ≤ d) ys
 by_now_same {X} c d xs ys e f h = subst (λ n. All (λ (x : On X). x.connection ≤ n) ys) e (subst (All (λ (x : On X). x.connection ≤ c)) f h)
@@ -173,9 +173,9 @@ ordered_answers s l p e f h = by_reply w.replies where
   others : List Pending
   others = others_pending s.now.arrivals.pending
 
-  front_by : (d : ℕ) (b : Bool) → eqb s.now.connections d ≡ b → Front s.now.connections (s.queued ++ put s.now.connections (reply_to l p outcome) ∷ []) s.asked → Front d (s.queued ++ put s.now.connections (reply_to l p outcome) ∷ []) s.asked
-  front_by d true i g = subst (λ x. Front x (s.queued ++ put s.now.connections (reply_to l p outcome) ∷ []) s.asked) (eqb-true s.now.connections d i) g
-  front_by d false i g = subst (λ x. IsFrontOf (map answered_as x) (asked_on d s)) (sym (same_on s.now.connections d s.queued (reply_to l p outcome ∷ []) i)) (h.fronts d)
+  prefix_by : (d : ℕ) (b : Bool) → eqb s.now.connections d ≡ b → AnswersPrefix s.now.connections (s.queued ++ put s.now.connections (reply_to l p outcome) ∷ []) s.asked → AnswersPrefix d (s.queued ++ put s.now.connections (reply_to l p outcome) ∷ []) s.asked
+  prefix_by d true i g = subst (λ x. AnswersPrefix x (s.queued ++ put s.now.connections (reply_to l p outcome) ∷ []) s.asked) (eqb-true s.now.connections d i) g
+  prefix_by d false i g = subst (λ x. IsPrefixOf (map answered_as x) (asked_on d s)) (sym (same_on s.now.connections d s.queued (reply_to l p outcome ∷ []) i)) (h.prefixes d)
 
   by_reply : Replied s l p outcome w.link t ⊎ NotReplied s l w.link t → Ordered t
   by_reply (inl r) =
@@ -187,7 +187,7 @@ ordered_answers s l p e f h = by_reply w.replies where
       let now : asked_on c s ≡ map answered_as (on_connection c queued) ++ pending_as others =
       before ∙ sym (append_assoc (answered_on c s) (asked_as p.ask ∷ []) (pending_as others)) ∙ sym (ap (λ x. x ++ pending_as others) more) in
       record {
-        fronts = λ d. front_same d queued t.queued s.asked t.asked (sym r.queued) (sym w.asked) (front_by d (eqb c d) refl (pending_as others, now));
+        prefixes = λ d. prefix_same d queued t.queued s.asked t.asked (sym r.queued) (sym w.asked) (prefix_by d (eqb c d) refl (pending_as others, now));
         rest = λ link i g.
             let same : w.link ≡ link = some_is _ _ (sym w.is ∙ i) in
             let left : l.seq + 1 < s.now.limits.last_seq =
@@ -200,7 +200,7 @@ ordered_answers s l p e f h = by_reply w.replies where
   by_reply (inr n) =
       let c = s.now.connections in
       record {
-        fronts = λ d. front_same d s.queued t.queued s.asked t.asked (sym n.queued) (sym w.asked) (h.fronts d);
+        prefixes = λ d. prefix_same d s.queued t.queued s.asked t.asked (sym n.queued) (sym w.asked) (h.prefixes d);
         rest = λ link i g.
             let same : w.link ≡ link = some_is _ _ (sym w.is ∙ i) in
             let left : l.seq < s.now.limits.last_seq =
@@ -216,12 +216,12 @@ ordered = record {
   closes = ordered_closes;
   accepts = ordered_accepts;
   answers = ordered_answers;
-  takes = λ s l n e h. record { fronts = h.fronts; rest = h.rest; queued_by_now = h.queued_by_now; asked_by_now = h.asked_by_now };
+  takes = λ s l n e h. record { prefixes = h.prefixes; rest = h.rest; queued_by_now = h.queued_by_now; asked_by_now = h.asked_by_now };
 }
 
 ordered_start : (limits : Limits) → Ordered (start limits)
 ordered_start limits = record {
-  fronts = λ c. ([], refl);
+  prefixes = λ c. ([], refl);
   rest = λ link f g. refl;
   queued_by_now = All-nil (λ (m : On Numbered). m.connection ≤ 0);
   asked_by_now = All-nil (λ (a : On Ask). a.connection ≤ 0);
@@ -230,4 +230,4 @@ ordered_start limits = record {
 pub answers_in_order : (limits : Limits) (events : List Event) → AnswersInOrder (After limits events)
 answers_in_order limits events =
     let h = reached Ordered ordered limits (ordered_start limits) events in
-    record { fronts = h.fronts; rest = h.rest }
+    record { prefixes = h.prefixes; rest = h.rest }

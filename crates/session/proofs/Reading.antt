@@ -20,7 +20,7 @@ use Rattle.session.specs.Arrivals.{asks_in, asks_of, fault_in, message_fault_of}
 use Rattle.session.specs.Outcomes.{fault_or, fault_of_reading}
 use Rattle.session.specs.Sessions.{is_faulty, up_to_fault}
 
--- ---- messages behind messages
+-- ---- messages after messages
 
 asks_in-append : (xs ys : List (Result Incoming MessageError)) → fault_in xs ≡ None → asks_in (xs ++ ys) ≡ asks_in xs ++ asks_in ys
 asks_in-append [] ys e = refl
@@ -38,7 +38,7 @@ fault_in-append (Err fault ∷ xs) ys e = absurd (not_none e) where
   not_none : (let o : Option MessageError = Some fault in o) ≡ None → ⊥
   not_none e = cc
 
--- behind a fault nothing is looked at
+-- after a fault nothing is looked at
 asks_in-fault : (xs ys : List (Result Incoming MessageError)) (fault : MessageError) → fault_in xs ≡ Some fault → asks_in (xs ++ ys) ≡ asks_in xs
 asks_in-fault [] ys fault e = absurd (not_some e) where
   not_some : (let o : Option MessageError = None in o) ≡ Some fault → ⊥
@@ -157,22 +157,22 @@ up_to_faulty stream (b ∷ piece) h =
       by_test true e g = e
       by_test false e g = g
 
-pub up_to_fault-append : (stream front behind : List ℕ) → up_to_fault (up_to_fault stream front) behind ≡ up_to_fault stream (front ++ behind)
-up_to_fault-append stream [] behind = refl
-up_to_fault-append stream (b ∷ front) behind = by_test (is_faulty stream) refl (up_to_fault-append (stream ++ b ∷ []) front behind) where
-  by_test : (t : Bool) → is_faulty stream ≡ t → up_to_fault (up_to_fault_by stream b front) behind ≡ up_to_fault_by stream b (front ++ behind)
-      → up_to_fault (cond t stream (up_to_fault_by stream b front)) behind ≡ cond t stream (up_to_fault_by stream b (front ++ behind))
-  by_test true e g = up_to_fault_faulty stream behind e
+pub up_to_fault-append : (stream prefix after : List ℕ) → up_to_fault (up_to_fault stream prefix) after ≡ up_to_fault stream (prefix ++ after)
+up_to_fault-append stream [] after = refl
+up_to_fault-append stream (b ∷ prefix) after = by_test (is_faulty stream) refl (up_to_fault-append (stream ++ b ∷ []) prefix after) where
+  by_test : (t : Bool) → is_faulty stream ≡ t → up_to_fault (up_to_fault_by stream b prefix) after ≡ up_to_fault_by stream b (prefix ++ after)
+      → up_to_fault (cond t stream (up_to_fault_by stream b prefix)) after ≡ cond t stream (up_to_fault_by stream b (prefix ++ after))
+  by_test true e g = up_to_fault_faulty stream after e
   by_test false e g = g
 
-pub ends_at_fault : (stream front behind : List ℕ) → is_faulty (stream ++ front) ≡ true → up_to_fault stream front ≡ up_to_fault stream (front ++ behind)
-ends_at_fault stream front behind h = sym (up_to_fault_faulty (up_to_fault stream front) behind (up_to_faulty stream front h)) ∙ up_to_fault-append stream front behind
+pub ends_at_fault : (stream prefix after : List ℕ) → is_faulty (stream ++ prefix) ≡ true → up_to_fault stream prefix ≡ up_to_fault stream (prefix ++ after)
+ends_at_fault stream prefix after h = sym (up_to_fault_faulty (up_to_fault stream prefix) after (up_to_faulty stream prefix h)) ∙ up_to_fault-append stream prefix after
 
--- a piece is read on behind a piece
-pub reading_after-append : (tail : Tail) (front behind : List ℕ) → reading_after BODY_LIMIT tail (front ++ behind)
-    ≡ with_bodies (reading_after BODY_LIMIT tail front).bodies (reading_after BODY_LIMIT (reading_after BODY_LIMIT tail front).tail behind)
-reading_after-append (Partial rest) front behind = ap (reading_of BODY_LIMIT) (sym (append_assoc rest front behind)) ∙ reading_of-append BODY_LIMIT (rest ++ front) behind
-reading_after-append (Faulty fault) front behind = refl
+-- a piece is read on after a piece
+pub reading_after-append : (tail : Tail) (prefix after : List ℕ) → reading_after BODY_LIMIT tail (prefix ++ after)
+    ≡ with_bodies (reading_after BODY_LIMIT tail prefix).bodies (reading_after BODY_LIMIT (reading_after BODY_LIMIT tail prefix).tail after)
+reading_after-append (Partial rest) prefix after = ap (reading_of BODY_LIMIT) (sym (append_assoc rest prefix after)) ∙ reading_of-append BODY_LIMIT (rest ++ prefix) after
+reading_after-append (Faulty fault) prefix after = refl
 
 pub no_message_fault : (m : Option MessageError) (f : Option FrameError) → fault_or m f ≡ None → m ≡ None
 no_message_fault None f e = refl

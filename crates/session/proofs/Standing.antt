@@ -11,7 +11,7 @@ use Rattle.session.specs.declared.limits.Limits.{Limits}
 use Rattle.session.specs.declared.link.Link.{Link}
 use Rattle.session.specs.declared.pending.Pending.{Pending}
 use Rattle.session.specs.Arrivals.{first_pending}
-use Rattle.session.specs.Fronts.{IsFrontOf}
+use Rattle.session.specs.Prefixes.{IsPrefixOf}
 use Rattle.session.specs.Outcomes.{Now, Numbered, Act, Open, Close, Accept, Enter, Reply, HangUp, Take, now_after, to_link, replied, numbered, left_to_answer, reply_at, queued_by}
 use Rattle.session.specs.Sessions.{Session, On, on_connection, bytes_of, taken_of, not_taken, waiting_of, numbered_frame, performed_on, histories, with_message, on_now, start}
 use Rattle.session.specs.Kept.{Kept, Stands, frame_if, kept_performed, keepings, nothing_kept}
@@ -48,30 +48,30 @@ bytes_with now (Some m) queued =
     ∙ ap (λ l. bytes_of now.connections queued ++ flat_map numbered_frame l) (one_on now.connections m)
     ∙ ap (λ l. bytes_of now.connections queued ++ l) (append-nil (numbered_frame m))
 
--- ---- fronts
+-- ---- prefixes
 
-within : {X : Type 0} (front all : List X) → IsFrontOf front all → length front ≤ length all
-within front all f = let e : length all ≡ length front + length f.0 = ap length f.1 ∙ length-append front f.0 in omega (arith, e)
+within : {X : Type 0} (prefix all : List X) → IsPrefixOf prefix all → length prefix ≤ length all
+within prefix all f = let e : length all ≡ length prefix + length f.0 = ap length f.1 ∙ length-append prefix f.0 in omega (arith, e)
 
-pub rest_is : {X : Type 0} (front all : List X) (f : IsFrontOf front all) → drop (length front) all ≡ f.0
-rest_is front all f = ap (drop (length front)) f.1 ∙ drop_at front f.0 (length front) refl
+pub rest_is : {X : Type 0} (prefix all : List X) (f : IsPrefixOf prefix all) → drop (length prefix) all ≡ f.0
+rest_is prefix all f = ap (drop (length prefix)) f.1 ∙ drop_at prefix f.0 (length prefix) refl
 
-pub front_of_more : {X : Type 0} (front all more : List X) → IsFrontOf front all → IsFrontOf front (all ++ more)
-front_of_more front all more f = (f.0 ++ more, ap (λ l. l ++ more) f.1 ∙ append_assoc front f.0 more)
+pub prefix_of_more : {X : Type 0} (prefix all more : List X) → IsPrefixOf prefix all → IsPrefixOf prefix (all ++ more)
+prefix_of_more prefix all more f = (f.0 ++ more, ap (λ l. l ++ more) f.1 ∙ append_assoc prefix f.0 more)
 
--- what waits is behind what was taken
+-- what waits comes after what was taken
 take_none : (n : ℕ) → take n (let none : List ℕ = [] in none) ≡ []
 take_none zero = refl
 take_none (suc n) = refl
 
-waits_behind : (link : Option Link) (bytes taken more : List ℕ) (q : Option Numbered) → more ≡ frame_if q → (link ≡ None → q ≡ None) → IsFrontOf taken bytes → not_taken link (bytes ++ more) taken ≡ not_taken link bytes taken ++ more
-unfolding front_of_more
-waits_behind None bytes taken more q e none f = sym (e ∙ ap frame_if (none refl))
-waits_behind (Some link) bytes taken more q e none f =
-    rest_is taken (bytes ++ more) (front_of_more taken bytes more f) ∙ sym (ap (λ l. l ++ more) (rest_is taken bytes f))
+waits_after : (link : Option Link) (bytes taken more : List ℕ) (q : Option Numbered) → more ≡ frame_if q → (link ≡ None → q ≡ None) → IsPrefixOf taken bytes → not_taken link (bytes ++ more) taken ≡ not_taken link bytes taken ++ more
+unfolding prefix_of_more
+waits_after None bytes taken more q e none f = sym (e ∙ ap frame_if (none refl))
+waits_after (Some link) bytes taken more q e none f =
+    rest_is taken (bytes ++ more) (prefix_of_more taken bytes more f) ∙ sym (ap (λ l. l ++ more) (rest_is taken bytes f))
 
-more_taken : (link : Option Link) (bytes taken : List ℕ) (n : ℕ) → IsFrontOf taken bytes → IsFrontOf (taken ++ take n (not_taken link bytes taken)) bytes
-more_taken None bytes taken n f = subst (λ l. IsFrontOf l bytes) (sym (ap (λ l. taken ++ l) (take_none n) ∙ append-nil taken)) f
+more_taken : (link : Option Link) (bytes taken : List ℕ) (n : ℕ) → IsPrefixOf taken bytes → IsPrefixOf (taken ++ take n (not_taken link bytes taken)) bytes
+more_taken None bytes taken n f = subst (λ l. IsPrefixOf l bytes) (sym (ap (λ l. taken ++ l) (take_none n) ∙ append-nil taken)) f
 more_taken (Some link) bytes taken n f = (
   drop n f.0,
   f.1 ∙ ap (λ l. taken ++ l) (sym (take-append-drop n f.0)) ∙ sym (append_assoc taken (take n f.0) (drop n f.0))
@@ -79,7 +79,7 @@ more_taken (Some link) bytes taken n f = (
 )
 
 -- what still waits after more was taken
-still_waits : (link : Option Link) (bytes taken : List ℕ) (n : ℕ) → IsFrontOf taken bytes → not_taken link bytes (taken ++ take n (not_taken link bytes taken)) ≡ drop n (not_taken link bytes taken)
+still_waits : (link : Option Link) (bytes taken : List ℕ) (n : ℕ) → IsPrefixOf taken bytes → not_taken link bytes (taken ++ take n (not_taken link bytes taken)) ≡ drop n (not_taken link bytes taken)
 unfolding more_taken
 still_waits None bytes taken n f = sym (drop_none n) where
   drop_none : (n : ℕ) → drop n (let none : List ℕ = [] in none) ≡ []
@@ -132,7 +132,7 @@ quiet : (k : Kept) (s : Session) (new : Now) → Stands k s → SameLink s.now n
 quiet k s new st same kn e t now queued taken = record {
   now = e ∙ sym now;
   waiting = st.waiting ∙ sym (waits_same s new s.queued s.taken same) ∙ sym (cc_waiting t.now now t.queued queued t.taken taken);
-  fronts = λ c. subst (λ (x : List (On (List ℕ))). IsFrontOf (taken_of c x) (bytes_of c t.queued)) (sym taken) (subst (λ (x : List (On Numbered)). IsFrontOf (taken_of c s.taken) (bytes_of c x)) (sym queued) (st.fronts c));
+  prefixes = λ c. subst (λ (x : List (On (List ℕ))). IsPrefixOf (taken_of c x) (bytes_of c t.queued)) (sym taken) (subst (λ (x : List (On Numbered)). IsPrefixOf (taken_of c s.taken) (bytes_of c x)) (sym queued) (st.prefixes c));
   queued_by_now = by_now t.now.connections (ap (λ (n : Now). n.connections) now ∙ same.connections) t.queued s.queued queued st.queued_by_now;
   taken_by_now = by_now t.now.connections (ap (λ (n : Now). n.connections) now ∙ same.connections) t.taken s.taken taken st.taken_by_now;
 } where
@@ -158,14 +158,14 @@ queues k s outcome st =
           ∙ ap (λ l. l ++ frame_if q) st.waiting
           ∙ sym (waits_same s new queued s.taken same
           ∙ ap (λ b. not_taken s.now.link b (taken_of c s.taken)) (bytes_with s.now q s.queued)
-          ∙ waits_behind s.now.link (bytes_of c s.queued) (taken_of c s.taken) (frame_if q) q refl (no_reply s.now outcome) (st.fronts c));
-      fronts = λ d. front_with s.now q s.queued d (taken_of d s.taken) (st.fronts d);
+          ∙ waits_after s.now.link (bytes_of c s.queued) (taken_of c s.taken) (frame_if q) q refl (no_reply s.now outcome) (st.prefixes c));
+      prefixes = λ d. prefix_with s.now q s.queued d (taken_of d s.taken) (st.prefixes d);
       queued_by_now = subst (λ d. All (λ (m : On Numbered). m.connection ≤ d) queued) (sym same.connections) (queued_now s.now q s.queued st.queued_by_now);
       taken_by_now = subst (λ d. All (λ (b : On (List ℕ)). b.connection ≤ d) s.taken) (sym same.connections) st.taken_by_now;
     } where
-      front_with : (now : Now) (q : Option Numbered) (queued : List (On Numbered)) (d : ℕ) (taken : List ℕ) → IsFrontOf taken (bytes_of d queued) → IsFrontOf taken (bytes_of d (with_message now q queued))
-      front_with now None queued d taken f = f
-      front_with now (Some m) queued d taken f = subst (IsFrontOf taken) (sym (bytes_of-append d queued (on_now now m ∷ []))) (front_of_more taken (bytes_of d queued) (bytes_of d (on_now now m ∷ [])) f)
+      prefix_with : (now : Now) (q : Option Numbered) (queued : List (On Numbered)) (d : ℕ) (taken : List ℕ) → IsPrefixOf taken (bytes_of d queued) → IsPrefixOf taken (bytes_of d (with_message now q queued))
+      prefix_with now None queued d taken f = f
+      prefix_with now (Some m) queued d taken f = subst (IsPrefixOf taken) (sym (bytes_of-append d queued (on_now now m ∷ []))) (prefix_of_more taken (bytes_of d queued) (bytes_of d (on_now now m ∷ [])) f)
 
       queued_now : (now : Now) (q : Option Numbered) (queued : List (On Numbered)) → All (λ (m : On Numbered). m.connection ≤ now.connections) queued → All (λ (m : On Numbered). m.connection ≤ now.connections) (with_message now q queued)
       queued_now now None queued h = h
@@ -183,25 +183,25 @@ takes k s n st =
       now = st.now;
       waiting =
           ap (drop n) st.waiting
-          ∙ sym (ap (not_taken s.now.link (bytes_of c s.queued)) all ∙ still_waits s.now.link (bytes_of c s.queued) (taken_of c s.taken) n (st.fronts c));
-      fronts = λ d. by_test d (eqb c d) refl;
+          ∙ sym (ap (not_taken s.now.link (bytes_of c s.queued)) all ∙ still_waits s.now.link (bytes_of c s.queued) (taken_of c s.taken) n (st.prefixes c));
+      prefixes = λ d. by_test d (eqb c d) refl;
       queued_by_now = st.queued_by_now;
       taken_by_now = All-push (λ (b : On (List ℕ)). b.connection ≤ c) s.taken parcel st.taken_by_now (omega arith);
     } where
-      by_test : (d : ℕ) (b : Bool) → eqb s.now.connections d ≡ b → IsFrontOf (taken_of d (s.taken ++ on_now s.now (take n (waiting_of s)) ∷ [])) (bytes_of d s.queued)
+      by_test : (d : ℕ) (b : Bool) → eqb s.now.connections d ≡ b → IsPrefixOf (taken_of d (s.taken ++ on_now s.now (take n (waiting_of s)) ∷ [])) (bytes_of d s.queued)
       by_test d true e =
           let same : s.now.connections ≡ d = eqb-true s.now.connections d e in
           let c = s.now.connections in
           let w = waiting_of s in
-          subst (λ x. IsFrontOf (taken_of x (s.taken ++ on_now s.now (take n w) ∷ [])) (bytes_of x s.queued)) same
-          (subst (λ l. IsFrontOf l (bytes_of c s.queued))
+          subst (λ x. IsPrefixOf (taken_of x (s.taken ++ on_now s.now (take n w) ∷ [])) (bytes_of x s.queued)) same
+          (subst (λ l. IsPrefixOf l (bytes_of c s.queued))
           (sym (taken_of-append c s.taken (on_now s.now (take n w) ∷ []) ∙ ap (λ l. taken_of c s.taken ++ flat_map (λ bytes. bytes) l) (one_on c (take n w)) ∙ ap (λ l. taken_of c s.taken ++ l) (append-nil (take n w))))
-          (more_taken s.now.link (bytes_of c s.queued) (taken_of c s.taken) n (st.fronts c)))
+          (more_taken s.now.link (bytes_of c s.queued) (taken_of c s.taken) n (st.prefixes c)))
       by_test d false e =
-          subst (λ l. IsFrontOf l (bytes_of d s.queued))
+          subst (λ l. IsPrefixOf l (bytes_of d s.queued))
           (sym (taken_of-append d s.taken (on_now s.now (take n (waiting_of s)) ∷ [])
           ∙ ap (λ b. taken_of d s.taken ++ flat_map (λ bytes. bytes) (cond b (take n (waiting_of s) ∷ []) [])) e ∙ append-nil (taken_of d s.taken)))
-          (st.fronts d)
+          (st.prefixes d)
 
 -- a connection is made
 opens : (k : Kept) (s : Session) → Stands k s → Stands (kept_performed Open k) (performed_on Open s)
@@ -211,14 +211,14 @@ opens k s st =
       now = ap (now_after Open) st.now;
       waiting = sym (ap (λ l. drop (length (taken_of (c + 1) s.taken)) (flat_map numbered_frame l)) (none_later c s.queued st.queued_by_now)
           ∙ ap (λ l. drop (length (flat_map (λ bytes. bytes) l)) (let none : List ℕ = [] in none)) (none_later c s.taken st.taken_by_now));
-      fronts = st.fronts;
+      prefixes = st.prefixes;
       queued_by_now = All-weaker (λ (m : On Numbered). m.connection ≤ c) (λ (m : On Numbered). m.connection ≤ c + 1) (λ m h. omega (arith, h)) s.queued st.queued_by_now;
       taken_by_now = All-weaker (λ (b : On (List ℕ)). b.connection ≤ c) (λ (b : On (List ℕ)). b.connection ≤ c + 1) (λ b h. omega (arith, h)) s.taken st.taken_by_now;
     }
 
 act_keeps : (act : Act) (k : Kept) (s : Session) → Stands k s → Stands (kept_performed act k) (performed_on act s)
 act_keeps Open k s st = opens k s st
-act_keeps Close k s st = record { now = ap (now_after Close) st.now; waiting = refl; fronts = st.fronts; queued_by_now = st.queued_by_now; taken_by_now = st.taken_by_now }
+act_keeps Close k s st = record { now = ap (now_after Close) st.now; waiting = refl; prefixes = st.prefixes; queued_by_now = st.queued_by_now; taken_by_now = st.taken_by_now }
 act_keeps (Accept piece) k s st =
     quiet k s (now_after (Accept piece) s.now) st (to_link_same _ s.now s.now.link refl (λ l e. linked s.now _ l _ e refl refl)) _ (ap (now_after (Accept piece)) st.now) (performed_on (Accept piece) s) refl refl refl
 act_keeps (Enter phase) k s st =
@@ -238,4 +238,4 @@ pub standing : Simulates keepings histories Stands
 standing = record { sees = sees; acts = act_keeps }
 
 pub begins : (limits : Limits) → Stands (nothing_kept limits) (start limits)
-begins limits = record { now = refl; waiting = refl; fronts = λ c. ([], refl); queued_by_now = All-nil (λ (m : On Numbered). m.connection ≤ 0); taken_by_now = All-nil (λ (b : On (List ℕ)). b.connection ≤ 0) }
+begins limits = record { now = refl; waiting = refl; prefixes = λ c. ([], refl); queued_by_now = All-nil (λ (m : On Numbered). m.connection ≤ 0); taken_by_now = All-nil (λ (b : On (List ℕ)). b.connection ≤ 0) }

@@ -1,4 +1,5 @@
--- `cancel`: a request is not to be answered as it stands. It acts when it comes (`Arrivals`); this is its answer (DAP specification, `CancelRequest`).
+-- `cancel`: a request is not to be answered as it stands. It acts when it comes (`Arrivals`); this is its answer (DAP
+-- specification, `CancelRequest`).
 use Rattle.std.specs.Prelude.{Bool, true, false}
 use Rattle.replies.specs.declared.response.ResponseBody.TheVariants as body
 use Rattle.session.specs.declared.phase.Phase.{Phase}

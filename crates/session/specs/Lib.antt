@@ -1,20 +1,48 @@
-pub use Rattle.framing.specs.Frames
-pub use Rattle.framing.specs.Reading
-pub use Rattle.framing.specs.Streams
-pub use Rattle.protocol.specs.Commands
-pub use Rattle.replies.specs.Messages
-pub mod Limits
-pub mod Fronts
+-- What a session is, what events do to it, and what follows for every list of events. First what a request is answered.
+
+-- `initialize`: its phases, and what comes of it
 pub mod Initialize
+-- `threads`, likewise
 pub mod Threads
+-- `cancel`, likewise
 pub mod Cancel
+-- `disconnect`, likewise
 pub mod Disconnect
+-- the list of the requests
 pub mod Requests
+-- the requests that wait: which join, which are repeats, what a `cancel` does
 pub mod Arrivals
+-- the answer to a request: the refusals in their order, or its success
 pub mod Refusals
+-- the frame of a message with its number
 pub mod Writing
+-- ---- events
+-- the last numbers that a session gives
+pub mod Limits
+-- what an event answers, and the acts that it comes to; what acts make of what a session is now
 pub mod Outcomes
+-- what an event leaves and answers, of whatever is seen as a session
 pub mod Effects
+-- a session with all of its past, and its bytes
 pub mod Sessions
+-- a whole session, computed: the bytes that it gets and those that it sends
+pub mod Example
+-- a prefix of a list
+pub mod Prefixes
+-- what the code keeps, which sessions that stands for (`Stands`), and what a call does for each of them (`Happens`);
+-- of these definitions `Goes` and what it needs are for private clauses alone
 pub mod Kept
+-- ---- what follows
+-- what holds after every list of events
 pub mod Laws
+-- ---- of the layers below
+-- frames, and each fault of one
+pub use Rattle.framing.specs.Frames
+-- the bodies and the tail of a stream
+pub use Rattle.framing.specs.Reading
+-- a stream that comes in pieces
+pub use Rattle.framing.specs.Streams
+-- the table of the requests
+pub use Rattle.protocol.specs.Commands
+-- a message with its number, as text
+pub use Rattle.replies.specs.Messages

@@ -6,10 +6,11 @@
 --
 -- A connection takes pieces of a stream until it is closing. It is closing once its stream has a fault, once
 -- `disconnect` was answered, and once its last number was given to a message. A fault is a body that is no message, or
--- a stream that goes on as no frame can, whichever comes first; what comes behind it is dropped, and what came before
+-- a stream that goes on as no frame can, whichever comes first; what comes after it is dropped, and what came before
 -- it is still answered. When the last number was given, nothing can be answered any more, and the requests that wait
 -- are dropped.
-use Rattle.std.specs.Prelude.{◌≡◌, refl, ℕ, ◌+◌, ◌==◌, ◌<◌, ◌≤◌, nat_lt, nat_le, Bool, true, false, ◌&&◌, if◌then◌else◌, List, [], ◌∷◌, ◌++◌, length, Option, Some, None, is_some, option_map, Result, Ok, Err}
+use Rattle.std.specs.Prelude.{◌≡◌, refl, ℕ, ◌+◌, ◌==◌, ◌<◌, ◌≤◌, nat_lt, nat_le, Bool, true, false, ◌&&◌, if◌then◌else◌}
+use Rattle.std.specs.Prelude.{List, [], ◌∷◌, ◌++◌, length, Option, Some, None, is_some, option_map, Result, Ok, Err}
 use Rattle.std.specs.List.{list_any}
 use Rattle.framing.specs.Reading.{Tail, Reading}
 use Rattle.framing.specs.Reading.Tail.{Partial}
@@ -22,11 +23,13 @@ use Rattle.replies.specs.declared.response.Outcome.{Outcome as AnOutcome}
 use Rattle.session.specs.declared.TheConstants.{BODY_LIMIT}
 use Rattle.session.specs.declared.state.TheConstants.{MOST_PIECE, MOST_PENDING, FULL, LAST_CONNECTION}
 use Rattle.session.specs.declared.event.Applied.{Applied}
-use Rattle.session.specs.declared.event.Applied.TheVariants.{Connect as Connected, Recv as Received, Turn as DidTurn, Sent as DidSend, DropConnection as Dropped}
+use Rattle.session.specs.declared.event.Applied.TheVariants.{Connect as Connected, Recv as Received, Turn as DidTurn}
+use Rattle.session.specs.declared.event.Applied.TheVariants.{Sent as DidSend, DropConnection as Dropped}
 use Rattle.session.specs.declared.event.Event.{Event}
 use Rattle.session.specs.declared.event.Event.TheVariants.{Connect, Recv, Turn, Sent, DropConnection}
 use Rattle.session.specs.declared.event.EventError.{EventError}
-use Rattle.session.specs.declared.event.EventError.TheVariants.{NotConnected, AlreadyConnected, Busy, SentTooMuch, PieceTooLong, Closing, Spent}
+use Rattle.session.specs.declared.event.EventError.TheVariants.{NotConnected, AlreadyConnected, Busy, SentTooMuch}
+use Rattle.session.specs.declared.event.EventError.TheVariants.{PieceTooLong, Closing, Spent}
 use Rattle.session.specs.declared.event.LinkFault.{LinkFault}
 use Rattle.session.specs.declared.event.LinkFault.TheVariants.{Frame, Message}
 use Rattle.session.specs.declared.event.Turned.TheVariants.{Answered, Nothing, Full}
@@ -36,7 +39,8 @@ use Rattle.session.specs.declared.pending.Pending.{Pending}
 use Rattle.session.specs.declared.phase.Phase.{Phase}
 use Rattle.session.specs.declared.phase.Phase.TheVariants.{Fresh, Initialized, Left}
 use Rattle.session.specs.Refusals.{answer_to, response_to}
-use Rattle.session.specs.Arrivals.{Arrivals, no_arrivals, first_pending, others_pending, all_joined, asks_of, message_fault_of}
+use Rattle.session.specs.Arrivals.{Arrivals, no_arrivals, first_pending, others_pending, all_joined, asks_of}
+use Rattle.session.specs.Arrivals.{message_fault_of}
 
 -- a body has at most 1 MiB, and a piece at most 65,536 bytes
 greatest_body : BODY_LIMIT ≡ 1048576
@@ -88,7 +92,7 @@ pub data Act : Type 0 where
   -- the first of the waiting bytes were sent
   Take : ℕ → Act
 
--- taking a piece and queueing an answer need memory, and nothing else does
+-- whether an act needs memory: taking a piece and queueing an answer do, and nothing else
 abbrev pub grows : Act → Bool
 grows Open = false
 grows Close = false
@@ -98,16 +102,20 @@ grows (Reply outcome) = true
 grows HangUp = false
 grows (Take n) = false
 
+-- whether one of the acts does
 abbrev pub needs_memory : List Act → Bool
 needs_memory acts = list_any grows acts
 
+-- what comes of an event: its answer, and its acts
 pub record Outcome : Type 0 where
   pub answer : Result Applied EventError
   pub acts : List Act
 
+-- a refusal: nothing is done
 abbrev pub refused : EventError → Outcome
 refused e = record { answer = Err e; acts = [] }
 
+-- a success, with its acts
 abbrev pub done : Applied → List Act → Outcome
 done x acts = record { answer = Ok x; acts = acts }
 
@@ -121,6 +129,7 @@ leaving Left = HangUp ∷ []
 abbrev pub answering : Link → Pending → List Act
 answering link p = let a = answer_to link.phase p in Enter a.phase ∷ Reply a.outcome ∷ leaving a.phase
 
+-- what a turn comes to, by the first request that waits, if one does
 abbrev pub next_turn : Link → Option Pending → Outcome
 next_turn link None = done (DidTurn Nothing) []
 next_turn link (Some p) = done (DidTurn Answered) (answering link p)
@@ -149,6 +158,7 @@ with_no_link seen (Turn file) = refused NotConnected
 with_no_link seen (Sent n) = refused NotConnected
 with_no_link seen DropConnection = refused NotConnected
 
+-- what an event comes to, by the connection, if there is one
 abbrev pub outcome_at : Seen → Option Link → Event → Outcome
 outcome_at seen None e = with_no_link seen e
 outcome_at seen (Some link) e = on_link seen link e
@@ -162,17 +172,19 @@ abbrev pub is_finished_on : Option Link → List Pending → ℕ → Bool
 is_finished_on None pending waits = false
 is_finished_on (Some link) pending waits = link.is_closing && (length pending == 0) && (waits == 0)
 
+-- whether all is said, on a connection
 abbrev pub is_finished : Seen → Bool
 is_finished seen = is_finished_on seen.now.link seen.now.arrivals.pending seen.waits
 
 -- ---- what an act makes of what a session is now
 
--- the fault of a stream in this reading: that of its first body that is no message, or else that of its tail
+-- the first fault of a stream, by that of a body and that of the tail
 abbrev pub fault_or : Option MessageError → Option FrameError → Option LinkFault
 fault_or (Some fault) frame_fault = Some (Message fault)
 fault_or None (Some fault) = Some (Frame fault)
 fault_or None None = None
 
+-- the fault of a stream in this reading: that of its first body that is no message, or else that of its tail
 abbrev pub fault_of_reading : Reading → Option LinkFault
 fault_of_reading r = fault_or (message_fault_of r.bodies) (fault_of r.tail)
 
@@ -181,14 +193,16 @@ abbrev pub tail_kept : Option LinkFault → Tail → Tail
 tail_kept None tail = tail
 tail_kept (Some fault) tail = Partial []
 
--- what a piece is read as, behind what has come of the next frame
+-- what a piece is read as, after what has come of the next frame
 abbrev pub read_on : Now → List ℕ → Reading
 read_on now piece = reading_after BODY_LIMIT now.tail piece
 
--- the requests of a reading join, and its fault closes
+-- the requests of a reading join, and its tail is kept
 abbrev pub taken_in : Now → Reading → Now
-taken_in now r = record now { arrivals = all_joined now.arrivals (asks_of r.bodies); tail = tail_kept (fault_of_reading r) r.tail }
+taken_in now r =
+    record now { arrivals = all_joined now.arrivals (asks_of r.bodies); tail = tail_kept (fault_of_reading r) r.tail }
 
+-- the requests of a reading join, and its fault closes the connection
 abbrev pub accepted : Now → Reading → Link → Now
 accepted now r link = record (taken_in now r) {
   link = Some (record link { is_closing = is_some (fault_of_reading r) });
@@ -204,8 +218,10 @@ numbered limits link = record link {
 
 -- the requests that wait, after the first was answered with that number
 abbrev pub left_to_answer : Limits → ℕ → Arrivals → Arrivals
-left_to_answer limits seq came = record came { pending = if seq == limits.last_seq then [] else others_pending came.pending }
+left_to_answer limits seq came =
+    record came { pending = if seq == limits.last_seq then [] else others_pending came.pending }
 
+-- what is there after the first request that waits was answered, if there is a number left for that
 abbrev pub replied : Now → Link → Option Pending → Now
 replied now link None = now
 replied now link (Some p) = if nat_lt link.seq now.limits.last_seq then record now {
@@ -213,7 +229,7 @@ replied now link (Some p) = if nat_lt link.seq now.limits.last_seq then record n
   arrivals = left_to_answer now.limits (link.seq + 1) now.arrivals;
 } else now
 
--- what is there when a connection is made, and when there is none
+-- what is there when a connection is made
 abbrev pub opened : Now → Now
 opened now = record now {
   connections = now.connections + 1;
@@ -223,6 +239,7 @@ opened now = record now {
   fault = None;
 }
 
+-- what is there when it has ended
 abbrev pub closed : Now → Now
 closed now = record now { link = None; arrivals = no_arrivals; tail = Partial [] }
 
@@ -231,6 +248,7 @@ abbrev pub to_link : (Link → Now) → Option Link → Now → Now
 to_link f None now = now
 to_link f (Some link) now = f link
 
+-- what is there after an act
 abbrev pub now_after : Act → Now → Now
 now_after Open now = opened now
 now_after Close now = closed now
@@ -252,6 +270,7 @@ reply_on limits outcome link (Some p) =
     if nat_lt link.seq limits.last_seq
     then Some (record { seq = link.seq + 1; message = IsResponse (response_to p.ask outcome) }) else None
 
+-- the message by which the first request that waits is answered
 abbrev pub reply_at : Now → AnOutcome → Option Link → Option Numbered
 reply_at now outcome None = None
 reply_at now outcome (Some link) = reply_on now.limits outcome link (first_pending now.arrivals.pending)

@@ -5,7 +5,8 @@
 -- request, and the connection goes on in the phase that the request leads to.
 use Rattle.std.specs.Prelude.{ℕ, Bool, true, false, not, List, [], ◌∷◌, Option, Some, None, if◌then◌else◌}
 use Rattle.protocol.specs.declared.refusal.Refusal.{Refusal}
-use Rattle.protocol.specs.declared.refusal.Refusal.TheVariants.{RepeatedSequence, Cancelled as IsCancelled, WrongPhase, RequestGone}
+use Rattle.protocol.specs.declared.refusal.Refusal.TheVariants.{RepeatedSequence, Cancelled as IsCancelled, WrongPhase}
+use Rattle.protocol.specs.declared.refusal.Refusal.TheVariants.{RequestGone}
 use Rattle.protocol.specs.declared.request.Request.{Request as ARequest}
 use Rattle.replies.specs.declared.response.Outcome.TheVariants.{Done, Refused}
 use Rattle.replies.specs.declared.response.Outcome.{Outcome}
@@ -20,12 +21,14 @@ use Rattle.session.specs.declared.pending.Pending.{Pending}
 use Rattle.session.specs.Arrivals.{number_of, name_asked, is_repeat}
 use Rattle.session.specs.Requests.{is_taken_in, success_of}
 
+-- whether a later `cancel` named the request
 abbrev pub is_cancelled : Fate → Bool
 is_cancelled Waits = false
 is_cancelled Repeated = false
 is_cancelled Cancelled = true
 is_cancelled NamesNone = false
 
+-- whether it is a `cancel` that names no request that waits
 abbrev pub names_none : Fate → Bool
 names_none Waits = false
 names_none Repeated = false
@@ -69,9 +72,12 @@ first_refusal (Some refusal ∷ rest) = Some refusal
 abbrev pub refused : Phase → Refusal → Answer
 refused phase refusal = record { outcome = Refused refusal None; phase = phase }
 
+-- A success has the body of its request, and leads to a phase.
 abbrev pub succeeded : Phase → ARequest → Answer
-succeeded phase r = record { outcome = Done (success_of phase r.command).body; phase = (success_of phase r.command).phase }
+succeeded phase r =
+    record { outcome = Done (success_of phase r.command).body; phase = (success_of phase r.command).phase }
 
+-- the answer, by the refusal that applies, if one does
 abbrev pub answer_by : Option Refusal → Phase → Ask → Answer
 answer_by (Some refusal) phase ask = refused phase refusal
 answer_by None phase (Request r) = succeeded phase r

@@ -3,7 +3,8 @@
 -- Nothing that was queued, taken or asked is forgotten here: a session is what it is now, and the histories of all its
 -- connections. A connection has a number, from 1. Its bytes are the frames of the messages that were queued for it, in
 -- order; those that were not taken yet wait, as long as the connection lasts.
-use Rattle.std.specs.Prelude.{ℕ, ◌==◌, Bool, ◌||◌, if◌then◌else◌, List, [], ◌∷◌, ◌++◌, length, take, drop, map, filter, Option, Some, None, is_some, Result}
+use Rattle.std.specs.Prelude.{ℕ, ◌==◌, Bool, ◌||◌, if◌then◌else◌, List, [], ◌∷◌, ◌++◌, length, take, drop, map, filter}
+use Rattle.std.specs.Prelude.{Option, Some, None, is_some, Result}
 use Rattle.std.specs.List.{flat_map}
 use Rattle.framing.specs.Reading.{reading_of}
 use Rattle.framing.specs.Reading.Tail.{Partial}
@@ -18,7 +19,8 @@ use Rattle.session.specs.declared.pending.Ask.{Ask}
 use Rattle.session.specs.Arrivals.{no_arrivals, asks_of}
 use Rattle.session.specs.Effects.{World, effect, answer, after_all}
 use Rattle.session.specs.Writing.{frame_of}
-use Rattle.session.specs.Outcomes.{Now, Numbered, Act, Open, Close, Accept, Enter, Reply, HangUp, Take, now_after, queued_by, read_on, fault_of_reading}
+use Rattle.session.specs.Outcomes.{Now, Numbered, Act, Open, Close, Accept, Enter, Reply, HangUp, Take, now_after}
+use Rattle.session.specs.Outcomes.{queued_by, read_on, fault_of_reading}
 
 -- something on a connection, which has a number
 pub record On (X : Type 0) : Type 0 where
@@ -39,6 +41,7 @@ pub record Session : Type 0 where
   pub asked : List (On Ask)
   pub accepted : List ℕ
 
+-- the frame of a message with its number
 abbrev pub numbered_frame : Numbered → List ℕ
 numbered_frame m = frame_of m.seq m.message
 
@@ -55,6 +58,7 @@ abbrev pub not_taken : Option Link → List ℕ → List ℕ → List ℕ
 not_taken None bytes taken = []
 not_taken (Some link) bytes taken = drop (length taken) bytes
 
+-- the bytes that wait
 abbrev pub waiting_of : Session → List ℕ
 waiting_of s = not_taken s.now.link (bytes_of s.now.connections s.queued) (taken_of s.now.connections s.taken)
 
@@ -69,6 +73,7 @@ up_to_fault stream (byte ∷ piece) = if is_faulty stream then stream else up_to
 
 -- ---- what an act adds to the past
 
+-- something on the present connection
 abbrev pub on_now : {X : Type 0} → Now → X → On X
 on_now now x = record { connection = now.connections; is = x }
 
@@ -77,6 +82,7 @@ abbrev pub with_message : Now → Option Numbered → List (On Numbered) → Lis
 with_message now None queued = queued
 with_message now (Some m) queued = queued ++ on_now now m ∷ []
 
+-- the bytes that were taken, after an act
 abbrev pub taken_after : Act → Session → List (On (List ℕ))
 taken_after (Take n) s = s.taken ++ on_now s.now (take n (waiting_of s)) ∷ []
 taken_after Open s = s.taken
@@ -91,6 +97,7 @@ abbrev pub with_asks : Option Link → Now → List ℕ → List (On Ask) → Li
 with_asks None now piece asked = asked
 with_asks (Some link) now piece asked = asked ++ map (on_now now) (asks_of (read_on now piece).bodies)
 
+-- the requests that came, after an act
 abbrev pub asked_after : Act → Now → List (On Ask) → List (On Ask)
 asked_after (Accept piece) now asked = with_asks now.link now piece asked
 asked_after Open now asked = asked
@@ -100,6 +107,7 @@ asked_after (Reply outcome) now asked = asked
 asked_after HangUp now asked = asked
 asked_after (Take n) now asked = asked
 
+-- the bytes that were accepted, after an act
 abbrev pub accepted_after : Act → List ℕ → List ℕ
 accepted_after Open stream = []
 accepted_after Close stream = []
@@ -109,6 +117,7 @@ accepted_after (Reply outcome) stream = stream
 accepted_after HangUp stream = stream
 accepted_after (Take n) stream = stream
 
+-- a session with its past, after an act
 abbrev pub performed_on : Act → Session → Session
 performed_on act s = record {
   now = now_after act s.now;
@@ -122,17 +131,20 @@ performed_on act s = record {
 abbrev pub histories : World Session
 histories = record { see = λ s. record { now = s.now; waits = length (waiting_of s) }; perform = performed_on }
 
--- what an event leaves of a session, and what it answers
+-- what an event leaves of a session
 abbrev pub Effect : Session → Event → Session
 Effect s e = effect histories e s
 
+-- what a session answers to an event
 abbrev pub Answer : Session → Event → Result Applied EventError
 Answer s e = answer histories e s
 
--- before anything happened
+-- what a session is before anything happened
 abbrev pub nothing_yet : Limits → Now
-nothing_yet limits = record { limits = limits; connections = 0; link = None; arrivals = no_arrivals; tail = Partial []; fault = None }
+nothing_yet limits =
+    record { limits = limits; connections = 0; link = None; arrivals = no_arrivals; tail = Partial []; fault = None }
 
+-- a session to which nothing happened
 abbrev pub start : Limits → Session
 start limits = record { now = nothing_yet limits; queued = []; taken = []; asked = []; accepted = [] }
 

@@ -1,4 +1,4 @@
-//! Feeding an unframer, with its faults apart from want of memory.
+//! Feeding an unframer, with its faults apart from out of memory.
 ghost use Rattle.std.specs.Prelude.{◌≡◌, IfOk, OnOk, OnErr};
 ghost use Rattle.framing.specs.Streams.{fault_of, fed};
 

@@ -6,7 +6,7 @@ ghost use Rattle.session.specs.declared.limits.Limits.{Limits as TheLimits};
 ghost use Rattle.session.specs.Sessions.{After, Session as ASession};
 ghost use Rattle.session.specs.Laws as law;
 
-/// Whatever happens, the bytes that were taken of a connection are a front of its bytes, and on the
+/// Whatever happens, the bytes that were taken of a connection are a prefix of its bytes, and on the
 /// present connection the bytes that wait are the rest: none is lost, doubled or changed.
 pub fn every_byte_is_taken_or_waits()
     ensures { (limits : TheLimits) (events : List AnEvent) → law.EveryByteIsTakenOrWaits (After limits events) }
@@ -18,7 +18,7 @@ pub fn numbers_rise()
 {}
 
 /// Whatever happens, the requests of a connection have one answer each, in the order in which they
-/// came, for a front of them; the others wait, as long as there are numbers for answers.
+/// came, for a prefix of them; the others wait, as long as there are numbers for answers.
 pub fn answers_in_order()
     ensures { (limits : TheLimits) (events : List AnEvent) → law.AnswersInOrder (After limits events) }
 {}

@@ -63,7 +63,7 @@ impl Session {
 
     /// A piece of what the editor sends comes: up to 65,536 bytes, cut anywhere. Each request that it
     /// makes whole waits for its answer, and a `cancel` acts at once. What is no frame or no message
-    /// closes the connection: what comes behind it is dropped, and what came before it is still
+    /// closes the connection: what comes after it is dropped, and what came before it is still
     /// answered (base protocol).
     ///
     /// The errors apply in this order. `NotConnected`: no editor is connected. `Closing`: the

@@ -196,7 +196,7 @@ impl State {
         Ok(Turned::Answered)
     }
 
-    // Puts the answer to the first request behind the waiting bytes, if a number is left for it.
+    // Puts the answer to the first request after the waiting bytes, if a number is left for it.
     fn write(&mut self, link: Link, outcome: Outcome) -> Result<(), AllocError>
         ensures ok { OnOk result (self.new ≡ record self.old {
           waiting = self.old.waiting
@@ -350,7 +350,7 @@ impl State {
     }
 }
 
-// What closes a connection: the fault of a body comes before that of the stream behind it.
+// What closes a connection: the fault of a body comes before that of the stream after it.
 fn first_fault(message: Option<MessageError>, frame: Option<FrameError>) -> Option<LinkFault>
     ensures { result ≡ spec.fault_or message frame }
 {

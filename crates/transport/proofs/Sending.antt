@@ -7,11 +7,11 @@ use Rattle.replies.specs.Messages.{text_of}
 use Rattle.std.specs.Io.KnownBytes.{Appends}
 use Rattle.std.proofs.KnownBytes.{Appends-trans, Appends-kept}
 use Rattle.replies.specs.declared.message.Message.{Message}
-use Rattle.transport.specs.Outbox.{Queued, queued, Sends, SendsFront}
+use Rattle.transport.specs.Outbox.{Queued, queued, Sends, SendsPrefix}
 use Rattle.session.specs.Writing.{frame_of}
 
 -- one write more
-pub sends_on : {E : Type 0} (held mid holds : Option (List ℕ)) (old now new : Queued) (r : Result ℕ E) → SendsFront held mid old now → Sends mid holds now r new → SendsFront held holds old new
+pub sends_on : {E : Type 0} (held mid holds : Option (List ℕ)) (old now new : Queued) (r : Result ℕ E) → SendsPrefix held mid old now → Sends mid holds now r new → SendsPrefix held holds old new
 sends_on held mid holds old now new (Ok n) s w = record {
   sent = s.sent ++ take n now.waiting;
   appended = Appends-trans held mid holds s.sent (take n now.waiting) s.appended w.1;
@@ -30,7 +30,7 @@ made : (q : Queued) (n : ℕ) → q.count ≡ n → q.waiting ≡ [] → q ≡ r
 made q n e f = ap (λ k. let r : Queued = record { count = k; waiting = q.waiting } in r) e ∙ ap (λ w. let r : Queued = record { count = n; waiting = w } in r) f
 
 -- a message is written whole, where nothing waited before it
-pub sent_whole : (held holds : Option (List ℕ)) (old mid new : Queued) (m : Message) → old.waiting ≡ [] → mid ≡ queued old m → SendsFront held holds mid new → new.waiting ≡ []
+pub sent_whole : (held holds : Option (List ℕ)) (old mid new : Queued) (m : Message) → old.waiting ≡ [] → mid ≡ queued old m → SendsPrefix held holds mid new → new.waiting ≡ []
     → Appends held holds (frame_of (old.count + 1) m) × (new ≡ record { count = old.count + 1; waiting = [] })
 sent_whole held holds old mid new m nothing e s all =
     let whole : s.sent ≡ frame_of (old.count + 1) m =
@@ -47,10 +47,10 @@ pub frame_is : (n : ℕ) (m : Message) (body framed : List ℕ) → framed ≡ m
 unfolding frame_of
 frame_is n m body framed e f = e ∙ ap minimal_frame f
 
--- one message more waits behind the others
-pub queued_behind : (old : Queued) (m : Message) (count start : ℕ) (bytes framed new : List ℕ) → record { count = count; waiting = drop start bytes } ≡ old → start ≤ length bytes → new ≡ bytes ++ framed → framed ≡ frame_of (count + 1) m
+-- one message more waits after the others
+pub queued_after : (old : Queued) (m : Message) (count start : ℕ) (bytes framed new : List ℕ) → record { count = count; waiting = drop start bytes } ≡ old → start ≤ length bytes → new ≡ bytes ++ framed → framed ≡ frame_of (count + 1) m
     → record { count = count + 1; waiting = drop start new } ≡ queued old m
-queued_behind old m count start bytes framed new e within more framed_is =
+queued_after old m count start bytes framed new e within more framed_is =
     let moved : drop start new ≡ drop start bytes ++ frame_of (count + 1) m =
     ap (drop start) more ∙ drop-append-le start bytes framed within ∙ ap (λ l. drop start bytes ++ l) framed_is in
     ap (λ w. let q : Queued = record { count = count + 1; waiting = w } in q) moved ∙ ap (λ q. queued q m) e

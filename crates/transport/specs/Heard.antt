@@ -50,7 +50,8 @@ and_gave heard incoming = record heard { given = heard.given ++ Ok incoming ∷ 
 
 -- the next of the messages is none, for this reason
 abbrev pub NextFails : Heard → MessageError → Type 0
-NextFails heard e = (later : List (Result Incoming MessageError)) × (messages_in heard.read ≡ heard.given ++ Err e ∷ later)
+NextFails heard e = (later : List (Result Incoming MessageError))
+    × (messages_in heard.read ≡ heard.given ++ Err e ∷ later)
 
 -- what a server has read and not yet given: the unframer, and a piece that it was not yet fed
 pub record Unread : Type 0 where
@@ -63,6 +64,7 @@ pub record HasRead (unread : Unread) (heard : Heard) : Type 0 where
   pub has_heard : HasHeard unread.unframer (record { read = fed; given = heard.given })
   pub read : heard.read ≡ fed ++ unread.pending
 
+-- more bytes were read
 abbrev pub and_read : Heard → List ℕ → Heard
 and_read heard piece = record heard { read = heard.read ++ piece }
 
@@ -70,6 +72,7 @@ and_read heard piece = record heard { read = heard.read ++ piece }
 abbrev pub AllGiven : Heard → Type 0
 AllGiven heard = messages_in heard.read ≡ heard.given
 
+-- a stream may still go on
 abbrev pub IsUnfinished : Tail → Type 0
 IsUnfinished (Partial rest) = Unit {0}
 IsUnfinished (Faulty fault) = ⊥

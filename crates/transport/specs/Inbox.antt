@@ -1,6 +1,6 @@
--- What a server keeps of what it read, step by step.
+-- For private clauses alone: what a server keeps of what it read, step by step.
 --
--- These are the words of private clauses. What a server promises is in `Servers`.
+-- What a server promises is in `Servers`.
 use Rattle.std.specs.Prelude.{◌≡◌, ℕ, Bool, true, false, List, [], Option, Some, None, Result, Ok, Err}
 use Rattle.std.specs.Io.KnownBytes.{Consumes, IsAtEnd}
 use Rattle.framing.specs.Streams.{Unframed}
@@ -9,7 +9,8 @@ use Rattle.protocol.specs.declared.request.MessageError.{MessageError}
 use Rattle.protocol.specs.declared.request.MessageError.TheVariants.{NotJson, NotAMessage, BadSeq, NoMemory}
 use Rattle.transport.specs.Heard.{Heard, HasHeard, and_gave, NextFails, Unread, HasRead, and_read}
 use Rattle.transport.specs.declared.server.ServerError.{ServerError}
-use Rattle.transport.specs.declared.server.ServerError.TheVariants.{Frame, Message, Read, Write, TooManyReads, NoMemory as NoMemoryLeft, SeqSpent}
+use Rattle.transport.specs.declared.server.ServerError.TheVariants.{Frame, Message, Read, Write, TooManyReads}
+use Rattle.transport.specs.declared.server.ServerError.TheVariants.{NoMemory as NoMemoryLeft, SeqSpent}
 
 -- What is taken of the bodies that are whole.
 abbrev pub Takes : Heard → Result (Option Incoming) MessageError → Unframed → Type 0

@@ -1,10 +1,26 @@
-pub use Rattle.session.specs.Sessions
-pub use Rattle.session.specs.Kept
-pub use Rattle.session.specs.Writing
-pub mod Outbox
-pub mod Ends
+-- What serving an editor over streams comes to. First a session over a reader and a writer.
+
+-- what is due in each round, the rounds, and how serving ends; at the end of the file one turn of the loop, which
+-- private clauses cite alone
 pub mod Rounds
+-- ---- a server, for a program that answers by itself
+-- the messages of what was read, and those that were given
 pub mod Heard
+-- what waits to be written
+pub mod Outbox
+-- what a poll gives, and what a response comes to
 pub mod Servers
-pub mod Inbox
+-- what follows for every list of calls
 pub mod Laws
+-- ---- for private clauses alone
+-- whether the answer of a read or a write ends serving
+pub mod Ends
+-- what a server keeps of what it read, step by step
+pub mod Inbox
+-- ---- of `session`
+-- a session with all of its past
+pub use Rattle.session.specs.Sessions
+-- what the code keeps of it
+pub use Rattle.session.specs.Kept
+-- the frame of a message with its number
+pub use Rattle.session.specs.Writing

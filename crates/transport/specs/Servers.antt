@@ -2,7 +2,7 @@
 --
 -- A server is asked for the next request, and reads until it has one. Whatever pieces the reader gives, and however
 -- often the server is asked, it gives the messages of the stream one after the other, and none twice. Where it finds no
--- memory it has lost nothing. A fault of the stream, or a body that is no message, comes behind all the messages before
+-- memory it has lost nothing. A fault of the stream, or a body that is no message, comes after all the messages before
 -- it, and stays.
 use Rattle.std.specs.Prelude.{◌≡◌, refl, ℕ, ◌+◌, List, [], ◌++◌, Option, Some, None, Result, Ok, Err}
 use Rattle.std.specs.Io.KnownBytes.{Consumes, Appends, IsAtEnd}
@@ -16,7 +16,8 @@ use Rattle.transport.specs.Outbox.{Queued}
 use Rattle.session.specs.Writing.{frame_of}
 use Rattle.transport.specs.declared.server.TheConstants.{MOST_READS}
 use Rattle.transport.specs.declared.server.ServerError.{ServerError}
-use Rattle.transport.specs.declared.server.ServerError.TheVariants.{Frame, Message, Read, Write, TooManyReads, NoMemory as NoMemoryLeft, SeqSpent}
+use Rattle.transport.specs.declared.server.ServerError.TheVariants.{Frame, Message, Read, Write, TooManyReads}
+use Rattle.transport.specs.declared.server.ServerError.TheVariants.{NoMemory as NoMemoryLeft, SeqSpent}
 
 -- one call makes so many reads at most
 most_reads : MOST_READS ≡ 2097152
@@ -26,7 +27,8 @@ most_reads = refl
 abbrev pub Polled : Heard → Result (Option Incoming) ServerError → Unread → Type 0
 Polled heard (Ok (Some incoming)) new = HasRead new (and_gave heard incoming)
 Polled heard (Ok None) new = HasRead new heard × AllGiven heard × IsUnfinished (reading_of BODY_LIMIT heard.read).tail
-Polled heard (Err Frame) new = HasRead new heard × AllGiven heard × (IsUnfinished (reading_of BODY_LIMIT heard.read).tail → ⊥)
+Polled heard (Err Frame) new = HasRead new heard × AllGiven heard
+    × (IsUnfinished (reading_of BODY_LIMIT heard.read).tail → ⊥)
 Polled heard (Err Message) new = HasRead new heard × IsNoMessage heard
 Polled heard (Err Read) new = ⊥
 Polled heard (Err Write) new = ⊥
@@ -40,14 +42,17 @@ Gave left heard (Ok (Some incoming)) new = Polled heard (Ok (Some incoming)) new
 Gave left heard (Ok None) new = Polled heard (Ok None) new × IsAtEnd left
 Gave left heard (Err Frame) new = Polled heard (Err Frame) new
 Gave left heard (Err Message) new = Polled heard (Err Message) new
-Gave left heard (Err Read) new = HasRead new heard × AllGiven heard × IsUnfinished (reading_of BODY_LIMIT heard.read).tail
+Gave left heard (Err Read) new = HasRead new heard × AllGiven heard
+    × IsUnfinished (reading_of BODY_LIMIT heard.read).tail
 Gave left heard (Err Write) new = ⊥
-Gave left heard (Err TooManyReads) new = HasRead new heard × AllGiven heard × IsUnfinished (reading_of BODY_LIMIT heard.read).tail
+Gave left heard (Err TooManyReads) new = HasRead new heard × AllGiven heard
+    × IsUnfinished (reading_of BODY_LIMIT heard.read).tail
 Gave left heard (Err NoMemoryLeft) new = HasRead new heard
 Gave left heard (Err SeqSpent) new = ⊥
 
 -- Some bytes are read, and then what was heard before and with them decides.
-pub record Polls (left_before left : Option (List ℕ)) (heard : Heard) (result : Result (Option Incoming) ServerError) (new : Unread) : Type 0 where
+pub record Polls (left_before left : Option (List ℕ)) (heard : Heard) (result : Result (Option Incoming) ServerError)
+    (new : Unread) : Type 0 where
   pub read : List ℕ
   pub consumed : Consumes left_before left read
   pub gave : Gave left (and_read heard read) result new
@@ -65,11 +70,15 @@ lasting (Err SeqSpent) = None
 
 -- ---- writing
 
--- What a response comes to: its frame, with the next number, is written, or nothing of it, or after a fault a part of it: then
--- it is counted, and the rest of it still waits.
-abbrev pub Responds : Option (List ℕ) → Option (List ℕ) → Queued → Response → Result (Unit {0}) ServerError → Queued → Option ServerError → Type 0
-Responds held holds old r (Ok x) new fault = Appends held holds (frame_of (old.count + 1) (IsResponse r)) × (new ≡ record { count = old.count + 1; waiting = [] }) × (fault ≡ None)
-Responds held holds old r (Err Write) new fault = (sent : List ℕ) × Appends held holds sent × (frame_of (old.count + 1) (IsResponse r) ≡ sent ++ new.waiting) × (new.count ≡ old.count + 1) × (fault ≡ Some Write)
+-- What a response comes to: its frame, with the next number, is written, or nothing of it, or after a fault a part of
+-- it: then it is counted, and the rest of it still waits.
+abbrev pub Responds : Option (List ℕ) → Option (List ℕ) → Queued → Response → Result (Unit {0}) ServerError → Queued
+    → Option ServerError → Type 0
+Responds held holds old r (Ok x) new fault = Appends held holds (frame_of (old.count + 1) (IsResponse r))
+    × (new ≡ record { count = old.count + 1; waiting = [] }) × (fault ≡ None)
+Responds held holds old r (Err Write) new fault = (sent : List ℕ) × Appends held holds sent
+    × (frame_of (old.count + 1) (IsResponse r) ≡ sent ++ new.waiting) × (new.count ≡ old.count + 1)
+    × (fault ≡ Some Write)
 Responds held holds old r (Err NoMemoryLeft) new fault = Appends held holds [] × (new ≡ old) × (fault ≡ None)
 Responds held holds old r (Err SeqSpent) new fault = Appends held holds [] × (new ≡ old) × (fault ≡ None)
 Responds held holds old r (Err Frame) new fault = ⊥

@@ -1,7 +1,7 @@
 //! What waits to be written: numbered messages, framed.
 ghost use Rattle.std.specs.Prelude.{◌≡◌, ◌+◌, ◌==◌, ◌<◌, ◌≤◌, ◌++◌, ◌↔◌, [], List, ℕ, IsOk, OnOk, OnErr, IfOk, IsErrOf, IsTrue, drop, length};
 ghost use Rattle.std.specs.Io.KnownBytes.{Keeps, Appends};
-ghost use Rattle.transport.specs.Outbox.{queued, Sends, SendsFront};
+ghost use Rattle.transport.specs.Outbox.{queued, Sends, SendsPrefix};
 
 use protocol::LAST_SEQ;
 use replies::Message;
@@ -60,7 +60,7 @@ impl Outbox {
         self.buffer.len() == 0
     }
 
-    /// Puts the frame of a message, with the next number, behind what waits.
+    /// Puts the frame of a message, with the next number, after what waits.
     pub(crate) fn queue(&mut self, message: &Message) -> Result<(), QueueError>
         ensures ok { OnOk result (self.new ≡ queued self.old message.now) }
         ensures err { OnErr result (self.new ≡ self.old) }
@@ -79,7 +79,7 @@ impl Outbox {
         Ok(())
     }
 
-    /// Writes what waits, or a front of it, by one call of the writer.
+    /// Writes what waits, or a prefix of it, by one call of the writer.
     pub(crate) fn send<W: Write>(&mut self, writer: &mut W) -> io::Result<usize>
         ensures { Sends (W.contents writer.old) (W.contents writer.new) self.old result self.new }
     {
@@ -91,7 +91,7 @@ impl Outbox {
     /// Writes what waits, by as many calls of the writer as it takes, and answers whether all was
     /// written. A call that a signal interrupted is made again.
     pub(crate) fn send_all<W: Write>(&mut self, writer: &mut W) -> bool
-        ensures front { SendsFront (W.contents writer.old) (W.contents writer.new) self.old self.new }
+        ensures prefix { SendsPrefix (W.contents writer.old) (W.contents writer.new) self.old self.new }
         ensures all { IsTrue result → self.new.waiting ≡ [] }
     {
         'sending: for _ in 0..u64::MAX {

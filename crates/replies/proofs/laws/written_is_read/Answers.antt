@@ -1,6 +1,6 @@
 use Rattle.replies.specs.Messages.{text_of}
 use Rattle.replies.proofs.Finding.{reading_of-message_data}
-use Rattle.replies.proofs.Told.{json_of-text_of}
+use Rattle.replies.proofs.Values.{json_of-text_of}
 use Rattle.replies.proofs.laws.written_is_read.Goals as goal
 
 pub returns-clause-value : goal.returns-clause-value

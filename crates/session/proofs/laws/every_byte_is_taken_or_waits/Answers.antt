@@ -1,4 +1,4 @@
-use Rattle.session.proofs.Telling.{every_byte_is_taken_or_waits as proved}
+use Rattle.session.proofs.Waiting.{every_byte_is_taken_or_waits as proved}
 use Rattle.session.proofs.laws.every_byte_is_taken_or_waits.Goals as goal
 
 pub returns : goal.returns

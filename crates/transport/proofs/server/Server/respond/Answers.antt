@@ -4,5 +4,5 @@ use Rattle.transport.proofs.server.Server.respond.Goals as goal
 
 pub returns-then-send_all-clause-responds : goal.returns-then-send_all-clause-responds
 returns-then-send_all-clause-responds g c sound nothing =
-    let w = sent_whole _ _ c.args.self.now.outbox c.queue.new.self c.send_all.new.self _ nothing c.in-Ok.ensures.ok c.if-send_all.ensures.front (c.if-send_all.ensures.all refl) in
+    let w = sent_whole _ _ c.args.self.now.outbox c.queue.new.self c.send_all.new.self _ nothing c.in-Ok.ensures.ok c.if-send_all.ensures.prefix (c.if-send_all.ensures.all refl) in
     (w.0, w.1, sound)

@@ -1,4 +1,4 @@
-//! The words of commands and of answers.
+//! The arguments of commands, and answers.
 ghost use Rattle.std.specs.Prelude.{◌≡◌, IfErr, IfOk, string_bytes};
 ghost use Rattle.hex.specs.Hex.{decode_of, encode_lower};
 
@@ -7,19 +7,19 @@ use std::alloc::{AllocError, Global};
 use std::fmt::Display;
 use std::str::FromStr;
 
-/// The bytes that a word gives as pairs of hexadecimal digits.
-pub fn bytes_of(alloc: Global, word: &str) -> Result<Vec<u8>, Fault>
-    ensures { IfOk result (λ bytes. decode_of word.now ≡ Ok bytes.items) }
+/// The bytes that an argument gives as pairs of hexadecimal digits.
+pub fn bytes_of(alloc: Global, argument: &str) -> Result<Vec<u8>, Fault>
+    ensures { IfOk result (λ bytes. decode_of argument.now ≡ Ok bytes.items) }
 {
-    Ok(hex::decode(alloc, word)?)
+    Ok(hex::decode(alloc, argument)?)
 }
 
-/// The value that a word gives: a number in decimal digits, or `true` or `false`.
-pub fn parsed<T: FromStr>(word: &str) -> Result<T, Fault>
+/// The value that an argument gives: a number in decimal digits, or `true` or `false`.
+pub fn parsed<T: FromStr>(argument: &str) -> Result<T, Fault>
 where
     T::Err: Drop,
 {
-    word.parse::<T>().map_err(|_| Fault::NoCommand)
+    argument.parse::<T>().map_err(|_| Fault::NoCommand)
 }
 
 /// The answer that bytes are, as pairs of hexadecimal digits in lower case.
@@ -30,7 +30,7 @@ pub fn hexadecimal(alloc: Global, bytes: &[u8]) -> Result<String, Fault>
 }
 
 /// The answer that a value is, as it is displayed.
-pub fn told<D: Display + Drop>(alloc: Global, value: D) -> Result<String, Fault> {
+pub fn shown<D: Display + Drop>(alloc: Global, value: D) -> Result<String, Fault> {
     Ok(value.to_string(alloc)?)
 }
 
