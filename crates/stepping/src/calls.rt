@@ -1,6 +1,6 @@
 //! The calls of a running program.
 
-ghost use Rattle.std.specs.Prelude.{◌≡◌, ◌+◌, ◌-◌, ◌^◌, ◌<◌, ◌≤◌, ◌==◌, List, length, slice_get, IfOk};
+ghost use Rattle.std.specs.Prelude.{◌≡◌, ◌-◌, ◌^◌, ◌<◌, ◌≤◌, ◌==◌, List, [], length, slice_get, IfOk};
 ghost use Rattle.stepping.specs.Marks.{Retired, is_link, jalr_marks};
 ghost use Rattle.stepping.specs.Marks.Mark.{Pop, Push};
 ghost use Rattle.stepping.specs.Calls.{StandsFor, calls_of, depth_of, noted, nothing_kept, with_mark, with_marks, with_retired};
