@@ -1,9 +1,8 @@
 -- Of the depths along marks only the last, the least and the greatest matter.
-use Rattle.std.proofs.Common.{◌≡◌, ℕ, ◌+◌, ◌-◌, ◌<◌, ◌≤◌, Bool, true, false, ◌&&◌, List, [], ◌∷◌, ◌++◌, min, max, nat_lt, nat_le, refl, sym, ap, ◌∙◌, arith}
+use Rattle.std.proofs.Common.{◌≡◌, ℕ, ◌≤◌, Bool, true, false, ◌&&◌, List, [], ◌∷◌, ◌++◌, min, max, nat_lt, nat_le, refl, ap, ◌∙◌, arith}
 use Rattle.std.specs.List.{list_all}
 use Rattle.std.proofs.lemmas.Bool.Decides.{nat_tests}
 use Rattle.stepping.specs.Marks.{Mark}
-use Rattle.stepping.specs.Marks.Mark.{Push, Pop}
 use Rattle.stepping.specs.Calls.{depth_after, depth_through, depths_through}
 
 -- the least and the greatest of the depths from now on

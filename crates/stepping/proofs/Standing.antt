@@ -1,10 +1,10 @@
 -- What is kept stands for all that retired.
-use Rattle.std.proofs.Common.{◌≡◌, ℕ, ◌<◌, ◌≤◌, ◌+◌, List, [], ◌∷◌, ◌++◌, length, take, drop, refl, sym, ap, subst, ◌∙◌, arith, append-nil, append_assoc}
+use Rattle.std.proofs.Common.{◌≡◌, ℕ, ◌+◌, List, [], ◌∷◌, ◌++◌, take, drop, refl, sym, ap, subst, ◌∙◌, arith, append-nil, append_assoc}
 use Rattle.std.proofs.lemmas.Grind.{flat_map-append}
 use Rattle.rv32i.specs.declared.instr.Instr.{Instr}
 use Rattle.stepping.specs.Marks.{Mark, Retired, marks_at, marks_of}
 use Rattle.stepping.specs.Marks.Mark.{Push, Pop}
-use Rattle.stepping.specs.Calls.{Kept, StandsFor, calls_of, depth_after, depth_of, depth_through, kept_through, noted, nothing_kept, with_mark, with_marks, with_retired}
+use Rattle.stepping.specs.Calls.{Kept, StandsFor, depth_after, depth_through, kept_through, noted, nothing_kept, with_mark, with_marks, with_retired}
 use Rattle.stepping.proofs.Depths.{depth_through-more}
 use Rattle.stepping.proofs.Keeping.{kept_through-push, kept_through-pop}
 

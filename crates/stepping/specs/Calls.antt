@@ -8,7 +8,8 @@
 -- returned, though the depth is 1.
 --
 -- The *calls* of the program are the addresses of the kept pushes, newest first.
-use Rattle.std.specs.Prelude.{◌≡◌, ℕ, ◌+◌, ◌-◌, Bool, nat_lt, nat_le, ◌&&◌, if◌then◌else◌, List, [], ◌∷◌, ◌++◌, take, drop, refl}
+use Rattle.std.specs.Prelude.{◌≡◌, ℕ, ◌+◌, ◌-◌, Bool, nat_lt, nat_le, ◌&&◌, if◌then◌else◌, List, [], ◌∷◌, ◌++◌}
+use Rattle.std.specs.Prelude.{take, drop, refl}
 use Rattle.std.specs.List.{list_all}
 use Rattle.rv32i.specs.declared.instr.Instr.{Instr}
 use Rattle.stepping.specs.Marks.{Mark, Retired, marks_at, marks_of}
@@ -35,7 +36,7 @@ depths_through depth (mark ∷ marks) = depth ∷ depths_through (depth_after de
 abbrev pub is_open : ℕ → List ℕ → Bool
 is_open before since = list_all (λ depth. nat_lt before depth) since
 
--- whether it is kept, where calls lie too deep from `most` calls on
+-- whether it is kept, where `most` calls may be
 abbrev pub is_kept : ℕ → ℕ → List ℕ → Bool
 is_kept most before since = is_open before since && list_all (λ depth. nat_le depth (before + most)) since
 

@@ -9,7 +9,7 @@
 --
 -- So each instruction that retires leaves *marks* on the call stack, in order: a push, which names the instruction that
 -- called by its address, a pop, both, or none. Most instructions leave none.
-use Rattle.std.specs.Prelude.{◌≡◌, ℕ, Bool, true, false, ◌==◌, ◌||◌, if◌then◌else◌, List, [], ◌∷◌, ◌++◌, refl}
+use Rattle.std.specs.Prelude.{◌≡◌, ℕ, Bool, true, false, ◌==◌, ◌||◌, if◌then◌else◌, List, [], ◌∷◌, refl}
 use Rattle.std.specs.List.{flat_map}
 use Rattle.rv32i.specs.declared.instr.Instr.{Instr}
 use Rattle.rv32i.specs.declared.instr.Instr.TheVariants.{Jal, Jalr, Addi}
@@ -52,6 +52,14 @@ marks_of_a_call : marks_of (record { instr = Jal 1 8; pc = 4 } ∷ record { inst
     ∷ record { instr = Jal 0 4; pc = 16 } ∷ record { instr = Jalr 0 1 0; pc = 20 } ∷ []) ≡ Push 4 ∷ Pop ∷ []
 marks_of_a_call = refl
 
--- A return that calls at once, as of a coroutine: `jalr x1, 0(x5)`.
+-- A call to an address in a register that is no link register, and through the one that it writes: `jalr x1, 0(x6)`,
+-- `jalr x1, 0(x1)`.
+marks_of_a_far_call : marks_at (Jalr 1 6 0) 8 ≡ Push 8 ∷ []
+marks_of_a_far_call = refl
+
+marks_through_the_same : marks_at (Jalr 1 1 0) 8 ≡ Push 8 ∷ []
+marks_through_the_same = refl
+
+-- A return that calls at once, as between coroutines: `jalr x1, 0(x5)`.
 marks_of_a_swap : marks_at (Jalr 1 5 0) 8 ≡ Pop ∷ Push 8 ∷ []
 marks_of_a_swap = refl

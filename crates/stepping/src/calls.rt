@@ -25,14 +25,14 @@ pub struct Calls {
 }
 
 impl Model for Calls {
-    ghost use Rattle.std.specs.Prelude.{◌≡◌};
+    ghost use Rattle.std.specs.Prelude.{◌≡◌, ◌≤◌, length};
     ghost use Rattle.stepping.specs.Calls.{Kept};
 
     ghost Value = { Kept };
 
     ghost view = { λ c. record { depth = c.depth; calls = c.addresses.items } };
 
-    ghost invariant = { λ c. c.addresses.capacity ≡ 256 };
+    ghost invariant = { λ c. (c.addresses.capacity ≡ 256) × (length c.addresses.items ≤ c.depth) };
 }
 
 impl Calls {
@@ -43,7 +43,10 @@ impl Calls {
         ensures past { IfOk result (λ calls. StandsFor calls []) }
     {
         let addresses = HeapCircularBuffer::with_capacity(alloc, KEPT)?;
-        Ok(Calls { depth: 0, addresses })
+        Ok(Calls {
+            depth: 0,
+            addresses,
+        })
     }
 
     /// Notes an instruction that retired, and its address: a call is kept, and a return takes away the
@@ -120,7 +123,8 @@ impl Calls {
     #[inline]
     pub fn kept(&self) -> usize
         ensures kept { result ≡ length self.now.calls }
-        ensures within { result ≤ 256 }
+        ensures within_limit { result ≤ 256 }
+        ensures within_depth { result ≤ self.now.depth }
         ensures past { (retired : List Retired) → StandsFor self.now retired → result ≡ length (calls_of retired) }
     {
         self.addresses.len()
