@@ -27,12 +27,13 @@ pub struct Calls {
 impl Model for Calls {
     ghost use Rattle.std.specs.Prelude.{◌≡◌, ◌≤◌, length};
     ghost use Rattle.stepping.specs.Calls.{Kept};
+    ghost use Rattle.stepping.specs.declared.calls.TheConstants.{KEPT};
 
     ghost Value = { Kept };
 
     ghost view = { λ c. record { depth = c.depth; calls = c.addresses.items } };
 
-    ghost invariant = { λ c. (c.addresses.capacity ≡ 256) × (length c.addresses.items ≤ c.depth) };
+    ghost invariant = { λ c. (c.addresses.capacity ≡ KEPT) × (length c.addresses.items ≤ c.depth) };
 }
 
 impl Calls {
