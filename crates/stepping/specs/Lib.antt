@@ -4,3 +4,5 @@
 pub mod Marks
 -- the calls of a running program: how deep they are, and which of them are kept
 pub mod Calls
+-- what holds of every program
+pub mod Laws

@@ -2,5 +2,6 @@
 #![tactic(auto)]
 
 mod calls;
+pub mod laws;
 
 pub use calls::Calls;
