@@ -1,0 +1,4 @@
+pub mod Depths
+pub mod Keeping
+pub mod Standing
+pub mod Returning

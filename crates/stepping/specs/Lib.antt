@@ -1,0 +1,8 @@
+-- The definitions of `stepping`, in reading order.
+
+-- what an instruction means for the call stack: a push, a pop, both or nothing
+pub mod Marks
+-- the calls of a running program: how deep they are, and which of them are kept
+pub mod Calls
+-- what holds of every program
+pub mod Laws
