@@ -1,0 +1,10 @@
+-- the tokens of a text
+pub mod Tokens
+-- the grammar: which tree is a text's
+pub mod Trees
+-- which texts are expressions, and what is wrong with others
+pub mod Texts
+-- the value of an expression
+pub mod Values
+-- cited by private clauses alone: the tree that the code keeps as the grammar's
+pub mod Nodes
