@@ -1,15 +1,15 @@
--- What a search of a list from the front finds, by places.
+-- What a search of a list from its first element on finds, by indexes.
 use Rattle.std.proofs.Common.{◌≡◌, ℕ, zero, suc, ◌<◌, ◌≤◌, Bool, true, false, cond, not, List, [], ◌∷◌, length, get_or, Some, None, refl, sym, ◌∙◌, ap, arith}
 use Rattle.std.specs.Prelude.{slice_get}
 use Rattle.std.specs.List.{find, AllWithin}
 
 -- an element that a search finds: the first that passes
 pub record FoundAt {X : Type 0} (p : X → Bool) (xs : List X) (x : X) : Type 0 where
-  pub place : ℕ
-  pub within : place < length xs
-  pub there : (d : X) → get_or xs place d ≡ x
+  pub index : ℕ
+  pub within : index < length xs
+  pub there : (d : X) → get_or xs index d ≡ x
   pub passes : p x ≡ true
-  pub before : (j : ℕ) (d : X) → j < place → p (get_or xs j d) ≡ false
+  pub before : (j : ℕ) (d : X) → j < index → p (get_or xs j d) ≡ false
 
 before_suc : {X : Type 0} (p : X → Bool) (y : X) (ys : List X) (k : ℕ) → p y ≡ false → ((j : ℕ) (d : X) → j < k → p (get_or ys j d) ≡ false) → (j : ℕ) (d : X) → j < suc k → p (get_or (y ∷ ys) j d) ≡ false
 before_suc p y ys k fails before zero d h = fails
@@ -22,11 +22,11 @@ found_at {X} p (y ∷ ys) x e =
     let go : P (p y) = elim (p y) as P [
       | true ↦ λ t e.
           let same : y ≡ x = cc in
-          record { place = 0; within = omega arith; there = λ d. same; passes = rw (sym same) t; before = λ j d h. absurd (omega arith) }
+          record { index = 0; within = omega arith; there = λ d. same; passes = rw (sym same) t; before = λ j d h. absurd (omega arith) }
       | false ↦ λ t e.
           let f = found_at p ys x e in
-          let within : f.place < length ys = f.within in
-          record { place = suc f.place; within = omega arith; there = f.there; passes = f.passes; before = before_suc p y ys f.place t f.before }
+          let within : f.index < length ys = f.within in
+          record { index = suc f.index; within = omega arith; there = f.there; passes = f.passes; before = before_suc p y ys f.index t f.before }
     ] in
     go refl e
 
@@ -53,7 +53,7 @@ none_found p (x ∷ xs) fail =
     let fails : p x ≡ false = fail 0 x (omega arith) in
     rw fails (none_found p xs (λ j d h. fail (suc j) d (omega arith)))
 
--- where all before a place fail and none from there on does, the search finds what stands there
+-- where all before an index fail and none from there on does, the search finds what stands there
 pub found_from_point : {X : Type 0} (p q : X → Bool) (xs : List X) (k : ℕ) → ((x : X) → q x ≡ not (p x)) → k ≤ length xs → AllWithin (λ y. p y ≡ true) xs 0 k → AllWithin (λ y. p y ≡ false) xs k (length xs) → find q xs ≡ slice_get xs k
 found_from_point p q [] k other bound low high = refl
 found_from_point p q (x ∷ xs) zero other bound low high =

@@ -57,12 +57,12 @@ writes_bytes memory address k bytes h below =
     let i = inside memory address (length bytes) k h below in
     let low : first_address ≤ address = i.low in
     let high : address + length bytes ≤ first_address + length memory = i.high in
-    let front = take (address - first_address) memory in
-    let t : length front ≡ address - first_address = taken memory (address - first_address) (omega arith) in
-    let joined : length (front ++ bytes) ≡ length front + length bytes = length-append front bytes in
+    let prefix = take (address - first_address) memory in
+    let t : length prefix ≡ address - first_address = taken memory (address - first_address) (omega arith) in
+    let joined : length (prefix ++ bytes) ≡ length prefix + length bytes = length-append prefix bytes in
     at_or_above (with_bytes memory address bytes) (address + k) (omega arith)
-    ∙ get_first (front ++ bytes) (drop (address - first_address + length bytes) memory) (address + k - first_address) (omega arith)
-    ∙ get_later front bytes k (address + k - first_address) (omega arith)
+    ∙ get_first (prefix ++ bytes) (drop (address - first_address + length bytes) memory) (address + k - first_address) (omega arith)
+    ∙ get_later prefix bytes k (address + k - first_address) (omega arith)
 
 below_first : (memory : List ℕ) (address : ℕ) → address < first_address → byte_at memory address ≡ None
 below_first memory address h = let e : ltb address first_address ≡ true = grind (arith, nat_tests) in rw e refl
@@ -94,7 +94,7 @@ put_rest (x ∷ m) (suc a) (suc k) = put_rest m a k
 put_none : (m : List ℕ) (a k : ℕ) → slice_get (take a m ++ [] ++ drop (a + 0) m) k ≡ slice_get m k
 put_none m a k = let e : a + 0 ≡ a = omega arith in rw e (put_rest m a k)
 
--- with no byte to write nothing changes, and else the place is inside
+-- with no byte to write nothing changes, and else the address lies in memory
 pub keeps_below : (memory : List ℕ) (address other : ℕ) (bytes : List ℕ) → has_bytes memory address (length bytes) ≡ true → other < address → byte_at (with_bytes memory address bytes) other ≡ byte_at memory other
 keeps_below memory address other [] h below = same memory (with_bytes memory address []) other (λ low. put_none memory (address - first_address) (other - first_address))
 keeps_below memory address other (b ∷ bytes) h below =

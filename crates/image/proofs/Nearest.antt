@@ -14,12 +14,12 @@ use Rattle.image.specs.Lines.{Label, Table, place_of, labels_of, up_to, first_gr
 use Rattle.image.specs.Orders.{NeverFall}
 use Rattle.image.proofs.Finding.{first_at, none_found, found_at}
 
--- the place of the first that is greatest among the addresses that are not above one
-pub record Nearest (places : List ℕ) (a k : ℕ) : Type 0 where
-  pub within : k < length places
-  pub below : get_or places k 0 ≤ a
-  pub greatest : (j : ℕ) → j < length places → get_or places j 0 ≤ a → get_or places j 0 ≤ get_or places k 0
-  pub first : (j : ℕ) → j < k → get_or places j 0 ≤ a → get_or places j 0 < get_or places k 0
+-- the index of the first that is greatest among the addresses that are not above one
+pub record Nearest (addresses : List ℕ) (a k : ℕ) : Type 0 where
+  pub within : k < length addresses
+  pub below : get_or addresses k 0 ≤ a
+  pub greatest : (j : ℕ) → j < length addresses → get_or addresses j 0 ≤ a → get_or addresses j 0 ≤ get_or addresses k 0
+  pub first : (j : ℕ) → j < k → get_or addresses j 0 ≤ a → get_or addresses j 0 < get_or addresses k 0
 
 find-filter : {X : Type 0} (p q : X → Bool) (xs : List X) → find p (filter q xs) ≡ find (λ x. q x && p x) xs
 find-filter p q [] = refl
@@ -66,12 +66,12 @@ and_second s t q = elim s as (λ s. (s && t) ≡ false) [ true ↦ q | false ↦
 and_first : (s t : Bool) → s ≡ false → (s && t) ≡ false
 and_first s t p = rw p refl
 
-place_at : (labels : List Label) (j : ℕ) (d : Label) → j < length labels → get_or (map place_of labels) j 0 ≡ place_of (get_or labels j d)
-place_at labels j d h = get_or-map place_of labels j d 0 h
+address_at : (labels : List Label) (j : ℕ) (d : Label) → j < length labels → get_or (map place_of labels) j 0 ≡ place_of (get_or labels j d)
+address_at labels j d h = get_or-map place_of labels j d 0 h
 
-length-places : (labels : List Label) → length (map place_of labels) ≡ length labels
-length-places [] = refl
-length-places (l ∷ labels) = ap suc (length-places labels)
+length-addresses : (labels : List Label) → length (map place_of labels) ≡ length labels
+length-addresses [] = refl
+length-addresses (l ∷ labels) = ap suc (length-addresses labels)
 
 nothing : Label
 nothing = ([], 0)
@@ -83,19 +83,19 @@ test_of a labels label = nat_le (place_of label) a && list_all (λ other. nat_le
 pub found_label : (labels : List Label) (a k : ℕ) → Nearest (map place_of labels) a k → first_greatest (up_to a labels) ≡ slice_get labels k
 unfolding test_of
 found_label labels a k n =
-    let size = length-places labels in
+    let size = length-addresses labels in
     let within : k < length labels = (rw size at n.within) in
-    let here = place_at labels k nothing within in
+    let here = address_at labels k nothing within in
     let below : place_of (get_or labels k nothing) ≤ a = (rw here at n.below) in
     let all = all_of_filter (λ other. nat_le (place_of other) (place_of (get_or labels k nothing))) (λ label. nat_le (place_of label) a) labels (λ j d l passes.
     let lower : place_of (get_or labels j d) ≤ a = le_tells (place_of (get_or labels j d)) a passes in
-    let there = place_at labels j d l in
+    let there = address_at labels j d l in
     let h = n.greatest j (rw size l) (rw there lower) in
     le_is (place_of (get_or labels j d)) (place_of (get_or labels k nothing)) (omega arith)) in
     let passes : test_of a labels (get_or labels k nothing) ≡ true = and_true _ _ (le_is (place_of (get_or labels k nothing)) a below) all in
     let before : (j : ℕ) → j < k → test_of a labels (get_or labels j nothing) ≡ false = λ j l.
     let inside : j < length labels = omega arith in
-    let there = place_at labels j nothing inside in
+    let there = address_at labels j nothing inside in
     elim (cases_lt a (place_of (get_or labels j nothing))) as (λ c. test_of a labels (get_or labels j nothing) ≡ false) [
       | inl above ↦ and_first (nat_le (place_of (get_or labels j nothing)) a) _ (le_is_not (place_of (get_or labels j nothing)) a above)
       | inr lower ↦
@@ -112,24 +112,24 @@ unfolding test_of
 no_label labels a above =
     find-filter (λ label. list_all (λ other. nat_le (place_of other) (place_of label)) (up_to a labels)) (λ label. nat_le (place_of label) a) labels
     ∙ none_found (test_of a labels) labels (λ j d l.
-    let there = place_at labels j d l in
-    let h = above j (rw length-places l) in
+    let there = address_at labels j d l in
+    let h = above j (rw length-addresses l) in
     and_first (nat_le (place_of (get_or labels j d)) a) _ (le_is_not (place_of (get_or labels j d)) a (omega arith)))
 
-places-labels : {Z : Type 0} (entries : List (String Z × ℕ)) → map place_of (labels_of entries) ≡ values_of entries
-places-labels [] = refl
-places-labels (e ∷ entries) = ap (λ l. e.1 ∷ l) (places-labels entries)
+addresses-labels : {Z : Type 0} (entries : List (String Z × ℕ)) → map place_of (labels_of entries) ≡ values_of entries
+addresses-labels [] = refl
+addresses-labels (e ∷ entries) = ap (λ l. e.1 ∷ l) (addresses-labels entries)
 
 -- the same of a map's entries
 pub found_entry : {Z : Type 0} (entries : List (String Z × ℕ)) (a k : ℕ) → Nearest (values_of entries) a k → slice_get (labels_of entries) k ≡ first_greatest (up_to a (labels_of entries))
 found_entry entries a k n =
-    let P : List ℕ → Type 0 = λ places. Nearest places a k in
-    sym (found_label (labels_of entries) a k (subst P (sym (places-labels entries)) n))
+    let P : List ℕ → Type 0 = λ addresses. Nearest addresses a k in
+    sym (found_label (labels_of entries) a k (subst P (sym (addresses-labels entries)) n))
 
 pub no_entry : {Z : Type 0} (entries : List (String Z × ℕ)) (a : ℕ) → ((j : ℕ) → j < length (values_of entries) → a < get_or (values_of entries) j 0) → None ≡ first_greatest (up_to a (labels_of entries))
 no_entry entries a above =
-    let P : List ℕ → Type 0 = λ places. (j : ℕ) → j < length places → a < get_or places j 0 in
-    sym (no_label (labels_of entries) a (subst P (sym (places-labels entries)) above))
+    let P : List ℕ → Type 0 = λ addresses. (j : ℕ) → j < length addresses → a < get_or addresses j 0 in
+    sym (no_label (labels_of entries) a (subst P (sym (addresses-labels entries)) above))
 
 -- what holds of entries holds of their addresses
 pub values_within : {K : Type 0} (P : ℕ → Type 0) (entries : List (K × ℕ)) (low high : ℕ) → high ≤ length entries → AllWithin (λ e. P e.1) entries low high → (j : ℕ) → low ≤ j → j < high → P (get_or (values_of entries) j 0)
@@ -174,12 +174,12 @@ lt_tested entries a d rise i j h within test =
     let t : (get_or entries j d).1 < a = lt_tells (get_or entries j d).1 a test in
     lt_is (get_or entries i d).1 a (omega arith)
 
-greatest_of : (places : List ℕ) (a count : ℕ) → NeverFall places → count ≤ length places → ((j : ℕ) → count ≤ j → j < length places → a < get_or places j 0) → {g : ℕ} → get_or places (count - 1) 0 ≤ g → (j : ℕ) → j < length places → get_or places j 0 ≤ a → get_or places j 0 ≤ g
-greatest_of places a count rise bound high {g} here j l h =
-    elim (cases_lt j count) as (λ c. get_or places j 0 ≤ g) [
+greatest_of : (addresses : List ℕ) (a count : ℕ) → NeverFall addresses → count ≤ length addresses → ((j : ℕ) → count ≤ j → j < length addresses → a < get_or addresses j 0) → {g : ℕ} → get_or addresses (count - 1) 0 ≤ g → (j : ℕ) → j < length addresses → get_or addresses j 0 ≤ a → get_or addresses j 0 ≤ g
+greatest_of addresses a count rise bound high {g} here j l h =
+    elim (cases_lt j count) as (λ c. get_or addresses j 0 ≤ g) [
       | inl less ↦
           let last : j ≤ count - 1 = omega arith in
-          elim (eq-or-lt_of_le {n = j} {m = count - 1} last) as (λ c. get_or places j 0 ≤ g) [
+          elim (eq-or-lt_of_le {n = j} {m = count - 1} last) as (λ c. get_or addresses j 0 ≤ g) [
             | inl same ↦ rw same here
             | inr lower ↦ let e = rise j (count - 1) 0 lower (omega arith) in omega arith
           ]
@@ -187,19 +187,19 @@ greatest_of places a count rise bound high {g} here j l h =
     ]
 
 -- Two halvings: how many addresses are not above one, and where the greatest of these stands first.
-pub halved : (places : List ℕ) (a count k : ℕ) → NeverFall places → 0 < count → count ≤ length places → ((j : ℕ) → j < count → get_or places j 0 ≤ a) → ((j : ℕ) → count ≤ j → j < length places → a < get_or places j 0) → k ≤ length places → ((j : ℕ) → j < k → get_or places j 0 < get_or places (count - 1) 0) → ((j : ℕ) → k ≤ j → j < length places → get_or places (count - 1) 0 ≤ get_or places j 0) → Nearest places a k
-halved places a count k rise some bound low high room less more =
+pub halved : (addresses : List ℕ) (a count k : ℕ) → NeverFall addresses → 0 < count → count ≤ length addresses → ((j : ℕ) → j < count → get_or addresses j 0 ≤ a) → ((j : ℕ) → count ≤ j → j < length addresses → a < get_or addresses j 0) → k ≤ length addresses → ((j : ℕ) → j < k → get_or addresses j 0 < get_or addresses (count - 1) 0) → ((j : ℕ) → k ≤ j → j < length addresses → get_or addresses (count - 1) 0 ≤ get_or addresses j 0) → Nearest addresses a k
+halved addresses a count k rise some bound low high room less more =
     let last : count - 1 < count = omega arith in
     let before : k ≤ count - 1 = elim (cases_lt (count - 1) k) as (λ c. k ≤ count - 1) [
-      | inl behind ↦ absurd (let h = less (count - 1) behind in omega arith)
+      | inl after ↦ absurd (let h = less (count - 1) after in omega arith)
       | inr h ↦ h
     ] in
-    let within : k < length places = omega arith in
-    let here : get_or places (count - 1) 0 ≤ get_or places k 0 = more k (omega arith) within in
+    let within : k < length addresses = omega arith in
+    let here : get_or addresses (count - 1) 0 ≤ get_or addresses k 0 = more k (omega arith) within in
     record {
       within = within;
       below = low k (omega arith);
-      greatest = λ j l h. greatest_of places a count rise bound high here j l h;
+      greatest = λ j l h. greatest_of addresses a count rise bound high here j l h;
       first = λ j l h. let e = less j l in omega arith;
     }
 
@@ -208,13 +208,13 @@ pub halved_to : {Z : Type 0} (entries : List (String Z × ℕ)) (a count g k : �
 halved_to entries a count g k rise some bound low high is room less more =
     let size = length-values_of entries in
     let all : length entries ≤ length entries = omega arith in
-    let places = values_of entries in
-    found_entry entries a k (halved places a count k rise (omega arith) (rw size bound)
-    (λ j l. le_tells (get_or places j 0) a (values_within (λ v. nat_le v a ≡ true) entries 0 count bound low j (omega arith) l))
-    (λ j l h. le_tells_not (get_or places j 0) a (values_within (λ v. nat_le v a ≡ false) entries count (length entries) all high j l (rw (← size) h)))
+    let addresses = values_of entries in
+    found_entry entries a k (halved addresses a count k rise (omega arith) (rw size bound)
+    (λ j l. le_tells (get_or addresses j 0) a (values_within (λ v. nat_le v a ≡ true) entries 0 count bound low j (omega arith) l))
+    (λ j l h. le_tells_not (get_or addresses j 0) a (values_within (λ v. nat_le v a ≡ false) entries count (length entries) all high j l (rw (← size) h)))
     (rw size room)
-    (λ j l. rw (← is) (lt_tells (get_or places j 0) g (values_within (λ v. nat_lt v g ≡ true) entries 0 k room less j (omega arith) l)))
-    (λ j l h. rw (← is) (lt_tells_not (get_or places j 0) g (values_within (λ v. nat_lt v g ≡ false) entries k (length entries) all more j l (rw (← size) h)))))
+    (λ j l. rw (← is) (lt_tells (get_or addresses j 0) g (values_within (λ v. nat_lt v g ≡ true) entries 0 k room less j (omega arith) l)))
+    (λ j l h. rw (← is) (lt_tells_not (get_or addresses j 0) g (values_within (λ v. nat_lt v g ≡ false) entries k (length entries) all more j l (rw (← size) h)))))
 
 pub halved_in_vain : {Z : Type 0} (entries : List (String Z × ℕ)) (a count : ℕ) → count ≡ 0 → AllWithin (λ e. nat_le e.1 a ≡ false) entries count (length entries) → None ≡ first_greatest (up_to a (labels_of entries))
 halved_in_vain entries a count none high =
@@ -222,10 +222,10 @@ halved_in_vain entries a count none high =
     let all : length entries ≤ length entries = omega arith in
     no_entry entries a (λ j h. le_tells_not (get_or (values_of entries) j 0) a (values_within (λ v. nat_le v a ≡ false) entries count (length entries) all high j (omega arith) (rw (← size) h)))
 
--- What a look at the first addresses has found: nothing, where each is above; else a place and the address there.
+-- What a look at the first addresses has found: nothing, where each is above; else an index and the address there.
 abbrev pub Looked : List ℕ → ℕ → ℕ → Option (ℕ × ℕ) → Type 0
-Looked places a count None = (j : ℕ) → j < count → a < get_or places j 0
-Looked places a count (Some found) = (found.0 < count) × (found.1 ≡ get_or places found.0 0) × (found.1 ≤ a) × ((j : ℕ) → j < count → get_or places j 0 ≤ a → get_or places j 0 ≤ found.1) × ((j : ℕ) → j < found.0 → get_or places j 0 ≤ a → get_or places j 0 < found.1)
+Looked addresses a count None = (j : ℕ) → j < count → a < get_or addresses j 0
+Looked addresses a count (Some found) = (found.0 < count) × (found.1 ≡ get_or addresses found.0 0) × (found.1 ≤ a) × ((j : ℕ) → j < count → get_or addresses j 0 ≤ a → get_or addresses j 0 ≤ found.1) × ((j : ℕ) → j < found.0 → get_or addresses j 0 ≤ a → get_or addresses j 0 < found.1)
 
 pub looked_to : {Z : Type 0} (entries : List (String Z × ℕ)) (a count k g : ℕ) (found : Option (ℕ × ℕ)) → Looked (values_of entries) a count found → found ≡ Some (k, g) → count ≡ length entries → slice_get (labels_of entries) k ≡ first_greatest (up_to a (labels_of entries))
 looked_to entries a count k g found looked e all =
@@ -253,7 +253,7 @@ found_below labels a label e =
     let f = found_at (λ label. nat_le (place_of label) a && list_all (λ other. nat_le (place_of other) (place_of label)) (up_to a labels)) labels label (sym (find-filter (λ label. list_all (λ other. nat_le (place_of other) (place_of label)) (up_to a labels)) (λ label. nat_le (place_of label) a) labels) ∙ e) in
     le_tells (place_of label) a (both_first (nat_le (place_of label) a) (list_all (λ other. nat_le (place_of other) (place_of label)) (up_to a labels)) f.passes)
 
--- what a map has at a place is a label at that place
+-- what a map has at an index is a label at that index
 pub label_of_entry : {Z : Type 0} (entries : List (String Z × ℕ)) (k : ℕ) (e : String Z × ℕ) → slice_get entries k ≡ Some e → slice_get (labels_of entries) k ≡ Some (string_bytes e.0, e.1)
 label_of_entry entries k e there = slice_get-map (λ entry. (string_bytes entry.0, entry.1)) entries k ∙ ap (option_map (λ entry. (string_bytes entry.0, entry.1))) there
 

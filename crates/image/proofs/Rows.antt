@@ -28,7 +28,7 @@ all_single : (P : Row → Type 0) (row : Row) → P row → All P (row ∷ [])
 all_single P row holds zero d h = holds
 all_single P row holds (suc k) d h = absurd (omega arith)
 
--- Rows that rise up to the start of a row of a later line rise with that row behind them, up to its end.
+-- Rows that rise up to the start of a row of a later line rise with that row after them, up to its end.
 pub rows_rise-push : (rows : List Row) (row : Row) (end : ℕ) → RowsRise rows end → end ≤ start_of row → All (λ before. line_in before < line_in row) rows → first_address ≤ start_of row → start_of row % 4 ≡ 0 → 1 ≤ words_in row → RowsRise (rows ++ row ∷ []) (end_of row)
 rows_rise-push rows row end rise after later first aligned words = record {
   words = All-append (λ each. 1 ≤ words_in each) rows (row ∷ []) rise.words (all_single (λ each. 1 ≤ words_in each) row words);
@@ -107,37 +107,37 @@ covers_inside a row h l = grind (arith, nat_tests)
 covers_below : (a : ℕ) (row : Row) → a < start_of row → covers a row ≡ false
 covers_below a row h = grind (arith, nat_tests)
 
-covers_behind : (a : ℕ) (row : Row) → end_of row ≤ a → covers a row ≡ false
-covers_behind a row h = grind (arith, nat_tests)
+covers_past_end : (a : ℕ) (row : Row) → end_of row ≤ a → covers a row ≡ false
+covers_past_end a row h = grind (arith, nat_tests)
 
--- An address that is no less than the start of the first row that ends behind it lies in that row.
+-- An address that is no less than the start of the first row that ends after it lies in that row.
 pub covered : (rows : List Row) (end a : ℕ) (row : Row) → RowsRise rows end → find (λ row. nat_lt a (end_of row)) rows ≡ Some row → start_of row ≤ a → find (covers a) rows ≡ Some row
 covered rows end a row rise found h =
     let f = found_at (λ row. nat_lt a (end_of row)) rows row found in
-    let here : get_or rows f.place row ≡ row = f.there row in
+    let here : get_or rows f.index row ≡ row = f.there row in
     let inside : covers a row ≡ true = covers_inside a row h (lt_true a (end_of row) f.passes) in
-    first_at (covers a) rows f.place row f.within (rw here inside) (λ j l. covers_behind a (get_or rows j row) (lt_false a (end_of (get_or rows j row)) (f.before j row l))) ∙ ap Some here
+    first_at (covers a) rows f.index row f.within (rw here inside) (λ j l. covers_past_end a (get_or rows j row) (lt_false a (end_of (get_or rows j row)) (f.before j row l))) ∙ ap Some here
 
 -- One that is less lies in no row.
 pub uncovered : (rows : List Row) (end a : ℕ) (row : Row) → RowsRise rows end → find (λ row. nat_lt a (end_of row)) rows ≡ Some row → a < start_of row → find (covers a) rows ≡ None
 uncovered rows end a row rise found h =
     let f = found_at (λ row. nat_lt a (end_of row)) rows row found in
     none_found (covers a) rows (λ j d within.
-    let cases = cases_lt j f.place in
+    let cases = cases_lt j f.index in
     elim cases as (λ c. covers a (get_or rows j d) ≡ false) [
-      | inl less ↦ covers_behind a (get_or rows j d) (lt_false a (end_of (get_or rows j d)) (f.before j d less))
-      | inr more ↦ elim (eq-or-lt_of_le {n = f.place} {m = j} more) as (λ c. covers a (get_or rows j d) ≡ false) [
+      | inl less ↦ covers_past_end a (get_or rows j d) (lt_false a (end_of (get_or rows j d)) (f.before j d less))
+      | inr more ↦ elim (eq-or-lt_of_le {n = f.index} {m = j} more) as (λ c. covers a (get_or rows j d) ≡ false) [
         | inl same ↦ rw (← same, f.there d) (covers_below a row h)
         | inr greater ↦
-            let e = rise.places f.place j d greater within in
+            let e = rise.places f.index j d greater within in
             let here : end_of row ≤ start_of (get_or rows j d) = (rw (f.there d) at e) in
             covers_below a (get_or rows j d) (omega arith)
       ]
     ])
 
--- An address behind which no row ends lies in no row.
+-- An address after which no row ends lies in no row.
 pub past_all : (rows : List Row) (a : ℕ) → find (λ row. nat_lt a (end_of row)) rows ≡ None → find (covers a) rows ≡ None
-past_all rows a found = none_found (covers a) rows (λ j d within. covers_behind a (get_or rows j d) (lt_false a (end_of (get_or rows j d)) (all_fail (λ row. nat_lt a (end_of row)) rows found j d within)))
+past_all rows a found = none_found (covers a) rows (λ j d within. covers_past_end a (get_or rows j d) (lt_false a (end_of (get_or rows j d)) (all_fail (λ row. nat_lt a (end_of row)) rows found j d within)))
 
 eq_self : (a b : ℕ) → a ≡ b → (a == b) ≡ true
 eq_self a b e = grind (arith, nat_tests)
@@ -152,9 +152,9 @@ eq_false a b e = grind (arith, nat_tests)
 pub line_there : (rows : List Row) (line : ℕ) (row : Row) → find (λ row. nat_le line (line_in row)) rows ≡ Some row → line_in row ≡ line → find (λ row. line_in row == line) rows ≡ Some row
 line_there rows line row found same =
     let f = found_at (λ row. nat_le line (line_in row)) rows row found in
-    let here : get_or rows f.place row ≡ row = f.there row in
+    let here : get_or rows f.index row ≡ row = f.there row in
     let passes : (line_in row == line) ≡ true = eq_self (line_in row) line same in
-    first_at (λ row. line_in row == line) rows f.place row f.within (rw here passes) (λ j l. let below = le_false line (line_in (get_or rows j row)) (f.before j row l) in eq_other (line_in (get_or rows j row)) line (omega arith)) ∙ ap Some here
+    first_at (λ row. line_in row == line) rows f.index row f.within (rw here passes) (λ j l. let below = le_false line (line_in (get_or rows j row)) (f.before j row l) in eq_other (line_in (get_or rows j row)) line (omega arith)) ∙ ap Some here
 
 -- Where it is of a later line, no row is of that line.
 pub line_not_there : (rows : List Row) (end line : ℕ) (row : Row) → RowsRise rows end → find (λ row. nat_le line (line_in row)) rows ≡ Some row → line_in row ≢ line → find (λ row. line_in row == line) rows ≡ None
@@ -162,11 +162,11 @@ line_not_there rows end line row rise found other =
     let f = found_at (λ row. nat_le line (line_in row)) rows row found in
     let above : line ≤ line_in row = le_true line (line_in row) f.passes in
     none_found (λ row. line_in row == line) rows (λ j d within.
-    let cases = cases_lt j f.place in
+    let cases = cases_lt j f.index in
     elim cases as (λ c. (line_in (get_or rows j d) == line) ≡ false) [
       | inl less ↦ let below = le_false line (line_in (get_or rows j d)) (f.before j d less) in eq_other (line_in (get_or rows j d)) line (omega arith)
       | inr more ↦
-          let e = lines_rise rows end d rise f.place j more within in
+          let e = lines_rise rows end d rise f.index j more within in
           let here : line_in row ≤ line_in (get_or rows j d) = (rw (f.there d) at e) in
           let strict : line < line_in row = omega arith in
           eq_other (line_in (get_or rows j d)) line (omega arith)
@@ -178,35 +178,35 @@ line_past_all rows line found = none_found (λ row. line_in row == line) rows (�
 
 starts_elsewhere : (rows : List Row) (end a : ℕ) (row : Row) → RowsRise rows end → FoundAt (λ row. nat_lt a (end_of row)) rows row → (j : ℕ) (d : Row) → j < length rows → start_of row ≢ a → (start_of (get_or rows j d) == a) ≡ false
 starts_elsewhere rows end a row rise f j d within other =
-    let cases = cases_lt j f.place in
+    let cases = cases_lt j f.index in
     elim cases as (λ c. (start_of (get_or rows j d) == a) ≡ false) [
       | inl less ↦
           let before = lt_false a (end_of (get_or rows j d)) (f.before j d less) in
           let words = rise.words j d within in
           eq_other (start_of (get_or rows j d)) a (omega arith)
-      | inr more ↦ elim (eq-or-lt_of_le {n = f.place} {m = j} more) as (λ c. (start_of (get_or rows j d) == a) ≡ false) [
+      | inr more ↦ elim (eq-or-lt_of_le {n = f.index} {m = j} more) as (λ c. (start_of (get_or rows j d) == a) ≡ false) [
         | inl same ↦ rw (← same, f.there d) (eq_other (start_of row) a other)
         | inr greater ↦
-            let e = rise.places f.place j d greater within in
+            let e = rise.places f.index j d greater within in
             let here : end_of row ≤ start_of (get_or rows j d) = (rw (f.there d) at e) in
             let inside : a < end_of row = lt_true a (end_of row) f.passes in
             eq_other (start_of (get_or rows j d)) a (omega arith)
       ]
     ]
 
--- An address starts a row exactly where it starts the first row that ends behind it.
+-- An address starts a row exactly where it starts the first row that ends after it.
 pub starts_there : (rows : List Row) (end a : ℕ) (row : Row) → RowsRise rows end → find (λ row. nat_lt a (end_of row)) rows ≡ Some row → list_any (λ row. start_of row == a) rows ≡ (start_of row == a)
 starts_there rows end a row rise found =
     let f = found_at (λ row. nat_lt a (end_of row)) rows row found in
-    let here : get_or rows f.place row ≡ row = f.there row in
+    let here : get_or rows f.index row ≡ row = f.there row in
     let P : Bool → Type 0 = λ t. (start_of row == a) ≡ t → list_any (λ row. start_of row == a) rows ≡ t in
     let go : P (start_of row == a) = elim (start_of row == a) as P [
-      | true ↦ λ t. list_any_at (λ row. start_of row == a) rows f.place row f.within (rw here t)
+      | true ↦ λ t. list_any_at (λ row. start_of row == a) rows f.index row f.within (rw here t)
       | false ↦ λ t. list_any_none (λ row. start_of row == a) rows (λ j d within. starts_elsewhere rows end a row rise f j d within (eq_false (start_of row) a t))
     ] in
     go refl
 
--- Where no row ends behind an address, it starts none.
+-- Where no row ends after an address, it starts none.
 pub starts_nowhere : (rows : List Row) (end a : ℕ) → RowsRise rows end → find (λ row. nat_lt a (end_of row)) rows ≡ None → list_any (λ row. start_of row == a) rows ≡ false
 starts_nowhere rows end a rise found = list_any_none (λ row. start_of row == a) rows (λ j d within.
     let before = lt_false a (end_of (get_or rows j d)) (all_fail (λ row. nat_lt a (end_of row)) rows found j d within) in

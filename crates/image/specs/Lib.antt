@@ -1,4 +1,11 @@
+-- The definitions of `image`, in reading order.
+
+-- memory: the byte at each address, what an access reads or writes, and its faults
 pub mod Memory
+-- what holds of every memory, by the byte at each address
 pub mod Laws
+-- the line table: which line the code at an address came from, where a line's code starts, the label of an address
 pub mod Lines
+-- ---- what only private clauses cite
+-- what a line table keeps beside that, so that a label can be found by halving
 pub mod Orders

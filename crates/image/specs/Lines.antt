@@ -1,10 +1,12 @@
 -- The line table of an image: which source line the code at an address came from, and where the labels are.
 --
 -- An image is the bytes of memory from 0x00010000 on, up to its end. A source line that has code has a row: the line's
--- number, the address of its first instruction, and how many words its code takes. Rows rise, in lines and in addresses,
--- and do not overlap; between two of them there may be a gap, as data leaves one. A label is a name with an address;
--- labels stand in the order of the text, and their addresses may be any.
-use Rattle.std.specs.Prelude.{◌≡◌, ℕ, ◌+◌, ◌-◌, ◌*◌, ◌%◌, ◌<◌, ◌≤◌, Bool, ◌==◌, nat_le, nat_lt, ◌&&◌, if◌then◌else◌, List, [], ◌∷◌, map, filter, find, All, AllPairs, Option, Some, None, option_map, String, string_bytes, refl}
+-- number, the address of its first instruction, and how many words its code takes. Rows rise, in lines and in
+-- addresses, and do not overlap; between two of them there may be a gap, as data leaves one. A label is a name with an
+-- address; labels stand in the order of the text, and their addresses may be any.
+use Rattle.std.specs.Prelude.{◌≡◌, ℕ, ◌+◌, ◌-◌, ◌*◌, ◌%◌, ◌<◌, ◌≤◌, Bool, ◌==◌, nat_le, nat_lt, ◌&&◌, if◌then◌else◌}
+use Rattle.std.specs.Prelude.{List, [], ◌∷◌, map, filter, find, All, AllPairs, Option, Some, None, option_map, String}
+use Rattle.std.specs.Prelude.{string_bytes, refl}
 use Rattle.std.specs.List.{list_all, list_any}
 use Rattle.image.specs.Memory.{first_address}
 
@@ -12,16 +14,19 @@ use Rattle.image.specs.Memory.{first_address}
 abbrev pub Row : Type 0
 Row = ℕ × ℕ × ℕ
 
+-- a row's line
 abbrev pub line_in : Row → ℕ
 line_in row = row.0
 
+-- where its code starts
 abbrev pub start_of : Row → ℕ
 start_of row = row.1
 
+-- how many words that takes
 abbrev pub words_in : Row → ℕ
 words_in row = row.2
 
--- the address behind a row's last word
+-- the address after a row's last word
 abbrev pub end_of : Row → ℕ
 end_of row = start_of row + 4 * words_in row
 
@@ -29,6 +34,7 @@ end_of row = start_of row + 4 * words_in row
 abbrev pub Label : Type 0
 Label = List ℕ × ℕ
 
+-- a label's address
 abbrev pub place_of : Label → ℕ
 place_of label = label.1
 
@@ -37,7 +43,7 @@ abbrev pub labels_of : {Z : Type 0} → List (String Z × ℕ) → List Label
 labels_of entries = map (λ entry. (string_bytes entry.0, entry.1)) entries
 
 -- Rows that a line table can have: each has a word at least and lies in the image, at a multiple of 4; of any two, the
--- later one has the greater line, and starts where the earlier one ends or behind that.
+-- later one has the greater line, and starts where the earlier one ends or after that.
 pub record RowsRise (rows : List Row) (end : ℕ) : Type 0 where
   pub words : All (λ row. 1 ≤ words_in row) rows
   pub aligned : All (λ row. start_of row % 4 ≡ 0) rows
@@ -46,7 +52,7 @@ pub record RowsRise (rows : List Row) (end : ℕ) : Type 0 where
   pub lines : AllPairs (λ row later. line_in row < line_in later) rows
   pub places : AllPairs (λ row later. end_of row ≤ start_of later) rows
 
--- what a line table holds; `end` is the address behind the image's last byte
+-- what a line table holds; `end` is the address after the image's last byte
 pub record Table : Type 0 where
   pub rows : List Row
   pub labels : List Label
@@ -85,13 +91,19 @@ abbrev pub in_image : Table → ℕ → Bool
 in_image table address = nat_le first_address address && nat_lt address table.end
 
 -- The name that an address in the image goes by: of the labels that are not above it the one with the greatest address,
--- the first in the text where several have that, and how far behind the label the address is.
+-- the first in the text where several have that, and how many bytes the address is above the label.
 abbrev pub label_at : Table → ℕ → Option (List ℕ × ℕ)
-label_at table address = if in_image table address then option_map (λ label. (label.0, address - place_of label)) (first_greatest (up_to address table.labels)) else None
+label_at table address = if in_image table address
+    then option_map (λ label. (label.0, address - place_of label)) (first_greatest (up_to address table.labels))
+    else None
 
 -- Line 3 has two words at 0x10000, and line 5 one at 0x1000c; "a" and "b" are the first address, "c" is 0x10008.
 example : Table
-example = record { rows = (3, 65536, 2) ∷ (5, 65548, 1) ∷ []; labels = (97 ∷ [], 65536) ∷ (99 ∷ [], 65544) ∷ (98 ∷ [], 65536) ∷ []; end = 65556 }
+example = record {
+  rows = (3, 65536, 2) ∷ (5, 65548, 1) ∷ [];
+  labels = (97 ∷ [], 65536) ∷ (99 ∷ [], 65544) ∷ (98 ∷ [], 65536) ∷ [];
+  end = 65556;
+}
 
 line_inside : line_of example 65543 ≡ Some 3
 unfolding example

@@ -4,9 +4,11 @@
 -- so the map is written as the list of its bytes in the order of their addresses: the byte at 0x00010000 + k is the
 -- k-th of the list. All other addresses have none, and an access to one of these is a fault.
 --
--- A half is 2 bytes and a word is 4, little-endian: the byte at the lowest address has the least weight. A half lies
--- at a multiple of 2, a word at a multiple of 4; that is looked at before anything else.
-use Rattle.std.specs.Prelude.{◌≡◌, ℕ, ◌+◌, ◌-◌, ◌*◌, ◌/◌, ◌%◌, Bool, ◌==◌, nat_le, nat_lt, if◌then◌else◌, ◌&&◌, ◌||◌, not, List, [], ◌∷◌, ◌++◌, length, take, drop, slice_get, Option, Some, None, Result, Ok, Err, refl}
+-- A halfword is 2 bytes and a word is 4, little-endian: the byte at the lowest address has the least weight. A halfword
+-- lies at a multiple of 2, a word at a multiple of 4; that is looked at before anything else.
+use Rattle.std.specs.Prelude.{◌≡◌, ℕ, ◌+◌, ◌-◌, ◌*◌, ◌/◌, ◌%◌, Bool, ◌==◌, nat_le, nat_lt, if◌then◌else◌, ◌&&◌, ◌||◌}
+use Rattle.std.specs.Prelude.{not, List, [], ◌∷◌, ◌++◌, length, take, drop, slice_get, Option, Some, None, Result, Ok}
+use Rattle.std.specs.Prelude.{Err, refl}
 use Rattle.image.specs.declared.fault.MemFault.{MemFault}
 use Rattle.image.specs.declared.fault.MemFault.TheVariants.{Misaligned, Outside}
 
@@ -20,7 +22,8 @@ byte_at memory address = if nat_lt address first_address then None else slice_ge
 
 -- whether each of so many addresses from this one on has a byte
 abbrev pub has_bytes : List ℕ → ℕ → ℕ → Bool
-has_bytes memory address count = (count == 0) || (nat_le first_address address && nat_le (address + count) (first_address + length memory))
+has_bytes memory address count = (count == 0)
+    || (nat_le first_address address && nat_le (address + count) (first_address + length memory))
 
 -- so many bytes from an address on, where each is there
 abbrev pub bytes_at : List ℕ → ℕ → ℕ → List ℕ
@@ -28,17 +31,19 @@ bytes_at memory address count = take count (drop (address - first_address) memor
 
 -- memory with these bytes from an address on, and its own bytes everywhere else
 abbrev pub with_bytes : List ℕ → ℕ → List ℕ → List ℕ
-with_bytes memory address bytes = take (address - first_address) memory ++ bytes ++ drop (address - first_address + length bytes) memory
+with_bytes memory address bytes = take (address - first_address) memory ++ bytes ++
+    drop (address - first_address + length bytes) memory
 
 -- what little-endian bytes are worth
 abbrev pub little_endian : List ℕ → ℕ
 little_endian [] = 0
 little_endian (byte ∷ bytes) = byte + 256 * little_endian bytes
 
--- the bytes of a half and of a word, the least first
-abbrev pub half_bytes : ℕ → List ℕ
-half_bytes half = half % 256 ∷ half / 256 % 256 ∷ []
+-- the bytes of a halfword, the least significant first
+abbrev pub halfword_bytes : ℕ → List ℕ
+halfword_bytes halfword = halfword % 256 ∷ halfword / 256 % 256 ∷ []
 
+-- the bytes of a word, the least significant first
 abbrev pub word_bytes : ℕ → List ℕ
 word_bytes word = word % 256 ∷ word / 256 % 256 ∷ word / 65536 % 256 ∷ word / 16777216 % 256 ∷ []
 
@@ -48,7 +53,8 @@ word_bytes_of = refl
 -- Why an access of so many bytes is refused: its address is no multiple of what it has to be, or one of the bytes is
 -- not there. The first of these, if there is one.
 abbrev pub fault_at : List ℕ → ℕ → ℕ → ℕ → Option MemFault
-fault_at memory aligned address count = if not (address % aligned == 0) then Some Misaligned else if has_bytes memory address count then None else Some Outside
+fault_at memory aligned address count = if not (address % aligned == 0) then Some Misaligned
+    else if has_bytes memory address count then None else Some Outside
 
 -- a value, or the fault that came first
 abbrev pub unless_fault : {A : Type 0} → Option MemFault → A → Result A MemFault
@@ -59,12 +65,14 @@ unless_fault (Some fault) value = Err fault
 abbrev pub word_at : List ℕ → ℕ → Result ℕ MemFault
 word_at memory address = unless_fault (fault_at memory 4 address 4) (little_endian (bytes_at memory address 4))
 
--- What a write of bytes answers, and the memory after it: a fault leaves all as it was.
+-- the memory after a write, or what it was where there is a fault
 abbrev pub memory_after : Option MemFault → List ℕ → List ℕ → List ℕ
 memory_after None written kept = written
 memory_after (Some fault) written kept = kept
 
 -- Bytes are written from an address on, at a multiple of what that has to be, or a fault is answered and nothing is.
-pub record Writes (aligned : ℕ) (before : List ℕ) (address : ℕ) (bytes : List ℕ) (answer : Result (Unit {0}) MemFault) (after : List ℕ) : Type 0 where
+pub record Writes (aligned : ℕ) (before : List ℕ) (address : ℕ) (bytes : List ℕ) (answer : Result (Unit {0}) MemFault)
+    (after : List ℕ) : Type 0 where
   pub answers : answer ≡ unless_fault (fault_at before aligned address (length bytes)) tt
-  pub leaves : after ≡ memory_after (fault_at before aligned address (length bytes)) (with_bytes before address bytes) before
+  pub leaves :
+      after ≡ memory_after (fault_at before aligned address (length bytes)) (with_bytes before address bytes) before

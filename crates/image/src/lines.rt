@@ -44,7 +44,7 @@ enum LabelOrder {
 
 /// Which source line the code at an address came from, and where the labels are. A contract sees
 /// rows of a line, the address of its first instruction and how many words it has; labels, in the order
-/// of the text; and the address behind the image's last byte.
+/// of the text; and the address after the image's last byte.
 #[derive(Debug, Drop)]
 pub struct LineTable {
     rows: Vec<(u32, u32, u32)>,
@@ -67,7 +67,7 @@ impl Model for LineTable {
 impl LineTable {
     /// The table of rows and labels, without taking memory. Each row is a line that has code, the
     /// address of its first instruction and how many words it has; `labels` are names and their
-    /// addresses, in the order of the text; `end` is the address behind the image's last byte.
+    /// addresses, in the order of the text; `end` is the address after the image's last byte.
     pub fn new(rows: Vec<(u32, u32, u32)>, labels: IndexMap<String, u32>, end: u32) -> LineTable
         requires { RowsRise rows.items end }
         ensures { result ≡ record { rows = rows.items; labels = labels_of labels.entries; end = end } }
@@ -86,7 +86,7 @@ impl LineTable {
         ensures line { result ≡ line_of self.now addr }
         ensures rise { RowsRise self.now.rows self.now.end }
     {
-        let row = self.row_behind(addr)?;
+        let row = self.row_ending_after(addr)?;
         if row.1 <= addr { Some(row.0) } else { None }
     }
 
@@ -113,13 +113,13 @@ impl LineTable {
     pub fn starts(&self, addr: u32) -> bool
         ensures { result ≡ starts self.now addr }
     {
-        match self.row_behind(addr) {
+        match self.row_ending_after(addr) {
             Some(row) => row.1 == addr,
             None => false,
         }
     }
 
-    /// The label that an address goes by, and how many bytes behind it the address is: the label of
+    /// The label that an address goes by, and how many bytes above it the address is: the label of
     /// the greatest address that is not above, the first in the text where several have that. `None`:
     /// the address is below 0x00010000 or not below the image's end, or no label is at or below it.
     pub fn label_at(&self, addr: u32) -> Option<(&str, u32)>
@@ -128,24 +128,24 @@ impl LineTable {
         if addr < FIRST_ADDRESS || addr >= self.end {
             return None;
         }
-        let place = self.nearest_label(addr)?;
-        let (name, address) = self.labels.get_index(place)?;
+        let index = self.nearest_label(addr)?;
+        let (name, address) = self.labels.get_index(index)?;
         Some((name.as_str(), addr - *address))
     }
 
-    /// The first row that ends behind an address.
-    fn row_behind(&self, addr: u32) -> Option<(u32, u32, u32)>
+    /// The first row that ends after an address.
+    fn row_ending_after(&self, addr: u32) -> Option<(u32, u32, u32)>
         ensures row { result ≡ find (λ row. nat_lt addr (end_of row)) self.now.rows }
         ensures rise { RowsRise self.now.rows self.now.end }
     {
         let rows = self.rows.as_slice();
-        let place = rows.partition_point(
+        let index = rows.partition_point(
             |row: &(u32, u32, u32)| -> bool
                 ensures { result ≡ nat_le (end_of row.now) addr }
             { u64::from(row.1) + 4 * u64::from(row.2) <= u64::from(addr) },
         );
-        if place < rows.len() {
-            Some(rows[place])
+        if index < rows.len() {
+            Some(rows[index])
         } else {
             None
         }
@@ -157,19 +157,19 @@ impl LineTable {
         ensures rise { RowsRise self.now.rows self.now.end }
     {
         let rows = self.rows.as_slice();
-        let place = rows.partition_point(
+        let index = rows.partition_point(
             |row: &(u32, u32, u32)| -> bool
                 ensures { result ≡ nat_lt (line_in row.now) line }
             { row.0 < line },
         );
-        if place < rows.len() {
-            Some(rows[place])
+        if index < rows.len() {
+            Some(rows[index])
         } else {
             None
         }
     }
 
-    /// The place of the first label that has the greatest address not above this one.
+    /// The index of the first label that has the greatest address not above this one.
     fn nearest_label(&self, addr: u32) -> Option<usize>
         ensures { option_and_then (slice_get self.now.labels) result ≡ first_greatest (up_to addr self.now.labels) }
     {
@@ -180,12 +180,12 @@ impl LineTable {
     }
 }
 
-/// The address of the label at a place.
-fn address_at(labels: &IndexMap<String, u32>, place: usize) -> u32
-    requires { place < index_map_len labels.now }
-    ensures { result ≡ slice_index (values labels.now) place }
+/// The address of the label at an index.
+fn address_at(labels: &IndexMap<String, u32>, index: usize) -> u32
+    requires { index < index_map_len labels.now }
+    ensures { result ≡ slice_index (values labels.now) index }
 {
-    match labels.get_index(place) {
+    match labels.get_index(index) {
         Some((_, address)) => *address,
         None => unreachable!(),
     }
@@ -195,15 +195,15 @@ fn address_at(labels: &IndexMap<String, u32>, place: usize) -> u32
 fn order_of(labels: &IndexMap<String, u32>) -> LabelOrder
     ensures { (result ≡ LabelOrder.Rising) ↔ NeverFall (values labels.now) }
 {
-    for place in 1..labels.len() {
-        if address_at(labels, place) < address_at(labels, place - 1) {
+    for index in 1..labels.len() {
+        if address_at(labels, index) < address_at(labels, index - 1) {
             return LabelOrder::Mixed;
         }
     }
     LabelOrder::Rising
 }
 
-/// The place of the first label that has the greatest address not above this one, where the labels'
+/// The index of the first label that has the greatest address not above this one, where the labels'
 /// addresses never fall.
 fn nearest_by_halving(labels: &IndexMap<String, u32>, addr: u32) -> Option<usize>
     requires { NeverFall (values labels.now) }
@@ -218,17 +218,17 @@ fn nearest_by_halving(labels: &IndexMap<String, u32>, addr: u32) -> Option<usize
         return None;
     }
     let greatest = address_at(labels, count - 1);
-    let place = labels.partition_point(
+    let index = labels.partition_point(
         |_name: &String, address: &u32| -> bool
             ensures { result ≡ nat_lt address.now greatest }
         { *address < greatest },
     );
-    Some(place)
+    Some(index)
 }
 
 /// Whether an address is greater than that of the label found so far, if there is one.
 fn is_greater(found: Option<(usize, u32)>, address: u32) -> bool
-    ensures { IsTrue result ↔ IfSome found (λ place. place.1 < address) }
+    ensures { IsTrue result ↔ IfSome found (λ label. label.1 < address) }
 {
     match found {
         Some((_, greatest)) => greatest < address,
@@ -236,19 +236,19 @@ fn is_greater(found: Option<(usize, u32)>, address: u32) -> bool
     }
 }
 
-/// The place of the first label that has the greatest address not above this one.
+/// The index of the first label that has the greatest address not above this one.
 fn nearest_by_looking(labels: &IndexMap<String, u32>, addr: u32) -> Option<usize>
     ensures { option_and_then (slice_get (labels_of labels.now.entries)) result ≡ first_greatest (up_to addr (labels_of labels.now.entries)) }
 {
     let mut found: Option<(usize, u32)> = None;
-    for place in 0..labels.len() {
-        let address = address_at(labels, place);
+    for index in 0..labels.len() {
+        let address = address_at(labels, index);
         if address <= addr && is_greater(found, address) {
-            found = Some((place, address));
+            found = Some((index, address));
         }
     }
     match found {
-        Some((place, _)) => Some(place),
+        Some((index, _)) => Some(index),
         None => None,
     }
 }

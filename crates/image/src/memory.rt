@@ -20,7 +20,7 @@ ghost use Rattle.image.specs.Memory.{
   fault_at,
   memory_after,
   first_address,
-  half_bytes,
+  halfword_bytes,
   unless_fault,
   word_at,
   word_bytes,
@@ -71,9 +71,9 @@ impl Memory {
         ensures { result ≡ byte_at self.now addr }
     {
         let bytes = self.bytes.as_slice();
-        let place = addr.wrapping_sub(FIRST_ADDRESS) as usize;
-        if place < bytes.len() {
-            Some(bytes[place])
+        let index = addr.wrapping_sub(FIRST_ADDRESS) as usize;
+        if index < bytes.len() {
+            Some(bytes[index])
         } else {
             None
         }
@@ -89,11 +89,11 @@ impl Memory {
             return Err(MemFault::Misaligned);
         }
         let bytes = self.bytes.as_slice();
-        let place = addr.wrapping_sub(FIRST_ADDRESS) as usize;
-        if place + 4 > bytes.len() {
+        let index = addr.wrapping_sub(FIRST_ADDRESS) as usize;
+        if index + 4 > bytes.len() {
             return Err(MemFault::Outside);
         }
-        Ok(word_at_index(bytes, place))
+        Ok(word_at_index(bytes, index))
     }
 
     /// Copies the bytes from an address on into `into`, as many as it has room for. `Outside`: one of
@@ -106,12 +106,12 @@ impl Memory {
             return Ok(());
         }
         let bytes = self.bytes.as_slice();
-        let place = addr.wrapping_sub(FIRST_ADDRESS) as usize;
-        let end = place + into.len();
+        let index = addr.wrapping_sub(FIRST_ADDRESS) as usize;
+        let end = index + into.len();
         if end > bytes.len() {
             return Err(MemFault::Outside);
         }
-        into.copy_from_slice(&bytes[place..end]);
+        into.copy_from_slice(&bytes[index..end]);
         Ok(())
     }
 
@@ -120,28 +120,28 @@ impl Memory {
     pub fn write_byte(&mut self, addr: u32, value: u8) -> Result<(), MemFault>
         ensures { Writes 1 self.old addr (value ∷ []) result self.new }
     {
-        let place = addr.wrapping_sub(FIRST_ADDRESS) as usize;
-        if place >= self.bytes.len() {
+        let index = addr.wrapping_sub(FIRST_ADDRESS) as usize;
+        if index >= self.bytes.len() {
             return Err(MemFault::Outside);
         }
-        self.bytes[place] = value;
+        self.bytes[index] = value;
         Ok(())
     }
 
-    /// Writes a little-endian half. `Misaligned`: the address is odd; else `Outside`: one of the two
+    /// Writes a little-endian halfword. `Misaligned`: the address is odd; else `Outside`: one of the two
     /// bytes is not there. Either way nothing is written.
     #[inline]
     pub fn write_half(&mut self, addr: u32, value: u16) -> Result<(), MemFault>
-        ensures { Writes 2 self.old addr (half_bytes value) result self.new }
+        ensures { Writes 2 self.old addr (halfword_bytes value) result self.new }
     {
         if addr % 2 != 0 {
             return Err(MemFault::Misaligned);
         }
-        let place = addr.wrapping_sub(FIRST_ADDRESS) as usize;
-        if place + 2 > self.bytes.len() {
+        let index = addr.wrapping_sub(FIRST_ADDRESS) as usize;
+        if index + 2 > self.bytes.len() {
             return Err(MemFault::Outside);
         }
-        self.bytes[place..place + 2].copy_from_slice(&value.to_le_bytes());
+        self.bytes[index..index + 2].copy_from_slice(&value.to_le_bytes());
         Ok(())
     }
 
@@ -154,11 +154,11 @@ impl Memory {
         if addr % 4 != 0 {
             return Err(MemFault::Misaligned);
         }
-        let place = addr.wrapping_sub(FIRST_ADDRESS) as usize;
-        if place + 4 > self.bytes.len() {
+        let index = addr.wrapping_sub(FIRST_ADDRESS) as usize;
+        if index + 4 > self.bytes.len() {
             return Err(MemFault::Outside);
         }
-        self.bytes[place..place + 4].copy_from_slice(&value.to_le_bytes());
+        self.bytes[index..index + 4].copy_from_slice(&value.to_le_bytes());
         Ok(())
     }
 
@@ -170,12 +170,12 @@ impl Memory {
         if bytes.is_empty() {
             return Ok(());
         }
-        let place = addr.wrapping_sub(FIRST_ADDRESS) as usize;
-        let end = place + bytes.len();
+        let index = addr.wrapping_sub(FIRST_ADDRESS) as usize;
+        let end = index + bytes.len();
         if end > self.bytes.len() {
             return Err(MemFault::Outside);
         }
-        self.bytes[place..end].copy_from_slice(bytes);
+        self.bytes[index..end].copy_from_slice(bytes);
         Ok(())
     }
 }

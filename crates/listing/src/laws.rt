@@ -5,6 +5,6 @@ ghost use Rattle.listing.specs.Listing.{ListingIsOnly};
 pub fn listing_is_only()
     ensures { ListingIsOnly }
 {
-    rv32i::laws::text_is_only();
+    rv32i::laws::text_is_unique();
     assembler::laws::placed_is_only();
 }

@@ -7,5 +7,5 @@ pub mod Bytes
 pub mod Moves
 pub mod Texts
 pub mod Keeps
-pub mod Only
+pub mod OneMove
 pub mod Candidates

@@ -2,7 +2,7 @@
 use Rattle.std.proofs.Common.{◌≡◌, ℕ, Bool, true, false, List, sym, ◌∙◌, subst}
 use Rattle.std.specs.Bool.{MatchBool}
 use Rattle.rv32i.specs.Encoding.{Encodes}
-use Rattle.rv32i.specs.Laws.{TextIsOnly}
+use Rattle.rv32i.specs.Laws.{TextIsUnique}
 use Rattle.rv32i.specs.Texts.{HasText, Coded, Illegal, is_plain_fence, word_text}
 use Rattle.rv32i.specs.declared.instr.Instr.{Instr}
 use Rattle.rv32i.specs.declared.instr.Instr.TheVariants.{Lui, Auipc, Jal, Jalr, Beq, Bne, Blt, Bge, Bltu, Bgeu, Lb, Lh, Lw, Lbu, Lhu, Sb, Sh, Sw, Addi, Slti, Sltiu, Xori, Ori, Andi, Slli, Srli, Srai, Add, Sub, Sll, Slt, Sltu, Xor, Srl, Sra, Or, And, Fence, Ecall, Ebreak}
@@ -54,7 +54,7 @@ one_has (Fence fm before after rd rs1) word pc text other e a b = one_choice (is
 one_has Ecall word pc text other e a b = a ∙ sym b
 one_has Ebreak word pc text other e a b = a ∙ sym b
 
-pub one_text : TextIsOnly
+pub one_text : TextIsUnique
 one_text word pc text other (Coded i e a) (Coded j f b) =
     let same : j ≡ i = one_instruction j i word f e in
     let P : Instr → Type 0 = λ k. HasText k pc other in

@@ -23,23 +23,23 @@ j_sum opcode rd offset word d fits within even e = record { sign = offset / 2 ^ 
 pub fence_sum : (opcode funct3 fm before after rd rs1 word : ℕ) → fm < 2 ^ 4 → before < 2 ^ 4 → after < 2 ^ 4 → rd < 2 ^ 5 → rs1 < 2 ^ 5 → word ≡ fm * 2 ^ 28 + before * 2 ^ 24 + after * 2 ^ 20 + rs1 * 2 ^ 15 + funct3 * 2 ^ 12 + rd * 2 ^ 7 + opcode → FenceType opcode funct3 fm before after rd rs1 word
 fence_sum opcode funct3 fm before after rd rs1 word m p q d s e = record { fm_fits = m; before_fits = p; after_fits = q; rd_fits = d; rs1_fits = s; sum = e }
 
-pub r_only : (opcode funct3 funct7 rd rs1 rs2 v w : ℕ) → RType opcode funct3 funct7 rd rs1 rs2 v → RType opcode funct3 funct7 rd rs1 rs2 w → v ≡ w
-r_only opcode funct3 funct7 rd rs1 rs2 v w a b = omega arith
+pub r_unique : (opcode funct3 funct7 rd rs1 rs2 v w : ℕ) → RType opcode funct3 funct7 rd rs1 rs2 v → RType opcode funct3 funct7 rd rs1 rs2 w → v ≡ w
+r_unique opcode funct3 funct7 rd rs1 rs2 v w a b = omega arith
 
-pub i_only : (opcode funct3 rd rs1 imm v w : ℕ) → IType opcode funct3 rd rs1 imm v → IType opcode funct3 rd rs1 imm w → v ≡ w
-i_only opcode funct3 rd rs1 imm v w a b = omega arith
+pub i_unique : (opcode funct3 rd rs1 imm v w : ℕ) → IType opcode funct3 rd rs1 imm v → IType opcode funct3 rd rs1 imm w → v ≡ w
+i_unique opcode funct3 rd rs1 imm v w a b = omega arith
 
-pub s_only : (opcode funct3 rs1 rs2 imm v w : ℕ) → SType opcode funct3 rs1 rs2 imm v → SType opcode funct3 rs1 rs2 imm w → v ≡ w
-s_only opcode funct3 rs1 rs2 imm v w a b = omega arith
+pub s_unique : (opcode funct3 rs1 rs2 imm v w : ℕ) → SType opcode funct3 rs1 rs2 imm v → SType opcode funct3 rs1 rs2 imm w → v ≡ w
+s_unique opcode funct3 rs1 rs2 imm v w a b = omega arith
 
-pub b_only : (opcode funct3 rs1 rs2 offset v w : ℕ) → BType opcode funct3 rs1 rs2 offset v → BType opcode funct3 rs1 rs2 offset w → v ≡ w
-b_only opcode funct3 rs1 rs2 offset v w a b = omega arith
+pub b_unique : (opcode funct3 rs1 rs2 offset v w : ℕ) → BType opcode funct3 rs1 rs2 offset v → BType opcode funct3 rs1 rs2 offset w → v ≡ w
+b_unique opcode funct3 rs1 rs2 offset v w a b = omega arith
 
-pub u_only : (opcode rd imm v w : ℕ) → UType opcode rd imm v → UType opcode rd imm w → v ≡ w
-u_only opcode rd imm v w a b = omega arith
+pub u_unique : (opcode rd imm v w : ℕ) → UType opcode rd imm v → UType opcode rd imm w → v ≡ w
+u_unique opcode rd imm v w a b = omega arith
 
-pub j_only : (opcode rd offset v w : ℕ) → JType opcode rd offset v → JType opcode rd offset w → v ≡ w
-j_only opcode rd offset v w a b = omega arith
+pub j_unique : (opcode rd offset v w : ℕ) → JType opcode rd offset v → JType opcode rd offset w → v ≡ w
+j_unique opcode rd offset v w a b = omega arith
 
-pub fence_only : (opcode funct3 fm before after rd rs1 v w : ℕ) → FenceType opcode funct3 fm before after rd rs1 v → FenceType opcode funct3 fm before after rd rs1 w → v ≡ w
-fence_only opcode funct3 fm before after rd rs1 v w a b = omega arith
+pub fence_unique : (opcode funct3 fm before after rd rs1 v w : ℕ) → FenceType opcode funct3 fm before after rd rs1 v → FenceType opcode funct3 fm before after rd rs1 w → v ≡ w
+fence_unique opcode funct3 fm before after rd rs1 v w a b = omega arith

@@ -58,7 +58,8 @@ pub record BType (opcode funct3 rs1 rs2 offset word : ℕ) : Type 0 where
   pub rs1_fits : rs1 < 2 ^ 5
   pub rs2_fits : rs2 < 2 ^ 5
   pub value : offset ≡ sign * (2 ^ 32 - 2 ^ 12) + bit11 * 2 ^ 11 + high * 2 ^ 5 + low * 2
-  pub sum : word ≡ sign * 2 ^ 31 + high * 2 ^ 25 + rs2 * 2 ^ 20 + rs1 * 2 ^ 15 + funct3 * 2 ^ 12 + low * 2 ^ 8 + bit11 * 2 ^ 7 + opcode
+  pub sum : word ≡ sign * 2 ^ 31 + high * 2 ^ 25 + rs2 * 2 ^ 20 + rs1 * 2 ^ 15 + funct3 * 2 ^ 12 + low * 2 ^ 8
+      + bit11 * 2 ^ 7 + opcode
 
 -- U, upper immediate: imm[31:12] 31:12, rd 11:7, opcode 6:0
 pub record UType (opcode rd imm word : ℕ) : Type 0 where
@@ -82,7 +83,8 @@ pub record JType (opcode rd offset word : ℕ) : Type 0 where
   pub value : offset ≡ sign * (2 ^ 32 - 2 ^ 20) + high * 2 ^ 12 + bit11 * 2 ^ 11 + low * 2
   pub sum : word ≡ sign * 2 ^ 31 + low * 2 ^ 21 + bit11 * 2 ^ 20 + high * 2 ^ 12 + rd * 2 ^ 7 + opcode
 
--- FENCE: fm 31:28, predecessor set 27:24, successor set 23:20, rs1 19:15, funct3 14:12, rd 11:7, opcode 6:0 (section 2.7)
+-- FENCE (section 2.7): fm 31:28, predecessor set 27:24, successor set 23:20, rs1 19:15, funct3 14:12, rd 11:7,
+-- opcode 6:0
 pub record FenceType (opcode funct3 fm before after rd rs1 word : ℕ) : Type 0 where
   pub fm_fits : fm < 2 ^ 4
   pub before_fits : before < 2 ^ 4

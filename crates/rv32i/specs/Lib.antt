@@ -1,8 +1,19 @@
+-- The definitions of `rv32i`, in reading order.
+
+-- the formats: where the fields of an instruction lie in its word
 pub mod Formats
+-- the table of encodings: which word stands for which instruction, and which words are illegal
 pub mod Encoding
-pub mod Names
+-- what each instruction does to pc, the registers and memory; the move of a machine, and traps
 pub mod Machine
+-- the names of the registers
+pub mod Names
+-- the disassembly of an instruction, and of any word
 pub mod Texts
-pub mod Steps
+-- what holds of every word and of every machine
 pub mod Laws
+-- ---- what only private clauses cite
+-- how the code makes a move: its core and what settles the rest
+pub mod Steps
+-- how the code finds the register that a name means
 pub mod Candidates

@@ -4,24 +4,31 @@
 -- below 2 ^ 8, and sums wrap. x0 is hardwired to 0 (section 2.1): it is 0 in each hart, and a value for x0 is dropped.
 --
 -- A move fetches the word at pc and does what its instruction says, one clause for each instruction below. A trap is
--- precise: it leaves the machine as it was, and so does the end of the program. Where no memory is left for an access, that
--- is told as itself, no trap, and leaves the machine as it was too.
-use Rattle.std.specs.Prelude.{◌≡◌, ℕ, ℤ, ◌+◌, ◌-◌, ◌*◌, ◌/◌, ◌%◌, ◌^◌, Bool, ◌==◌, nat_lt, not, if◌then◌else◌, List, [], ◌∷◌, slice_index, slice_set, bit_and, bit_or, bit_xor, Option, Some, None, Result, Ok, Err, MatchResult, ⊤, alloc_error}
+-- precise: it leaves the machine as it was, and so does the end of the program. Where no memory is left for an access,
+-- the answer says so; that is no trap, and leaves the machine as it was too.
+use Rattle.std.specs.Prelude.{◌≡◌, ℕ, ℤ, ◌+◌, ◌-◌, ◌*◌, ◌/◌, ◌%◌, ◌^◌, Bool, ◌==◌, nat_lt, not, if◌then◌else◌, List, []}
+use Rattle.std.specs.Prelude.{◌∷◌, slice_index, slice_set, bit_and, bit_or, bit_xor, Option, Some, None, Result, Ok}
+use Rattle.std.specs.Prelude.{Err, MatchResult, ⊤, alloc_error}
 use Rattle.std.specs.Int.{cast_signed, cast_unsigned, int_shr, w32}
 use Rattle.std.specs.Int.RustNames.{int_lt}
 use Rattle.std.specs.declared.alloc.AllocError.{AllocError}
-use Rattle.image.specs.Memory.{fault_at, bytes_at, with_bytes, little_endian, half_bytes, word_bytes, word_at}
+use Rattle.image.specs.Memory.{fault_at, bytes_at, with_bytes, little_endian, halfword_bytes, word_bytes, word_at}
 use Rattle.image.specs.declared.fault.MemFault.{MemFault}
 use Rattle.image.specs.declared.fault.MemFault.TheVariants.{Misaligned, Outside, NoMemory}
 use Rattle.rv32i.specs.Encoding.{Encodes, IsIllegal}
 use Rattle.rv32i.specs.declared.stepped.Stepped.{Stepped}
 use Rattle.rv32i.specs.declared.stepped.Stepped.TheVariants.{Retired, Printed, Break, Exit, Trap}
 use Rattle.rv32i.specs.declared.stepped.Cause.{Cause}
-use Rattle.rv32i.specs.declared.stepped.Cause.TheVariants.{FetchOutside, Illegal, JumpMisaligned, LoadMisaligned, LoadOutside, StoreMisaligned, StoreOutside, UnknownCall}
+use Rattle.rv32i.specs.declared.stepped.Cause.TheVariants.{FetchOutside, Illegal, JumpMisaligned, LoadMisaligned}
+use Rattle.rv32i.specs.declared.stepped.Cause.TheVariants.{LoadOutside, StoreMisaligned, StoreOutside, UnknownCall}
 use Rattle.rv32i.specs.declared.hart.Hart.{Hart}
 use Rattle.rv32i.specs.declared.instr.Instr.{Instr}
-use Rattle.rv32i.specs.declared.instr.Instr.TheVariants.{Lui, Auipc, Jal, Jalr, Beq, Bne, Blt, Bge, Bltu, Bgeu, Lb, Lh, Lw, Lbu, Lhu, Sb, Sh, Sw, Addi, Slti, Sltiu, Xori, Ori, Andi, Slli, Srli, Srai, Add, Sub, Sll, Slt, Sltu, Xor, Srl, Sra, Or, And, Fence, Ecall, Ebreak}
+use Rattle.rv32i.specs.declared.instr.Instr.TheVariants.{Lui, Auipc, Jal, Jalr, Beq, Bne, Blt, Bge, Bltu, Bgeu, Lb, Lh}
+use Rattle.rv32i.specs.declared.instr.Instr.TheVariants.{Lw, Lbu, Lhu, Sb, Sh, Sw, Addi, Slti, Sltiu, Xori, Ori, Andi}
+use Rattle.rv32i.specs.declared.instr.Instr.TheVariants.{Slli, Srli, Srai, Add, Sub, Sll, Slt, Sltu, Xor, Srl, Sra, Or}
+use Rattle.rv32i.specs.declared.instr.Instr.TheVariants.{And, Fence, Ecall, Ebreak}
 
+-- pc, the registers and the bytes of memory
 pub record Machine : Type 0 where
   pub pc : ℕ
   pub x : List ℕ
@@ -38,10 +45,11 @@ pub record Effect : Type 0 where
 
 -- ---- numbers of 32 bits
 
--- "Arithmetic overflow is ignored": the low 32 bits of a sum and of a difference
+-- "Arithmetic overflow is ignored": the low 32 bits of a sum
 abbrev pub sum : ℕ → ℕ → ℕ
 sum a b = (a + b) % 2 ^ 32
 
+-- and of a difference
 abbrev pub difference : ℕ → ℕ → ℕ
 difference a b = (a + (2 ^ 32 - b)) % 2 ^ 32
 
@@ -49,12 +57,13 @@ difference a b = (a + (2 ^ 32 - b)) % 2 ^ 32
 abbrev pub signed : ℕ → ℤ
 signed a = cast_signed w32 a
 
--- less as signed numbers, and as unsigned ones
-abbrev pub is_less : ℕ → ℕ → Bool
-is_less a b = int_lt (signed a) (signed b)
+-- less than, as signed numbers
+abbrev pub is_less_than : ℕ → ℕ → Bool
+is_less_than a b = int_lt (signed a) (signed b)
 
-abbrev pub is_below : ℕ → ℕ → Bool
-is_below a b = nat_lt a b
+-- less than, as unsigned numbers
+abbrev pub is_less_than_unsigned : ℕ → ℕ → Bool
+is_less_than_unsigned a b = nat_lt a b
 
 -- 1 where it is so, 0 where it is not
 abbrev pub flag : Bool → ℕ
@@ -64,6 +73,7 @@ flag test = if test then 1 else 0
 abbrev pub places : ℕ → ℕ
 places a = a % 32
 
+-- zeros are shifted into the lower bits
 abbrev pub shifted_left : ℕ → ℕ → ℕ
 shifted_left a by = (a * 2 ^ by) % 2 ^ 32
 
@@ -76,14 +86,15 @@ shifted_right a by = a / 2 ^ by
 abbrev pub shifted_right_signed : ℕ → ℕ → ℕ
 shifted_right_signed a by = cast_unsigned w32 (int_shr (signed a) by)
 
--- a byte and a half sign-extended to 32 bits
+-- a byte, sign-extended to 32 bits
 abbrev pub byte_extended : ℕ → ℕ
 byte_extended a = if nat_lt a 128 then a else a + (2 ^ 32 - 2 ^ 8)
 
-abbrev pub half_extended : ℕ → ℕ
-half_extended a = if nat_lt a 32768 then a else a + (2 ^ 32 - 2 ^ 16)
+-- a halfword, sign-extended to 32 bits
+abbrev pub halfword_extended : ℕ → ℕ
+halfword_extended a = if nat_lt a 32768 then a else a + (2 ^ 32 - 2 ^ 16)
 
--- ---- the parts of a move
+-- ---- what a move is made of
 
 -- the value of a register
 abbrev pub value : ℕ → Machine → ℕ
@@ -118,36 +129,43 @@ jumps target before linked = if target % 4 == 0 then retired target linked else 
 abbrev pub linked : ℕ → Machine → Machine
 linked rd m = record m { x = with_register rd (sum m.pc 4) m.x }
 
+-- a branch: to its target where it is taken, and else to the next instruction
 abbrev pub branches : Bool → ℕ → Machine → Effect
 branches taken offset m = if taken then jumps (sum m.pc offset) m m else retired (sum m.pc 4) m
 
--- a load of so many bytes, at an address that is a multiple of their number; rd gets what is made of their value, or what
--- a fault comes to
+-- what comes of a fault of a load
 abbrev pub load_fault : MemFault → Machine → Effect
 load_fault Misaligned m = trapped LoadMisaligned m
 load_fault Outside m = trapped LoadOutside m
 load_fault NoMemory m = out_of_memory m
 
+-- a value goes into rd unless there is a fault
 abbrev pub loads_unless : Option MemFault → ℕ → ℕ → Machine → Effect
 loads_unless None rd v m = gives rd v m
 loads_unless (Some fault) rd v m = load_fault fault m
 
+-- A load of so many bytes, at an address that is a multiple of their number: rd gets what is made of their value.
 abbrev pub loads : ℕ → (ℕ → ℕ) → ℕ → ℕ → Machine → Effect
-loads count extended rd address m = loads_unless (fault_at m.memory count address count) rd (extended (little_endian (bytes_at m.memory address count))) m
+loads count extended rd address m = loads_unless (fault_at m.memory count address count) rd
+    (extended (little_endian (bytes_at m.memory address count))) m
 
+-- a value that is not extended: of a word, or zero-extended
 abbrev pub as_it_is : ℕ → ℕ
 as_it_is a = a
 
--- a store of so many bytes, at an address that is a multiple of their number
+-- what comes of a fault of a store
 abbrev pub store_fault : MemFault → Machine → Effect
 store_fault Misaligned m = trapped StoreMisaligned m
 store_fault Outside m = trapped StoreOutside m
 store_fault NoMemory m = out_of_memory m
 
+-- bytes are stored unless there is a fault
 abbrev pub stores_unless : Option MemFault → List ℕ → ℕ → Machine → Effect
-stores_unless None bytes address m = record { answer = Ok Retired; machine = record m { pc = sum m.pc 4; memory = with_bytes m.memory address bytes } }
+stores_unless None bytes address m =
+    record { answer = Ok Retired; machine = record m { pc = sum m.pc 4; memory = with_bytes m.memory address bytes } }
 stores_unless (Some fault) bytes address m = store_fault fault m
 
+-- a store of so many bytes, at an address that is a multiple of their number
 abbrev pub stores : ℕ → List ℕ → ℕ → Machine → Effect
 stores count bytes address m = stores_unless (fault_at m.memory count address count) bytes address m
 
@@ -155,16 +173,18 @@ stores count bytes address m = stores_unless (fault_at m.memory count address co
 -- a signed number; there is no other.
 abbrev pub calls : Machine → Effect
 calls m = if value 17 m == 93 then record { answer = Ok (Exit (signed (value 10 m))); machine = m }
-    else if value 17 m == 1 then record { answer = Ok (Printed (signed (value 10 m))); machine = record m { pc = sum m.pc 4 } }
+    else if value 17 m == 1
+    then record { answer = Ok (Printed (signed (value 10 m))); machine = record m { pc = sum m.pc 4 } }
     else trapped UnknownCall m
 
 -- ---- the instructions
 
+-- what each instruction does, in the order of the manual's sections
 abbrev pub effect_of : Instr → Machine → Effect
 -- 2.4, integer register-immediate instructions. The immediate is sign-extended.
 effect_of (Addi rd rs1 imm) m = gives rd (sum (value rs1 m) imm) m
-effect_of (Slti rd rs1 imm) m = gives rd (flag (is_less (value rs1 m) imm)) m
-effect_of (Sltiu rd rs1 imm) m = gives rd (flag (is_below (value rs1 m) imm)) m
+effect_of (Slti rd rs1 imm) m = gives rd (flag (is_less_than (value rs1 m) imm)) m
+effect_of (Sltiu rd rs1 imm) m = gives rd (flag (is_less_than_unsigned (value rs1 m) imm)) m
 effect_of (Xori rd rs1 imm) m = gives rd (bit_xor (value rs1 m) imm) m
 effect_of (Ori rd rs1 imm) m = gives rd (bit_or (value rs1 m) imm) m
 effect_of (Andi rd rs1 imm) m = gives rd (bit_and (value rs1 m) imm) m
@@ -178,8 +198,8 @@ effect_of (Auipc rd imm) m = gives rd (sum m.pc imm) m
 effect_of (Add rd rs1 rs2) m = gives rd (sum (value rs1 m) (value rs2 m)) m
 effect_of (Sub rd rs1 rs2) m = gives rd (difference (value rs1 m) (value rs2 m)) m
 effect_of (Sll rd rs1 rs2) m = gives rd (shifted_left (value rs1 m) (places (value rs2 m))) m
-effect_of (Slt rd rs1 rs2) m = gives rd (flag (is_less (value rs1 m) (value rs2 m))) m
-effect_of (Sltu rd rs1 rs2) m = gives rd (flag (is_below (value rs1 m) (value rs2 m))) m
+effect_of (Slt rd rs1 rs2) m = gives rd (flag (is_less_than (value rs1 m) (value rs2 m))) m
+effect_of (Sltu rd rs1 rs2) m = gives rd (flag (is_less_than_unsigned (value rs1 m) (value rs2 m))) m
 effect_of (Xor rd rs1 rs2) m = gives rd (bit_xor (value rs1 m) (value rs2 m)) m
 effect_of (Srl rd rs1 rs2) m = gives rd (shifted_right (value rs1 m) (places (value rs2 m))) m
 effect_of (Sra rd rs1 rs2) m = gives rd (shifted_right_signed (value rs1 m) (places (value rs2 m))) m
@@ -191,19 +211,19 @@ effect_of (Jal rd offset) m = jumps (sum m.pc offset) m (linked rd m)
 effect_of (Jalr rd rs1 imm) m = jumps (sum (value rs1 m) imm / 2 * 2) m (linked rd m)
 effect_of (Beq rs1 rs2 offset) m = branches (value rs1 m == value rs2 m) offset m
 effect_of (Bne rs1 rs2 offset) m = branches (not (value rs1 m == value rs2 m)) offset m
-effect_of (Blt rs1 rs2 offset) m = branches (is_less (value rs1 m) (value rs2 m)) offset m
-effect_of (Bge rs1 rs2 offset) m = branches (not (is_less (value rs1 m) (value rs2 m))) offset m
-effect_of (Bltu rs1 rs2 offset) m = branches (is_below (value rs1 m) (value rs2 m)) offset m
-effect_of (Bgeu rs1 rs2 offset) m = branches (not (is_below (value rs1 m) (value rs2 m))) offset m
+effect_of (Blt rs1 rs2 offset) m = branches (is_less_than (value rs1 m) (value rs2 m)) offset m
+effect_of (Bge rs1 rs2 offset) m = branches (not (is_less_than (value rs1 m) (value rs2 m))) offset m
+effect_of (Bltu rs1 rs2 offset) m = branches (is_less_than_unsigned (value rs1 m) (value rs2 m)) offset m
+effect_of (Bgeu rs1 rs2 offset) m = branches (not (is_less_than_unsigned (value rs1 m) (value rs2 m))) offset m
 -- 2.6: "The effective address is obtained by adding register rs1 to the sign-extended 12-bit offset. Loads copy a value
 -- from memory to register rd. Stores copy the value in register rs2 to memory." A load with rd x0 still reads memory.
 effect_of (Lb rd rs1 imm) m = loads 1 byte_extended rd (sum (value rs1 m) imm) m
-effect_of (Lh rd rs1 imm) m = loads 2 half_extended rd (sum (value rs1 m) imm) m
+effect_of (Lh rd rs1 imm) m = loads 2 halfword_extended rd (sum (value rs1 m) imm) m
 effect_of (Lw rd rs1 imm) m = loads 4 as_it_is rd (sum (value rs1 m) imm) m
 effect_of (Lbu rd rs1 imm) m = loads 1 as_it_is rd (sum (value rs1 m) imm) m
 effect_of (Lhu rd rs1 imm) m = loads 2 as_it_is rd (sum (value rs1 m) imm) m
 effect_of (Sb rs1 rs2 imm) m = stores 1 (value rs2 m % 256 ∷ []) (sum (value rs1 m) imm) m
-effect_of (Sh rs1 rs2 imm) m = stores 2 (half_bytes (value rs2 m)) (sum (value rs1 m) imm) m
+effect_of (Sh rs1 rs2 imm) m = stores 2 (halfword_bytes (value rs2 m)) (sum (value rs1 m) imm) m
 effect_of (Sw rs1 rs2 imm) m = stores 4 (word_bytes (value rs2 m)) (sum (value rs1 m) imm) m
 -- 2.7: one hart sees its own accesses in order.
 effect_of (Fence fm before after rd rs1) m = retired (sum m.pc 4) m
@@ -223,7 +243,8 @@ fetch_fault NoMemory m = out_of_memory m
 -- none is illegal, and one that is not there cannot be fetched.
 abbrev pub IsMove : Machine → Effect → Type 0
 IsMove before effect = MatchResult (word_at before.memory before.pc)
-    (λ word. ((i : Instr) → Encodes i word → effect ≡ effect_of i before) × (IsIllegal word → effect ≡ trapped Illegal before))
+    (λ word. ((i : Instr) → Encodes i word → effect ≡ effect_of i before)
+    × (IsIllegal word → effect ≡ trapped Illegal before))
     (λ fault. effect ≡ fetch_fault fault before)
 
 -- ---- what holds of each move
@@ -241,6 +262,7 @@ KeepsMachine (Ok Break) before after = ⊤
 abbrev pub KeepsAligned : Machine → Machine → Type 0
 KeepsAligned before after = before.pc % 4 ≡ 0 → after.pc % 4 ≡ 0
 
+-- what each move keeps
 pub record Keeps (before : Machine) (effect : Effect) : Type 0 where
   pub unchanged : KeepsMachine effect.answer before effect.machine
   pub aligned : KeepsAligned before effect.machine

@@ -1,6 +1,7 @@
--- How the code goes through a move: the core answers the next pc, or why there is none, and a cold part settles that.
--- A reader of the public calls needs none of this.
-use Rattle.std.specs.Prelude.{◌≡◌, ℕ, ◌%◌, ◌==◌, if◌then◌else◌, List, [], Option, Some, None, Result, Ok, Err, alloc_error}
+-- What only private clauses cite: how the code makes a move. `perform` answers the next pc, or why there is none, and
+-- `settle` makes of that what the step answers. A reader of the public calls needs none of this.
+use Rattle.std.specs.Prelude.{◌≡◌, ℕ, ◌%◌, ◌==◌, if◌then◌else◌, List, [], Option, Some, None, Result, Ok, Err}
+use Rattle.std.specs.Prelude.{alloc_error}
 use Rattle.std.specs.declared.alloc.AllocError.{AllocError}
 use Rattle.image.specs.Memory.{fault_at, bytes_at, with_bytes, memory_after, little_endian}
 use Rattle.image.specs.declared.fault.MemFault.{MemFault}
@@ -8,7 +9,8 @@ use Rattle.image.specs.declared.fault.MemFault.TheVariants.{Misaligned, Outside,
 use Rattle.rv32i.specs.Machine.{Machine, effect_of, calls, sum, with_register}
 use Rattle.rv32i.specs.declared.perform.Halt.{Halt}
 use Rattle.rv32i.specs.declared.perform.Halt.TheVariants.{Stopped, NoMemory, Calls, Breaks}
-use Rattle.rv32i.specs.declared.stepped.Cause.TheVariants.{JumpMisaligned, LoadMisaligned, LoadOutside, StoreMisaligned, StoreOutside}
+use Rattle.rv32i.specs.declared.stepped.Cause.TheVariants.{JumpMisaligned, LoadMisaligned, LoadOutside, StoreMisaligned}
+use Rattle.rv32i.specs.declared.stepped.Cause.TheVariants.{StoreOutside}
 use Rattle.rv32i.specs.declared.stepped.Stepped.{Stepped}
 use Rattle.rv32i.specs.declared.stepped.Stepped.TheVariants.{Retired, Break, Trap}
 use Rattle.rv32i.specs.declared.instr.Instr.{Instr}
@@ -20,13 +22,15 @@ load_halt Misaligned = Stopped LoadMisaligned
 load_halt Outside = Stopped LoadOutside
 load_halt NoRoom = NoMemory
 
--- what a load of so many bytes gives, or why it gives nothing
+-- what a load gives: the value, or what comes of the fault
 abbrev pub loaded_unless : Option MemFault → ℕ → Result ℕ Halt
 loaded_unless None value = Ok value
 loaded_unless (Some fault) value = Err (load_halt fault)
 
+-- what a load of so many bytes gives
 abbrev pub loaded : ℕ → List ℕ → ℕ → Result ℕ Halt
-loaded count memory address = loaded_unless (fault_at memory count address count) (little_endian (bytes_at memory address count))
+loaded count memory address =
+    loaded_unless (fault_at memory count address count) (little_endian (bytes_at memory address count))
 
 -- the same with its value extended
 abbrev pub extended : (ℕ → ℕ) → Result ℕ Halt → Result ℕ Halt
@@ -44,7 +48,8 @@ target_of target = if target % 4 == 0 then Ok target else Err (Stopped JumpMisal
 
 -- it goes there with the address of the following instruction in rd; a trap leaves the registers
 abbrev pub links : ℕ → ℕ → ℕ → List ℕ → Result ℕ Halt → List ℕ → Type 0
-links target rd next before answer after = (answer ≡ target_of target) × (after ≡ (if target % 4 == 0 then with_register rd next before else before))
+links target rd next before answer after = (answer ≡ target_of target)
+    × (after ≡ (if target % 4 == 0 then with_register rd next before else before))
 
 -- what comes of a fault of a store
 abbrev pub store_halt : MemFault → Halt
@@ -52,24 +57,35 @@ store_halt Misaligned = Stopped StoreMisaligned
 store_halt Outside = Stopped StoreOutside
 store_halt NoRoom = NoMemory
 
+-- what a store answers: the next pc, or what comes of the fault
 abbrev pub stored_unless : Option MemFault → ℕ → Result ℕ Halt
 stored_unless None next = Ok next
 stored_unless (Some fault) next = Err (store_halt fault)
 
+-- a store of so many bytes: what it answers, and the memory after it
 abbrev pub Stores : ℕ → List ℕ → ℕ → ℕ → List ℕ → Result ℕ Halt → List ℕ → Type 0
-Stores count bytes address next before answer after = (answer ≡ stored_unless (fault_at before count address count) next) × (after ≡ memory_after (fault_at before count address count) (with_bytes before address bytes) before)
+Stores count bytes address next before answer after =
+    (answer ≡ stored_unless (fault_at before count address count) next)
+    × (after ≡ memory_after (fault_at before count address count) (with_bytes before address bytes) before)
 
--- what the core answers for an effect, and the registers and memory that it leaves
+-- what `perform` answers for an effect, and the registers and memory that it leaves
 abbrev pub Performs : Instr → Machine → Result ℕ Halt → List ℕ → List ℕ → Type 0
-Performs i before (Ok pc) x memory = effect_of i before ≡ record { answer = Ok Retired; machine = record { pc = pc; x = x; memory = memory } }
-Performs i before (Err (Stopped cause)) x memory = effect_of i before ≡ record { answer = Ok (Trap cause); machine = record { pc = before.pc; x = x; memory = memory } }
-Performs i before (Err NoMemory) x memory = effect_of i before ≡ record { answer = Err alloc_error; machine = record { pc = before.pc; x = x; memory = memory } }
+Performs i before (Ok pc) x memory =
+    effect_of i before ≡ record { answer = Ok Retired; machine = record { pc = pc; x = x; memory = memory } }
+Performs i before (Err (Stopped cause)) x memory =
+    effect_of i before
+    ≡ record { answer = Ok (Trap cause); machine = record { pc = before.pc; x = x; memory = memory } }
+Performs i before (Err NoMemory) x memory =
+    effect_of i before
+    ≡ record { answer = Err alloc_error; machine = record { pc = before.pc; x = x; memory = memory } }
 Performs i before (Err Calls) x memory = (i ≡ Ecall) × (x ≡ before.x) × (memory ≡ before.memory)
 Performs i before (Err Breaks) x memory = (i ≡ Ebreak) × (x ≡ before.x) × (memory ≡ before.memory)
 
--- what a step answers where the core has no next pc, and the pc after it
+-- what a step answers where there is no next pc, and the pc after it
 abbrev pub settles : Halt → ℕ → List ℕ → Result Stepped AllocError → ℕ → Type 0
 settles (Stopped cause) pc x answer after = (answer ≡ Ok (Trap cause)) × (after ≡ pc)
 settles NoMemory pc x answer after = (answer ≡ Err alloc_error) × (after ≡ pc)
-settles Calls pc x answer after = record { answer = answer; machine = record { pc = after; x = x; memory = [] } } ≡ calls (record { pc = pc; x = x; memory = [] })
+settles Calls pc x answer after =
+    record { answer = answer; machine = record { pc = after; x = x; memory = [] } }
+    ≡ calls (record { pc = pc; x = x; memory = [] })
 settles Breaks pc x answer after = (answer ≡ Ok Break) × (after ≡ sum pc 4)

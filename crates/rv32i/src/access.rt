@@ -1,8 +1,8 @@
 //! Loads and stores (RISC-V Unprivileged ISA 20191213, section 2.6).
 
 ghost use Rattle.std.specs.Prelude.{◌≡◌, ◌<◌, ◌%◌, ◌∷◌, [], IfOk};
-ghost use Rattle.image.specs.Memory.{half_bytes, word_bytes};
-ghost use Rattle.rv32i.specs.Machine.{byte_extended, half_extended};
+ghost use Rattle.image.specs.Memory.{halfword_bytes, word_bytes};
+ghost use Rattle.rv32i.specs.Machine.{byte_extended, halfword_extended};
 ghost use Rattle.rv32i.specs.Steps as steps;
 ghost use Rattle.rv32i.specs.Steps.{extended, loaded, Stores};
 
@@ -23,11 +23,11 @@ pub(crate) fn load_byte(memory: &Memory, address: u32) -> Result<u32, Halt>
     }
 }
 
-/// The half at an address.
+/// The halfword at an address.
 #[inline]
 pub(crate) fn load_half(memory: &Memory, address: u32) -> Result<u32, Halt>
     ensures value { result ≡ loaded 2 memory.now address }
-    ensures within { IfOk result (λ half. half < 65536) }
+    ensures within { IfOk result (λ halfword. halfword < 65536) }
 {
     if address % 2 != 0 {
         return Err(Halt::Stopped(Cause::LoadMisaligned));
@@ -58,10 +58,10 @@ pub(crate) fn load_i8(memory: &Memory, address: u32) -> Result<u32, Halt>
     sign_byte(load_byte(memory, address))
 }
 
-/// The half at an address, sign-extended.
+/// The halfword at an address, sign-extended.
 #[inline]
 pub(crate) fn load_i16(memory: &Memory, address: u32) -> Result<u32, Halt>
-    ensures { result ≡ extended half_extended (loaded 2 memory.now address) }
+    ensures { result ≡ extended halfword_extended (loaded 2 memory.now address) }
 {
     sign_half(load_half(memory, address))
 }
@@ -79,15 +79,15 @@ fn sign_byte(loaded: Result<u32, Halt>) -> Result<u32, Halt>
     }
 }
 
-// A half that was loaded, sign-extended.
+// A halfword that was loaded, sign-extended.
 #[inline]
 fn sign_half(loaded: Result<u32, Halt>) -> Result<u32, Halt>
-    requires { IfOk loaded (λ half. half < 65536) }
-    ensures { result ≡ extended half_extended loaded }
+    requires { IfOk loaded (λ halfword. halfword < 65536) }
+    ensures { result ≡ extended halfword_extended loaded }
 {
     match loaded {
-        Ok(half) if half < 0x8000 => Ok(half),
-        Ok(half) => Ok(half + 0xffff_0000),
+        Ok(halfword) if halfword < 0x8000 => Ok(halfword),
+        Ok(halfword) => Ok(halfword + 0xffff_0000),
         Err(halt) => Err(halt),
     }
 }
@@ -108,7 +108,7 @@ pub(crate) fn store_byte(
     }
 }
 
-/// Stores the low half of a value, and answers the next pc.
+/// Stores the low halfword of a value, and answers the next pc.
 #[inline]
 pub(crate) fn store_half(
     memory: &mut Memory,
@@ -116,7 +116,7 @@ pub(crate) fn store_half(
     value: u32,
     next: u32,
 ) -> Result<u32, Halt>
-    ensures { Stores 2 (half_bytes value) address next memory.old result memory.new }
+    ensures { Stores 2 (halfword_bytes value) address next memory.old result memory.new }
 {
     match memory.write_half(address, (value & 0xffff) as u16) {
         Ok(()) => Ok(next),

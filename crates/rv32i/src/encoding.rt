@@ -12,7 +12,7 @@ use crate::fields::{BranchOffset, FenceSet, Imm, JumpOffset, Reg, Shamt, Upper};
 #[tactic(auto, using(crate::proofs::Unique::one_word))]
 pub fn encode(instr: Instr) -> u32
     ensures encodes { Encodes instr result }
-    ensures only { (word : ℕ) → Encodes instr word → result ≡ word }
+    ensures unique { (word : ℕ) → Encodes instr word → result ≡ word }
 {
     match instr {
         Instr::Lui { rd, imm } => u_word(0b011_0111, rd, imm),

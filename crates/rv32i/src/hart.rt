@@ -83,7 +83,7 @@ impl Hart {
         }
     }
 
-    // What a step answers where the core has no next pc.
+    // What a step answers where there is no next pc.
     #[cold]
     #[inline(never)]
     fn settle(&mut self, halt: Halt) -> Result<Stepped, AllocError>

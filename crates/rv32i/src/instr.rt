@@ -26,37 +26,37 @@ pub enum Instr {
         rs1: Reg,
         imm: Imm,
     },
-    /// Branch where equal.
+    /// Branch if equal.
     Beq {
         rs1: Reg,
         rs2: Reg,
         offset: BranchOffset,
     },
-    /// Branch where not equal.
+    /// Branch if not equal.
     Bne {
         rs1: Reg,
         rs2: Reg,
         offset: BranchOffset,
     },
-    /// Branch where less, signed.
+    /// Branch if less than, signed.
     Blt {
         rs1: Reg,
         rs2: Reg,
         offset: BranchOffset,
     },
-    /// Branch where greater or equal, signed.
+    /// Branch if greater than or equal, signed.
     Bge {
         rs1: Reg,
         rs2: Reg,
         offset: BranchOffset,
     },
-    /// Branch where less, unsigned.
+    /// Branch if less than, unsigned.
     Bltu {
         rs1: Reg,
         rs2: Reg,
         offset: BranchOffset,
     },
-    /// Branch where greater or equal, unsigned.
+    /// Branch if greater than or equal, unsigned.
     Bgeu {
         rs1: Reg,
         rs2: Reg,
@@ -68,7 +68,7 @@ pub enum Instr {
         rs1: Reg,
         imm: Imm,
     },
-    /// Load a half, sign-extended.
+    /// Load a halfword, sign-extended.
     Lh {
         rd: Reg,
         rs1: Reg,
@@ -86,7 +86,7 @@ pub enum Instr {
         rs1: Reg,
         imm: Imm,
     },
-    /// Load a half, zero-extended.
+    /// Load a halfword, zero-extended.
     Lhu {
         rd: Reg,
         rs1: Reg,
@@ -98,7 +98,7 @@ pub enum Instr {
         rs2: Reg,
         imm: Imm,
     },
-    /// Store a half.
+    /// Store a halfword.
     Sh {
         rs1: Reg,
         rs2: Reg,
@@ -116,13 +116,13 @@ pub enum Instr {
         rs1: Reg,
         imm: Imm,
     },
-    /// Set where less than an immediate, signed.
+    /// Set if less than an immediate, signed.
     Slti {
         rd: Reg,
         rs1: Reg,
         imm: Imm,
     },
-    /// Set where less than an immediate, unsigned.
+    /// Set if less than an immediate, unsigned.
     Sltiu {
         rd: Reg,
         rs1: Reg,
@@ -182,13 +182,13 @@ pub enum Instr {
         rs1: Reg,
         rs2: Reg,
     },
-    /// Set where less, signed.
+    /// Set if less than, signed.
     Slt {
         rd: Reg,
         rs1: Reg,
         rs2: Reg,
     },
-    /// Set where less, unsigned.
+    /// Set if less than, unsigned.
     Sltu {
         rd: Reg,
         rs1: Reg,

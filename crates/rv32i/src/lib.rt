@@ -1,4 +1,4 @@
-//! RV32I (RISC-V Unprivileged ISA 20191213, chapter 2): its words, their texts, and a hart that steps.
+//! RV32I (RISC-V Unprivileged ISA 20191213, chapter 2): its words, their disassembly, and a hart that steps.
 #![tactic(auto)]
 
 mod access;

@@ -1,7 +1,7 @@
 //! What each instruction does (RISC-V Unprivileged ISA 20191213, chapter 2).
 
 ghost use Rattle.std.specs.Prelude.{◌≡◌, slice_index, if◌then◌else◌};
-ghost use Rattle.rv32i.specs.Machine.{flag, is_less, places, shifted_right_signed, sum, with_register};
+ghost use Rattle.rv32i.specs.Machine.{flag, is_less_than, places, shifted_right_signed, sum, with_register};
 ghost use Rattle.rv32i.specs.Steps.{keeps, links, target_of, Performs};
 
 use crate::Instr;
@@ -12,7 +12,7 @@ use crate::fields::{Imm, Reg};
 use crate::stepped::Cause;
 use image::Memory;
 
-/// Why the core has no next pc.
+/// Why there is no next pc.
 #[derive(Clone, Copy)]
 pub(crate) enum Halt {
     /// A trap.
@@ -85,7 +85,7 @@ fn branch(taken: bool, pc: u32, offset: u32) -> Result<u32, Halt>
 
 // Jumps, with the address of the following instruction in a register.
 #[inline]
-fn jump(target: u32, reg: Reg, x: &mut [u32; 32], next: u32) -> Result<u32, Halt>
+fn linked_jump(target: u32, reg: Reg, x: &mut [u32; 32], next: u32) -> Result<u32, Halt>
     requires { slice_index x.old 0 ≡ 0 }
     ensures links { links target reg next x.old result x.new }
     ensures zero { slice_index x.new 0 ≡ 0 }
@@ -110,17 +110,17 @@ pub(crate) fn perform(
     match *instr {
         Instr::Lui { rd, imm } => put(imm.bits(), rd, x, next),
         Instr::Auipc { rd, imm } => put(pc.wrapping_add(imm.bits()), rd, x, next),
-        Instr::Jal { rd, offset } => jump(pc.wrapping_add(offset.bits()), rd, x, next),
-        Instr::Jalr { rd, rs1, imm } => jump(address(x, rs1, imm) / 2 * 2, rd, x, next),
+        Instr::Jal { rd, offset } => linked_jump(pc.wrapping_add(offset.bits()), rd, x, next),
+        Instr::Jalr { rd, rs1, imm } => linked_jump(address(x, rs1, imm) / 2 * 2, rd, x, next),
         Instr::Beq { rs1, rs2, offset } => branch(read(x, rs1) == read(x, rs2), pc, offset.bits()),
         Instr::Bne { rs1, rs2, offset } => branch(read(x, rs1) != read(x, rs2), pc, offset.bits()),
         Instr::Blt { rs1, rs2, offset } => branch(
-            less(read(x, rs1), read(x, rs2)),
+            is_less_than(read(x, rs1), read(x, rs2)),
             pc,
             offset.bits(),
         ),
         Instr::Bge { rs1, rs2, offset } => branch(
-            !less(read(x, rs1), read(x, rs2)),
+            !is_less_than(read(x, rs1), read(x, rs2)),
             pc,
             offset.bits(),
         ),
@@ -135,7 +135,12 @@ pub(crate) fn perform(
         Instr::Sh { rs1, rs2, imm } => store_half(memory, address(x, rs1, imm), read(x, rs2), next),
         Instr::Sw { rs1, rs2, imm } => store_word(memory, address(x, rs1, imm), read(x, rs2), next),
         Instr::Addi { rd, rs1, imm } => put(read(x, rs1).wrapping_add(imm.bits()), rd, x, next),
-        Instr::Slti { rd, rs1, imm } => put(flag(less(read(x, rs1), imm.bits())), rd, x, next),
+        Instr::Slti { rd, rs1, imm } => put(
+            flag(is_less_than(read(x, rs1), imm.bits())),
+            rd,
+            x,
+            next,
+        ),
         Instr::Sltiu { rd, rs1, imm } => put(flag(read(x, rs1) < imm.bits()), rd, x, next),
         Instr::Xori { rd, rs1, imm } => put(read(x, rs1) ^ imm.bits(), rd, x, next),
         Instr::Ori { rd, rs1, imm } => put(read(x, rs1) | imm.bits(), rd, x, next),
@@ -146,7 +151,12 @@ pub(crate) fn perform(
         Instr::Add { rd, rs1, rs2 } => put(read(x, rs1).wrapping_add(read(x, rs2)), rd, x, next),
         Instr::Sub { rd, rs1, rs2 } => put(read(x, rs1).wrapping_sub(read(x, rs2)), rd, x, next),
         Instr::Sll { rd, rs1, rs2 } => put(read(x, rs1).wrapping_shl(read(x, rs2)), rd, x, next),
-        Instr::Slt { rd, rs1, rs2 } => put(flag(less(read(x, rs1), read(x, rs2))), rd, x, next),
+        Instr::Slt { rd, rs1, rs2 } => put(
+            flag(is_less_than(read(x, rs1), read(x, rs2))),
+            rd,
+            x,
+            next,
+        ),
         Instr::Sltu { rd, rs1, rs2 } => put(flag(read(x, rs1) < read(x, rs2)), rd, x, next),
         Instr::Xor { rd, rs1, rs2 } => put(read(x, rs1) ^ read(x, rs2), rd, x, next),
         Instr::Srl { rd, rs1, rs2 } => put(read(x, rs1).wrapping_shr(read(x, rs2)), rd, x, next),
@@ -175,10 +185,10 @@ fn flag(test: bool) -> u32
     u32::from(test)
 }
 
-// Less as signed numbers.
+// Less than, as signed numbers.
 #[inline]
-fn less(a: u32, b: u32) -> bool
-    ensures { result ≡ is_less a b }
+fn is_less_than(a: u32, b: u32) -> bool
+    ensures { result ≡ is_less_than a b }
 {
     a.cast_signed() < b.cast_signed()
 }

@@ -1,4 +1,4 @@
-//! The texts of instructions.
+//! The disassembly of instructions.
 
 ghost use Rattle.std.specs.Prelude.{◌≡◌, ◌+◌, ◌<◌, ◌≤◌, [], ◌∷◌, ◌++◌, codes, string_bytes, string_capacity, string_len, IfOk, OnErr, OnOk};
 ghost use Rattle.rv32i.specs.Machine.{sum};
@@ -26,50 +26,62 @@ use crate::fields::{BranchOffset, FenceSet, Imm, Reg, Shamt, Upper};
 use crate::names::reg_name;
 use std::alloc::{AllocError, Global};
 
-/// The text of an instruction at an address: the statement that stands for it. The targets of jumps and
+/// The disassembly of an instruction at an address: the statement that stands for it. The targets of jumps and
 /// branches are written as absolute addresses, `pc` and the offset, wrapping. A FENCE for which there is
 /// no statement is written as its word, `.word 0x` and eight digits. `Err`: no memory was left.
 pub fn text_of(alloc: Global, instr: Instr, pc: u32) -> Result<String, AllocError>
     ensures { IfOk result (λ text. HasText instr pc (string_bytes text)) }
 {
     match instr {
-        Instr::Lui { rd, imm } => upper(alloc, "lui", rd, imm),
-        Instr::Auipc { rd, imm } => upper(alloc, "auipc", rd, imm),
-        Instr::Jal { rd, offset } => jump(alloc, "jal", rd, pc.wrapping_add(offset.bits())),
-        Instr::Jalr { rd, rs1, imm } => access(alloc, "jalr", rd, rs1, imm),
-        Instr::Beq { rs1, rs2, offset } => branch(alloc, "beq", rs1, rs2, target(pc, offset)),
-        Instr::Bne { rs1, rs2, offset } => branch(alloc, "bne", rs1, rs2, target(pc, offset)),
-        Instr::Blt { rs1, rs2, offset } => branch(alloc, "blt", rs1, rs2, target(pc, offset)),
-        Instr::Bge { rs1, rs2, offset } => branch(alloc, "bge", rs1, rs2, target(pc, offset)),
-        Instr::Bltu { rs1, rs2, offset } => branch(alloc, "bltu", rs1, rs2, target(pc, offset)),
-        Instr::Bgeu { rs1, rs2, offset } => branch(alloc, "bgeu", rs1, rs2, target(pc, offset)),
-        Instr::Lb { rd, rs1, imm } => access(alloc, "lb", rd, rs1, imm),
-        Instr::Lh { rd, rs1, imm } => access(alloc, "lh", rd, rs1, imm),
-        Instr::Lw { rd, rs1, imm } => access(alloc, "lw", rd, rs1, imm),
-        Instr::Lbu { rd, rs1, imm } => access(alloc, "lbu", rd, rs1, imm),
-        Instr::Lhu { rd, rs1, imm } => access(alloc, "lhu", rd, rs1, imm),
-        Instr::Sb { rs1, rs2, imm } => access(alloc, "sb", rs2, rs1, imm),
-        Instr::Sh { rs1, rs2, imm } => access(alloc, "sh", rs2, rs1, imm),
-        Instr::Sw { rs1, rs2, imm } => access(alloc, "sw", rs2, rs1, imm),
-        Instr::Addi { rd, rs1, imm } => immediate(alloc, "addi", rd, rs1, imm),
-        Instr::Slti { rd, rs1, imm } => immediate(alloc, "slti", rd, rs1, imm),
-        Instr::Sltiu { rd, rs1, imm } => immediate(alloc, "sltiu", rd, rs1, imm),
-        Instr::Xori { rd, rs1, imm } => immediate(alloc, "xori", rd, rs1, imm),
-        Instr::Ori { rd, rs1, imm } => immediate(alloc, "ori", rd, rs1, imm),
-        Instr::Andi { rd, rs1, imm } => immediate(alloc, "andi", rd, rs1, imm),
-        Instr::Slli { rd, rs1, shamt } => shift(alloc, "slli", rd, rs1, shamt),
-        Instr::Srli { rd, rs1, shamt } => shift(alloc, "srli", rd, rs1, shamt),
-        Instr::Srai { rd, rs1, shamt } => shift(alloc, "srai", rd, rs1, shamt),
-        Instr::Add { rd, rs1, rs2 } => registers(alloc, "add", rd, rs1, rs2),
-        Instr::Sub { rd, rs1, rs2 } => registers(alloc, "sub", rd, rs1, rs2),
-        Instr::Sll { rd, rs1, rs2 } => registers(alloc, "sll", rd, rs1, rs2),
-        Instr::Slt { rd, rs1, rs2 } => registers(alloc, "slt", rd, rs1, rs2),
-        Instr::Sltu { rd, rs1, rs2 } => registers(alloc, "sltu", rd, rs1, rs2),
-        Instr::Xor { rd, rs1, rs2 } => registers(alloc, "xor", rd, rs1, rs2),
-        Instr::Srl { rd, rs1, rs2 } => registers(alloc, "srl", rd, rs1, rs2),
-        Instr::Sra { rd, rs1, rs2 } => registers(alloc, "sra", rd, rs1, rs2),
-        Instr::Or { rd, rs1, rs2 } => registers(alloc, "or", rd, rs1, rs2),
-        Instr::And { rd, rs1, rs2 } => registers(alloc, "and", rd, rs1, rs2),
+        Instr::Lui { rd, imm } => upper_text(alloc, "lui", rd, imm),
+        Instr::Auipc { rd, imm } => upper_text(alloc, "auipc", rd, imm),
+        Instr::Jal { rd, offset } => jump_text(alloc, "jal", rd, pc.wrapping_add(offset.bits())),
+        Instr::Jalr { rd, rs1, imm } => access_text(alloc, "jalr", rd, rs1, imm),
+        Instr::Beq { rs1, rs2, offset } => branch_text(alloc, "beq", rs1, rs2, target(pc, offset)),
+        Instr::Bne { rs1, rs2, offset } => branch_text(alloc, "bne", rs1, rs2, target(pc, offset)),
+        Instr::Blt { rs1, rs2, offset } => branch_text(alloc, "blt", rs1, rs2, target(pc, offset)),
+        Instr::Bge { rs1, rs2, offset } => branch_text(alloc, "bge", rs1, rs2, target(pc, offset)),
+        Instr::Bltu { rs1, rs2, offset } => branch_text(
+            alloc,
+            "bltu",
+            rs1,
+            rs2,
+            target(pc, offset),
+        ),
+        Instr::Bgeu { rs1, rs2, offset } => branch_text(
+            alloc,
+            "bgeu",
+            rs1,
+            rs2,
+            target(pc, offset),
+        ),
+        Instr::Lb { rd, rs1, imm } => access_text(alloc, "lb", rd, rs1, imm),
+        Instr::Lh { rd, rs1, imm } => access_text(alloc, "lh", rd, rs1, imm),
+        Instr::Lw { rd, rs1, imm } => access_text(alloc, "lw", rd, rs1, imm),
+        Instr::Lbu { rd, rs1, imm } => access_text(alloc, "lbu", rd, rs1, imm),
+        Instr::Lhu { rd, rs1, imm } => access_text(alloc, "lhu", rd, rs1, imm),
+        Instr::Sb { rs1, rs2, imm } => access_text(alloc, "sb", rs2, rs1, imm),
+        Instr::Sh { rs1, rs2, imm } => access_text(alloc, "sh", rs2, rs1, imm),
+        Instr::Sw { rs1, rs2, imm } => access_text(alloc, "sw", rs2, rs1, imm),
+        Instr::Addi { rd, rs1, imm } => immediate_text(alloc, "addi", rd, rs1, imm),
+        Instr::Slti { rd, rs1, imm } => immediate_text(alloc, "slti", rd, rs1, imm),
+        Instr::Sltiu { rd, rs1, imm } => immediate_text(alloc, "sltiu", rd, rs1, imm),
+        Instr::Xori { rd, rs1, imm } => immediate_text(alloc, "xori", rd, rs1, imm),
+        Instr::Ori { rd, rs1, imm } => immediate_text(alloc, "ori", rd, rs1, imm),
+        Instr::Andi { rd, rs1, imm } => immediate_text(alloc, "andi", rd, rs1, imm),
+        Instr::Slli { rd, rs1, shamt } => shift_text(alloc, "slli", rd, rs1, shamt),
+        Instr::Srli { rd, rs1, shamt } => shift_text(alloc, "srli", rd, rs1, shamt),
+        Instr::Srai { rd, rs1, shamt } => shift_text(alloc, "srai", rd, rs1, shamt),
+        Instr::Add { rd, rs1, rs2 } => registers_text(alloc, "add", rd, rs1, rs2),
+        Instr::Sub { rd, rs1, rs2 } => registers_text(alloc, "sub", rd, rs1, rs2),
+        Instr::Sll { rd, rs1, rs2 } => registers_text(alloc, "sll", rd, rs1, rs2),
+        Instr::Slt { rd, rs1, rs2 } => registers_text(alloc, "slt", rd, rs1, rs2),
+        Instr::Sltu { rd, rs1, rs2 } => registers_text(alloc, "sltu", rd, rs1, rs2),
+        Instr::Xor { rd, rs1, rs2 } => registers_text(alloc, "xor", rd, rs1, rs2),
+        Instr::Srl { rd, rs1, rs2 } => registers_text(alloc, "srl", rd, rs1, rs2),
+        Instr::Sra { rd, rs1, rs2 } => registers_text(alloc, "sra", rd, rs1, rs2),
+        Instr::Or { rd, rs1, rs2 } => registers_text(alloc, "or", rd, rs1, rs2),
+        Instr::And { rd, rs1, rs2 } => registers_text(alloc, "and", rd, rs1, rs2),
         Instr::Fence {
             fm,
             before,
@@ -97,7 +109,7 @@ fn name(reg: Reg) -> &'static str
 }
 
 // Three registers.
-fn registers(
+fn registers_text(
     alloc: Global,
     mnemonic: &str,
     rd: Reg,
@@ -106,11 +118,11 @@ fn registers(
 ) -> Result<String, AllocError>
     ensures { IfOk result (λ text. string_bytes text ≡ registers_text mnemonic.now rd rs1 rs2) }
 {
-    three(alloc, mnemonic, name(rd), name(rs1), name(rs2))
+    with_three(alloc, mnemonic, name(rd), name(rs1), name(rs2))
 }
 
 // Two registers and an immediate.
-fn immediate(
+fn immediate_text(
     alloc: Global,
     mnemonic: &str,
     rd: Reg,
@@ -124,7 +136,7 @@ fn immediate(
 }
 
 // Two registers and a shift amount.
-fn shift(
+fn shift_text(
     alloc: Global,
     mnemonic: &str,
     rd: Reg,
@@ -138,7 +150,7 @@ fn shift(
 }
 
 // A register, and an address as a register and an immediate.
-fn access(
+fn access_text(
     alloc: Global,
     mnemonic: &str,
     reg: Reg,
@@ -152,7 +164,7 @@ fn access(
 }
 
 // A register and the upper 20 bits.
-fn upper(alloc: Global, mnemonic: &str, rd: Reg, imm: Upper) -> Result<String, AllocError>
+fn upper_text(alloc: Global, mnemonic: &str, rd: Reg, imm: Upper) -> Result<String, AllocError>
     ensures { IfOk result (λ text. string_bytes text ≡ upper_text mnemonic.now rd imm) }
 {
     let (rd, imm) = (name(rd), imm.bits() / 4096);
@@ -160,16 +172,16 @@ fn upper(alloc: Global, mnemonic: &str, rd: Reg, imm: Upper) -> Result<String, A
 }
 
 // A register and the target of a jump.
-fn jump(alloc: Global, mnemonic: &str, rd: Reg, target: u32) -> Result<String, AllocError>
+fn jump_text(alloc: Global, mnemonic: &str, rd: Reg, target: u32) -> Result<String, AllocError>
     ensures { IfOk result (λ text. string_bytes text ≡ jump_text mnemonic.now rd target) }
 {
-    let target = address(alloc, target)?;
-    let text = two(alloc, mnemonic, name(rd), target.as_str())?;
+    let target = address_text(alloc, target)?;
+    let text = with_two(alloc, mnemonic, name(rd), target.as_str())?;
     Ok(text)
 }
 
 // Two registers and the target of a branch.
-fn branch(
+fn branch_text(
     alloc: Global,
     mnemonic: &str,
     rs1: Reg,
@@ -178,27 +190,33 @@ fn branch(
 ) -> Result<String, AllocError>
     ensures { IfOk result (λ text. string_bytes text ≡ branch_text mnemonic.now rs1 rs2 target) }
 {
-    let target = address(alloc, target)?;
-    let text = three(alloc, mnemonic, name(rs1), name(rs2), target.as_str())?;
+    let target = address_text(alloc, target)?;
+    let text = with_three(alloc, mnemonic, name(rs1), name(rs2), target.as_str())?;
     Ok(text)
 }
 
 // Two operands.
-fn two(alloc: Global, mnemonic: &str, a: &str, b: &str) -> Result<String, AllocError>
+fn with_two(alloc: Global, mnemonic: &str, a: &str, b: &str) -> Result<String, AllocError>
     ensures { IfOk result (λ text. string_bytes text ≡ with_two mnemonic.now a.now b.now) }
 {
     format!(in alloc; "{mnemonic} {a}, {b}")
 }
 
 // Three operands.
-fn three(alloc: Global, mnemonic: &str, a: &str, b: &str, c: &str) -> Result<String, AllocError>
+fn with_three(
+    alloc: Global,
+    mnemonic: &str,
+    a: &str,
+    b: &str,
+    c: &str,
+) -> Result<String, AllocError>
     ensures { IfOk result (λ text. string_bytes text ≡ with_three mnemonic.now a.now b.now c.now) }
 {
     format!(in alloc; "{mnemonic} {a}, {b}, {c}")
 }
 
 // An address in eight digits.
-fn address(alloc: Global, address: u32) -> Result<String, AllocError>
+fn address_text(alloc: Global, address: u32) -> Result<String, AllocError>
     ensures { IfOk result (λ text. string_bytes text ≡ address_text address) }
 {
     let mut text = String::from_str(alloc, "0x")?;
@@ -207,7 +225,7 @@ fn address(alloc: Global, address: u32) -> Result<String, AllocError>
 }
 
 // A digit from 0 to 15.
-fn digit(value: u32) -> char
+fn hex_digit(value: u32) -> char
     requires { value < 16 }
     ensures ascii { result < 128 }
     ensures value { result ≡ hex_digit value }
@@ -227,14 +245,14 @@ pub fn push_digits(text: &mut String, word: u32) -> Result<(), AllocError>
     ensures full { OnErr result (string_capacity text.old < string_len text.old + 8) }
 {
     text.reserve(8)?;
-    put_digit(text, digit(word >> 28));
-    put_digit(text, digit((word >> 24) & 15));
-    put_digit(text, digit((word >> 20) & 15));
-    put_digit(text, digit((word >> 16) & 15));
-    put_digit(text, digit((word >> 12) & 15));
-    put_digit(text, digit((word >> 8) & 15));
-    put_digit(text, digit((word >> 4) & 15));
-    put_digit(text, digit(word & 15));
+    put_digit(text, hex_digit(word >> 28));
+    put_digit(text, hex_digit((word >> 24) & 15));
+    put_digit(text, hex_digit((word >> 20) & 15));
+    put_digit(text, hex_digit((word >> 16) & 15));
+    put_digit(text, hex_digit((word >> 12) & 15));
+    put_digit(text, hex_digit((word >> 8) & 15));
+    put_digit(text, hex_digit((word >> 4) & 15));
+    put_digit(text, hex_digit(word & 15));
     Ok(())
 }
 
@@ -282,11 +300,11 @@ fn fence(
 fn sets(alloc: Global, before: FenceSet, after: FenceSet) -> Result<String, AllocError>
     ensures { IfOk result (λ text. string_bytes text ≡ with_two (codes "fence") (set_text before) (set_text after)) }
 {
-    two(alloc, "fence", set(before), set(after))
+    with_two(alloc, "fence", set_text(before), set_text(after))
 }
 
 // The letters of a set.
-fn set(set: FenceSet) -> &'static str
+fn set_text(set: FenceSet) -> &'static str
     ensures { result.now ≡ set_text set }
 {
     match set.bits() {

@@ -1,4 +1,4 @@
-//! The texts of words, instructions or not.
+//! The disassembly of words, of those too that are no instruction.
 
 ghost use Rattle.std.specs.Prelude.{◌≡◌, string_bytes, IfOk};
 ghost use Rattle.rv32i.specs.Texts.{word_text, IsTextOf};
@@ -7,8 +7,8 @@ use crate::decoding::decode;
 use crate::text::{push_digits, text_of};
 use std::alloc::{AllocError, Global};
 
-/// The text of a word at an address: that of its instruction; and of a word that is illegal, the word
-/// itself, as `.word 0x` and eight digits. `Err`: no memory was left.
+/// The disassembly of a word at an address: the text of its instruction; and of a word that is illegal,
+/// the word itself, as `.word 0x` and eight digits. `Err`: no memory was left.
 pub fn text_of_word(alloc: Global, word: u32, pc: u32) -> Result<String, AllocError>
     ensures { IfOk result (λ text. IsTextOf word pc (string_bytes text)) }
 {

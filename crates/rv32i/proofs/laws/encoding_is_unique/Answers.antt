@@ -1,5 +1,5 @@
 use Rattle.rv32i.proofs.Unique.{one_word as law}
-use Rattle.rv32i.proofs.laws.encoding_is_only.Goals as goal
+use Rattle.rv32i.proofs.laws.encoding_is_unique.Goals as goal
 
 pub returns : goal.returns
 returns c = law
