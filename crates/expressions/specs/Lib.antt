@@ -6,5 +6,9 @@ pub mod Trees
 pub mod Texts
 -- the value of an expression
 pub mod Values
--- cited by private clauses alone: the tree that the code keeps as the grammar's
+-- What follows is cited by private clauses alone. The tree that the code keeps as the grammar's.
 pub mod Nodes
+-- how the code divides a text
+pub mod Scanning
+-- how the code finds the tree
+pub mod Shifting

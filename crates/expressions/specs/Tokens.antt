@@ -4,9 +4,8 @@
 -- `0x` and hexadecimal ones), the name of a register (RISC-V Unprivileged ISA 20191213, chapter 25), or `pc`. Spaces and
 -- tabs may stand before, between and after tokens, and each token is the longest that fits: `<<` is one sign, and `< <`
 -- are two.
-use Rattle.std.specs.Prelude.{◌≡◌, ◌≢◌, ℕ, Bool, true, false, ◌==◌, not, ◌&&◌, ◌||◌, List, [], ◌∷◌, ◌++◌, length, Ok, codes, refl}
+use Rattle.std.specs.Prelude.{◌≡◌, ◌≢◌, ℕ, Bool, true, false, ◌==◌, ◌||◌, if◌then◌else◌, List, [], ◌∷◌, ◌++◌, Ok, codes}
 use Rattle.std.specs.List.{list_all, list_any}
-use Rattle.std.specs.Str.{bytes_eq}
 use Rattle.std.specs.Char.{is_ascii_digit, is_ascii_alphabetic}
 use Rattle.byte_strings.specs.Blanks.{is_blank}
 use Rattle.numerals.specs.Numerals.{magnitude}
@@ -61,17 +60,30 @@ abbrev pub is_word_byte : ℕ → Bool
 is_word_byte b = is_ascii_digit b || is_ascii_alphabetic b
 
 abbrev pub is_word : List ℕ → Bool
-is_word bytes = not (length bytes == 0) && list_all is_word_byte bytes
+is_word [] = false
+is_word (b ∷ bytes) = list_all is_word_byte (b ∷ bytes)
 
--- The signs, and `=`, which begins one and means nothing by itself.
-abbrev pub signs : List (List ℕ)
-signs = codes "||" ∷ codes "&&" ∷ codes "|" ∷ codes "^" ∷ codes "&" ∷ codes "==" ∷ codes "!=" ∷ codes "<" ∷ codes "<="
-    ∷ codes ">" ∷ codes ">=" ∷ codes "<<" ∷ codes ">>" ∷ codes "+" ∷ codes "-" ∷ codes "*" ∷ codes "~" ∷ codes "!"
-    ∷ codes "(" ∷ codes ")" ∷ codes "[" ∷ codes "]" ∷ codes "=" ∷ []
+-- The signs, of one byte and of two; and `=`, which begins one and means nothing by itself.
+abbrev pub is_sign_byte : ℕ → Bool
+is_sign_byte a = list_any (λ c. a == c) (codes "|^&<>+-*~!()[]=")
+
+abbrev pub is_sign_pair : ℕ → ℕ → Bool
+is_sign_pair a b =
+    if a == 124 then b == 124
+    else if a == 38 then b == 38
+    else if (a == 61) || (a == 33) then b == 61
+    else if (a == 60) || (a == 62) then (b == a) || (b == 61)
+    else false
+
+abbrev pub is_sign : List ℕ → Bool
+is_sign [] = false
+is_sign (a ∷ []) = is_sign_byte a
+is_sign (a ∷ b ∷ []) = is_sign_pair a b
+is_sign (a ∷ b ∷ c ∷ more) = false
 
 -- whether bytes are a word or a sign, whatever it may mean
 abbrev pub is_lexeme : List ℕ → Bool
-is_lexeme bytes = is_word bytes || list_any (bytes_eq bytes) signs
+is_lexeme bytes = is_word bytes || is_sign bytes
 
 -- bytes spell a token, and with more of what follows they would be neither a word nor a sign
 pub record IsLongest (token : Token) (bytes rest : List ℕ) : Type 0 where

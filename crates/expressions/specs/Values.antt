@@ -3,9 +3,9 @@
 -- Values have 32 bits, and all wraps. Comparisons are signed; they, `!`, `&&` and `||` give 0 or 1. A shift goes by the low 5
 -- bits of its right side, and zeros come in. `&&` and `||` leave the right side alone where the left one decides. Square brackets
 -- give the little-endian word at any address whose four bytes lie in memory; a word that is evaluated and does not is a fault.
-use Rattle.std.specs.Prelude.{ℕ, ◌-◌, ◌*◌, ◌%◌, ◌^◌, Bool, true, false, ◌==◌, not, if◌then◌else◌, List, [], ◌∷◌, slice_index, bit_and, bit_or, bit_xor, Result, Ok, Err, refl, ◌≡◌}
+use Rattle.std.specs.Prelude.{ℕ, ◌*◌, ◌%◌, ◌^◌, Bool, false, ◌==◌, not, if◌then◌else◌, List, slice_index, bit_and, bit_or, bit_xor, Result, Ok, Err}
 use Rattle.image.specs.Memory.{bytes_at, has_bytes, little_endian}
-use Rattle.rv32i.specs.Machine.{difference, flag, is_less, places, shifted_left, shifted_right, sum}
+use Rattle.rv32i.specs.Machine.{difference, flag, is_less_than, places, shifted_left, shifted_right, sum}
 use Rattle.rv32i.specs.declared.hart.Hart.{Hart}
 use Rattle.expressions.specs.Trees.{Tree, Number, Register, Pc, Unary, Binary, Enclosed}
 use Rattle.expressions.specs.declared.error.ExprFault.{ExprFault}
@@ -49,10 +49,10 @@ between Xor a b = bit_xor a b
 between And a b = bit_and a b
 between Equal a b = flag (a == b)
 between NotEqual a b = flag (not (a == b))
-between Less a b = flag (is_less a b)
-between LessEqual a b = flag (not (is_less b a))
-between Greater a b = flag (is_less b a)
-between GreaterEqual a b = flag (not (is_less a b))
+between Less a b = flag (is_less_than a b)
+between LessEqual a b = flag (not (is_less_than b a))
+between Greater a b = flag (is_less_than b a)
+between GreaterEqual a b = flag (not (is_less_than a b))
 between ShiftLeft a b = shifted_left a (places b)
 between ShiftRight a b = shifted_right a (places b)
 between Plus a b = sum a b
@@ -82,6 +82,6 @@ value_of Pc hart memory = Ok hart.pc
 value_of (Unary operator operand) hart memory = with_value (value_of operand hart memory) (λ v. Ok (before operator v))
 value_of (Binary operator left right) hart memory =
     with_value (value_of left hart memory) (λ a.
-        if decides operator a then Ok (flag (is_true a))
-        else with_value (value_of right hart memory) (λ b. Ok (between operator a b)))
+    if decides operator a then Ok (flag (is_true a))
+    else with_value (value_of right hart memory) (λ b. Ok (between operator a b)))
 value_of (Enclosed bracket inner) hart memory = with_value (value_of inner hart memory) (enclosed bracket memory)

@@ -1,5 +1,8 @@
 //! What can be wrong with an expression.
 
+ghost use Rattle.std.specs.Prelude.{◌≡◌};
+ghost use Rattle.expressions.specs.declared.error.ExprError.TheVariants.{NoMemory};
+
 use std::alloc::AllocError;
 use thiserror::Error;
 
@@ -21,6 +24,8 @@ pub enum ExprError {
 }
 
 impl From<AllocError> for ExprError {
+    ghost from_gives = { λ _ error. error ≡ NoMemory };
+
     fn from(_: AllocError) -> ExprError {
         ExprError::NoMemory
     }

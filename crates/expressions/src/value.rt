@@ -28,7 +28,11 @@ impl Node {
                 }
                 Ok(between(*operator, left, right.value(hart, memory)?))
             }
-            Node::Enclosed(bracket, inner) => enclosed(*bracket, inner.value(hart, memory)?, memory),
+            Node::Enclosed(bracket, inner) => enclosed(
+                *bracket,
+                inner.value(hart, memory)?,
+                memory,
+            ),
         }
     }
 }
