@@ -2,7 +2,7 @@
 --
 -- Most addresses have no breakpoint, and that is answered quickly: a mark, found by the low bits of an address, says that one may
 -- be there, and only then the sorted addresses are searched.
-use Rattle.std.specs.Prelude.{◌≡◌, ℕ, ◌+◌, ◌/◌, ◌%◌, ◌<◌, ◌≤◌, Bool, true, false, ◌==◌, ◌||◌, List, length, slice_index_or, All}
+use Rattle.std.specs.Prelude.{◌≡◌, ℕ, ◌+◌, ◌/◌, ◌%◌, ◌≤◌, Bool, true, false, ◌==◌, ◌||◌, List, length, slice_index_or, All}
 use Rattle.std.specs.List.{list_any}
 use Rattle.std.specs.List.Sorted.{IsNonDecreasing}
 use Rattle.breakpoints.specs.declared.breakpoint.Breakpoint.{Breakpoint}
@@ -17,9 +17,6 @@ SamePlaces before after = (address : ℕ) → has_place address after ≡ has_pl
 -- each of these addresses has its mark
 abbrev pub AllMarked : List Bool → List ℕ → Type 0
 AllMarked marks addresses = All (λ address. slice_index_or marks (address / 4 % 65536) false ≡ true) addresses
-
-
-
 
 pub record IsIndexed (marks : List Bool) (addresses : List ℕ) : Type 0 where
   pub marked : AllMarked marks addresses

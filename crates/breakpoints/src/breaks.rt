@@ -126,7 +126,10 @@ impl Breaks {
         }
         let source = check_list(&mut self.source, &mut self.ids, pc, hart, memory);
         let instruction = check_list(&mut self.instructions, &mut self.ids, pc, hart, memory);
-        Hit { source, instruction }
+        Hit {
+            source,
+            instruction,
+        }
     }
 
     /// The ids of the breakpoints that stopped at the last check, those of the source list first.
@@ -150,7 +153,11 @@ fn fresh_list(alloc: Global, specs: Vec<BreakSpec>) -> Result<Vec<Breakpoint>, A
 }
 
 // Where the breakpoints of both lists are.
-fn places_of(alloc: Global, source: &[Breakpoint], instructions: &[Breakpoint]) -> Result<Places, AllocError>
+fn places_of(
+    alloc: Global,
+    source: &[Breakpoint],
+    instructions: &[Breakpoint],
+) -> Result<Places, AllocError>
     ensures { IfOk result (λ places. Covers places source.now instructions.now) }
 {
     let mut addresses = Vec::new(alloc);
@@ -177,11 +184,18 @@ fn reset_list(list: &mut Vec<Breakpoint>)
 }
 
 // Checks one list: counts the hits, appends the ids of those that stop, and says whether there is one.
-fn check_list(list: &mut Vec<Breakpoint>, ids: &mut Vec<u32>, pc: u32, hart: &Hart, memory: &Memory) -> bool
+fn check_list(
+    list: &mut Vec<Breakpoint>,
+    ids: &mut Vec<u32>,
+    pc: u32,
+    hart: &Hart,
+    memory: &Memory,
+) -> bool
     requires { vec_len ids.old + vec_len list.old ≤ vec_capacity ids.old }
     ensures list { list.new.items ≡ map (counted pc hart.now memory.now) list.old.items }
     ensures ids { ids.new.items ≡ ids.old.items ++ stopping_ids pc hart.now memory.now list.old.items }
     ensures room { vec_capacity ids.old ≤ vec_capacity ids.new }
+    ensures count { vec_len ids.new ≤ vec_len ids.old + vec_len list.old }
     ensures stops { result ≡ list_any (stops pc hart.now memory.now) list.old.items }
 {
     let mut any = false;
@@ -199,6 +213,7 @@ fn check_list(list: &mut Vec<Breakpoint>, ids: &mut Vec<u32>, pc: u32, hart: &Ha
 fn push_within(ids: &mut Vec<u32>, id: u32)
     requires { vec_len ids.old < vec_capacity ids.old }
     ensures ids { ids.new.items ≡ ids.old.items ++ id ∷ [] }
+    ensures len { vec_len ids.new ≡ vec_len ids.old + 1 }
     ensures room { vec_capacity ids.old ≤ vec_capacity ids.new }
 {
     match ids.push(id) {

@@ -3,6 +3,7 @@
 
 mod breakpoint;
 mod breaks;
+pub mod laws;
 mod places;
 
 pub use breakpoint::{BreakSpec, Breakpoint, Hit};
