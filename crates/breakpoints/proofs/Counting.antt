@@ -1,0 +1,51 @@
+-- Hits, counted over many checks.
+use Rattle.std.proofs.Common.{◌≡◌, ℕ, ◌+◌, ◌≤◌, Bool, true, false, cond, ◌&&◌, leb, min, List, [], ◌∷◌, refl, ap, ◌∙◌, arith}
+use Rattle.std.proofs.lemmas.Bool.{le-leb, leb-false, leb-true, lt-leb}
+use Rattle.breakpoints.specs.Laws.{Check, StopsFromItsHit, after_checks, hits_among}
+use Rattle.breakpoints.specs.Stops.{counted, fresh, is_hit, stops, with_hit}
+use Rattle.breakpoints.specs.declared.breakpoint.Breakpoint.{Breakpoint}
+
+abbrev with_hits : ℕ → Breakpoint → Breakpoint
+with_hits n b = record b { hits = n }
+
+most : (a b : ℕ) → min (min a 4294967295 + b) 4294967295 ≡ min (a + b) 4294967295
+most a b = omega arith
+
+least : (a : ℕ) → a ≤ 4294967295 → min a 4294967295 ≡ a
+least a h = omega (arith, h)
+
+one_check : (c : Check) (b : Breakpoint) → b.hits ≤ 4294967295 → counted c.pc c.hart c.memory b ≡ with_hits (min (b.hits + cond (is_hit c.pc c.hart c.memory b) 1 0) 4294967295) b
+one_check c b h = go (is_hit c.pc c.hart c.memory b) where
+  go : (t : Bool) → cond t (with_hit b) b ≡ with_hits (min (b.hits + cond t 1 0) 4294967295) b
+  go true = refl
+  go false = let e : b.hits ≡ min (b.hits + 0) 4294967295 = omega (arith, h) in ap (λ n. with_hits n b) e
+
+-- only the count changes, so the hits among later checks are those that they would be
+same_hits : (checks : List Check) (n : ℕ) (b : Breakpoint) → hits_among checks (with_hits n b) ≡ hits_among checks b
+same_hits [] n b = refl
+same_hits (c ∷ checks) n b = ap (λ k. cond (is_hit c.pc c.hart c.memory b) 1 0 + k) (same_hits checks n b)
+
+pub counts : (checks : List Check) (b : Breakpoint) → b.hits ≤ 4294967295 → after_checks checks b ≡ with_hits (min (b.hits + hits_among checks b) 4294967295) b
+counts [] b h = let e : b.hits ≡ min (b.hits + 0) 4294967295 = omega (arith, h) in ap (λ n. with_hits n b) e
+counts (c ∷ checks) b h =
+    let one : ℕ = cond (is_hit c.pc c.hart c.memory b) 1 0 in
+    let n : ℕ = min (b.hits + one) 4294967295 in
+    let small : n ≤ 4294967295 = omega arith in
+    ap (after_checks checks) (one_check c b h)
+    ∙ counts checks (with_hits n b) small
+    ∙ ap (λ k. with_hits (min (n + k) 4294967295) b) (same_hits checks n b)
+    ∙ ap (λ k. with_hits k b) (let e : min (n + hits_among checks b) 4294967295 ≡ min (b.hits + (one + hits_among checks b)) 4294967295 = omega arith in e)
+
+pub stops_so : StopsFromItsHit
+stops_so spec checks last h =
+    let b = fresh spec in
+    let n = hits_among checks b in
+    let start : b.hits ≤ 4294967295 = omega arith in
+    let after : after_checks checks b ≡ with_hits (min n 4294967295) b = counts checks b start ∙ ap (λ k. with_hits (min k 4294967295) b) (let e : 0 + n ≡ n = omega arith in e) in
+    ap (stops last.pc last.hart last.memory) after ∙ ap (λ t. is_hit last.pc last.hart last.memory b && t) (reached spec.hit n h)
+  where
+    reached : (hit n : ℕ) → hit ≤ 4294967295 → leb hit (min (min n 4294967295 + 1) 4294967295) ≡ leb hit (n + 1)
+    reached hit n h = go (leb hit (n + 1)) refl where
+      go : (t : Bool) → leb hit (n + 1) ≡ t → leb hit (min (min n 4294967295 + 1) 4294967295) ≡ t
+      go true t = let e = leb-true hit (n + 1) t in le-leb hit _ (omega (arith, e, h))
+      go false t = let e = leb-false hit (n + 1) t in lt-leb hit _ (omega (arith, e, h))

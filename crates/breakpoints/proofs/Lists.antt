@@ -1,0 +1,126 @@
+-- Lists of breakpoints, as a check leaves them.
+use Rattle.std.proofs.Common.{◌≡◌, ℕ, zero, suc, ◌+◌, ◌<◌, ◌≤◌, Bool, true, false, cond, ◌==◌, ◌||◌, List, [], ◌∷◌, ◌++◌, length, map, filter, take, drop, get_or, refl, ap, ◌∙◌, arith}
+use Rattle.std.specs.List.{list_any}
+use Rattle.std.proofs.lemmas.Bool.{or_parts}
+use Rattle.std.proofs.lemmas.List.{map-append}
+use Rattle.std.proofs.lemmas.List.Elements.{filter_more}
+use Rattle.rv32i.specs.declared.hart.Hart.{Hart}
+use Rattle.std.proofs.lemmas.List.Folds.{list_any-append}
+use Rattle.breakpoints.specs.Places.{Covers, IsKept, SamePlaces, has_place, is_at}
+use Rattle.breakpoints.specs.Stops.{Lists, checked, counted, hit_in, is_hit, reset, stopping_ids, stops, with_hit}
+use Rattle.breakpoints.specs.declared.breakpoint.Breakpoint.{Breakpoint}
+
+-- ---- the addresses stay
+
+pub same_places : (f : Breakpoint → Breakpoint) → ((b : Breakpoint) → (f b).address ≡ b.address) → (address : ℕ) (list : List Breakpoint) → list_any (is_at address) (map f list) ≡ list_any (is_at address) list
+same_places f same address [] = refl
+same_places f same address (b ∷ list) = rw (same b) (rw (same_places f same address list) refl)
+
+pub still_covers : (places : List ℕ) (f : Breakpoint → Breakpoint) → ((b : Breakpoint) → (f b).address ≡ b.address) → (source instructions : List Breakpoint) → Covers places source instructions → Covers places (map f source) (map f instructions)
+still_covers places f same source instructions h address = rw (same_places f same address source) (rw (same_places f same address instructions) (h address))
+
+pub same_length : (f : Breakpoint → Breakpoint) (list : List Breakpoint) → length (map f list) ≡ length list
+same_length f [] = refl
+same_length f (b ∷ list) = ap suc (same_length f list)
+
+pub still_kept : (places : List ℕ) (f : Breakpoint → Breakpoint) → ((b : Breakpoint) → (f b).address ≡ b.address) → (source instructions : List Breakpoint) (room more : ℕ) → room ≤ more → IsKept places source instructions room → IsKept places (map f source) (map f instructions) more
+still_kept places f same source instructions room more e h = record {
+  covers = still_covers places f same source instructions h.covers;
+  fits = rw (same_length f source) (rw (same_length f instructions) (omega (arith, h.fits, e)));
+}
+
+pub reset_address : (b : Breakpoint) → (reset b).address ≡ b.address
+reset_address b = refl
+
+pub counted_address : (pc : ℕ) (hart : Hart) (memory : List ℕ) (b : Breakpoint) → (counted pc hart memory b).address ≡ b.address
+counted_address pc hart memory b = go (is_hit pc hart memory b) where
+  go : (t : Bool) → (cond t (with_hit b) b).address ≡ b.address
+  go true = refl
+  go false = refl
+
+-- ---- where none is at pc, a check leaves all as it was
+
+none_counted : (pc : ℕ) (hart : Hart) (memory : List ℕ) (b : Breakpoint) → is_at pc b ≡ false → counted pc hart memory b ≡ b
+none_counted pc hart memory b h = rw h refl
+
+none_stops : (pc : ℕ) (hart : Hart) (memory : List ℕ) (b : Breakpoint) → is_at pc b ≡ false → stops pc hart memory b ≡ false
+none_stops pc hart memory b h = rw h refl
+
+pub unchanged : (pc : ℕ) (hart : Hart) (memory : List ℕ) (list : List Breakpoint) → list_any (is_at pc) list ≡ false → map (counted pc hart memory) list ≡ list
+unchanged pc hart memory [] h = refl
+unchanged pc hart memory (b ∷ list) h =
+    let parts = or_parts (is_at pc b) (list_any (is_at pc) list) h in
+    rw (none_counted pc hart memory b parts.0) (ap (λ (x : List Breakpoint). b ∷ x) (unchanged pc hart memory list parts.1))
+
+pub no_ids : (pc : ℕ) (hart : Hart) (memory : List ℕ) (list : List Breakpoint) → list_any (is_at pc) list ≡ false → stopping_ids pc hart memory list ≡ []
+no_ids pc hart memory [] h = refl
+no_ids pc hart memory (b ∷ list) h =
+    let parts = or_parts (is_at pc b) (list_any (is_at pc) list) h in
+    rw (none_stops pc hart memory b parts.0) (no_ids pc hart memory list parts.1)
+
+pub no_stop : (pc : ℕ) (hart : Hart) (memory : List ℕ) (list : List Breakpoint) → list_any (is_at pc) list ≡ false → list_any (stops pc hart memory) list ≡ false
+no_stop pc hart memory [] h = refl
+no_stop pc hart memory (b ∷ list) h =
+    let parts = or_parts (is_at pc b) (list_any (is_at pc) list) h in
+    rw (none_stops pc hart memory b parts.0) (no_stop pc hart memory list parts.1)
+
+-- ---- one more breakpoint
+
+pub ids_more : (pc : ℕ) (hart : Hart) (memory : List ℕ) (list : List Breakpoint) (i : ℕ) (b : Breakpoint) → i < length list → stopping_ids pc hart memory (take (i + 1) list) ≡ stopping_ids pc hart memory (take i list) ++ cond (stops pc hart memory (get_or list i b)) ((get_or list i b).id ∷ []) []
+ids_more pc hart memory list i b h =
+    ap (map (λ (x : Breakpoint). x.id)) (filter_more (stops pc hart memory) list i b h)
+    ∙ map-append (λ (x : Breakpoint). x.id) (filter (stops pc hart memory) (take i list)) (cond (stops pc hart memory (get_or list i b)) (get_or list i b ∷ []) [])
+    ∙ ap (λ (x : List ℕ). stopping_ids pc hart memory (take i list) ++ x) (go (stops pc hart memory (get_or list i b)))
+  where
+    go : (t : Bool) → map (λ (x : Breakpoint). x.id) (cond t (get_or list i b ∷ []) []) ≡ cond t ((get_or list i b).id ∷ []) []
+    go true = refl
+    go false = refl
+
+-- ---- the places of both lists
+
+pub places_cover : (source instructions : List Breakpoint) (addresses places : List ℕ) → SamePlaces addresses places → addresses ≡ map (λ (b : Breakpoint). b.address) source ++ map (λ (b : Breakpoint). b.address) instructions → Covers places source instructions
+places_cover source instructions addresses places same e address =
+    same address ∙ ap (has_place address) e
+    ∙ list_any-append (λ place. place == address) (map (λ (b : Breakpoint). b.address) source) (map (λ (b : Breakpoint). b.address) instructions)
+    ∙ both (any_address source) (any_address instructions)
+  where
+    any_address : (list : List Breakpoint) → list_any (λ place. place == address) (map (λ (b : Breakpoint). b.address) list) ≡ list_any (is_at address) list
+    any_address [] = refl
+    any_address (b ∷ list) = ap (λ t. is_at address b || t) (any_address list)
+
+    both : {a b c d : Bool} → a ≡ b → c ≡ d → (a || c) ≡ (b || d)
+    both {a} {b} {c} {d} p q = ap (λ x. x || c) p ∙ ap (λ x. b || x) q
+
+-- ---- a step over a list
+
+pub id_stays : (pc : ℕ) (hart : Hart) (memory : List ℕ) (b : Breakpoint) → (counted pc hart memory b).id ≡ b.id
+id_stays pc hart memory b = go (is_hit pc hart memory b) where
+  go : (t : Bool) → (cond t (with_hit b) b).id ≡ b.id
+  go true = refl
+  go false = refl
+
+-- what a loop has not come to is as it was
+pub not_yet : {X : Type 0} (f : X → X) (xs ys : List X) (i : ℕ) (d : X) → i < length xs → ys ≡ map f (take i xs) ++ drop i xs → get_or ys i d ≡ get_or xs i d
+not_yet f xs ys i d h e = ap (λ zs. get_or zs i d) e ∙ go f xs i d h where
+  go : {X : Type 0} (f : X → X) (xs : List X) (i : ℕ) (d : X) → i < length xs → get_or (map f (take i xs) ++ drop i xs) i d ≡ get_or xs i d
+  go f [] i d h = absurd (omega (arith, h))
+  go f (x ∷ xs) zero d h = refl
+  go f (x ∷ xs) (suc i) d h = go f xs i d (omega (arith, h))
+
+pub no_check : (pc : ℕ) (hart : Hart) (memory : List ℕ) (lists : Lists) → (list_any (is_at pc) lists.source || list_any (is_at pc) lists.instructions) ≡ false → checked pc hart memory lists ≡ record lists { ids = [] }
+no_check pc hart memory lists h =
+    let parts = or_parts (list_any (is_at pc) lists.source) (list_any (is_at pc) lists.instructions) h in
+    rw (unchanged pc hart memory lists.source parts.0) (rw (unchanged pc hart memory lists.instructions parts.1) (rw (no_ids pc hart memory lists.source parts.0) (rw (no_ids pc hart memory lists.instructions parts.1) refl)))
+
+pub no_hit : (pc : ℕ) (hart : Hart) (memory : List ℕ) (lists : Lists) → (list_any (is_at pc) lists.source || list_any (is_at pc) lists.instructions) ≡ false → hit_in pc hart memory lists ≡ record { source = false; instruction = false }
+no_hit pc hart memory lists h =
+    let parts = or_parts (list_any (is_at pc) lists.source) (list_any (is_at pc) lists.instructions) h in
+    rw (no_stop pc hart memory lists.source parts.0) (rw (no_stop pc hart memory lists.instructions parts.1) refl)
+
+pub or_true : (t : Bool) → (t || true) ≡ true
+or_true true = refl
+or_true false = refl
+
+pub or_false : (t : Bool) → (t || false) ≡ t
+or_false true = refl
+or_false false = refl

@@ -1,0 +1,5 @@
+use Rattle.breakpoints.proofs.Counting.{stops_so}
+use Rattle.breakpoints.proofs.laws.stops_from_its_hit.Goals as goal
+
+pub returns : goal.returns
+returns c = stops_so

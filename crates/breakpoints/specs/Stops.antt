@@ -1,0 +1,77 @@
+-- Which breakpoints are hit, and which stop (Debug Adapter Protocol, `SourceBreakpoint`, `InstructionBreakpoint`: `condition`,
+-- `hitCondition`).
+--
+-- There are two lists: breakpoints of source lines, and breakpoints of instructions. After an instruction has retired, each
+-- breakpoint at the new pc is looked at. It is hit where it has no condition, or its condition is not 0 or has no value: then
+-- its count goes up by one, and stays at 4,294,967,295. It stops where it is hit and its count, this hit among it, has reached
+-- the number that it was set with.
+use Rattle.std.specs.Prelude.{ℕ, ◌+◌, ◌≤◌, Bool, true, ◌==◌, nat_le, ◌&&◌, if◌then◌else◌, min, List, ◌++◌, length, map, filter, All, Option, Some, None, Ok, Err}
+use Rattle.std.specs.List.{list_any}
+use Rattle.rv32i.specs.declared.hart.Hart.{Hart}
+use Rattle.expressions.specs.Nodes.{tree_of}
+use Rattle.expressions.specs.Values.{Valued, is_true, value_of}
+use Rattle.expressions.specs.declared.node.Node.{Node}
+use Rattle.breakpoints.specs.declared.breakpoint.BreakSpec.{BreakSpec}
+use Rattle.breakpoints.specs.declared.breakpoint.Breakpoint.{Breakpoint}
+use Rattle.breakpoints.specs.declared.breakpoint.Hit.{Hit}
+
+-- the two lists, and the ids of those that stopped at the last check, the source list's first
+pub record Lists : Type 0 where
+  pub source : List Breakpoint
+  pub instructions : List Breakpoint
+  pub ids : List ℕ
+
+-- a breakpoint as it is set: it was not hit yet
+abbrev pub fresh : BreakSpec → Breakpoint
+fresh spec = record { id = spec.id; address = spec.address; condition = spec.condition; hit = spec.hit; hits = 0 }
+
+abbrev pub is_no_zero : Valued → Bool
+is_no_zero (Ok v) = is_true v
+is_no_zero (Err fault) = true
+
+-- a condition is absent, not 0, or has no value
+abbrev pub holds : Option Node → Hart → List ℕ → Bool
+holds None hart memory = true
+holds (Some condition) hart memory = is_no_zero (value_of (tree_of condition) hart memory)
+
+-- a breakpoint is hit
+abbrev pub is_hit : ℕ → Hart → List ℕ → Breakpoint → Bool
+is_hit pc hart memory b = (b.address == pc) && holds b.condition hart memory
+
+-- it with this check counted
+abbrev pub with_hit : Breakpoint → Breakpoint
+with_hit b = record b { hits = min (b.hits + 1) 4294967295 }
+
+abbrev pub counted : ℕ → Hart → List ℕ → Breakpoint → Breakpoint
+counted pc hart memory b = if is_hit pc hart memory b then with_hit b else b
+
+-- it stops
+abbrev pub stops : ℕ → Hart → List ℕ → Breakpoint → Bool
+stops pc hart memory b = is_hit pc hart memory b && nat_le b.hit (with_hit b).hits
+
+-- the ids of those that stop, in order
+abbrev pub stopping_ids : ℕ → Hart → List ℕ → List Breakpoint → List ℕ
+stopping_ids pc hart memory list = map (λ b. b.id) (filter (stops pc hart memory) list)
+
+-- the lists after a check, and what it answers
+abbrev pub checked : ℕ → Hart → List ℕ → Lists → Lists
+checked pc hart memory lists = record {
+  source = map (counted pc hart memory) lists.source;
+  instructions = map (counted pc hart memory) lists.instructions;
+  ids = stopping_ids pc hart memory lists.source ++ stopping_ids pc hart memory lists.instructions;
+}
+
+abbrev pub hit_in : ℕ → Hart → List ℕ → Lists → Hit
+hit_in pc hart memory lists = record {
+  source = list_any (stops pc hart memory) lists.source;
+  instruction = list_any (stops pc hart memory) lists.instructions;
+}
+
+-- a list that can be set: at most 1,024 breakpoints, each of which stops at its first hit or a later one
+pub record CanBeSet (specs : List BreakSpec) : Type 0 where
+  pub few : length specs ≤ 1024
+  pub reachable : All (λ spec. 1 ≤ spec.hit) specs
+
+-- each count as at first
+abbrev pub reset : Breakpoint → Breakpoint
+reset b = record b { hits = 0 }

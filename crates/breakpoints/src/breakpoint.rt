@@ -1,0 +1,85 @@
+//! A breakpoint.
+
+ghost use Rattle.std.specs.Prelude.{◌≡◌};
+ghost use Rattle.breakpoints.specs.Stops.{counted, fresh, holds, stops};
+
+use expressions::Expr;
+use image::Memory;
+use rv32i::Hart;
+
+/// A breakpoint as it is asked for.
+#[derive(Drop)]
+pub struct BreakSpec {
+    /// What a stop names it by.
+    pub id: u32,
+    /// The address of the instruction before which it stops.
+    pub address: u32,
+    /// It is hit only where this is not 0 or has no value; `None`: always.
+    pub condition: Option<Expr>,
+    /// It stops from this hit on, counted from 1.
+    pub hit: u32,
+}
+
+/// A breakpoint that is set, with its count.
+#[derive(Drop)]
+pub struct Breakpoint {
+    /// What a stop names it by.
+    pub id: u32,
+    /// The address of the instruction before which it stops.
+    pub address: u32,
+    /// It is hit only where this is not 0 or has no value; `None`: always.
+    pub condition: Option<Expr>,
+    /// It stops from this hit on, counted from 1.
+    pub hit: u32,
+    /// How often it was hit; the count stays at 4,294,967,295.
+    pub hits: u32,
+}
+
+/// Which kinds of breakpoints stop.
+#[derive(Clone, Copy, Debug, PartialEq, Eq)]
+pub struct Hit {
+    /// A breakpoint of a source line does.
+    pub source: bool,
+    /// A breakpoint of an instruction does.
+    pub instruction: bool,
+}
+
+impl Breakpoint {
+    /// A breakpoint that was not hit yet.
+    pub(crate) fn fresh(spec: BreakSpec) -> Breakpoint
+        ensures { result ≡ fresh spec }
+    {
+        Breakpoint {
+            id: spec.id,
+            address: spec.address,
+            condition: spec.condition,
+            hit: spec.hit,
+            hits: 0,
+        }
+    }
+
+    /// Looks at it: counts a hit, and says whether it stops.
+    pub(crate) fn check(&mut self, pc: u32, hart: &Hart, memory: &Memory) -> bool
+        ensures counted { self.new ≡ counted pc hart.now memory.now self.old }
+        ensures stops { result ≡ stops pc hart.now memory.now self.old }
+    {
+        if self.address != pc || !self.holds(hart, memory) {
+            return false;
+        }
+        self.hits = self.hits.saturating_add(1);
+        self.hits >= self.hit
+    }
+
+    // Whether its condition is absent, not 0, or has no value.
+    fn holds(&self, hart: &Hart, memory: &Memory) -> bool
+        ensures { result ≡ holds self.now.condition hart.now memory.now }
+    {
+        match &self.condition {
+            None => true,
+            Some(condition) => match condition.value(hart, memory) {
+                Ok(value) => value != 0,
+                Err(_) => true,
+            },
+        }
+    }
+}

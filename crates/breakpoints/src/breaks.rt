@@ -1,0 +1,223 @@
+//! The two lists of breakpoints.
+
+ghost use Rattle.std.specs.Prelude.{◌≡◌, ◌+◌, ◌<◌, ◌≤◌, ◌^◌, ◌++◌, ◌∷◌, ◌||◌, [], IfOk, OnErr, OnOk, false, length, map, vec_capacity, vec_len};
+ghost use Rattle.std.specs.Bool.{OnFalse};
+ghost use Rattle.std.specs.List.{list_any};
+ghost use Rattle.breakpoints.specs.Places.{is_at, Covers};
+ghost use Rattle.breakpoints.specs.Stops.{CanBeSet, checked, counted, fresh, hit_in, reset, stopping_ids, stops};
+
+use crate::breakpoint::{BreakSpec, Breakpoint, Hit};
+use crate::places::Places;
+use image::Memory;
+use rv32i::Hart;
+use std::alloc::{AllocError, Global};
+use std::marker::Model;
+
+/// The breakpoints of source lines and those of instructions, and which of them stopped at the last check. A contract sees the
+/// two lists and the ids of those that stopped, the source list's first.
+#[derive(Drop)]
+pub struct Breaks {
+    alloc: Global,
+    source: Vec<Breakpoint>,
+    instructions: Vec<Breakpoint>,
+    ids: Vec<u32>,
+    places: Places,
+}
+
+impl Model for Breaks {
+    ghost use Rattle.std.specs.Prelude.{◌+◌, ◌≤◌, vec_capacity, length};
+    ghost use Rattle.breakpoints.specs.Stops.{Lists};
+    ghost use Rattle.breakpoints.specs.Places.{IsKept};
+    ghost use Rattle.std.specs.Coded.{codes};
+    ghost use Rattle.breakpoints.specs.contracts.breakpoint.Breakpoint as breakpoint;
+
+    ghost Value = { Lists };
+
+    ghost coded = { Prim.hlevel (codes, breakpoint.the_row.coded) };
+
+    ghost view = { λ b. record { source = b.source.items; instructions = b.instructions.items; ids = b.ids.items } };
+
+    ghost invariant = { λ b. IsKept b.places b.source.items b.instructions.items (vec_capacity b.ids) };
+}
+
+impl Breaks {
+    /// No breakpoints. It takes no memory.
+    pub fn new(alloc: Global) -> Breaks
+        ensures { result ≡ record { source = []; instructions = []; ids = [] } }
+    {
+        Breaks {
+            alloc,
+            source: Vec::new(alloc),
+            instructions: Vec::new(alloc),
+            ids: Vec::new(alloc),
+            places: Places::new(alloc),
+        }
+    }
+
+    /// Replaces the breakpoints of source lines, at most 1,024, by these, none of which was hit yet; no ids are lent until the next
+    /// check. Where no memory is left, nothing changes.
+    pub fn set_source(&mut self, specs: Vec<BreakSpec>) -> Result<(), AllocError>
+        requires { CanBeSet specs.items }
+        ensures ok { OnOk result (self.new ≡ record self.old { source = map fresh specs.items; ids = [] }) }
+        ensures err { OnErr result (self.new ≡ self.old) }
+    {
+        let source = fresh_list(self.alloc, specs)?;
+        let ids = Vec::with_capacity(self.alloc, source.len() + self.instructions.len())?;
+        let places = places_of(self.alloc, &source, &self.instructions)?;
+        self.source = source;
+        self.ids = ids;
+        self.places = places;
+        Ok(())
+    }
+
+    /// Replaces the breakpoints of instructions, at most 1,024, by these, none of which was hit yet; no ids are lent until the next
+    /// check. Where no memory is left, nothing changes.
+    pub fn set_instructions(&mut self, specs: Vec<BreakSpec>) -> Result<(), AllocError>
+        requires { CanBeSet specs.items }
+        ensures ok { OnOk result (self.new ≡ record self.old { instructions = map fresh specs.items; ids = [] }) }
+        ensures err { OnErr result (self.new ≡ self.old) }
+    {
+        let instructions = fresh_list(self.alloc, specs)?;
+        let ids = Vec::with_capacity(self.alloc, self.source.len() + instructions.len())?;
+        let places = places_of(self.alloc, &self.source, &instructions)?;
+        self.instructions = instructions;
+        self.ids = ids;
+        self.places = places;
+        Ok(())
+    }
+
+    /// Takes all breakpoints away.
+    pub fn clear(&mut self)
+        ensures { self.new ≡ record { source = []; instructions = []; ids = [] } }
+    {
+        self.source = Vec::new(self.alloc);
+        self.instructions = Vec::new(self.alloc);
+        self.ids.clear();
+        self.places = Places::new(self.alloc);
+    }
+
+    /// Each breakpoint was not hit yet.
+    pub fn reset_hits(&mut self)
+        ensures { self.new ≡ record self.old { source = map reset self.old.source; instructions = map reset self.old.instructions } }
+    {
+        reset_list(&mut self.source);
+        reset_list(&mut self.instructions);
+    }
+
+    /// Whether a breakpoint of either list is at an address: where none is, a check there counts nothing and stops nothing.
+    #[inline]
+    pub fn has(&self, address: u32) -> bool
+        ensures { result ≡ (list_any (is_at address) self.now.source || list_any (is_at address) self.now.instructions) }
+    {
+        self.places.has(address)
+    }
+
+    /// Looks at the breakpoints at pc: counts the hits, and says which kinds of them stop. It takes no memory.
+    pub fn check(&mut self, pc: u32, hart: &Hart, memory: &Memory) -> Hit
+        ensures lists { self.new ≡ checked pc hart.now memory.now self.old }
+        ensures hit { result ≡ hit_in pc hart.now memory.now self.old }
+    {
+        self.ids.clear();
+        if !self.has(pc) {
+            return Hit {
+                source: false,
+                instruction: false,
+            };
+        }
+        let source = check_list(&mut self.source, &mut self.ids, pc, hart, memory);
+        let instruction = check_list(&mut self.instructions, &mut self.ids, pc, hart, memory);
+        Hit {
+            source,
+            instruction,
+        }
+    }
+
+    /// The ids of the breakpoints that stopped at the last check, those of the source list first.
+    pub fn ids(&self) -> &[u32]
+        ensures { result.now ≡ self.now.ids }
+    {
+        &self.ids
+    }
+}
+
+// The breakpoints of specs, none of which was hit yet.
+fn fresh_list(alloc: Global, specs: Vec<BreakSpec>) -> Result<Vec<Breakpoint>, AllocError>
+    requires { CanBeSet specs.items }
+    ensures { IfOk result (λ list. list.items ≡ map fresh specs.items) }
+{
+    let mut list = Vec::with_capacity(alloc, specs.len())?;
+    for spec in specs {
+        list.push(Breakpoint::fresh(spec))?;
+    }
+    Ok(list)
+}
+
+// Where the breakpoints of both lists are.
+fn places_of(
+    alloc: Global,
+    source: &[Breakpoint],
+    instructions: &[Breakpoint],
+) -> Result<Places, AllocError>
+    ensures { IfOk result (λ places. Covers places source.now instructions.now) }
+{
+    let mut addresses = Vec::new(alloc);
+    push_addresses(&mut addresses, source)?;
+    push_addresses(&mut addresses, instructions)?;
+    Places::of(alloc, addresses)
+}
+
+fn push_addresses(addresses: &mut Vec<u32>, list: &[Breakpoint]) -> Result<(), AllocError>
+    ensures { OnOk result (addresses.new.items ≡ addresses.old.items ++ map (λ b. b.address) list.now) }
+{
+    for breakpoint in list {
+        addresses.push(breakpoint.address)?;
+    }
+    Ok(())
+}
+
+fn reset_list(list: &mut Vec<Breakpoint>)
+    ensures { list.new.items ≡ map reset list.old.items }
+{
+    for breakpoint in list.iter_mut() {
+        breakpoint.hits = 0;
+    }
+}
+
+// Checks one list: counts the hits, appends the ids of those that stop, and says whether there is one.
+fn check_list(
+    list: &mut Vec<Breakpoint>,
+    ids: &mut Vec<u32>,
+    pc: u32,
+    hart: &Hart,
+    memory: &Memory,
+) -> bool
+    requires { vec_len ids.old + vec_len list.old ≤ vec_capacity ids.old }
+    ensures list { list.new.items ≡ map (counted pc hart.now memory.now) list.old.items }
+    ensures ids { ids.new.items ≡ ids.old.items ++ stopping_ids pc hart.now memory.now list.old.items }
+    ensures room { vec_capacity ids.old ≤ vec_capacity ids.new }
+    ensures count { vec_len ids.new ≤ vec_len ids.old + vec_len list.old }
+    ensures stops { result ≡ list_any (stops pc hart.now memory.now) list.old.items }
+{
+    let mut any = false;
+    for breakpoint in list.iter_mut() {
+        let id = breakpoint.id;
+        if breakpoint.check(pc, hart, memory) {
+            push_within(ids, id);
+            any = true;
+        }
+    }
+    any
+}
+
+// Appends an id where there is room for it.
+fn push_within(ids: &mut Vec<u32>, id: u32)
+    requires { vec_len ids.old < vec_capacity ids.old }
+    ensures ids { ids.new.items ≡ ids.old.items ++ id ∷ [] }
+    ensures len { vec_len ids.new ≡ vec_len ids.old + 1 }
+    ensures room { vec_capacity ids.old ≤ vec_capacity ids.new }
+{
+    match ids.push(id) {
+        Ok(()) => {}
+        Err(_) => unreachable!(),
+    }
+}

@@ -1,0 +1,15 @@
+-- The tokens are gone through one by one.
+use Rattle.std.proofs.Common.{◌≡◌, ℕ, ◌+◌, ◌<◌, None, Some, List, [], ◌∷◌, drop, get_or, length, refl, ap, ◌∙◌}
+use Rattle.std.proofs.lemmas.List.{drop_more}
+use Rattle.expressions.specs.Shifting.{Place, parsed_from, shifted}
+use Rattle.expressions.specs.declared.token.Token.{Token}
+
+-- where no tree has some tokens, none has them and more
+pub never : (tokens : List Token) → parsed_from None tokens ≡ None
+never [] = refl
+never (token ∷ tokens) = never tokens
+
+pub none_here : (tokens : List Token) (i : ℕ) (place : Place) (token : Token) → i < length tokens → get_or tokens i token ≡ token → shifted place token ≡ None → parsed_from (Some place) (drop i tokens) ≡ None
+none_here tokens i place token h at e =
+    ap (parsed_from (Some place)) (drop_more tokens i token h ∙ ap (λ t. t ∷ drop (i + 1) tokens) at)
+    ∙ ap (λ p. parsed_from p (drop (i + 1) tokens)) e ∙ never (drop (i + 1) tokens)

@@ -1,0 +1,10 @@
+use Rattle.std.proofs.Common.{sym, ◌∙◌}
+use Rattle.std.proofs.lemmas.Bool.{true≢false}
+use Rattle.std.proofs.lemmas.Slice.Eq.{bytes_eq-Decides}
+use Rattle.expressions.proofs.Words.{word_or_not}
+use Rattle.expressions.proofs.lexing.word_in.Goals as goal
+
+pub returns : goal.returns
+returns c =
+    let bytes = c.args.bytes.now in
+    word_or_not bytes c.register_in.result c.requires (λ e. absurd (true≢false (sym ((bytes_eq-Decides bytes c.as_slice.result.now).1 (e ∙ sym c.as_slice.ensures)) ∙ sym c.eq.ensures ∙ c.if-eq.false))) (λ n h. c.in_default.not-Ok n (c.magnitude.ensures ∙ h)) c.register_in.ensures.names c.register_in.ensures.none

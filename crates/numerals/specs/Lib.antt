@@ -1,0 +1,2 @@
+-- which number a text writes
+pub mod Numerals
