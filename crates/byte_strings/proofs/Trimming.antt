@@ -49,13 +49,13 @@ led (b ∷ text) =
       | false ↦ λ t. ([], (refl, refl, λ h. cc))
     ] in let r = go refl in record { blanks = r.0; all = r.1.0; parted = r.1.1; some = r.1.2 }
 
--- a text is the blanks round it and what is between
+-- a text is the blanks around it and what is between
 pub record Round (text : List ℕ) : Type 0 where
   pub before : List ℕ
-  pub behind : List ℕ
+  pub after : List ℕ
   pub blank_before : list_all is_blank before ≡ true
-  pub blank_behind : list_all is_blank behind ≡ true
-  pub parted : text ≡ before ++ trimmed text ++ behind
+  pub blank_after : list_all is_blank after ≡ true
+  pub parted : text ≡ before ++ trimmed text ++ after
   pub some : begins_blank text ≡ true → 0 < length before
 
 -- what is left without leading blanks is what is left without any, and blanks
@@ -77,9 +77,9 @@ round text =
     let lead = led text in
     let back = ended (without_leading_blanks text) in record {
       before = lead.blanks;
-      behind = back.after;
+      after = back.after;
       blank_before = lead.all;
-      blank_behind = back.blank;
+      blank_after = back.blank;
       parted = lead.parted ∙ ap (λ (l : List ℕ). lead.blanks ++ l) back.parted ∙ sym (append_assoc lead.blanks (trimmed text) back.after);
       some = lead.some;
     }

@@ -40,10 +40,10 @@ says_from_number value n h =
     record {
       before = t.before;
       digits = trimmed value;
-      after = t.behind;
+      after = t.after;
       spelled = t.parted;
       blank_before = t.blank_before;
-      blank_after = t.blank_behind;
+      blank_after = t.blank_after;
       all_digits = r.2;
       some = grind (arith, nat_tests);
       few = grind (arith, nat_tests);

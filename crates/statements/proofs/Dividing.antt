@@ -84,15 +84,15 @@ mnemonic_only rest some none =
           let statement : IsStatement r [] rest = record {
             before = t.before;
             gap = [];
-            after = t.behind;
+            after = t.after;
             blank_before = t.blank_before;
             blank_gap = refl;
-            blank_after = t.blank_behind;
+            blank_after = t.blank_after;
             name = n;
             apart = λ h. absurd (omega (arith, h));
             bare = refl;
             each = refl;
-            spelled = t.parted ∙ ap (λ (l : List ℕ). l ++ t.behind) (sym (append-nil (t.before ++ r ++ []) ∙ append-nil (t.before ++ r)));
+            spelled = t.parted ∙ ap (λ (l : List ℕ). l ++ t.after) (sym (append-nil (t.before ++ r ++ []) ∙ append-nil (t.before ++ r)));
           } in inl (Some (r, []), (statement, stated ∙ ap stating (rw n refl)))
       | false ↦ λ n. let refused : said r [] ≡ Err Syntax = rw n refl in inr (stated ∙ ap stating refused)
     ] in go refl
@@ -110,20 +110,20 @@ mnemonic_and_operands rest i some at =
     let P : Bool → Type 0 = λ b. (is_name w && are_operands o) ≡ b → Divides rest in
     let go : P (is_name w && are_operands o) = elim (is_name w && are_operands o) as P [
       | true ↦ λ n.
-          let whole : rest ≡ t.before ++ (w ++ (u.before ++ o ++ u.behind)) ++ t.behind =
-          t.parted ∙ ap (λ (l : List ℕ). t.before ++ l ++ t.behind) (sym (take-append-drop i r) ∙ ap (λ (l : List ℕ). w ++ l) u.parted) in
+          let whole : rest ≡ t.before ++ (w ++ (u.before ++ o ++ u.after)) ++ t.after =
+          t.parted ∙ ap (λ (l : List ℕ). t.before ++ l ++ t.after) (sym (take-append-drop i r) ∙ ap (λ (l : List ℕ). w ++ l) u.parted) in
           let statement : IsStatement w o rest = record {
             before = t.before;
             gap = u.before;
-            after = u.behind ++ t.behind;
+            after = u.after ++ t.after;
             blank_before = t.blank_before;
             blank_gap = u.blank_before;
-            blank_after = all_append is_blank u.behind t.behind u.blank_behind t.blank_behind;
+            blank_after = all_append is_blank u.after t.after u.blank_after t.blank_after;
             name = and_left (is_name w) _ n;
             apart = λ h. u.some (begins_at r i found.0 ∙ found.1);
             bare = trimmed_bare x;
             each = and_right (is_name w) _ n;
-            spelled = whole ∙ regroup t.before w u.before o u.behind t.behind;
+            spelled = whole ∙ regroup t.before w u.before o u.after t.after;
           } in inl (Some (w, o), (statement, stated ∙ ap stating (rw n refl)))
       | false ↦ λ n. let refused : said w o ≡ Err Syntax = rw n refl in inr (stated ∙ ap stating refused)
     ] in go refl
@@ -136,8 +136,8 @@ spoken_divides rest =
     let go : P (length r == 0) = elim (length r == 0) as P [
       | true ↦ λ e.
           let none : r ≡ [] = no_length r e in
-          let whole : rest ≡ t.before ++ t.behind = t.parted ∙ ap (λ (l : List ℕ). t.before ++ l ++ t.behind) none ∙ ap (λ (l : List ℕ). l ++ t.behind) (append-nil t.before) in
-          let blank : AllBlank rest = ap (list_all is_blank) whole ∙ all_append is_blank t.before t.behind t.blank_before t.blank_behind in
+          let whole : rest ≡ t.before ++ t.after = t.parted ∙ ap (λ (l : List ℕ). t.before ++ l ++ t.after) none ∙ ap (λ (l : List ℕ). l ++ t.after) (append-nil t.before) in
+          let blank : AllBlank rest = ap (list_all is_blank) whole ∙ all_append is_blank t.before t.after t.blank_before t.blank_after in
           inl (None, (blank, rw e refl))
       | false ↦ λ e.
           let Q : Option ℕ → Type 0 = λ o. position is_blank r ≡ o → Divides rest in
