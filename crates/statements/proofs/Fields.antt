@@ -1,13 +1,16 @@
 -- A text divided at a byte.
-use Rattle.std.proofs.Common.{◌≡◌, ℕ, ◌+◌, ◌<◌, Bool, true, false, cond, not, nat_lt, ◌==◌, List, [], ◌∷◌, ◌++◌, length, take, drop, map, Result, Ok, Err, Option, Some, None, refl, sym, ap, ◌∙◌, arith}
+use Rattle.std.proofs.Common.{◌≡◌, ℕ, ◌+◌, ◌<◌, Bool, true, false, cond, not, nat_lt, ◌==◌, List, [], ◌∷◌, ◌++◌, length, take, drop, map, Result, Ok, Err, Option, Some, None, refl, sym, ap, ◌∙◌, append_assoc, arith}
 use Rattle.std.proofs.lemmas.Bool.Decides.{nat_tests}
 use Rattle.std.proofs.lemmas.List.Splits.{slice_split_first, length-slice_split}
 use Rattle.std.specs.List.{count_by, slice_split, onto_first, position_or_len}
 use Rattle.std.specs.Option.{is_some, option_map}
+use Rattle.statements.specs.Directives.{all_of, before_others, item_in, items_of}
 use Rattle.statements.specs.Operands.{counted, operands_in}
 use Rattle.statements.specs.Spelling.{parted, parted_at, fields, fields_after}
 use Rattle.byte_strings.specs.Blanks.{trimmed}
 use Rattle.statements.specs.declared.error.LineError.{LineError}
+use Rattle.statements.specs.declared.items.Item.{Item}
+use Rattle.statements.specs.declared.items.Width.{Width}
 use Rattle.statements.specs.declared.operands.Operands.TheVariants.{More}
 
 whole : (p : ℕ → Bool) (text : List ℕ) → nat_lt (position_or_len p text) (length text) ≡ false → slice_split p text ≡ text ∷ []
@@ -79,3 +82,16 @@ left (Some text) = length text + 1
 abbrev pub followed_by : {A : Type 0} → List A → Result (List A) LineError → Result (List A) LineError
 followed_by list (Ok more) = Ok (list ++ more)
 followed_by list (Err error) = Err error
+
+one_before : {A : Type 0} (list : List A) (a : A) (others : Result (List A) LineError) → followed_by list (before_others a others) ≡ followed_by (list ++ a ∷ []) others
+one_before list a (Ok more) = ap (λ l. Ok l) (sym (append_assoc list (a ∷ []) more))
+one_before list a (Err error) = refl
+
+-- one more item of a list
+pub one_more : (all : Result (List Item) LineError) (width : Width) (list longer : List Item) (field : List ℕ) (rest others : List (List ℕ)) (item : Item) → all ≡ followed_by list (items_of width rest) → rest ≡ field ∷ others → item_in width (trimmed field) ≡ Ok item → longer ≡ list ++ item ∷ [] → all ≡ followed_by longer (items_of width others)
+one_more all width list longer field rest others item h e f g =
+    h
+    ∙ ap (λ (l : List (List ℕ)). followed_by list (items_of width l)) e
+    ∙ ap (λ i. followed_by list (all_of (i ∷ map (λ (l : List ℕ). item_in width (trimmed l)) others))) f
+    ∙ one_before list item (items_of width others)
+    ∙ ap (λ (l : List Item). followed_by l (items_of width others)) (sym g)

@@ -1,4 +1,3 @@
-pub mod Values
 pub mod Fields
 pub mod Below
 pub mod Registers

@@ -8,7 +8,10 @@ use Rattle.statements.specs.Directives.{align, all_of, are_formed, before_others
 use Rattle.statements.specs.Grammar.{Spoken, says}
 use Rattle.statements.specs.Instructions.{Said, add_upper, against_zero, amount_in, and_then, branch, call, constant, fence, fence_of, fixed, immediate, jump, jump_and_link, jump_and_link_register, jump_register, jump_to, load, load_address, load_immediate, load_upper, lower, of_register, registers, shift, store, store_lower, swapped, unary, unary_instruction, upper_by, upper_in, with_zero, zero_against}
 use Rattle.statements.specs.Laws.{FormIsNoError, IsErrorOf, IsOfOperands}
-use Rattle.statements.specs.Numbers.{bits_by, bits_in, bits_of, constant_in, magnitude, magnitude_by, number_by, number_in, numeral, signed, within}
+use Rattle.numerals.specs.Numerals.{magnitude as numeral_of}
+use Rattle.numerals.specs.declared.NumeralError.{NumeralError}
+use Rattle.numerals.specs.declared.NumeralError.TheVariants.{Malformed, TooLarge}
+use Rattle.statements.specs.Numbers.{bits_by, bits_in, bits_of, constant_in, magnitude, magnitude_by, number_by, number_in, signed}
 use Rattle.statements.specs.Operands.{access_by, access_in, access_with, address_target, base_by, bits_low, bracketed, closed, immediate_in, label_in, low_by, low_in, offset_in, operands_in, or_bad, part_access, part_access_by, part_by, part_in, part_low, plain_access, register_in, register_of, set_in, sets, target_in}
 use Rattle.statements.specs.Operations.{register_instruction, shift_instruction}
 use Rattle.statements.specs.Reading.{line_of, meaning, said_by, stating}
@@ -73,23 +76,18 @@ mild_or_bad (Some a) = tt
 mild_register : (text : List ℕ) → Mild (register_in text)
 mild_register text = mild_or_bad (register_of text)
 
-mild_within : (n : ℕ) → Mild (within n)
-mild_within n = mild_cond (nat_le n 4294967295) (Ok n) (Err OutOfRange) tt tt
-
-mild_numeral : (radix : ℕ) (digits : List ℕ) → Mild (numeral radix digits)
-mild_numeral radix digits = mild_cond (not (length digits == 0) && list_all (λ c. is_digit c radix) digits) (within (digits_value radix digits)) (Err BadOperand) (mild_within (digits_value radix digits)) tt
-
-mild_magnitude_by : (text : List ℕ) (found : Option (List ℕ)) → Mild (magnitude_by text found)
-mild_magnitude_by text (Some digits) = mild_numeral 16 digits
-mild_magnitude_by text None = mild_numeral 10 text
+mild_magnitude_by : (x : Result ℕ NumeralError) → Mild (magnitude_by x)
+mild_magnitude_by (Ok n) = tt
+mild_magnitude_by (Err Malformed) = tt
+mild_magnitude_by (Err TooLarge) = tt
 
 mild_signed : (negative : Bool) (x : Result ℕ LineError) → Mild x → Mild (signed negative x)
 mild_signed negative (Ok n) h = tt
 mild_signed negative (Err error) h = h
 
 mild_number_by : (text : List ℕ) (found : Option (List ℕ)) → Mild (number_by text found)
-mild_number_by text (Some digits) = mild_signed true (magnitude digits) (mild_magnitude_by digits (stripped (codes "0x") digits))
-mild_number_by text None = mild_signed false (magnitude text) (mild_magnitude_by text (stripped (codes "0x") text))
+mild_number_by text (Some digits) = mild_signed true (magnitude digits) (mild_magnitude_by (numeral_of digits))
+mild_number_by text None = mild_signed false (magnitude text) (mild_magnitude_by (numeral_of text))
 
 mild_bits_by : (below above : ℕ) (x : Result Number LineError) → Mild x → Mild (bits_by below above x)
 mild_bits_by below above (Ok n) h = mild_cond (nat_le n.magnitude (cond n.negative below above)) (Ok (bits_of n)) (Err OutOfRange) tt tt

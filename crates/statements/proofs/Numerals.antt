@@ -9,7 +9,8 @@ use Rattle.std.proofs.lemmas.Bool.Decides.{nat_tests}
 use Rattle.std.proofs.lemmas.Fmt.{decimal_is_IsNumeral, digits_is_IsNumeral}
 use Rattle.rv32i.specs.Machine.{signed as signed_bits}
 use Rattle.rv32i.specs.Texts.{eight_digits, hex_digit}
-use Rattle.statements.specs.Numbers.{bits_by, bits_in, bits_within, magnitude, magnitude_by, number_by, numeral, signed, within}
+use Rattle.numerals.specs.Numerals.{magnitude_by as numeral_by, numeral, prefixed, within}
+use Rattle.statements.specs.Numbers.{bits_by, bits_in, bits_within, magnitude, magnitude_by, number_by, signed}
 use Rattle.statements.specs.Operands.{immediate_in, is_operand}
 use Rattle.statements.specs.Spelling.{stripped}
 use Rattle.statements.specs.declared.number.Number.{Number}
@@ -132,17 +133,17 @@ not_x c h =
 not_minus : (c : ℕ) → digit_value c < 16 → (c == 45) ≡ false
 not_minus c h = let high : 48 ≤ c = digit_high c h in grind (arith, nat_tests)
 
-no_radix : (ds : List ℕ) → AllDigits 10 ds → stripped (codes "0x") ds ≡ None
+no_radix : (ds : List ℕ) → AllDigits 10 ds → prefixed ds ≡ None
 no_radix [] h = refl
-no_radix (c ∷ []) h = turned_down ((c == 48) && false) _ _ (no_more (c == 48))
-no_radix (c ∷ d ∷ ds) h = turned_down ((c == 48) && ((d == 120) && true)) _ _ (ap (λ t. (c == 48) && t) (not_both (d == 120) true (not_x d h.1.0)) ∙ no_more (c == 48))
+no_radix (c ∷ []) h = refl
+no_radix (c ∷ d ∷ ds) h = turned_down ((c == 48) && (d == 120)) _ _ (ap (λ t. (c == 48) && t) (not_x d h.1.0) ∙ no_more (c == 48))
 
 no_minus : (ds : List ℕ) → AllDigits 10 ds → stripped (codes "-") ds ≡ None
 no_minus [] h = refl
 no_minus (c ∷ ds) h = let value : digit_value c < 10 = h.0 in other_prefix c 45 [] ds (not_minus c (omega (arith, value)))
 
 magnitude_read : (ds : List ℕ) (n : ℕ) → Writes 10 ds n → n ≤ 4294967295 → magnitude ds ≡ Ok n
-magnitude_read ds n w l = ap (magnitude_by ds) (no_radix ds w.numeral.1) ∙ numeral_read 10 ds n w l
+magnitude_read ds n w l = ap magnitude_by (ap (numeral_by ds) (no_radix ds w.numeral.1) ∙ numeral_read 10 ds n w l)
 
 abbrev number : Bool → ℕ → Number
 number negative n = record { negative = negative; magnitude = n }
@@ -202,7 +203,7 @@ immediate_is sign low imm s l e =
 
 pub hex_read : (below above n : ℕ) (ds : List ℕ) → Writes 16 ds n → n ≤ above → n ≤ 4294967295 → bits_in below above (48 ∷ 120 ∷ ds) ≡ Ok n
 hex_read below above n ds w a l =
-    ap (bits_by below above) (ap (signed false) (numeral_read 16 ds n w l))
+    ap (bits_by below above) (ap (signed false) (ap magnitude_by (numeral_read 16 ds n w l)))
     ∙ within_above below above n a
 
 pub hex_high : (ds : List ℕ) → High ds → High (48 ∷ 120 ∷ ds)

@@ -2,34 +2,29 @@
 --
 -- A number is an optional `-`, and then decimal digits, or `0x` and hexadecimal digits of either case. Its magnitude is
 -- at most 4,294,967,295. An operand takes the numbers of a range, as 32 bits in two's complement.
-use Rattle.std.specs.Prelude.{◌≡◌, ℕ, ◌-◌, ◌%◌, ◌^◌, Bool, true, false, ◌==◌, nat_le, if◌then◌else◌, ◌&&◌, not, List}
-use Rattle.std.specs.Prelude.{length, Option, Some, None, Result, Ok, Err, codes, refl}
-use Rattle.std.specs.List.{list_all}
-use Rattle.std.specs.Char.{is_digit}
-use Rattle.std.specs.Str.Parse.{digits_value}
+use Rattle.std.specs.Prelude.{◌≡◌, ℕ, ◌-◌, ◌%◌, ◌^◌, Bool, true, false, nat_le, if◌then◌else◌, List, Option, Some, None}
+use Rattle.std.specs.Prelude.{Result, Ok, Err, codes, refl}
+use Rattle.numerals.specs.Numerals.{magnitude as numeral_of}
+use Rattle.numerals.specs.declared.NumeralError.{NumeralError}
+use Rattle.numerals.specs.declared.NumeralError.TheVariants.{Malformed, TooLarge}
 use Rattle.statements.specs.Spelling.{stripped}
 use Rattle.statements.specs.declared.error.LineError.{LineError}
 use Rattle.statements.specs.declared.error.LineError.TheVariants.{BadOperand, OutOfRange}
 use Rattle.statements.specs.declared.number.Number.{Number}
 
--- a number of at most 32 bits
-abbrev pub within : ℕ → Result ℕ LineError
-within n = if nat_le n 4294967295 then Ok n else Err OutOfRange
+-- what is wrong with an operand that is no number
+abbrev pub numeral_fault : NumeralError → LineError
+numeral_fault Malformed = BadOperand
+numeral_fault TooLarge = OutOfRange
 
--- what digits of a radix write, one or more
-abbrev pub numeral : ℕ → List ℕ → Result ℕ LineError
-numeral radix digits = if not (length digits == 0) && list_all (λ c. is_digit c radix) digits
-    then within (digits_value radix digits)
-    else Err BadOperand
-
--- the magnitude: after `0x` come hexadecimal digits
-abbrev pub magnitude_by : List ℕ → Option (List ℕ) → Result ℕ LineError
-magnitude_by text (Some digits) = numeral 16 digits
-magnitude_by text None = numeral 10 text
+-- the same number, or what is wrong with the operand
+abbrev pub magnitude_by : Result ℕ NumeralError → Result ℕ LineError
+magnitude_by (Ok n) = Ok n
+magnitude_by (Err error) = Err (numeral_fault error)
 
 -- the magnitude that a text writes
 abbrev pub magnitude : List ℕ → Result ℕ LineError
-magnitude text = magnitude_by text (stripped (codes "0x") text)
+magnitude text = magnitude_by (numeral_of text)
 
 -- a magnitude with its sign
 abbrev pub signed : Bool → Result ℕ LineError → Result Number LineError

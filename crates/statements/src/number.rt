@@ -1,15 +1,10 @@
 //! Numbers in a text.
-ghost use Rattle.std.specs.Prelude.{◌≡◌, ◌<◌, ◌+◌, ◌%◌, ◌^◌, IfOk, ◌≤◌, ◌==◌, ◌∷◌, length, position, true, if◌then◌else◌, Some, None};
-ghost use Rattle.std.specs.List.{list_all};
-ghost use Rattle.std.specs.Char.{digit_value, is_digit};
-ghost use Rattle.std.specs.Str.Parse.{digits_value};
-ghost use Rattle.statements.specs.Numbers.{bits_in, bits_within, constant_in, magnitude, number_in, numeral, signed, within};
+ghost use Rattle.std.specs.Prelude.{◌≡◌, ◌<◌, ◌+◌, ◌%◌, ◌^◌, IfOk, ◌≤◌};
+ghost use Rattle.statements.specs.Numbers.{bits_in, bits_within, constant_in, magnitude, number_in, signed};
 
 use crate::error::LineError;
 use crate::spelling::stripped;
-
-/// The greatest magnitude of a number.
-const MOST: u32 = 4_294_967_295;
+use numerals::NumeralError;
 
 /// A number, by its sign and magnitude.
 #[derive(Clone, Copy)]
@@ -77,56 +72,9 @@ fn signed(negative: bool, magnitude: Result<u32, LineError>) -> Result<Number, L
 fn magnitude(text: &[u8]) -> Result<u32, LineError>
     ensures { result ≡ magnitude text.now }
 {
-    match stripped(b"0x", text) {
-        Some(digits) => numeral(16, digits),
-        None => numeral(10, text),
-    }
-}
-
-fn numeral(radix: u32, digits: &[u8]) -> Result<u32, LineError>
-    requires low { 2 ≤ radix }
-    requires high { radix ≤ 16 }
-    ensures { result ≡ numeral radix digits.now }
-{
-    if !digits.is_empty() && are_digits(radix, digits) {
-        value(radix, digits)
-    } else {
-        Err(LineError::BadOperand)
-    }
-}
-
-fn are_digits(radix: u32, digits: &[u8]) -> bool
-    ensures { result ≡ list_all (λ c. is_digit c radix) digits.now }
-{
-    digits.iter().all(|c| digit_value(*c) < radix)
-}
-
-// What digits write, where that is no more than a number may have.
-fn value(radix: u32, digits: &[u8]) -> Result<u32, LineError>
-    requires low { 2 ≤ radix }
-    requires high { radix ≤ 16 }
-    ensures { result ≡ within (digits_value radix digits.now) }
-{
-    let mut value: u64 = 0;
-    for digit in digits {
-        value = value * u64::from(radix) + u64::from(digit_value(*digit));
-        if value > u64::from(MOST) {
-            return Err(LineError::OutOfRange);
-        }
-    }
-    Ok(value as u32)
-}
-
-// The value of a digit, 36 where the byte is none.
-#[inline]
-fn digit_value(byte: u8) -> u32
-    ensures value { result ≡ digit_value byte }
-    ensures small { result ≤ 36 }
-{
-    match byte {
-        b'0'..=b'9' => u32::from(byte - b'0'),
-        b'A'..=b'Z' => u32::from(byte - b'A') + 10,
-        b'a'..=b'z' => u32::from(byte - b'a') + 10,
-        _ => 36,
+    match numerals::magnitude(text) {
+        Ok(magnitude) => Ok(magnitude),
+        Err(NumeralError::Malformed) => Err(LineError::BadOperand),
+        Err(NumeralError::TooLarge) => Err(LineError::OutOfRange),
     }
 }
