@@ -73,7 +73,7 @@ static enum stepped step(struct hart *h)
 {
     uint32_t *x = h->x, pc = h->pc, next = pc + 4, v = 0, w, target;
     uint8_t *p = at(pc, 4);
-    uint16_t half;
+    uint16_t halfword;
     if (!p) return STOP;
     memcpy(&w, p, 4);
     struct instr i = decode(w);
@@ -92,11 +92,16 @@ static enum stepped step(struct hart *h)
     case BGEU: taken = a >= b; goto branch;
     case LB: if (!(p = at(sum, 1))) return STOP; v = (uint32_t)(int8_t)*p; break;
     case LBU: if (!(p = at(sum, 1))) return STOP; v = *p; break;
-    case LH: if (!(p = at(sum, 2))) return STOP; memcpy(&half, p, 2); v = (uint32_t)(int16_t)half; break;
-    case LHU: if (!(p = at(sum, 2))) return STOP; memcpy(&half, p, 2); v = half; break;
+    case LH: if (!(p = at(sum, 2))) return STOP; memcpy(&halfword, p, 2); v = (uint32_t)(int16_t)halfword; break;
+    case LHU: if (!(p = at(sum, 2))) return STOP; memcpy(&halfword, p, 2); v = halfword; break;
     case LW: if (!(p = at(sum, 4))) return STOP; memcpy(&v, p, 4); break;
     case SB: if (!(p = at(sum, 1))) return STOP; *p = (uint8_t)b; h->pc = next; return RETIRED;
-    case SH: if (!(p = at(sum, 2))) return STOP; half = (uint16_t)b; memcpy(p, &half, 2); h->pc = next; return RETIRED;
+    case SH:
+        if (!(p = at(sum, 2))) return STOP;
+        halfword = (uint16_t)b;
+        memcpy(p, &halfword, 2);
+        h->pc = next;
+        return RETIRED;
     case SW: if (!(p = at(sum, 4))) return STOP; memcpy(p, &b, 4); h->pc = next; return RETIRED;
     case ADDI: v = sum; break;
     case SLTI: v = (int32_t)a < (int32_t)i.imm; break;

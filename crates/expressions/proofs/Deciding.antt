@@ -1,4 +1,4 @@
--- What the two halves come to: which texts have a tree, and that it is one.
+-- Tokens and trees together: which texts have a tree, and that it is one.
 use Rattle.std.proofs.Common.{◌≡◌, ℕ, List, [], Option, Some, None, sym, ap, ◌∙◌, subst}
 use Rattle.expressions.specs.Scanning.{Spelled, SpelledOrNot, lexemes}
 use Rattle.expressions.specs.Shifting.{parsed}

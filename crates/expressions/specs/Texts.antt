@@ -13,7 +13,7 @@ pub record IsTreeOf (text : List ℕ) (tree : Tree) : Type 0 where
   pub grouped : groups tree ≡ true
 
 -- What a text is read as: its tree where it has one within the limits. Its length is looked at first; where it is short enough
--- and has no tree, that is told, and else how deep it nests. Memory can run out in any text that is not too long.
+-- and has no tree, that is the error; only then how deep it nests is looked at. Memory can run out in any text that is not too long.
 abbrev pub Parses : List ℕ → Result Tree ExprError → Type 0
 Parses text (Ok tree) = (length text ≤ 1024) × (IsTreeOf text tree × (nesting tree ≤ 64))
 Parses text (Err TooLong) = 1024 < length text
