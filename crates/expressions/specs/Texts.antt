@@ -1,6 +1,7 @@
 -- Which texts are expressions.
 --
--- A text has at most 1,024 bytes, and is read by its tree. Its brackets and operators before their operand nest at most 64 deep.
+-- A text has at most 1,024 bytes, and is read by its tree. Its brackets and operators before their operand nest at most
+-- 64 deep.
 use Rattle.std.specs.Prelude.{◌≡◌, ℕ, ◌<◌, ◌≤◌, true, List, length, Result, Ok, Err}
 use Rattle.expressions.specs.Tokens.{IsTokens}
 use Rattle.expressions.specs.Trees.{Tree, groups, nesting, tokens_of}
@@ -12,8 +13,9 @@ pub record IsTreeOf (text : List ℕ) (tree : Tree) : Type 0 where
   pub tokens : IsTokens (tokens_of tree) text
   pub grouped : groups tree ≡ true
 
--- What a text is read as: its tree where it has one within the limits. Its length is looked at first; where it is short enough
--- and has no tree, that is the error; only then how deep it nests is looked at. Memory can run out in any text that is not too long.
+-- What a text is read as: its tree where it has one within the limits. Its length is looked at first. Where it is short
+-- enough and has no tree, that is the error, and only then how deep it nests. Memory can run out in any text that is
+-- not too long.
 abbrev pub Parses : List ℕ → Result Tree ExprError → Type 0
 Parses text (Ok tree) = (length text ≤ 1024) × (IsTreeOf text tree × (nesting tree ≤ 64))
 Parses text (Err TooLong) = 1024 < length text

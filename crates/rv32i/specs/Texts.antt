@@ -1,7 +1,7 @@
 -- The disassembly of a word: a statement of the assembly language that stands for it (RISC-V Unprivileged ISA 20191213,
 -- chapter 25, and the listings of chapter 2).
 --
--- The text of an instruction is its mnemonic, a space, and the operands divided by a comma and a space. Registers have
+-- That of an instruction is its mnemonic, a space, and the operands divided by a comma and a space. Registers have
 -- their names, an immediate is a signed decimal, the 20 bits of an upper immediate are hexadecimal without leading
 -- zeros, and the target of a jump or a branch is the absolute address, in eight hexadecimal digits. A FENCE that no
 -- such statement stands for is written as its word.

@@ -1,4 +1,4 @@
--- Numbers as an instruction's text writes them: how they are read.
+-- Numbers as disassembly writes them: how they are read.
 use Rattle.std.proofs.Common.{◌≡◌, ℕ, pos, negsuc, suc, ◌+◌, ◌-◌, ◌*◌, ◌/◌, ◌%◌, ◌^◌, ◌<◌, ◌≤◌, leb, ltb, Bool, true, false, cond, not, ◌==◌, ◌&&◌, List, [], ◌∷◌, ◌++◌, length, take, None, Ok, decimal, refl, ap, ◌∙◌, arith, codes}
 use Rattle.std.specs.Char.{digit_value, is_digit}
 use Rattle.std.specs.Fmt.{digits, signed_decimal}

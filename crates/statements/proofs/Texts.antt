@@ -1,4 +1,4 @@
--- The text of an instruction is read as its statement.
+-- The disassembly of an instruction is read as its statement.
 use Rattle.std.proofs.Common.{◌≡◌, ℕ, ◌+◌, ◌*◌, ◌/◌, ◌^◌, ◌<◌, Bool, true, false, cond, not, ◌==◌, ◌&&◌, ◌||◌, List, [], ◌∷◌, ◌++◌, length, map, Some, Result, Ok, Err, decimal, refl, sym, ap, ◌∙◌, inl, arith, codes}
 use Rattle.std.specs.Bool.{MatchBool}
 use Rattle.std.specs.Fmt.{digits, signed_decimal}

@@ -40,7 +40,7 @@ abbrev pub FormIsNoError : Type 0
 FormIsNoError = (line : List ℕ) (d : Division) (error : LineError) → IsLine (without_comment line) d →
     read line ≡ Err error → IsErrorOf d.spoken error
 
--- the text of an instruction at an address is read as its statement, without labels
+-- the disassembly of an instruction at an address is read as its statement, without labels
 abbrev pub TextsAreRead : Type 0
 TextsAreRead = (i : Instr) (pc word : ℕ) (text : List ℕ) → HasText i pc text → Encodes i word →
     read text ≡ stated_alone (statement_of i pc word)

@@ -27,7 +27,7 @@ branch_at pc condition rs1 rs2 offset = say.Branch condition rs1 rs2 (Address (s
 abbrev pub data_word : ℕ → Statement
 data_word word = say.Data Word (Number word ∷ [])
 
--- the statement that the text of an instruction is, at an address and with its word
+-- the statement that the disassembly of an instruction is, at an address and with its word
 abbrev pub statement_of : Instr → (pc word : ℕ) → Statement
 statement_of (i.Jal rd offset) pc word = say.Jump rd (Address (sum pc offset))
 statement_of (i.Beq rs1 rs2 offset) pc word = branch_at pc c.Equal rs1 rs2 offset
