@@ -1,9 +1,6 @@
 -- Whatever the operands of a mnemonic are, what is wrong with them is an error of operands.
-use Rattle.std.proofs.Common.{◌≡◌, ℕ, Bool, true, false, cond, not, ◌*◌, ◌==◌, ◌&&◌, ◌||◌, List, [], ◌∷◌, length, map, Option, Some, None, Result, Ok, Err, refl, sym, subst, ◌∙◌, codes}
+use Rattle.std.proofs.Common.{◌≡◌, ℕ, Bool, true, false, cond, not, ◌*◌, ◌==◌, ◌||◌, List, [], ◌∷◌, length, map, Option, Some, None, Result, Ok, Err, refl, sym, subst, ◌∙◌, codes}
 use Rattle.std.specs.Prelude.{MatchOption, ⊤, nat_le}
-use Rattle.std.specs.Char.{is_digit}
-use Rattle.std.specs.List.{list_all}
-use Rattle.std.specs.Str.Parse.{digits_value}
 use Rattle.statements.specs.Directives.{align, all_of, are_formed, before_others, global, item_in, items_in, number_item, section, space, stated}
 use Rattle.statements.specs.Grammar.{Spoken, says}
 use Rattle.statements.specs.Instructions.{Said, add_upper, against_zero, amount_in, and_then, branch, call, constant, fence, fence_of, fixed, immediate, jump, jump_and_link, jump_and_link_register, jump_register, jump_to, load, load_address, load_immediate, load_upper, lower, of_register, registers, shift, store, store_lower, swapped, unary, unary_instruction, upper_by, upper_in, with_zero, zero_against}
