@@ -211,7 +211,7 @@ def words_of_results():
 
 def statements_in_prose():
     """What stands in sentences and is a statement, with nothing in place of a register or a number, is taken."""
-    for name in ("Texts", "The assembly language"):
+    for name in ("Disassembly", "The assembly language"):
         prose = re.sub(r"```.*?```|^\|[^\n]*", "", chapter(name), flags=re.DOTALL | re.MULTILINE)
         for text in code(prose):
             if " " in text and not re.search(r"\b(rvdap|N|NAME|rd)\b|0x$", text):

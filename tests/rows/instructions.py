@@ -6,7 +6,7 @@ PLAYER = "play_machine"
 ASSEMBLER = "GNU as 2.40, riscv64-unknown-elf-as -march=rv32i -mabi=ilp32"
 MANUAL = "the tables of RISC-V Unprivileged ISA 20191213, chapter 24, by hand"
 HANDBOOK = "RISC-V Unprivileged ISA 20191213, chapter 25"
-PROFILE = "docs/MACHINE.md, \"Texts\""
+PROFILE = "docs/MACHINE.md, \"Disassembly\""
 
 # The fields of an instruction are shown as the structures that they are: Reg { number: 10 }.
 FIELDS = {
@@ -170,7 +170,7 @@ ROWS = [
         *(register(text, "none") for text in ("", "x", "x32", "x00", "x01", "X1", "A0", "a8", "s12", "t7", "pc", " ra", "zero ")),
     ], HANDBOOK),
     Row("any word has a text", [word_text(word, address, wanted) for word, address, wanted in ASSEMBLED]
-        + [word_text(word, 0x10000, ".word 0x%08x" % word) for word in ILLEGAL], ASSEMBLER + "; docs/MACHINE.md, \"Texts\""),
+        + [word_text(word, 0x10000, ".word 0x%08x" % word) for word in ILLEGAL], ASSEMBLER + "; docs/MACHINE.md, \"Disassembly\""),
     Row("an illegal word has no instruction", [step for word in ILLEGAL for step in (encoded(word, "none"), text(word, 0, "none"))], MANUAL),
     Row("digits are put after a text", [
         digits("a", 0, "a00000000"),
