@@ -110,8 +110,9 @@ class Maker:
     def load(self, depth):
         """A word at an address within the bytes that are written."""
         start, mask = self.chance.choice(("0x10000", "65537", "0x10002")), self.chance.choice(("0xff", "255", "0x3C"))
-        return [self.cast, ("[", "word("), (start, start + "u"), ("+", "+"), ("(", "("), ("(", "(uint32_t)(")] + self.expression(depth - 1) + [
-            (")", ")"), ("&", "&"), (mask, mask + "u"), (")", ")"), ("]", ")")]
+        begins = [("[", "word("), (start, start + "u"), ("+", "+"), ("(", "("), ("(", "(uint32_t)(")]
+        ends = [(")", ")"), ("&", "&"), (mask, mask + "u"), (")", ")"), ("]", ")")]
+        return [self.cast] + begins + self.expression(depth - 1) + ends
 
     def leaf(self):
         kind = self.chance.random()

@@ -13,7 +13,6 @@ BY_HAND = "worked by hand from docs/MACHINE.md, \"Expressions\""
 C = "gcc 12.2, by tests/expressions_in_c.py"
 
 NAMES = ("zero ra sp gp tp t0 t1 t2 s0 s1 a0 a1 a2 a3 a4 a5 a6 a7 s2 s3 s4 s5 s6 s7 s8 s9 s10 s11 t3 t4 t5 t6").split()
-LIMIT = 1024
 
 
 def sets(name, number):
@@ -39,6 +38,10 @@ def values(*pairs):
 
 def fails(error, *texts):
     return [value(text, error) for text in texts]
+
+
+def enclosed(times, text):
+    return "(" * times + text + ")" * times
 
 
 def examples():
@@ -94,46 +97,49 @@ ROWS = [
         ("0", 0), ("010", 10), ("4294967295", 0xffffffff), ("00004294967295", 0xffffffff), ("0x0", 0), ("0xabcdef", 0xabcdef),
         ("0xABCDEF", 0xabcdef), ("0xAbCdEf09", 0xabcdef09), ("0x00000000ffffffff", 0xffffffff),
     ) + fails("Syntax", "4294967296", "0x100000000", "99999999999999999999", "0x", "0X10", "0xg", "1a", "1_000", "1.5", "0b1", "'a'"), PROFILE),
-    Row("each register has its names and pc is one", [step for name in NAMES[1:] for step in (sets(name, NAMES.index(name) + 100),)] + [go(0xfffffffc)]
-        + values(*((name, NAMES.index(name) + 100 if NAMES.index(name) else 0) for name in NAMES))
+    Row("each register has its names and pc is one", [sets(name, number + 100) for number, name in list(enumerate(NAMES))[1:]] + [go(0xfffffffc)]
+        + values(*((name, number + 100 if number else 0) for number, name in enumerate(NAMES)))
         + values(*(("x%d" % number, number + 100 if number else 0) for number in range(32)))
-        + values(("fp", 108), ("pc", 0xfffffffc), ("pc + 4", 0), ("x31", 131))
-        + fails("Syntax", "a9", "x32", "x00", "x01", "A0", "PC", "Pc", "s12", "t7", "r0", "pcs", "a", "x", "sp1", "a0b", "a0 b", "a0pc"), PROFILE),
+        + values(("fp", 108), ("pc", 0xfffffffc), ("pc + 4", 0))
+        + fails("Syntax", "a9", "x32", "x00", "x01", "A0", "X1", "PC", "Pc", "s12", "t7", "r0", "pcs", "a", "x", "sp1", "a0b", "a0 b", "a0pc"), PROFILE),
     Row("a word may be at any address", [
         write(BASE, bytes((1, 2, 3, 4, 5))), write(0x1fffc, bytes((0xfc, 0xfd, 0xfe, 0xff))), sets("sp", BASE), sets("a0", 1),
     ] + values(
         ("[sp]", 0x04030201), ("[ sp ]", 0x04030201), ("[0x00010001]", 0x05040302), ("[sp + a0]", 0x05040302), ("[sp+2]", 0x00050403),
-        ("[0x1fffc]", 0xfffefdfc), ("[sp] + 1", 0x04030202), ("-[sp]", 0xfbfcfdff), ("[sp] & 0xff", 1), ("[[sp] - 0x04030201 + sp]", 0x04030201),
-        ("[0 - 0 + sp]", 0x04030201), ("[([sp] & 0xff) + sp]", 0x05040302),
-    ) + fails("Outside", "[0]", "[0xffff]", "[0x0000fffd]", "[0x0001fffd]", "[0x00020000]", "[-1]", "[-4]", "[[sp]]", "![0]", "[0] * 0", "([0])"), PROFILE),
+        ("[0x1fffc]", 0xfffefdfc), ("[sp] + 1", 0x04030202), ("-[sp]", 0xfbfcfdff), ("[sp] & 0xff", 1), ("[(([sp] & 0xff)) + sp]", 0x05040302),
+        ("[[sp] - 0x04030201 + sp]", 0x04030201),
+    ) + fails(
+        "Outside", "[0]", "[0xffff]", "[0x0000fffd]", "[0x0001fffd]", "[0x00020000]", "[-1]", "[-4]", "[[sp]]", "![0]", "[0] * 0", "([0])",
+    ), PROFILE),
     Row("blanks and tabs stand anywhere between tokens", [sets("a0", 5)] + values(
         ("  a0", 5), ("a0  ", 5), ("\ta0\t+\t1\t", 6), (" \t ( \t a0 \t ) \t ", 5), ("a0+1", 6), ("a0<<1", 10), ("a0 <<1", 10), ("a0<= 5", 1),
         ("a0<-1", 0), ("a0>-1", 1), ("a0&~1", 4), ("a0==!0", 0), ("a0!=!0", 1), ("!a0==0", 1), ("1&&!0", 1), ("1||!0", 1),
     ) + fails("Syntax", "a 0", "1 0", "0 x1", "a0 < < 1", "a0 < = 5", "a0 = = 5", "a0 ! = 5", "1 & & 1", "1 | | 1", "a0\n", "a0\r", "a0\v+ 1",
               "a0\u00a0+ 1"), PROFILE),
     Row("what the grammar does not have is refused", fails(
-        "Syntax", "", " ", "\t", "1 +", "+ 1", "+1", "(1", "1)", "[1)", "(1]", "[1", "1]", "()", "[]", ")", "(", "1 2", "a0 a1", "1 (2)", "(1)(2)",
-        "a0 [0]", "a = 1", "a0 = 1", "@", "$1", "1 @ 2", "1 / 2", "1 % 2", "1 ? 2 : 3", "1, 2", "{1}", "* 1", "1 ** 2", "1 &&& 2", "1 ||| 2", "1 === 1",
-        "1 <> 2", "1 <<< 2", "1 >>> 2", "1 >= = 2", "!", "-", "~", "1 !", "1 ~", "1 ~ 2", "!= 1", "1 == == 1", "1 && && 2", "(1 + 2", "1 + 2)", "((1)", "(1))",
-        "([1)]", "(1 +) 2", "[a0", "a0 + b0", "\u00e9", "1 + \u00e9", "a\u00e9", "\"a\"", "a0;", "x", "-[", "(-)", "1 + ()",
+        "Syntax", "", " ", "\t", "1 +", "+ 1", "+1", "(1", "1)", "[1)", "(1]", "[1", "1]", "()", "[]", ")", "(", "(1 + 2", "1 + 2)", "((1)", "(1))",
+        "([1)]", "(1 +) 2", "1 + ()", "(-)", "-[", "[a0", "1 2", "a0 a1", "1 (2)", "(1)(2)", "a0 [0]", "a = 1", "a0 = 1", "@", "$1", "1 @ 2", "1 / 2",
+        "1 % 2", "1 ? 2 : 3", "1, 2", "{1}", "* 1", "1 ** 2", "1 &&& 2", "1 ||| 2", "1 === 1", "1 <> 2", "1 <<< 2", "1 >>> 2", "1 >= = 2", "!", "-",
+        "~", "1 !", "1 ~", "1 ~ 2", "!= 1", "1 == == 1", "1 && && 2", "a0 + b0", "x", "a0;", "\"a\"", "\u00e9", "1 + \u00e9", "a\u00e9",
     ), PROFILE),
     Row("64 deep is deep enough and 65 is too deep", values(
-        ("(" * 64 + "7" + ")" * 64, 7), ("-" * 64 + "7", 7), ("!" * 64 + "7", 1), ("~" * 64 + "7", 7), ("-(" * 32 + "7" + ")" * 32, 7),
-        ("~-" * 32 + "7", 0xffffffe7), ("(" * 64 + "1" + ")" * 64 + " + " + "-" * 64 + "1", 2),
-        ("1 + (" * 64 + "1" + ")" * 64, 65), ("(" * 63 + "[0]" + ")" * 63, "Outside"), ("+".join(["(1)"] * 100), 100),
+        (enclosed(64, "7"), 7), ("-" * 64 + "7", 7), ("!" * 64 + "7", 1), ("~" * 64 + "7", 7), ("-(" * 32 + "7" + ")" * 32, 7),
+        ("~-" * 32 + "7", 7 - 32 + 2 ** 32), (enclosed(64, "1") + " + " + "-" * 64 + "1", 2), ("1 + (" * 64 + "1" + ")" * 64, 65),
+        (enclosed(63, "[0]"), "Outside"), ("+".join(["(1)"] * 100), 100),
     ) + fails(
-        "TooDeep", "(" * 65 + "7" + ")" * 65, "-" * 65 + "7", "!" * 65 + "7", "~" * 65 + "7", "-(" * 32 + "!7" + ")" * 32, "[" * 65 + "7" + "]" * 65,
-        "(" * 64 + "[0]" + ")" * 64, "1 + (" * 65 + "1" + ")" * 65, "1 + " + "-" * 65 + "1", "-" * 65 + "1 + 1", "0 && " + "!" * 65 + "1", "-" * 1023 + "7",
+        "TooDeep", enclosed(65, "7"), "-" * 65 + "7", "!" * 65 + "7", "~" * 65 + "7", "-(" * 32 + "!7" + ")" * 32, "[" * 65 + "7" + "]" * 65,
+        enclosed(64, "[0]"), "1 + (" * 65 + "1" + ")" * 65, "1 + " + "-" * 65 + "1", "-" * 65 + "1 + 1", "0 && " + "!" * 65 + "1", "-" * 1023 + "7",
     ) + fails("Syntax", "(" * 65 + "7" + ")" * 64, "-" * 65, "(" * 1024, "-" * 65 + "a9"), PROFILE),
     Row("a text has at most 1024 bytes", values(
-        (" " * (LIMIT - 1) + "7", 7), ("0" * (LIMIT - 1) + "7", 7), ("+".join(["1"] * 512) + " ", 512), ("1" + "&1" * 511 + " ", 1),
-        ("(" * 64 + "1+" * 447 + "1" + ")" * 64 + " ", 448), ("0||" * 341 + "5", 1), ("-" * 64 + " " * (LIMIT - 65) + "7", 7),
-    ) + fails("TooLong", " " * LIMIT + "7", "+".join(["1"] * 513), "@" * (LIMIT + 1), " " * (LIMIT + 1), "-" * LIMIT + "7", "(" * 5000, "0" * LIMIT + "7")
-        + fails("Syntax", " " * LIMIT, "@" * LIMIT, "+".join(["1"] * 512) + "+", "\u00e9" * 512)
-        + fails("TooLong", "\u00e9" * 512 + " "), PROFILE),
-    Row("operators of one level group from the left", values(*(("7 %s 2 %s 1" % (first, second), wanted) for first, second, wanted in (
-        ("-", "+", 6), ("+", "-", 8), ("*", "*", 14), ("<<", ">>", 14), (">>", "<<", 2), ("==", "!=", 1), ("!=", "==", 1), ("<", ">=", 0), (">", "<=", 1),
-    ))), BY_HAND),
+        (" " * 1023 + "7", 7), ("0" * 1023 + "7", 7), ("+".join(["1"] * 512) + " ", 512), ("1" + "&1" * 511 + " ", 1), ("0||" * 341 + "5", 1),
+        (enclosed(64, "1+" * 447 + "1") + " ", 448), ("-" * 64 + " " * 959 + "7", 7),
+    ) + fails(
+        "TooLong", " " * 1024 + "7", " " * 1025, "0" * 1024 + "7", "+".join(["1"] * 513), "@" * 1025, "-" * 1024 + "7", "(" * 5000, "\u00e9" * 512 + " ",
+    ) + fails("Syntax", " " * 1024, "@" * 1024, "+".join(["1"] * 512) + "+", "\u00e9" * 512), PROFILE),
+    Row("operators of one level group from the left", values(
+        ("7 - 2 + 1", 6), ("7 + 2 - 1", 8), ("7 - 2 - 1", 4), ("7 << 2 >> 1", 14), ("7 >> 2 << 1", 2), ("7 == 2 != 1", 1), ("7 != 2 == 1", 1),
+        ("7 < 2 >= 1", 0), ("7 > 2 <= 1", 1),
+    ), BY_HAND),
     Row("memory that was not there is there when it is asked for again", [sets("a0", 5), sets("sp", BASE), write(BASE, b"\7")] + values(
         ("-(a0 * 2 - 1) + [sp] & ~1", 0xfffffffe), ("a0 < 6 && !(a0 == 4) || [0]", 1), ("((((((((1))))))))", 1), ("1 + (2", "Syntax"),
         ("[0]", "Outside"), ("!" * 65 + "1", "TooDeep"), (" " * 1025, "TooLong"),
