@@ -122,7 +122,7 @@ class Maker:
         if kind < 0.5:
             return "pc", "pc"
         if kind < 0.55:
-            return "zero", "0"
+            return "zero", "(%s)0" % self.kind
         number = self.chance.choice((0, 1, 2, 3, 5, 31, 32, 255, 65536, 0x7fffffff, 0x80000000, 0xffffffff, self.chance.randrange(2 ** 32)))
         text = self.chance.choice(("%d", "0x%x", "0x%X")) % number
         return text, "(%s)%su" % (self.kind, text)
