@@ -8,6 +8,7 @@ KIT = os.path.dirname(os.path.dirname(os.path.realpath(shutil.which("rt") or "rt
 PARTS = ("src", "specs", "proofs")
 VERDICT = re.compile(r"fn (\S+): (.*)")
 OPEN = re.compile(r"note: src/\S+:\d+:\d+: it is not proved .*\(`(\S+)`\)")
+WAITS = re.compile(r"note: `search` has not tried the goals of `(\S+)`, which wait for a callee's proof")
 ERROR = re.compile(r"(?:\./)?((?:src|specs|proofs)/\S+?):(\d+):\d+: error(?:\[\S+\])?: (?:`([^`]*)`: )?(.*)")
 # What is said of an answer for a goal that is gone; and of one that names something else that is, or rests on a refused one.
 GONE, LOST = re.compile(r"\.Goals` has no "), re.compile(r"is not in scope|has no |is no name|declarations? that depend")
@@ -68,13 +69,14 @@ class Report:
     """What a check said.
 
     status: the check's. end: its last line. verdicts: on each function. open: the goals of each function's own that are not
-    proved. gone: the goals that its proof answers and that are gone. unread: what is said of a place in src/ or
-    specs/, by its path and index.
+    proved. gone: the goals that its proof answers and that are gone. waiting: the functions of which not all goals were tried, as a function
+    that they call has no proof. unread: what is said of a place in src/ or specs/, by its path and index.
     """
 
     def __init__(self, crate, text, status):
         self.status, self.end = status, text.strip().rpartition("\n")[2]
         self.verdicts, self.open, self.gone, self.unread = {}, {}, {}, {}
+        self.waiting = {plain(name[len(crate) + 2:]) for name in WAITS.findall(text)}
         goals = []
         for line in text.splitlines():
             verdict, goal, error = VERDICT.match(line), OPEN.match(line), ERROR.match(line)
