@@ -6,3 +6,7 @@ pub mod Marks
 pub mod Calls
 -- what holds of every program
 pub mod Laws
+-- where a run is meant to stop
+pub mod Goals
+-- one tick: a move, and what a debugger makes of it
+pub mod Ticks

@@ -2,6 +2,10 @@
 #![tactic(auto)]
 
 mod calls;
+mod goal;
 pub mod laws;
+mod tick;
 
 pub use calls::Calls;
+pub use goal::{Goal, Granularity};
+pub use tick::{Outcome, Reason, Tick};
