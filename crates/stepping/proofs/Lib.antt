@@ -2,3 +2,4 @@ pub mod Depths
 pub mod Keeping
 pub mod Standing
 pub mod Returning
+pub mod Moving

@@ -10,3 +10,7 @@ pub mod Laws
 pub mod Goals
 -- one tick: a move, and what a debugger makes of it
 pub mod Ticks
+-- a machine into which a program was just loaded
+pub mod Loading
+-- What follows is cited by private clauses alone: what holds of every machine that is debugged.
+pub mod Running

@@ -27,11 +27,12 @@ use Rattle.stepping.specs.declared.tick.Reason.{Reason}
 use Rattle.stepping.specs.declared.tick.Reason.TheVariants as why
 use Rattle.stepping.specs.declared.tick.Tick.{Tick}
 
--- A debugged machine: hart and memory; the calls kept; breakpoints; how many instructions have retired since it was loaded; the
+-- A debugged machine: hart, memory and its size; the calls kept; breakpoints; how many instructions have retired since it was loaded; the
 -- goal of its run and the depth at the start of that; whether the check at the entry is due; and its line table.
 pub record Debugged : Type 0 where
   pub hart : Hart
   pub memory : List ℕ
+  pub size : ℕ
   pub calls : Kept
   pub lists : Lists
   pub retired : ℕ

@@ -4,8 +4,10 @@
 mod calls;
 mod goal;
 pub mod laws;
+mod runner;
 mod tick;
 
 pub use calls::Calls;
 pub use goal::{Goal, Granularity};
+pub use runner::Runner;
 pub use tick::{Outcome, Reason, Tick};
