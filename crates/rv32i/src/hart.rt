@@ -69,7 +69,11 @@ impl Hart {
     /// The same step, where the word at pc lies in memory and is decoded already: `instr` is what `decode`
     /// makes of it. It answers and leaves what `step` does.
     #[inline]
-    pub fn execute(&mut self, instr: Option<Instr>, memory: &mut Memory) -> Result<Stepped, AllocError>
+    pub fn execute(
+        &mut self,
+        instr: Option<Instr>,
+        memory: &mut Memory,
+    ) -> Result<Stepped, AllocError>
         requires { IsDecodedAtPc (machine_of self.old memory.old) instr }
         ensures moves { IsMove (machine_of self.old memory.old) (record { answer = result; machine = machine_of self.new memory.new }) }
         ensures keeps { Keeps (machine_of self.old memory.old) (record { answer = result; machine = machine_of self.new memory.new }) }

@@ -3,3 +3,4 @@ pub mod Keeping
 pub mod Standing
 pub mod Returning
 pub mod Moving
+pub mod Going

@@ -43,8 +43,9 @@ faults_so before after hart memory s pc tick at e m t a =
     let ends = ap (λ p. settled s None p (with_machine before hart memory)) at ∙ sym a in
     subst (λ (x : Tick). Moves before (Ok x) after) ticks (subst (λ (x : Debugged). Moves before (Ok (tick_of s None before.hart.pc (with_machine before hart memory))) x) ends all)
   where
-  nothing : Option Instr
-  nothing = None
-  no_word : (r : Result ℕ MemFault) → IsErr r → MatchResult r (λ word. IsDecoding word None) (λ fault. nothing ≡ None)
-  no_word (Ok word) h = let never : false ≡ true = h in cc
-  no_word (Err fault) h = refl
+    nothing : Option Instr
+    nothing = None
+
+    no_word : (r : Result ℕ MemFault) → IsErr r → MatchResult r (λ word. IsDecoding word None) (λ fault. nothing ≡ None)
+    no_word (Ok word) h = let never : false ≡ true = h in cc
+    no_word (Err fault) h = refl

@@ -4,10 +4,11 @@
 mod calls;
 mod goal;
 pub mod laws;
+mod lending;
 mod runner;
 mod tick;
 
 pub use calls::Calls;
 pub use goal::{Goal, Granularity};
 pub use runner::Runner;
-pub use tick::{Outcome, Reason, Tick};
+pub use tick::{Ending, Outcome, Ran, Reason, Tick};

@@ -4,11 +4,12 @@ ghost use Rattle.std.specs.Prelude.{◌≡◌, ◌+◌, ◌^◌, ◌<◌, ◌≤
 ghost use Rattle.image.specs.Memory.{fault_at, first_address, memory_after, unless_fault, with_bytes, word_at};
 ghost use Rattle.rv32i.specs.Machine.{IsDecodedAtPc, machine_of};
 ghost use Rattle.stepping.specs.Loading.{CanBeLoaded, IsLoaded, no_breakpoints, not_hit};
+ghost use Rattle.stepping.specs.Runs.{IsRun};
 ghost use Rattle.stepping.specs.Ticks.{entry_checked, entry_tick, gone_on, noted_if, outcome_of, settled, stayed, tick_of, went_on, IsTick, Moves};
 
 use crate::calls::Calls;
 use crate::goal::Goal;
-use crate::tick::{Outcome, Reason, Tick};
+use crate::tick::{Ending, Outcome, Ran, Reason, Tick};
 use breakpoints::{Breaks, Hit};
 use image::{FIRST_ADDRESS, Image, LineTable, MemFault, Memory};
 use rv32i::{Hart, Instr, Stepped, decode};
@@ -24,7 +25,7 @@ pub struct Runner {
     memory: Memory,
     size: u32,
     calls: Calls,
-    breaks: Breaks,
+    pub(crate) breaks: Breaks,
     retired: u64,
     goal: Goal,
     start: u64,
@@ -122,6 +123,37 @@ impl Runner {
         self.carry_out(decode(word), pc)
     }
 
+    /// Makes so many ticks at most, and ends with the first that prints a number, stops the machine or ends the program, or for which no
+    /// memory is left: it answers and leaves what so many calls of `tick` do. Fewer than 2^62 instructions will have retired before each.
+    pub fn run(&mut self, most: u32) -> Ran
+        requires { self.old.retired + most ≤ 2 ^ 62 }
+        ensures run { IsRun most self.old result self.new }
+        ensures retired { self.new.retired ≤ self.old.retired + most }
+    {
+        for went in 0..most {
+            match self.tick() {
+                Ok(tick) => {
+                    if !tick.is_plain() {
+                        return Ran {
+                            went,
+                            ending: Ending::Ticked(tick),
+                        };
+                    }
+                }
+                Err(_) => {
+                    return Ran {
+                        went,
+                        ending: Ending::NoMemory,
+                    };
+                }
+            }
+        }
+        Ran {
+            went: most,
+            ending: Ending::Spent,
+        }
+    }
+
     // A move of which the instruction is known, or that the word at pc is illegal.
     fn carry_out(&mut self, instr: Option<Instr>, pc: u32) -> Result<Tick, AllocError>
         requires retired { self.old.retired < 2 ^ 62 }
@@ -211,7 +243,9 @@ impl Runner {
     {
         self.note(instr, pc);
         let hit = self.breaks.check(self.hart.pc, &self.hart, &self.memory);
-        let met = self.goal.is_met(self.start, &self.lines, self.hart.pc, self.calls.depth());
+        let met = self
+            .goal
+            .is_met(self.start, &self.lines, self.hart.pc, self.calls.depth());
         outcome_of(hit, met)
     }
 
