@@ -1,5 +1,5 @@
 -- One more tick of a run.
-use Rattle.std.proofs.Common.{◌≡◌, ◌≢◌, ℕ, ◌+◌, ◌<◌, ◌≤◌, suc, Bool, true, false, Ok, MatchBool, refl, sym, subst, arith, add-one}
+use Rattle.std.proofs.Common.{◌≡◌, ℕ, ◌+◌, ◌≤◌, suc, Ok, refl, sym, subst, arith, add-one}
 use Rattle.stepping.specs.Plain.{plain_tick}
 use Rattle.stepping.specs.Runs.{Goes, IsRun}
 use Rattle.stepping.specs.Ticks.{Debugged, IsTick}

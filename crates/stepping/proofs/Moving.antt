@@ -1,6 +1,5 @@
 -- What a move comes to is a tick.
-use Rattle.std.proofs.Common.{◌≡◌, ℕ, ◌+◌, ◌≤◌, List, Option, None, Some, false, true, Result, Ok, Err, IsErr, refl, sym, ap, subst, ◌∙◌, arith}
-use Rattle.std.specs.declared.alloc.AllocError.{AllocError}
+use Rattle.std.proofs.Common.{◌≡◌, ℕ, List, Option, None, false, true, Result, Ok, Err, IsErr, refl, sym, ap, subst, ◌∙◌}
 use Rattle.std.specs.Result.{MatchResult}
 use Rattle.image.specs.Memory.{word_at}
 use Rattle.image.specs.declared.fault.MemFault.{MemFault}

@@ -1,11 +1,10 @@
 -- Runs: many ticks.
-use Rattle.std.specs.Prelude.{◌≡◌, ◌≢◌, ℕ, zero, suc, ◌<◌, Result, Ok, Err, alloc_error}
+use Rattle.std.specs.Prelude.{◌≡◌, ◌≢◌, ℕ, zero, suc, ◌<◌, Ok, Err, alloc_error}
 use Rattle.stepping.specs.Plain.{plain_tick}
 use Rattle.stepping.specs.Ticks.{Debugged, IsTick}
 use Rattle.stepping.specs.declared.tick.Ending.{Ending}
 use Rattle.stepping.specs.declared.tick.Ending.TheVariants.{Spent, Ticked, NoMemory}
 use Rattle.stepping.specs.declared.tick.Ran.{Ran}
-use Rattle.stepping.specs.declared.tick.Tick.{Tick}
 
 -- so many such ticks, one after the other
 abbrev pub Goes : ℕ → Debugged → Debugged → Type 0

@@ -6,7 +6,7 @@
 --
 -- A first run, of a program that was just loaded, begins with a tick of its own: the breakpoints at the entry are looked at, and
 -- nothing moves.
-use Rattle.std.specs.Prelude.{◌≡◌, ℕ, ℤ, ◌+◌, ◌*◌, ◌≤◌, Bool, true, false, if◌then◌else◌, List, [], ◌++◌, length, map, replicate, slice_set, drop, Option, Some, None, Result, Ok, Err, MatchBool, MatchResult}
+use Rattle.std.specs.Prelude.{◌≡◌, ℕ, ◌+◌, Bool, false, if◌then◌else◌, List, [], Option, Some, None, Result, Ok, Err, MatchBool, MatchResult}
 use Rattle.std.specs.declared.alloc.AllocError.{AllocError}
 use Rattle.breakpoints.specs.Stops.{Lists, checked, hit_in}
 use Rattle.breakpoints.specs.declared.breakpoint.Hit.{Hit}
@@ -23,7 +23,6 @@ use Rattle.stepping.specs.Goals.{is_met}
 use Rattle.stepping.specs.declared.goal.Goal.{Goal}
 use Rattle.stepping.specs.declared.tick.Outcome.{Outcome}
 use Rattle.stepping.specs.declared.tick.Outcome.TheVariants.{Went, Stopped, Ended}
-use Rattle.stepping.specs.declared.tick.Reason.{Reason}
 use Rattle.stepping.specs.declared.tick.Reason.TheVariants as why
 use Rattle.stepping.specs.declared.tick.Tick.{Tick}
 

@@ -1,4 +1,4 @@
-use Rattle.std.proofs.Common.{◌≤◌, ◌+◌, arith}
+use Rattle.std.proofs.Common.{arith}
 use Rattle.stepping.proofs.Going.{all_went, goes_more}
 use Rattle.stepping.proofs.runner.Runner.run.Goals as goal
 
