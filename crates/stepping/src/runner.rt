@@ -289,6 +289,13 @@ impl Runner {
         &self.memory
     }
 
+    /// How many bytes memory has.
+    pub fn size(&self) -> u32
+        ensures { result ≡ self.now.size }
+    {
+        self.size
+    }
+
     /// The calls of the program.
     pub fn calls(&self) -> &Calls
         ensures { result.now ≡ self.now.calls }
