@@ -132,6 +132,13 @@ impl Breaks {
         }
     }
 
+    /// Forgets which breakpoints stopped at the last check: no ids are lent until the next one.
+    pub fn forget_ids(&mut self)
+        ensures { self.new ≡ record self.old { ids = [] } }
+    {
+        self.ids.clear();
+    }
+
     /// The ids of the breakpoints that stopped at the last check, those of the source list first.
     pub fn ids(&self) -> &[u32]
         ensures { result.now ≡ self.now.ids }

@@ -12,8 +12,10 @@ ghost use Rattle.std.specs.Prelude.{
   slice_index,
   option_map,
   option_and_then,
+  IfOk,
   IfSome,
   IsTrue,
+  [],
 };
 ghost use Rattle.indexmap.specs.IndexMap.{index_map_len, values};
 ghost use Rattle.image.specs.Lines.{
@@ -33,6 +35,7 @@ ghost use Rattle.image.specs.Orders.{NeverFall};
 
 use crate::FIRST_ADDRESS;
 use indexmap::IndexMap;
+use std::alloc::{AllocError, Global};
 use std::marker::Model;
 
 /// Whether the addresses of labels ever fall in the order of the text.
@@ -79,6 +82,14 @@ impl LineTable {
             end,
             order,
         }
+    }
+
+    /// A table of the same rows without labels. `Err`: no memory was left.
+    pub fn without_labels(&self, alloc: Global) -> Result<LineTable, AllocError>
+        ensures { IfOk result (λ table. table ≡ record self.now { labels = [] }) }
+    {
+        let rows = self.rows.clone()?;
+        Ok(LineTable::new(rows, IndexMap::new(alloc), self.end))
     }
 
     /// The line whose code an address lies in; `None`: it lies in no line's code.

@@ -15,7 +15,7 @@ use Rattle.std.specs.declared.alloc.AllocError.{AllocError}
 use Rattle.image.specs.Memory.{fault_at, bytes_at, with_bytes, little_endian, halfword_bytes, word_bytes, word_at}
 use Rattle.image.specs.declared.fault.MemFault.{MemFault}
 use Rattle.image.specs.declared.fault.MemFault.TheVariants.{Misaligned, Outside, NoMemory}
-use Rattle.rv32i.specs.Encoding.{Encodes, IsIllegal}
+use Rattle.rv32i.specs.Encoding.{Encodes, IsDecoding, IsIllegal}
 use Rattle.rv32i.specs.declared.stepped.Stepped.{Stepped}
 use Rattle.rv32i.specs.declared.stepped.Stepped.TheVariants.{Retired, Printed, Break, Exit, Trap}
 use Rattle.rv32i.specs.declared.stepped.Cause.{Cause}
@@ -246,6 +246,10 @@ IsMove before effect = MatchResult (word_at before.memory before.pc)
     (λ word. ((i : Instr) → Encodes i word → effect ≡ effect_of i before)
     × (IsIllegal word → effect ≡ trapped Illegal before))
     (λ fault. effect ≡ fetch_fault fault before)
+
+-- an instruction, or none, is what the word at pc decodes to
+abbrev pub IsDecodedAtPc : Machine → Option Instr → Type 0
+IsDecodedAtPc m instr = (word : ℕ) × ((word_at m.memory m.pc ≡ Ok word) × IsDecoding word instr)
 
 -- ---- what holds of each move
 

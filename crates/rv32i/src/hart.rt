@@ -32,7 +32,7 @@ pub struct Hart {
 
 impl Hart {
     ghost use Rattle.std.specs.Prelude.{[], slice_set, replicate, IsOk};
-    ghost use Rattle.rv32i.specs.Machine.{calls, machine_of, IsMove, Keeps, effect_of};
+    ghost use Rattle.rv32i.specs.Machine.{calls, machine_of, IsDecodedAtPc, IsMove, Keeps, effect_of};
     ghost use Rattle.rv32i.specs.Steps.{settles};
 
     /// A hart at an entry, with the stack pointer (x2) set and all other registers 0.
@@ -63,15 +63,31 @@ impl Hart {
             Err(MemFault::Outside) => return Ok(Stepped::Trap(Cause::FetchOutside)),
             Err(MemFault::NoMemory) => return Err(AllocError),
         };
-        match decode(word) {
-            Some(instr) => self.execute(&instr, memory),
+        self.execute(decode(word), memory)
+    }
+
+    /// The same step, where the word at pc lies in memory and is decoded already: `instr` is what `decode`
+    /// makes of it. It answers and leaves what `step` does.
+    #[inline]
+    pub fn execute(
+        &mut self,
+        instr: Option<Instr>,
+        memory: &mut Memory,
+    ) -> Result<Stepped, AllocError>
+        requires { IsDecodedAtPc (machine_of self.old memory.old) instr }
+        ensures moves { IsMove (machine_of self.old memory.old) (record { answer = result; machine = machine_of self.new memory.new }) }
+        ensures keeps { Keeps (machine_of self.old memory.old) (record { answer = result; machine = machine_of self.new memory.new }) }
+        ensures answers { IsOk result }
+    {
+        match instr {
+            Some(instr) => self.carry_out(&instr, memory),
             None => Ok(Stepped::Trap(Cause::Illegal)),
         }
     }
 
     // Does what an instruction says.
     #[inline]
-    fn execute(&mut self, instr: &Instr, memory: &mut Memory) -> Result<Stepped, AllocError>
+    fn carry_out(&mut self, instr: &Instr, memory: &mut Memory) -> Result<Stepped, AllocError>
         ensures { record { answer = result; machine = machine_of self.new memory.new } ≡ effect_of instr.now (machine_of self.old memory.old) }
     {
         match perform(&mut self.x, self.pc, instr, memory) {

@@ -2,3 +2,5 @@ pub mod Depths
 pub mod Keeping
 pub mod Standing
 pub mod Returning
+pub mod Moving
+pub mod Going

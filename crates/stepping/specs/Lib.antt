@@ -6,3 +6,16 @@ pub mod Marks
 pub mod Calls
 -- what holds of every program
 pub mod Laws
+-- where a run is meant to stop
+pub mod Goals
+-- one tick: a move, and what a debugger makes of it
+pub mod Ticks
+-- a tick of which there is nothing to report, and many ticks
+pub mod Plain
+pub mod Runs
+-- a machine into which a program was just loaded
+pub mod Loading
+-- a machine that has lent its breakpoints
+pub mod Lending
+-- What follows is cited by private clauses alone: what holds of every machine that is debugged.
+pub mod Running

@@ -2,6 +2,13 @@
 #![tactic(auto)]
 
 mod calls;
+mod goal;
 pub mod laws;
+mod lending;
+mod runner;
+mod tick;
 
 pub use calls::Calls;
+pub use goal::{Goal, Granularity};
+pub use runner::Runner;
+pub use tick::{Ending, Outcome, Ran, Reason, Tick};

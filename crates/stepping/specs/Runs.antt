@@ -1,0 +1,25 @@
+-- Runs: many ticks.
+use Rattle.std.specs.Prelude.{◌≡◌, ◌≢◌, ℕ, zero, suc, ◌<◌, Ok, Err, alloc_error}
+use Rattle.stepping.specs.Plain.{plain_tick}
+use Rattle.stepping.specs.Ticks.{Debugged, IsTick}
+use Rattle.stepping.specs.declared.tick.Ending.{Ending}
+use Rattle.stepping.specs.declared.tick.Ending.TheVariants.{Spent, Ticked, NoMemory}
+use Rattle.stepping.specs.declared.tick.Ran.{Ran}
+
+-- so many such ticks, one after the other
+abbrev pub Goes : ℕ → Debugged → Debugged → Type 0
+Goes zero before after = after ≡ before
+Goes (suc n) before after = (middle : Debugged) × (Goes n before middle × IsTick middle (Ok plain_tick) after)
+
+-- and what ended them: that these were as many as were asked for, a tick of which there is something to report, or one for which no
+-- memory was left
+abbrev pub EndsRun : ℕ → ℕ → Ending → Debugged → Debugged → Type 0
+EndsRun most went Spent middle after = (went ≡ most) × (after ≡ middle)
+EndsRun most went (Ticked tick) middle after = (went < most) × ((tick ≢ plain_tick) × IsTick middle (Ok tick) after)
+EndsRun most went NoMemory middle after = (went < most) × IsTick middle (Err alloc_error) after
+
+-- a run of so many ticks at most
+pub record IsRun (most : ℕ) (before : Debugged) (ran : Ran) (after : Debugged) : Type 0 where
+  pub middle : Debugged
+  pub goes : Goes ran.went before middle
+  pub ends : EndsRun most ran.went ran.ending middle after

@@ -1,0 +1,132 @@
+-- One tick of a debugged machine.
+--
+-- A tick is one move of the hart (RISC-V Unprivileged ISA 20191213, chapter 2) with all that a debugger makes of it. Where the
+-- instruction retires, the call stack takes its marks, and the breakpoints at the new pc are looked at. The first reason to stop
+-- counts: a trap, the end of the program, EBREAK, a breakpoint of a source line, a breakpoint of an instruction, the goal.
+--
+-- A first run, of a program that was just loaded, begins with a tick of its own: the breakpoints at the entry are looked at, and
+-- nothing moves.
+use Rattle.std.specs.Prelude.{◌≡◌, ℕ, ◌+◌, Bool, false, if◌then◌else◌, List, [], Option, Some, None, Result, Ok, Err, MatchBool, MatchResult}
+use Rattle.std.specs.declared.alloc.AllocError.{AllocError}
+use Rattle.breakpoints.specs.Stops.{Lists, checked, hit_in}
+use Rattle.breakpoints.specs.declared.breakpoint.Hit.{Hit}
+use Rattle.image.specs.Lines.{Table}
+use Rattle.image.specs.Memory.{word_at}
+use Rattle.rv32i.specs.Encoding.{IsDecoding}
+use Rattle.rv32i.specs.Machine.{IsMove, Machine, machine_of}
+use Rattle.rv32i.specs.declared.hart.Hart.{Hart}
+use Rattle.rv32i.specs.declared.instr.Instr.{Instr}
+use Rattle.rv32i.specs.declared.stepped.Stepped.{Stepped}
+use Rattle.rv32i.specs.declared.stepped.Stepped.TheVariants as stepped
+use Rattle.stepping.specs.Calls.{Kept, noted}
+use Rattle.stepping.specs.Goals.{is_met}
+use Rattle.stepping.specs.declared.goal.Goal.{Goal}
+use Rattle.stepping.specs.declared.tick.Outcome.{Outcome}
+use Rattle.stepping.specs.declared.tick.Outcome.TheVariants.{Went, Stopped, Ended}
+use Rattle.stepping.specs.declared.tick.Reason.TheVariants as why
+use Rattle.stepping.specs.declared.tick.Tick.{Tick}
+
+-- A debugged machine: hart, memory and its size; the calls kept; breakpoints; how many instructions have retired since it was loaded; the
+-- goal of its run and the depth at the start of that; whether the check at the entry is due; and its line table.
+pub record Debugged : Type 0 where
+  pub hart : Hart
+  pub memory : List ℕ
+  pub size : ℕ
+  pub calls : Kept
+  pub lists : Lists
+  pub retired : ℕ
+  pub goal : Goal
+  pub start : ℕ
+  pub check_due : Bool
+  pub table : Table
+
+-- what the breakpoints come to, and then the goal
+abbrev pub outcome_of : Hit → Bool → Outcome
+outcome_of hit goal_met =
+    if hit.source then Stopped why.Source
+    else if hit.instruction then Stopped why.Instruction
+    else if goal_met then Stopped why.Goal
+    else Went
+
+-- the breakpoints that stop at pc
+abbrev pub hit_at_pc : Debugged → Hit
+hit_at_pc d = hit_in d.hart.pc d.hart d.memory d.lists
+
+-- the breakpoints at pc were looked at
+abbrev pub with_check : Debugged → Debugged
+with_check d = record d { lists = checked d.hart.pc d.hart d.memory d.lists }
+
+-- ---- the check at the entry
+
+abbrev pub entry_tick : Debugged → Tick
+entry_tick d = record { printed = None; outcome = outcome_of (hit_at_pc d) false }
+
+abbrev pub entry_checked : Debugged → Debugged
+entry_checked d = with_check (record d { check_due = false })
+
+-- ---- after a move
+
+-- the calls after an instruction, if one was fetched
+abbrev pub noted_if : Kept → Option Instr → ℕ → Kept
+noted_if calls None pc = calls
+noted_if calls (Some instr) pc = noted calls instr pc
+
+-- An instruction, which was at this pc, has retired: its marks, and the breakpoints at the new pc.
+abbrev pub gone_on : Option Instr → ℕ → Debugged → Debugged
+gone_on instr pc d = with_check (record d { calls = noted_if d.calls instr pc; retired = d.retired + 1 })
+
+-- whether the goal is met after it
+abbrev pub meets_goal : Option Instr → ℕ → Debugged → Bool
+meets_goal instr pc d = is_met d.goal d.start d.table d.hart.pc (noted_if d.calls instr pc).depth
+
+-- the outcome where the instruction neither trapped nor ended the program nor was EBREAK
+abbrev pub went_on : Option Instr → ℕ → Debugged → Outcome
+went_on instr pc d = outcome_of (hit_at_pc d) (meets_goal instr pc d)
+
+-- nothing retired, and no breakpoint was looked at
+abbrev pub stayed : Debugged → Debugged
+stayed d = record d { lists = record d.lists { ids = [] } }
+
+-- what a tick answers, and leaves, of a machine whose hart and memory have moved
+abbrev pub tick_of : Stepped → Option Instr → ℕ → Debugged → Tick
+tick_of stepped.Retired instr pc d = record { printed = None; outcome = went_on instr pc d }
+tick_of (stepped.Printed number) instr pc d = record { printed = Some number; outcome = went_on instr pc d }
+tick_of stepped.Break instr pc d = record { printed = None; outcome = Stopped why.Ebreak }
+tick_of (stepped.Exit code) instr pc d = record { printed = None; outcome = Ended code }
+tick_of (stepped.Trap cause) instr pc d = record { printed = None; outcome = Stopped (why.Exception cause) }
+
+abbrev pub settled : Stepped → Option Instr → ℕ → Debugged → Debugged
+settled stepped.Retired instr pc d = gone_on instr pc d
+settled (stepped.Printed number) instr pc d = gone_on instr pc d
+settled stepped.Break instr pc d = gone_on instr pc d
+settled (stepped.Exit code) instr pc d = stayed d
+settled (stepped.Trap cause) instr pc d = stayed d
+
+-- ---- the tick
+
+-- the instruction of the word at pc, or none where there is no word, or the word is illegal
+abbrev pub IsFetched : Machine → Option Instr → Type 0
+IsFetched m instr = MatchResult (word_at m.memory m.pc) (λ word. IsDecoding word instr) (λ fault. instr ≡ None)
+
+-- a machine with its hart and memory as another has them
+abbrev pub moved_as : Debugged → Debugged → Debugged
+moved_as before after = record before { hart = after.hart; memory = after.memory }
+
+-- what a move comes to; where no memory was left for it, nothing has changed
+abbrev pub Settles : Debugged → Option Instr → Result Stepped AllocError → Result Tick AllocError → Debugged → Type 0
+Settles before instr (Ok stepped) answer after =
+    (answer ≡ Ok (tick_of stepped instr before.hart.pc (moved_as before after))) × (after ≡ settled stepped instr before.hart.pc (moved_as before after))
+Settles before instr (Err error) answer after = (answer ≡ Err error) × (after ≡ before)
+
+-- the hart moves
+pub record Moves (before : Debugged) (answer : Result Tick AllocError) (after : Debugged) : Type 0 where
+  pub instr : Option Instr
+  pub stepped : Result Stepped AllocError
+  pub fetched : IsFetched (machine_of before.hart before.memory) instr
+  pub moved : IsMove (machine_of before.hart before.memory) (record { answer = stepped; machine = machine_of after.hart after.memory })
+  pub settles : Settles before instr stepped answer after
+
+-- one tick
+abbrev pub IsTick : Debugged → Result Tick AllocError → Debugged → Type 0
+IsTick before answer after =
+    MatchBool before.check_due ((answer ≡ Ok (entry_tick before)) × (after ≡ entry_checked before)) (Moves before answer after)

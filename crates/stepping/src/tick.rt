@@ -1,0 +1,77 @@
+//! What a tick answers.
+
+ghost use Rattle.std.specs.Prelude.{◌≡◌, ◌≢◌, MatchBool};
+ghost use Rattle.stepping.specs.Plain.{plain_tick};
+
+use rv32i::Cause;
+
+/// What came of one tick of a debugged machine.
+#[derive(Clone, Copy, Debug, PartialEq, Eq)]
+pub struct Tick {
+    /// The number that the program printed; `None`: it printed none.
+    pub printed: Option<i32>,
+    /// Whether the machine goes on.
+    pub outcome: Outcome,
+}
+
+/// Whether a machine goes on after a tick.
+#[derive(Clone, Copy, Debug, PartialEq, Eq)]
+pub enum Outcome {
+    /// It goes on.
+    Went,
+    /// It stops.
+    Stopped(Reason),
+    /// The program has ended, with this code.
+    Ended(i32),
+}
+
+/// Why a machine stops; the first of several in this order.
+#[derive(Clone, Copy, Debug, PartialEq, Eq)]
+pub enum Reason {
+    /// The instruction trapped.
+    Exception(Cause),
+    /// EBREAK retired.
+    Ebreak,
+    /// A breakpoint of a source line.
+    Source,
+    /// A breakpoint of an instruction.
+    Instruction,
+    /// The goal of the run.
+    Goal,
+}
+
+impl Tick {
+    /// Whether there is nothing to report: the machine goes on, and nothing was printed.
+    #[inline]
+    pub fn is_plain(&self) -> bool
+        ensures { MatchBool result (self.now ≡ plain_tick) (self.now ≢ plain_tick) }
+    {
+        match self {
+            Tick {
+                printed: None,
+                outcome: Outcome::Went,
+            } => true,
+            _ => false,
+        }
+    }
+}
+
+/// What came of a run of ticks.
+#[derive(Clone, Copy, Debug, PartialEq, Eq)]
+pub struct Ran {
+    /// How many ticks went, with nothing printed.
+    pub went: u32,
+    /// What ended the run.
+    pub ending: Ending,
+}
+
+/// What ended a run of ticks.
+#[derive(Clone, Copy, Debug, PartialEq, Eq)]
+pub enum Ending {
+    /// As many ticks went as were asked for.
+    Spent,
+    /// One more tick: it printed a number, stopped the machine, or the program ended with it.
+    Ticked(Tick),
+    /// No memory was left for one more.
+    NoMemory,
+}
