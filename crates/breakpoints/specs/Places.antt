@@ -1,4 +1,4 @@
--- Where breakpoints are, by their addresses: cited by private clauses alone.
+-- Where breakpoints are, by their addresses: cited by private clauses alone, but for `is_at`.
 --
 -- Most addresses have no breakpoint, and that is answered quickly: a mark, found by the low bits of an address, says that one may
 -- be there, and only then the sorted addresses are searched.
