@@ -21,8 +21,8 @@ abbrev pub hits_among : List Check → Breakpoint → ℕ
 hits_among [] b = 0
 hits_among (c ∷ checks) b = (if is_hit c.pc c.hart c.memory b then 1 else 0) + hits_among checks b
 
--- A breakpoint that was set and then checked stops at a check exactly where it is hit there, and with this hit it was hit as often
--- as it was set to.
+-- A breakpoint that was set and then checked stops at a check exactly where it is hit there, and with this hit it was
+-- hit as often as it was set to.
 abbrev pub StopsFromItsHit : Type 0
 StopsFromItsHit = (spec : BreakSpec) (checks : List Check) (last : Check) → spec.hit ≤ 4294967295 →
     stops last.pc last.hart last.memory (after_checks checks (fresh spec)) ≡

@@ -5,5 +5,5 @@ pub use Rattle.expressions.specs.Values
 pub mod Stops
 -- what the lists promise over many checks
 pub mod Laws
--- What follows is cited by private clauses alone: where breakpoints are, by their addresses.
+-- What follows is cited by private clauses alone, but for `is_at`: where breakpoints are, by their addresses.
 pub mod Places

@@ -1,8 +1,9 @@
--- Where breakpoints are, by their addresses: cited by private clauses alone.
+-- Where breakpoints are, by their addresses: cited by private clauses alone, but for `is_at`.
 --
--- Most addresses have no breakpoint, and that is answered quickly: a mark, found by the low bits of an address, says that one may
--- be there, and only then the sorted addresses are searched.
-use Rattle.std.specs.Prelude.{◌≡◌, ℕ, ◌+◌, ◌/◌, ◌%◌, ◌≤◌, Bool, true, false, ◌==◌, ◌||◌, List, length, slice_index_or, All}
+-- Most addresses have no breakpoint, and that is answered quickly: a mark, found by the low bits of an address, says
+-- that one may be there, and only then the sorted addresses are searched.
+use Rattle.std.specs.Prelude.{◌≡◌, ℕ, ◌+◌, ◌/◌, ◌%◌, ◌≤◌, Bool, true, false, ◌==◌, ◌||◌, List, length, slice_index_or}
+use Rattle.std.specs.Prelude.{All}
 use Rattle.std.specs.List.{list_any}
 use Rattle.std.specs.List.Sorted.{IsNonDecreasing}
 use Rattle.breakpoints.specs.declared.breakpoint.Breakpoint.{Breakpoint}
@@ -29,7 +30,8 @@ is_at address b = b.address == address
 -- the addresses are those of the breakpoints of both lists
 abbrev pub Covers : List ℕ → List Breakpoint → List Breakpoint → Type 0
 Covers places source instructions =
-    (address : ℕ) → has_place address places ≡ (list_any (is_at address) source || list_any (is_at address) instructions)
+    (address : ℕ) → has_place address places
+    ≡ (list_any (is_at address) source || list_any (is_at address) instructions)
 
 -- and there is room for the ids of all
 pub record IsKept (places : List ℕ) (source instructions : List Breakpoint) (room : ℕ) : Type 0 where

@@ -1,11 +1,12 @@
--- Which breakpoints are hit, and which stop (Debug Adapter Protocol, `SourceBreakpoint`, `InstructionBreakpoint`: `condition`,
--- `hitCondition`).
+-- Which breakpoints are hit, and which stop (Debug Adapter Protocol, `SourceBreakpoint`, `InstructionBreakpoint`:
+-- `condition`, `hitCondition`).
 --
--- There are two lists: breakpoints of source lines, and breakpoints of instructions. After an instruction has retired, each
--- breakpoint at the new pc is looked at. It is hit where it has no condition, or its condition is not 0 or has no value: then
--- its count goes up by one, and stays at 4,294,967,295. It stops where it is hit and its count, this hit among it, has reached
--- the number that it was set with.
-use Rattle.std.specs.Prelude.{ℕ, ◌+◌, ◌≤◌, Bool, true, ◌==◌, nat_le, ◌&&◌, if◌then◌else◌, min, List, ◌++◌, length, map, filter, All, Option, Some, None, Ok, Err}
+-- There are two lists: breakpoints of source lines, and breakpoints of instructions. After an instruction has
+-- retired, each breakpoint at the new pc is looked at. It is hit where it has no condition, or its condition is not 0
+-- or has no value: then its count goes up by one, and stays at 4,294,967,295. It stops where it is hit and its count,
+-- this hit among it, has reached the number that it was set with.
+use Rattle.std.specs.Prelude.{ℕ, ◌+◌, ◌≤◌, Bool, true, ◌==◌, nat_le, ◌&&◌, if◌then◌else◌, min, List, ◌++◌, length}
+use Rattle.std.specs.Prelude.{map, filter, All, Option, Some, None, Ok, Err}
 use Rattle.std.specs.List.{list_any}
 use Rattle.rv32i.specs.declared.hart.Hart.{Hart}
 use Rattle.expressions.specs.Nodes.{tree_of}

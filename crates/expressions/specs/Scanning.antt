@@ -1,11 +1,14 @@
 -- How the code divides a text: cited by private clauses alone.
 --
 -- A word or a sign goes on as long as it can; where it can't, the next one begins, or there is a blank.
-use Rattle.std.specs.Prelude.{◌≡◌, ℕ, Bool, true, false, ◌==◌, if◌then◌else◌, List, [], ◌∷◌, ◌++◌, Option, Some, None, MatchOption, ⊤}
+use Rattle.std.specs.Prelude.{◌≡◌, ℕ, Bool, true, false, ◌==◌, if◌then◌else◌, List, [], ◌∷◌, ◌++◌, Option, Some, None}
+use Rattle.std.specs.Prelude.{MatchOption, ⊤}
 use Rattle.byte_strings.specs.Blanks.{is_blank}
 use Rattle.expressions.specs.Tokens.{Spells, is_lexeme}
 use Rattle.expressions.specs.declared.token.Bracket.TheVariants.{Round, Square}
-use Rattle.expressions.specs.declared.token.Infix.TheVariants.{OrElse, AndThen, Or, Xor, And, Equal, NotEqual, Less, LessEqual, Greater, GreaterEqual, ShiftLeft, ShiftRight, Plus, Minus, Times}
+use Rattle.expressions.specs.declared.token.Infix.TheVariants.{OrElse, AndThen, Or, Xor, And, Equal, NotEqual, Less}
+use Rattle.expressions.specs.declared.token.Infix.TheVariants.{LessEqual, Greater, GreaterEqual, ShiftLeft}
+use Rattle.expressions.specs.declared.token.Infix.TheVariants.{ShiftRight, Plus, Minus, Times}
 use Rattle.expressions.specs.declared.token.Token.{Token}
 use Rattle.expressions.specs.declared.token.Token.TheVariants as t
 
@@ -34,8 +37,10 @@ sign_of_pair a b =
     else if a == 38 then (if b == 38 then Some (t.Infix AndThen) else None)
     else if a == 61 then (if b == 61 then Some (t.Infix Equal) else None)
     else if a == 33 then (if b == 61 then Some (t.Infix NotEqual) else None)
-    else if a == 60 then (if b == 60 then Some (t.Infix ShiftLeft) else if b == 61 then Some (t.Infix LessEqual) else None)
-    else if a == 62 then (if b == 62 then Some (t.Infix ShiftRight) else if b == 61 then Some (t.Infix GreaterEqual) else None)
+    else if a == 60 then
+    (if b == 60 then Some (t.Infix ShiftLeft) else if b == 61 then Some (t.Infix LessEqual) else None)
+    else if a == 62 then
+    (if b == 62 then Some (t.Infix ShiftRight) else if b == 61 then Some (t.Infix GreaterEqual) else None)
     else None
 
 abbrev pub sign_in : List ℕ → Option Token
@@ -69,9 +74,11 @@ Spelled (token ∷ tokens) [] = ⊥
 -- the tokens that a text is divided into, or that it has a lexeme that spells none
 abbrev pub SpelledOrNot : List ℕ → Option (List Token) → Type 0
 SpelledOrNot text found =
-    MatchOption found ((tokens : List Token) → Spelled tokens (lexemes [] text) → ⊥) (λ tokens. Spelled tokens (lexemes [] text))
+    MatchOption found ((tokens : List Token) → Spelled tokens (lexemes [] text) → ⊥)
+    (λ tokens. Spelled tokens (lexemes [] text))
 
--- What is so far of a text: these tokens are spelled by lexemes of it, and this is what is left: bytes that have begun one, and more.
+-- What is so far of a text: these tokens are spelled by lexemes of it, and this is what is left: bytes that have
+-- begun one, and more.
 pub record SoFar (text : List ℕ) (tokens : List Token) (begun rest : List ℕ) : Type 0 where
   pub done : List (List ℕ)
   pub spelled : Spelled tokens done

@@ -1,9 +1,9 @@
 -- The tokens of an expression.
 --
--- A token is a word or a sign. A word is letters and digits, as many as follow each other: a number (decimal digits, or
--- `0x` and hexadecimal ones), the name of a register (RISC-V Unprivileged ISA 20191213, chapter 25), or `pc`. Spaces and
--- tabs may stand before, between and after tokens, and each token is the longest that fits: `<<` is one sign, and `< <`
--- are two.
+-- A token is a word or a sign. A word is letters and digits, as many as follow each other: a number (decimal digits,
+-- or `0x` and hexadecimal ones), the name of a register (RISC-V Unprivileged ISA 20191213, chapter 25), or `pc`.
+-- Spaces and tabs may stand before, between and after tokens, and each token is the longest that fits: `<<` is one
+-- sign, and `< <` are two.
 use Rattle.std.specs.Prelude.{◌≡◌, ◌≢◌, ℕ, Bool, true, false, ◌==◌, ◌||◌, if◌then◌else◌, List, [], ◌∷◌, ◌++◌, Ok, codes}
 use Rattle.std.specs.List.{list_all, list_any}
 use Rattle.std.specs.Char.{is_ascii_digit, is_ascii_alphabetic}
@@ -13,7 +13,9 @@ use Rattle.rv32i.specs.Names.{Names}
 use Rattle.expressions.specs.declared.token.Bracket.{Bracket}
 use Rattle.expressions.specs.declared.token.Bracket.TheVariants.{Round, Square}
 use Rattle.expressions.specs.declared.token.Infix.{Infix}
-use Rattle.expressions.specs.declared.token.Infix.TheVariants.{OrElse, AndThen, Or, Xor, And, Equal, NotEqual, Less, LessEqual, Greater, GreaterEqual, ShiftLeft, ShiftRight, Plus, Minus, Times}
+use Rattle.expressions.specs.declared.token.Infix.TheVariants.{OrElse, AndThen, Or, Xor, And, Equal, NotEqual, Less}
+use Rattle.expressions.specs.declared.token.Infix.TheVariants.{LessEqual, Greater, GreaterEqual, ShiftLeft}
+use Rattle.expressions.specs.declared.token.Infix.TheVariants.{ShiftRight, Plus, Minus, Times}
 use Rattle.expressions.specs.declared.token.Token.{Token}
 use Rattle.expressions.specs.declared.token.Token.TheVariants as t
 

@@ -1,14 +1,17 @@
 -- The grammar of expressions.
 --
--- Each operator has a level, and one of a higher level binds tighter; those of one level group from the left. Operators before
--- their operand bind tighter than all between two; an operand is a number, a register, `pc`, or an expression in brackets.
+-- Each operator has a level, and one of a higher level binds tighter; those of one level group from the left.
+-- Operators before their operand bind tighter than all between two; an operand is a number, a register, `pc`, or an
+-- expression in brackets.
 --
--- A tree says how a text is read: its tokens, from left to right, are those of the text, and each operand binds as tight as its
--- operator wants. Pairs of brackets are nodes, so the tree has all that the text has.
+-- A tree says how a text is read: its tokens, from left to right, are those of the text, and each operand binds as
+-- tight as its operator wants. Pairs of brackets are nodes, so the tree has all that the text has.
 use Rattle.std.specs.Prelude.{ℕ, ◌+◌, Bool, true, nat_le, nat_lt, ◌&&◌, max, List, [], ◌∷◌, ◌++◌}
 use Rattle.expressions.specs.declared.token.Bracket.{Bracket}
 use Rattle.expressions.specs.declared.token.Infix.{Infix}
-use Rattle.expressions.specs.declared.token.Infix.TheVariants.{OrElse, AndThen, Or, Xor, And, Equal, NotEqual, Less, LessEqual, Greater, GreaterEqual, ShiftLeft, ShiftRight, Plus, Minus, Times}
+use Rattle.expressions.specs.declared.token.Infix.TheVariants.{OrElse, AndThen, Or, Xor, And, Equal, NotEqual, Less}
+use Rattle.expressions.specs.declared.token.Infix.TheVariants.{LessEqual, Greater, GreaterEqual, ShiftLeft}
+use Rattle.expressions.specs.declared.token.Infix.TheVariants.{ShiftRight, Plus, Minus, Times}
 use Rattle.expressions.specs.declared.token.Prefix.{Prefix}
 use Rattle.expressions.specs.declared.token.Prefix.TheVariants.{Negate, Complement, Not}
 use Rattle.expressions.specs.declared.token.Token.{Token}
@@ -50,15 +53,16 @@ binding Pc = 11
 binding (Unary operator operand) = 11
 binding (Enclosed bracket inner) = 11
 
--- Whether each operand binds as tight as its operator wants: one before it, tighter than all between two; one between two,
--- at least as tight on the left, and tighter on the right, since those of a level group from the left.
+-- Whether each operand binds as tight as its operator wants: one before it, tighter than all between two; one between
+-- two, at least as tight on the left, and tighter on the right, since those of a level group from the left.
 abbrev pub groups : Tree → Bool
 groups (Number n) = true
 groups (Register r) = true
 groups Pc = true
 groups (Unary operator operand) = groups operand && nat_lt 10 (binding operand)
 groups (Binary operator left right) =
-    (groups left && nat_le (level_of operator) (binding left)) && (groups right && nat_lt (level_of operator) (binding right))
+    (groups left && nat_le (level_of operator) (binding left))
+    && (groups right && nat_lt (level_of operator) (binding right))
 groups (Enclosed bracket inner) = groups inner
 
 abbrev pub token_before : Prefix → Token

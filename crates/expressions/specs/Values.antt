@@ -1,9 +1,11 @@
 -- The value of an expression on a machine.
 --
--- Values have 32 bits, and all wraps. Comparisons are signed; they, `!`, `&&` and `||` give 0 or 1. A shift goes by the low 5
--- bits of its right side, and zeros come in. `&&` and `||` leave the right side alone where the left one decides. Square brackets
--- give the little-endian word at any address whose four bytes lie in memory; a word that is evaluated and does not is a fault.
-use Rattle.std.specs.Prelude.{ℕ, ◌*◌, ◌%◌, ◌^◌, Bool, false, ◌==◌, not, if◌then◌else◌, List, slice_index, bit_and, bit_or, bit_xor, Result, Ok, Err}
+-- Values have 32 bits, and all wraps. Comparisons are signed; they, `!`, `&&` and `||` give 0 or 1. A shift goes by
+-- the low 5 bits of its right side, and zeros come in. `&&` and `||` leave the right side alone where the left one
+-- decides. Square brackets give the little-endian word at any address whose four bytes lie in memory; a word that is
+-- evaluated and does not is a fault.
+use Rattle.std.specs.Prelude.{ℕ, ◌*◌, ◌%◌, ◌^◌, Bool, false, ◌==◌, not, if◌then◌else◌, List, slice_index, bit_and}
+use Rattle.std.specs.Prelude.{bit_or, bit_xor, Result, Ok, Err}
 use Rattle.image.specs.Memory.{bytes_at, has_bytes, little_endian}
 use Rattle.rv32i.specs.Machine.{difference, flag, is_less_than, places, shifted_left, shifted_right, sum}
 use Rattle.rv32i.specs.declared.hart.Hart.{Hart}
@@ -13,7 +15,9 @@ use Rattle.expressions.specs.declared.error.ExprFault.TheVariants.{Outside}
 use Rattle.expressions.specs.declared.token.Bracket.{Bracket}
 use Rattle.expressions.specs.declared.token.Bracket.TheVariants.{Round, Square}
 use Rattle.expressions.specs.declared.token.Infix.{Infix}
-use Rattle.expressions.specs.declared.token.Infix.TheVariants.{OrElse, AndThen, Or, Xor, And, Equal, NotEqual, Less, LessEqual, Greater, GreaterEqual, ShiftLeft, ShiftRight, Plus, Minus, Times}
+use Rattle.expressions.specs.declared.token.Infix.TheVariants.{OrElse, AndThen, Or, Xor, And, Equal, NotEqual, Less}
+use Rattle.expressions.specs.declared.token.Infix.TheVariants.{LessEqual, Greater, GreaterEqual, ShiftLeft}
+use Rattle.expressions.specs.declared.token.Infix.TheVariants.{ShiftRight, Plus, Minus, Times}
 use Rattle.expressions.specs.declared.token.Prefix.{Prefix}
 use Rattle.expressions.specs.declared.token.Prefix.TheVariants.{Negate, Complement, Not}
 
@@ -67,7 +71,8 @@ decides operator a = false
 
 -- the word at any address
 abbrev pub word_anywhere : List ℕ → ℕ → Valued
-word_anywhere memory address = if has_bytes memory address 4 then Ok (little_endian (bytes_at memory address 4)) else Err Outside
+word_anywhere memory address =
+    if has_bytes memory address 4 then Ok (little_endian (bytes_at memory address 4)) else Err Outside
 
 -- what brackets make of a value
 abbrev pub enclosed : Bracket → List ℕ → ℕ → Valued

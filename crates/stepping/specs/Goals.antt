@@ -1,8 +1,10 @@
--- Where a run is meant to stop (Debug Adapter Protocol, requests `continue`, `next`, `stepIn`, `stepOut`; `SteppingGranularity`).
+-- Where a run is meant to stop (Debug Adapter Protocol, requests `continue`, `next`, `stepIn`, `stepOut`;
+-- `SteppingGranularity`).
 --
--- A run that goes on has no goal. One that steps in stops at the next place, one that steps over at the next place at which no
--- more calls are open than at its start, and one that steps out wherever fewer are. A place is the first address of a source
--- line, or an address outside every line; where one steps by instructions, each address is a place.
+-- A run that goes on has no goal. One that steps in stops at the next place, one that steps over at the next place at
+-- which no more calls are open than at its start, and one that steps out wherever fewer are. A place is the first
+-- address of a source line, or an address outside every line; where one steps by instructions, each address is a
+-- place.
 use Rattle.std.specs.Prelude.{ℕ, Bool, true, false, nat_le, nat_lt, ◌&&◌, ◌||◌, Option, Some, None}
 use Rattle.image.specs.Lines.{Table, line_of, starts}
 use Rattle.stepping.specs.declared.goal.Goal.{Goal}

@@ -15,8 +15,8 @@ pub record CanBeLoaded (image : Image) (size : ℕ) : Type 0 where
   pub fits : length image.bytes ≤ size
   pub aligned : image.entry % 4 ≡ 0
 
--- The machine is as the image says: pc at the entry, sp at the end of memory, all other registers and all other bytes 0. No
--- instruction has retired, and it goes on without a goal.
+-- The machine is as the image says: pc at the entry, sp at the end of memory, all other registers and all other bytes
+-- 0. No instruction has retired, and it goes on without a goal.
 pub record IsLoaded (image : Image) (size : ℕ) (lists : Lists) (d : Debugged) : Type 0 where
   pub pc : d.hart.pc ≡ image.entry
   pub x : d.hart.x ≡ slice_set (replicate 32 0) 2 (first_address + size)

@@ -11,8 +11,8 @@ abbrev pub Goes : ℕ → Debugged → Debugged → Type 0
 Goes zero before after = after ≡ before
 Goes (suc n) before after = (middle : Debugged) × (Goes n before middle × IsTick middle (Ok plain_tick) after)
 
--- and what ended them: that these were as many as were asked for, a tick of which there is something to report, or one for which no
--- memory was left
+-- and what ended them: that these were as many as were asked for, a tick of which there is something to report, or
+-- one for which no memory was left
 abbrev pub EndsRun : ℕ → ℕ → Ending → Debugged → Debugged → Type 0
 EndsRun most went Spent middle after = (went ≡ most) × (after ≡ middle)
 EndsRun most went (Ticked tick) middle after = (went < most) × ((tick ≢ plain_tick) × IsTick middle (Ok tick) after)

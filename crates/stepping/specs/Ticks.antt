@@ -1,12 +1,14 @@
 -- One tick of a debugged machine.
 --
--- A tick is one move of the hart (RISC-V Unprivileged ISA 20191213, chapter 2) with all that a debugger makes of it. Where the
--- instruction retires, the call stack takes its marks, and the breakpoints at the new pc are looked at. The first reason to stop
--- counts: a trap, the end of the program, EBREAK, a breakpoint of a source line, a breakpoint of an instruction, the goal.
+-- A tick is one move of the hart (RISC-V Unprivileged ISA 20191213, chapter 2) with all that a debugger makes of it.
+-- Where the instruction retires, the call stack takes its marks, and the breakpoints at the new pc are looked at. The
+-- first reason to stop counts: a trap, the end of the program, EBREAK, a breakpoint of a source line, a breakpoint of
+-- an instruction, the goal.
 --
--- A first run, of a program that was just loaded, begins with a tick of its own: the breakpoints at the entry are looked at, and
--- nothing moves.
-use Rattle.std.specs.Prelude.{◌≡◌, ℕ, ◌+◌, Bool, false, if◌then◌else◌, List, [], Option, Some, None, Result, Ok, Err, MatchBool, MatchResult}
+-- A first run, of a program that was just loaded, begins with a tick of its own: the breakpoints at the entry are
+-- looked at, and nothing moves.
+use Rattle.std.specs.Prelude.{◌≡◌, ℕ, ◌+◌, Bool, false, if◌then◌else◌, List, [], Option, Some, None, Result, Ok, Err}
+use Rattle.std.specs.Prelude.{MatchBool, MatchResult}
 use Rattle.std.specs.declared.alloc.AllocError.{AllocError}
 use Rattle.breakpoints.specs.Stops.{Lists, checked, hit_in}
 use Rattle.breakpoints.specs.declared.breakpoint.Hit.{Hit}
@@ -26,8 +28,9 @@ use Rattle.stepping.specs.declared.tick.Outcome.TheVariants.{Went, Stopped, Ende
 use Rattle.stepping.specs.declared.tick.Reason.TheVariants as why
 use Rattle.stepping.specs.declared.tick.Tick.{Tick}
 
--- A debugged machine: hart, memory and its size; the calls kept; breakpoints; how many instructions have retired since it was loaded; the
--- goal of its run and the depth at the start of that; whether the check at the entry is due; and its line table.
+-- A debugged machine: hart, memory and its size; the calls kept; breakpoints; how many instructions have retired
+-- since it was loaded; the goal of its run and the depth at the start of that; whether the check at the entry is due;
+-- and its line table.
 pub record Debugged : Type 0 where
   pub hart : Hart
   pub memory : List ℕ
@@ -115,7 +118,8 @@ moved_as before after = record before { hart = after.hart; memory = after.memory
 -- what a move comes to; where no memory was left for it, nothing has changed
 abbrev pub Settles : Debugged → Option Instr → Result Stepped AllocError → Result Tick AllocError → Debugged → Type 0
 Settles before instr (Ok stepped) answer after =
-    (answer ≡ Ok (tick_of stepped instr before.hart.pc (moved_as before after))) × (after ≡ settled stepped instr before.hart.pc (moved_as before after))
+    (answer ≡ Ok (tick_of stepped instr before.hart.pc (moved_as before after)))
+    × (after ≡ settled stepped instr before.hart.pc (moved_as before after))
 Settles before instr (Err error) answer after = (answer ≡ Err error) × (after ≡ before)
 
 -- the hart moves
@@ -123,10 +127,12 @@ pub record Moves (before : Debugged) (answer : Result Tick AllocError) (after : 
   pub instr : Option Instr
   pub stepped : Result Stepped AllocError
   pub fetched : IsFetched (machine_of before.hart before.memory) instr
-  pub moved : IsMove (machine_of before.hart before.memory) (record { answer = stepped; machine = machine_of after.hart after.memory })
+  pub moved : IsMove (machine_of before.hart before.memory)
+      (record { answer = stepped; machine = machine_of after.hart after.memory })
   pub settles : Settles before instr stepped answer after
 
 -- one tick
 abbrev pub IsTick : Debugged → Result Tick AllocError → Debugged → Type 0
 IsTick before answer after =
-    MatchBool before.check_due ((answer ≡ Ok (entry_tick before)) × (after ≡ entry_checked before)) (Moves before answer after)
+    MatchBool before.check_due ((answer ≡ Ok (entry_tick before)) × (after ≡ entry_checked before))
+    (Moves before answer after)

@@ -1,0 +1,141 @@
+"""Breakpoints: which are hit, which stop, and which ids a check answers."""
+from playing import Row
+
+PLAYER = "play_breakpoints"
+BASE = 0x10000
+# Addresses so far apart have one mark.
+APART = 4 * 65536
+MOST = 1024
+
+PROFILE = "docs/MACHINE.md, \"Breakpoints\""
+BY_HAND = "worked by hand from docs/MACHINE.md, \"Breakpoints\""
+
+
+def a(number, address=BASE, hit=1, condition=None):
+    """A breakpoint as the player reads it."""
+    return "%d:%d:%d" % (number, address, hit) + (":" + condition.encode().hex() if condition else "")
+
+
+def source(*breakpoints):
+    return " ".join(("source",) + breakpoints), "ok"
+
+
+def instructions(*breakpoints):
+    return " ".join(("instructions",) + breakpoints), "ok"
+
+
+def go(address):
+    return "go %d" % address, "ok"
+
+
+def sets(register, value):
+    return "set %d %d" % (register, value), "ok"
+
+
+def write(address, block):
+    return "write %d %s" % (address, block.hex()), "ok"
+
+
+def check(lines=(), of_instructions=()):
+    """A check at which the breakpoints of lines and those of instructions with these ids stop."""
+    stops = "%s %s" % (str(bool(lines)).lower(), str(bool(of_instructions)).lower())
+    return "check", " ".join([stops] + [str(number) for number in (*lines, *of_instructions)])
+
+
+def ids(*numbers):
+    return "ids", " ".join(["ids"] + [str(number) for number in numbers])
+
+
+def has(address, wanted):
+    return "has %d" % address, str(wanted).lower()
+
+
+def done(name):
+    return name, "ok"
+
+
+ROWS = [
+    Row("a hit number of 3", [
+        go(BASE), source(a(7, hit=3)),
+        check(), check(), check([7]), check([7]),
+        source(), instructions(a(8, hit=3)),
+        check(), check(), check([], [8]), check([], [8]),
+    ], PROFILE),
+    Row("the example of the guide", [
+        go(BASE), source(a(1, hit=3, condition="a0 == 5")),
+        sets(10, 5), check(), sets(10, 4), check(), sets(10, 5), check(), check([1]), check([1]), sets(10, 4), check(),
+    ], PROFILE),
+    Row("conditions that are 0, are not, and have no value", [
+        go(BASE),
+        source(a(1, condition="0"), a(2, condition="1"), a(3, condition="[0]"), a(4, condition="[65536]"), a(5, condition="a0 - 9"), a(6)),
+        check([2, 3, 5, 6]),
+        write(BASE, b"\0\0\0\x80"), sets(10, 9), check([2, 3, 4, 6]),
+        sets(10, 0xffffffff), write(BASE, bytes(4)), check([2, 3, 5, 6]),
+        source(a(1, condition="pc == 65536 && [131068]")), check(), write(131068, b"\1\0\0\0"), check([1]),
+        source(a(1, condition="[131069]")), check([1]),
+    ], PROFILE),
+    Row("a condition without a value counts and one that is 0 does not", [
+        go(BASE), source(a(1, hit=2, condition="[a0]"), a(2, hit=2, condition="a0")),
+        check(), check([1]), sets(10, BASE), check(), check([2]), sets(10, 1), check([1, 2]), sets(10, 0), check([1]),
+        sets(10, BASE), check([2]),
+    ], BY_HAND),
+    Row("breakpoints of both lists at one address", [
+        go(BASE), source(a(9), a(2), a(5)), instructions(a(4), a(1), a(9)),
+        check([9, 2, 5], [4, 1, 9]), ids(9, 2, 5, 4, 1, 9),
+        instructions(a(4, hit=2), a(1, condition="0"), a(3, BASE + 4)),
+        check([9, 2, 5]), check([9, 2, 5], [4]),
+        source(a(9, condition="0")), check([], [4]),
+    ], PROFILE),
+    Row("breakpoints at one address with hit numbers of their own", [
+        go(BASE), source(a(3, hit=3), a(1), a(4294967295, hit=4294967295), a(2, hit=2)), instructions(a(5, hit=2)),
+        check([1]), check([1, 2], [5]), check([3, 1, 2], [5]), check([3, 1, 2], [5]),
+    ], BY_HAND),
+    Row("only what is at pc is hit", [
+        source(a(1, BASE), a(2, BASE + 4), a(3, 0), a(4, 0xfffffffc)), instructions(a(5, BASE + 8), a(6, BASE + 4, hit=2)),
+        go(BASE), check([1]), go(BASE + 4), check([2]), go(BASE + 8), check([], [5]), go(BASE + 4), check([2], [6]),
+        go(0), check([3]), go(0xfffffffc), check([4]), go(BASE + 12), check(), go(BASE + 2), check(),
+        has(BASE, True), has(BASE + 8, True), has(0, True), has(0xfffffffc, True), has(BASE + 12, False), has(BASE + 2, False), has(4, False),
+    ], BY_HAND),
+    Row("a list that is set leaves the hits of the other", [
+        go(BASE), source(a(1, hit=2)), instructions(a(2, hit=3)),
+        check(), source(a(3, hit=2)), check(), check([3], [2]),
+        instructions(a(4, hit=2)), check([3]), check([3], [4]),
+        source(a(3, hit=2)), check([], [4]), check([3], [4]),
+        source(), check([], [4]), instructions(), check(), has(BASE, False),
+    ], PROFILE),
+    Row("hits that are taken away", [
+        go(BASE), source(a(1, hit=2), a(2, hit=3)), instructions(a(3, hit=2), a(4)),
+        check([], [4]), done("reset"), check([], [4]), check([1], [3, 4]), check([1, 2], [3, 4]),
+        done("reset"), ids(1, 2, 3, 4), check([], [4]), check([1], [3, 4]),
+    ], BY_HAND),
+    Row("breakpoints that are taken away", [
+        go(BASE), done("clear"), check(), source(a(1)), instructions(a(2)), check([1], [2]),
+        done("clear"), ids(), has(BASE, False), check(),
+        source(a(1, hit=2)), check(), check([1]), instructions(a(2)), check([1], [2]),
+    ], PROFILE),
+    Row("ids are those of the last check", [
+        go(BASE), ids(), source(a(1)), instructions(a(2)), ids(), check([1], [2]), ids(1, 2), ids(1, 2),
+        go(BASE + 4), check(), ids(), go(BASE), check([1], [2]), done("forget"), ids(), check([1], [2]),
+        source(a(1)), ids(), check([1], [2]), instructions(a(2)), ids(),
+    ], BY_HAND),
+    Row("addresses that share a mark", [
+        source(a(1, BASE)), instructions(a(2, BASE + 3 * APART)),
+        go(BASE + APART), check(), go(BASE), check([1]), go(BASE + 3 * APART), check([], [2]), go(BASE + 2 * APART), check(),
+        has(BASE, True), has(BASE + APART, False), has(BASE + 3 * APART, True), has(BASE + 1, False),
+    ], BY_HAND),
+    Row("lists of 1,024 breakpoints", [
+        source(*(a(i, BASE + 4 * i) for i in range(MOST))),
+        instructions(*(a(MOST + i, BASE + 0x20000 - 4 * i, hit=1 + i % 2) for i in range(MOST))),
+        go(BASE), check([0]), go(BASE + 4 * (MOST - 1)), check([MOST - 1]), go(BASE + 4 * MOST), check(),
+        go(BASE + 0x20000), check([], [MOST]), go(BASE + 0x20000 - 4 * (MOST - 1)), check(), check([], [2 * MOST - 1]),
+    ], BY_HAND),
+    Row("lists of 1,024 breakpoints at one address", [
+        go(BASE), source(*(a(i, hit=1 + i % 2) for i in range(MOST))), instructions(*(a(3 * i, condition="a0 == %d" % i) for i in range(MOST))),
+        sets(10, 700), check(range(0, MOST, 2), [2100]), check(range(MOST), [2100]), sets(10, MOST), check(range(MOST)),
+    ], BY_HAND),
+    Row("lists that found no memory are set when they are set again", [
+        go(BASE), source(a(1, hit=2), a(2, condition="a0 == 0 || [0]")), check([2]),
+        instructions(a(3), a(4, BASE + 4), a(5)), ids(), check([1, 2], [3, 5]),
+        source(a(6)), ids(), check([6], [3, 5]),
+    ], PROFILE, refused=True),
+]
