@@ -46,7 +46,7 @@ ROWS = [
     Row("a program without a goal runs to its end, and ends again",
         [load(COUNTS)] + at(BASE, 0, 0) + ticks(WENT, WENT, WENT, WENT, WENT, WENT, "Ended(6)", "Ended(6)") + at(BASE + 0x10, 0, 6), BY_HAND,
         refused=True),
-    Row("a step over a call stops behind it",
+    Row("a step over a call stops after it",
         [load(COUNTS)] + ticks(WENT) + [does("begin over line")] + ticks(WENT, WENT, WENT, GOAL) + at(BASE + 0xC), BY_HAND),
     Row("a step over by instructions stops at the next",
         [load(COUNTS)] + ticks(WENT) + [does("begin over instruction")] + ticks(GOAL) + at(BASE + 8), BY_HAND),

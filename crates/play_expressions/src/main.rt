@@ -7,7 +7,7 @@
 
 use expressions::{Expr, ExprError};
 use image::{MemFault, Memory};
-use play::{Fault, Player, bytes_of, parsed, play, told};
+use play::{Fault, Player, bytes_of, parsed, play, shown};
 use rv32i::Hart;
 use std::alloc::Global;
 use std::process::ExitCode;
@@ -26,7 +26,7 @@ impl Player for Machine {
             ["set", register, value] => self.set(alloc, parsed(register)?, parsed(value)?),
             ["go", address] => {
                 self.hart.pc = parsed(address)?;
-                told(alloc, "ok")
+                shown(alloc, "ok")
             }
             ["write", address, bytes] => self.write(alloc, parsed(address)?, bytes),
             ["value", text] => self.value(alloc, text),
@@ -41,13 +41,13 @@ impl Machine {
             return Err(Fault::NoCommand);
         }
         self.hart.x[register as usize] = value;
-        told(alloc, "ok")
+        shown(alloc, "ok")
     }
 
     fn write(&mut self, alloc: Global, address: u32, bytes: &str) -> Result<String, Fault> {
         let bytes = bytes_of(alloc, bytes)?;
         match self.memory.write(address, &bytes) {
-            Ok(()) => told(alloc, "ok"),
+            Ok(()) => shown(alloc, "ok"),
             Err(MemFault::NoMemory) => Err(Fault::NoMemoryInCall),
             Err(_) => Err(Fault::NoCommand),
         }
