@@ -102,5 +102,6 @@ ROWS = [
          does("write %d 0102" % (BASE + 0xFFF), "Outside"), does("word %d" % (BASE + 0xFFC), "Ok(67305985)"), does("reload"),
          does("word %d" % (BASE + 0xFFC), "Ok(0)"), does("x 10", "0"), does("x 2", str(BASE + 4096))], BY_HAND),
     Row("the greatest memory",
-        [load(LOOPS, 16777216), does("x 2", str(BASE + 16777216)), does("word %d" % (BASE + 16777212), "Ok(0)"), runs(5, "5 Spent")], BY_HAND),
+        [load(LOOPS, 16777216), does("x 2", str(BASE + 16777216)), does("word %d" % (BASE + 16777212), "Ok(0)"), runs(5, "5 Spent"), does("reload"),
+         does("x 2", str(BASE + 16777216))] + at(BASE, 0, 0), BY_HAND),
 ]
