@@ -4,3 +4,4 @@ pub mod Standing
 pub mod Returning
 pub mod Moving
 pub mod Going
+pub mod Remembering

@@ -15,6 +15,8 @@ pub mod Plain
 pub mod Runs
 -- a machine into which a program was just loaded
 pub mod Loading
+-- what a machine keeps of its past
+pub mod Past
 -- a machine that has lent its breakpoints
 pub mod Lending
 -- What follows is cited by private clauses alone: what holds of every machine that is debugged.
