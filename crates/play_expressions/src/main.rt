@@ -21,8 +21,8 @@ struct Machine {
 }
 
 impl Player for Machine {
-    fn answer(&mut self, alloc: Global, words: &[&str]) -> Result<String, Fault> {
-        match words {
+    fn answer(&mut self, alloc: Global, arguments: &[&str]) -> Result<String, Fault> {
+        match arguments {
             ["set", register, value] => self.set(alloc, parsed(register)?, parsed(value)?),
             ["go", address] => {
                 self.hart.pc = parsed(address)?;

@@ -1,5 +1,5 @@
 -- A tick adds to the past what retires in it.
-use Rattle.std.proofs.Common.{◌≡◌, ℕ, ◌+◌, Bool, true, false, ◌⊎◌, inl, inr, List, [], ◌∷◌, ◌++◌, length, Option, None, Some, Result, Ok, Err, MatchBool, refl, sym, ap, subst, ◌∙◌, arith, append-nil, length-append}
+use Rattle.std.proofs.Common.{◌≡◌, ℕ, ◌+◌, Bool, true, false, ◌⊎◌, inl, inr, List, [], ◌∷◌, ◌++◌, length, Option, None, Some, Result, Ok, Err, MatchBool, refl, sym, ap, subst, ◌∙◌, append-nil, length-append}
 use Rattle.std.specs.Prelude.{⊤, ℤ}
 use Rattle.std.specs.Result.{MatchResult}
 use Rattle.std.specs.declared.alloc.AllocError.{AllocError}
@@ -12,11 +12,10 @@ use Rattle.rv32i.specs.declared.instr.Instr.{Instr}
 use Rattle.rv32i.specs.declared.stepped.Cause.TheVariants.{Illegal}
 use Rattle.rv32i.specs.declared.stepped.Stepped.{Stepped}
 use Rattle.rv32i.specs.declared.stepped.Stepped.TheVariants as stepped
-use Rattle.stepping.specs.Calls.{Kept, StandsFor, nothing_kept, with_retired}
-use Rattle.stepping.specs.Loading.{IsLoaded}
+use Rattle.stepping.specs.Calls.{Kept, StandsFor, with_retired}
 use Rattle.stepping.specs.Marks.{Retired}
 use Rattle.stepping.specs.Past.{IsAdded, LoadedRemembersNone, Remembers, TicksRemember}
-use Rattle.stepping.specs.Ticks.{Debugged, IsFetched, IsTick, Moves, entry_checked, entry_tick, gone_on, moved_as, Settles}
+use Rattle.stepping.specs.Ticks.{Debugged, IsFetched, Moves, entry_checked, entry_tick, gone_on, moved_as, Settles}
 use Rattle.stepping.specs.declared.tick.Tick.{Tick}
 use Rattle.stepping.proofs.Standing.{noted_stands, nothing_stands}
 
