@@ -4,6 +4,7 @@
 //! arguments and how they are read. `command` lists them.
 #![tactic(auto)]
 
+mod argument;
 pub mod attach;
 pub mod cancel;
 pub mod command;
@@ -11,6 +12,7 @@ pub mod configuration_done;
 pub mod continue_;
 pub mod disassemble;
 pub mod disconnect;
+pub mod entries;
 pub mod evaluate;
 pub mod initialize;
 pub mod json;
@@ -35,12 +37,14 @@ pub mod step_out;
 pub mod terminate;
 pub mod text;
 pub mod threads;
+mod unread;
 pub mod variables;
 pub mod write_memory;
 
 pub use cancel::CancelArguments;
 pub use command::Command;
 pub use disconnect::DisconnectArguments;
+pub use entries::Entries;
 pub use initialize::InitializeArguments;
 pub use properties::LAST_SEQ;
 pub use refusal::Refusal;
