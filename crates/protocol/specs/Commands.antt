@@ -4,8 +4,8 @@
 -- own file. A name that is not in the table is an unknown command, whatever the arguments are. The arguments of a
 -- known one are bad where they are no object, or where one that is required is absent, or one that is looked at has
 -- another type than the schema's or is a number out of range.
-use Rattle.std.specs.Prelude.{◌≡◌, ℕ, List, [], ◌∷◌, ◌++◌, Option, Some, None, option_map, option_and_then, Result, Ok, Err}
-use Rattle.std.specs.Prelude.{ok_or, bytes_eq, true, codes, refl, if◌then◌else◌}
+use Rattle.std.specs.Prelude.{◌≡◌, ℕ, List, [], ◌∷◌, ◌++◌, Option, Some, None, option_map, option_and_then, Result}
+use Rattle.std.specs.Prelude.{Ok, Err, ok_or, bytes_eq, true, codes, refl, if◌then◌else◌}
 use Rattle.serde_json.specs.Data.{Data, array, no_items, Members}
 use Rattle.protocol.specs.Arguments.{arguments_members}
 use Rattle.protocol.specs.Initialize.{initialize_arguments}

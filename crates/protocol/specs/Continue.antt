@@ -19,6 +19,5 @@ thread_1 : continue_arguments (member (codes "threadId") (number (unsigned 1)) n
     ≡ Some (record { thread_id = pos 1 })
 thread_1 = refl
 
-a_thread_has_to_be_named : continue_arguments no_members
-    ≡ None
+a_thread_has_to_be_named : continue_arguments no_members ≡ None
 a_thread_has_to_be_named = refl

@@ -22,6 +22,5 @@ in_no_frame : evaluate_arguments (member (codes "expression") (string (codes "a0
     ≡ Some (record { expression = codes "a0 + 1"; frame_id = None })
 in_no_frame = refl
 
-an_expression_has_to_be_there : evaluate_arguments no_members
-    ≡ None
+an_expression_has_to_be_there : evaluate_arguments no_members ≡ None
 an_expression_has_to_be_there = refl

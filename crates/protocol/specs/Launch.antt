@@ -22,6 +22,5 @@ it_does_not_stop : launch_arguments (member (codes "program") (string (codes "a.
     ≡ Some (record { program = codes "a.s"; stop_on_entry = false })
 it_does_not_stop = refl
 
-a_program_has_to_be_named : launch_arguments no_members
-    ≡ None
+a_program_has_to_be_named : launch_arguments no_members ≡ None
 a_program_has_to_be_named = refl

@@ -18,6 +18,5 @@ thread_1 : pause_arguments (member (codes "threadId") (number (unsigned 1)) no_m
     ≡ Some (record { thread_id = pos 1 })
 thread_1 = refl
 
-a_thread_has_to_be_named : pause_arguments no_members
-    ≡ None
+a_thread_has_to_be_named : pause_arguments no_members ≡ None
 a_thread_has_to_be_named = refl

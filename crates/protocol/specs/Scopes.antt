@@ -18,6 +18,5 @@ frame_1000 : scopes_arguments (member (codes "frameId") (number (unsigned 1000))
     ≡ Some (record { frame_id = pos 1000 })
 frame_1000 = refl
 
-a_frame_has_to_be_named : scopes_arguments no_members
-    ≡ None
+a_frame_has_to_be_named : scopes_arguments no_members ≡ None
 a_frame_has_to_be_named = refl

@@ -5,7 +5,8 @@
 -- as older editors do. Where both are there, `lines` is not looked at, and where neither is, the source
 -- has no breakpoints. A line is not negative.
 use Rattle.std.specs.Prelude.{◌≡◌, ℕ, List, [], ◌∷◌, Option, Some, None, map, unwrap_or, codes, refl}
-use Rattle.serde_json.specs.Data.{Data, number, string, unsigned, array, object, no_items, item, Members, no_members, member}
+use Rattle.serde_json.specs.Data.{Data, number, string, unsigned, array, object, no_items, item}
+use Rattle.serde_json.specs.Data.{Members, no_members, member}
 use Rattle.serde_json.specs.Find.{as_object, as_str}
 use Rattle.protocol.specs.Properties.{◌>>=◌, property, natural}
 use Rattle.protocol.specs.Arguments.{required, optional, list}
@@ -63,7 +64,8 @@ no_breakpoints : set_breakpoints_arguments no_members
     ≡ Some (record { source = record { path = None }; breakpoints = [] })
 no_breakpoints = refl
 
-lines_alone : set_breakpoints_arguments (member (codes "lines") (array (item (number (unsigned 7)) no_items)) no_members)
+lines_alone : set_breakpoints_arguments
+    (member (codes "lines") (array (item (number (unsigned 7)) no_items)) no_members)
     ≡ Some (record { source = record { path = None }; breakpoints = at_line 7 ∷ [] })
 lines_alone = refl
 
@@ -73,5 +75,7 @@ lines_are_not_looked_at : set_breakpoints_arguments
     ≡ Some (record { source = record { path = None }; breakpoints = [] })
 lines_are_not_looked_at = refl
 
-a_line_has_to_be_there : source_breakpoint (object (member (codes "condition") (string (codes "a0")) no_members)) ≡ None
+a_line_has_to_be_there : source_breakpoint
+    (object (member (codes "condition") (string (codes "a0")) no_members))
+    ≡ None
 a_line_has_to_be_there = refl

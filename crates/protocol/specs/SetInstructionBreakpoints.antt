@@ -9,7 +9,7 @@ use Rattle.protocol.specs.Properties.{◌>>=◌, property, integer}
 use Rattle.protocol.specs.Arguments.{required, optional, list}
 use Rattle.protocol.specs.declared.members.TheConstants.{BREAKPOINTS, CONDITION, HIT_CONDITION, OFFSET}
 use Rattle.protocol.specs.declared.set_instruction_breakpoints.InstructionBreakpoint.{InstructionBreakpoint}
-use Rattle.protocol.specs.declared.set_instruction_breakpoints.SetInstructionBreakpointsArguments.{SetInstructionBreakpointsArguments}
+use Rattle.protocol.specs.declared.set_instruction_breakpoints.SetInstructionBreakpointsArguments as given
 use Rattle.protocol.specs.declared.set_instruction_breakpoints.TheConstants.{INSTRUCTION_REFERENCE}
 
 -- a breakpoint; its address has to be there
@@ -28,7 +28,7 @@ instruction_breakpoint value = do
   })
 
 -- the arguments; None where the breakpoints are absent, or one has another type
-abbrev pub set_instruction_breakpoints_arguments : Members → Option SetInstructionBreakpointsArguments
+abbrev pub set_instruction_breakpoints_arguments : Members → Option given.SetInstructionBreakpointsArguments
 set_instruction_breakpoints_arguments members = do
   breakpoints ← required (list instruction_breakpoint) (property BREAKPOINTS.now members)
   Some (record { breakpoints = breakpoints })

@@ -21,7 +21,7 @@ write_memory_arguments members = do
   Some (record {
     memory_reference = memory_reference;
     offset = unwrap_or offset (pos 0);
-    «data» = bytes;
+    bytes = bytes;
     allow_partial = unwrap_or allow_partial false;
   })
 

@@ -128,8 +128,9 @@ impl Command {
 type Members<'v> = Result<&'v Map<String, Value>, Unread>;
 
 /// The command of that name with those arguments; `None` where the adapter has no request of that
-/// name, whatever the arguments are. Else `Bad` where these are no object, or one that is required is
-/// absent, or one that is looked at has another type than the schema's or is a number out of range.
+/// name, whatever the arguments are. Else `Bad` where these are no object, or one that is required
+/// is absent, or one that is looked at has another type than the schema's or is a number out of
+/// range.
 pub(crate) fn command_named(
     alloc: Global,
     name: &str,

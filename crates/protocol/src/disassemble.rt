@@ -31,9 +31,9 @@ pub struct DisassembleArguments {
     pub instruction_count: u32,
 }
 
-/// The arguments; `Bad` where `memoryReference` is absent or no text; where `instructionCount` is absent
-/// or no whole number from 0 to 2,147,483,647; or where `offset` or `instructionOffset` is there and is
-/// no whole number from -2,147,483,648 to 2,147,483,647.
+/// The arguments; `Bad` where `memoryReference` is absent or no text; where `instructionCount` is
+/// absent or no whole number from 0 to 2,147,483,647; or where `offset` or `instructionOffset` is
+/// there and is no whole number from -2,147,483,648 to 2,147,483,647.
 pub(crate) fn arguments(
     alloc: Global,
     members: &Map<String, Value>,

@@ -25,8 +25,8 @@ pub struct EvaluateArguments {
     pub frame_id: Option<i32>,
 }
 
-/// The arguments; `Bad` where `expression` is absent or no text, or `frameId` is there and is no whole
-/// number from -2,147,483,648 to 2,147,483,647.
+/// The arguments; `Bad` where `expression` is absent or no text, or `frameId` is there and is no
+/// whole number from -2,147,483,648 to 2,147,483,647.
 pub(crate) fn arguments(
     alloc: Global,
     members: &Map<String, Value>,

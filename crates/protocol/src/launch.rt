@@ -26,8 +26,8 @@ pub struct LaunchArguments {
     pub stop_on_entry: bool,
 }
 
-/// The arguments; `Bad` where `program` is absent or no text, or `stopOnEntry` is there and is neither
-/// true nor false.
+/// The arguments; `Bad` where `program` is absent or no text, or `stopOnEntry` is there and is
+/// neither true nor false.
 pub(crate) fn arguments(
     alloc: Global,
     members: &Map<String, Value>,

@@ -1,7 +1,7 @@
 //! What an editor says: the requests of the Debug Adapter Protocol, read from the bodies of frames.
 //!
-//! A request has a module of its own name (`continue_` for `continue`), with its arguments and how they
-//! are read. `command` lists the requests. `argument` reads an argument by its type.
+//! A request has a module of its own name (`continue_` for `continue`), with its arguments and how
+//! they are read. `command` lists the requests. `argument` reads an argument by its type.
 #![tactic(auto)]
 
 mod argument;

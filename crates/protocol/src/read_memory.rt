@@ -24,8 +24,8 @@ pub struct ReadMemoryArguments {
     pub count: u32,
 }
 
-/// The arguments; `Bad` where `memoryReference` is absent or no text; where `count` is absent or no whole
-/// number from 0 to 2,147,483,647; or where `offset` is there and is no whole number from
+/// The arguments; `Bad` where `memoryReference` is absent or no text; where `count` is absent or no
+/// whole number from 0 to 2,147,483,647; or where `offset` is there and is no whole number from
 /// -2,147,483,648 to 2,147,483,647.
 pub(crate) fn arguments(
     alloc: Global,

@@ -29,8 +29,8 @@ pub struct SetVariableArguments {
     pub value: Text,
 }
 
-/// The arguments; `Bad` where `variablesReference` is absent, or no whole number from -2,147,483,648
-/// to 2,147,483,647, or where `name` or `value` is absent or no text.
+/// The arguments; `Bad` where `variablesReference` is absent, or no whole number from
+/// -2,147,483,648 to 2,147,483,647, or where `name` or `value` is absent or no text.
 pub(crate) fn arguments(
     alloc: Global,
     members: &Map<String, Value>,

@@ -5,8 +5,8 @@ use std::alloc::{AllocError, AllocFailed};
 /// Why arguments are not read.
 #[derive(Clone, Copy)]
 pub(crate) enum Unread {
-    /// They are bad: an argument is missing, of another type than the protocol's schema gives it, or
-    /// a number out of range.
+    /// They are bad: an argument is missing, of another type than the protocol's schema gives it,
+    /// or a number out of range.
     Bad,
     /// No memory was left.
     NoMemory,

@@ -31,9 +31,9 @@ pub struct VariablesArguments {
     pub count: Option<u32>,
 }
 
-/// The arguments; `Bad` where `variablesReference` is absent, or no whole number from -2,147,483,648
-/// to 2,147,483,647; where `filter` is neither of the schema's two; or where `start` or `count` is
-/// there and is no whole number from 0 to 2,147,483,647.
+/// The arguments; `Bad` where `variablesReference` is absent, or no whole number from
+/// -2,147,483,648 to 2,147,483,647; where `filter` is neither of the schema's two; or where `start`
+/// or `count` is there and is no whole number from 0 to 2,147,483,647.
 pub(crate) fn arguments(
     alloc: Global,
     members: &Map<String, Value>,

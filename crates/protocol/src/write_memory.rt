@@ -27,14 +27,14 @@ pub struct WriteMemoryArguments {
     /// What is added to it, in bytes, from -2,147,483,648 to 2,147,483,647. Absent: 0.
     pub offset: i32,
     /// The bytes.
-    pub data: Bytes,
+    pub bytes: Bytes,
     /// Whether the first of them are written where not all can be. Absent: they aren't.
     pub allow_partial: bool,
 }
 
-/// The arguments; `Bad` where `memoryReference` is absent or no text; where `data` is absent or no text
-/// in base64 with padding; where `offset` is there and is no whole number from -2,147,483,648 to
-/// 2,147,483,647; or where `allowPartial` is there and is neither true nor false.
+/// The arguments; `Bad` where `memoryReference` is absent or no text; where `data` is absent or no
+/// text in base64 with padding; where `offset` is there and is no whole number from -2,147,483,648
+/// to 2,147,483,647; or where `allowPartial` is there and is neither true nor false.
 pub(crate) fn arguments(
     alloc: Global,
     members: &Map<String, Value>,
@@ -44,7 +44,7 @@ pub(crate) fn arguments(
     Ok(WriteMemoryArguments {
         memory_reference: required(alloc, members, MEMORY_REFERENCE)?,
         offset: optional(alloc, members, OFFSET)?.unwrap_or(0),
-        data: required(alloc, members, DATA)?,
+        bytes: required(alloc, members, DATA)?,
         allow_partial: optional(alloc, members, ALLOW_PARTIAL)?.unwrap_or(false),
     })
 }
