@@ -1,3 +1,5 @@
+pub mod Decoding
 pub mod JsonTexts
+pub mod Lists
 pub mod Meanings
 pub mod Requests

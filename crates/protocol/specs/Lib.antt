@@ -6,6 +6,8 @@ pub mod Refusals
 pub mod Json
 -- the properties of an object, and their types
 pub mod Properties
+-- the arguments of requests, by their types
+pub mod Arguments
 -- ---- the requests
 -- `initialize`: what its arguments mean
 pub mod Initialize
@@ -15,6 +17,10 @@ pub mod Threads
 pub mod Cancel
 -- `disconnect`, likewise
 pub mod Disconnect
+-- `setBreakpoints`, likewise
+pub mod SetBreakpoints
+-- `setVariable`, likewise
+pub mod SetVariable
 -- the table of the requests, by their names
 pub mod Commands
 -- ---- the whole

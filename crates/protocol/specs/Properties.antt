@@ -41,6 +41,10 @@ within_seq n = if nat_le n 2147483647 then Some n else None
 abbrev pub sequence_number : Option Data → Option ℕ
 sequence_number value = value >>= as_number >>= as_u64 >>= within_seq
 
+-- a whole number from 0 to 2,147,483,647
+abbrev pub natural : Data → Option ℕ
+natural value = as_number value >>= as_u64 >>= within_seq
+
 the_greatest_number : sequence_number (Some (number (unsigned 2147483647))) ≡ Some 2147483647
 the_greatest_number = refl
 

@@ -1,0 +1,59 @@
+-- The request `setBreakpoints` (`SetBreakpointsRequest`): what its arguments mean.
+--
+-- The editor says where the source is, and which breakpoints it is to have: their lines, and two texts
+-- for each, which are read later. Where it gives no list of breakpoints, it may give their lines alone,
+-- as older editors do. Where both are there, `lines` is not looked at, and where neither is, the source
+-- has no breakpoints. A line is not negative.
+use Rattle.std.specs.Prelude.{◌≡◌, ℕ, List, [], ◌∷◌, Option, Some, None, map, option_map, unwrap_or, codes, refl}
+use Rattle.serde_json.specs.Data.{Data, number, string, unsigned, array, object, no_items, item, Members, no_members, member}
+use Rattle.serde_json.specs.Find.{as_object, as_str}
+use Rattle.protocol.specs.Properties.{◌>>=◌, property, natural}
+use Rattle.protocol.specs.Arguments.{required, optional, list}
+use Rattle.protocol.specs.declared.set_breakpoints.Source.{Source}
+use Rattle.protocol.specs.declared.set_breakpoints.SourceBreakpoint.{SourceBreakpoint}
+use Rattle.protocol.specs.declared.set_breakpoints.SetBreakpointsArguments.{SetBreakpointsArguments}
+use Rattle.protocol.specs.declared.set_breakpoints.TheConstants.{SOURCE, PATH, BREAKPOINTS, LINES, LINE, CONDITION, HIT_CONDITION}
+
+-- a source
+abbrev pub source_of : Data → Option Source
+source_of value = do
+  members ← as_object value
+  path ← optional as_str (property PATH.now members)
+  Some (record { path = path })
+
+-- a breakpoint; its line has to be there
+abbrev pub source_breakpoint : Data → Option SourceBreakpoint
+source_breakpoint value = do
+  members ← as_object value
+  line ← required natural (property LINE.now members)
+  condition ← optional as_str (property CONDITION.now members)
+  hits ← optional as_str (property HIT_CONDITION.now members)
+  Some (record { line = line; condition = condition; hit_condition = hits })
+
+-- a breakpoint without conditions
+abbrev pub at_line : ℕ → SourceBreakpoint
+at_line line = record { line = line; condition = None; hit_condition = None }
+
+-- the breakpoints by their lines, where there is no list of breakpoints
+abbrev pub by_lines : Members → Option (List SourceBreakpoint)
+by_lines members = do
+  lines ← optional (list natural) (property LINES.now members)
+  Some (map at_line (unwrap_or lines []))
+
+-- the list, or what the lines say where there is none
+abbrev pub or_by_lines : Option (List SourceBreakpoint) → Members → Option (List SourceBreakpoint)
+or_by_lines (Some breakpoints) _ = Some breakpoints
+or_by_lines None members = by_lines members
+
+-- the breakpoints
+abbrev pub asked : Members → Option (List SourceBreakpoint)
+asked members = do
+  breakpoints ← optional (list source_breakpoint) (property BREAKPOINTS.now members)
+  or_by_lines breakpoints members
+
+-- the arguments; None where one is of another type; a source that is absent has no path
+abbrev pub set_breakpoints_arguments : Members → Option SetBreakpointsArguments
+set_breakpoints_arguments members = do
+  source ← optional source_of (property SOURCE.now members)
+  breakpoints ← asked members
+  Some (record { source = unwrap_or source (record { path = None }); breakpoints = breakpoints })

@@ -1,0 +1,4 @@
+//! The request `launch`: an editor starts a program.
+
+/// The request's name.
+pub const NAME: &str = "launch";

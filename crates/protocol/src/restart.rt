@@ -1,0 +1,4 @@
+//! The request `restart`: the program starts again.
+
+/// The request's name.
+pub const NAME: &str = "restart";

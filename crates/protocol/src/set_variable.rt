@@ -1,0 +1,45 @@
+//! The request `setVariable`: a variable gets another value.
+ghost use Rattle.serde_json.specs.View.{members_view};
+ghost use Rattle.protocol.specs.Arguments.{Reads};
+ghost use Rattle.protocol.specs.SetVariable.{set_variable_arguments};
+
+use crate::Text;
+use crate::argument::required;
+use crate::unread::Unread;
+use serde_json::{Map, Value};
+use std::alloc::Global;
+
+/// The request's name.
+pub const NAME: &str = "setVariable";
+
+/// The reference of the scope (`SetVariableArguments.variablesReference`).
+pub const VARIABLES_REFERENCE: &str = "variablesReference";
+/// The variable's name (`SetVariableArguments.name`).
+pub const VARIABLE_NAME: &str = "name";
+/// The variable's value (`SetVariableArguments.value`).
+pub const VALUE: &str = "value";
+
+/// Which variable gets which value (`SetVariableArguments`).
+#[derive(Drop)]
+pub struct SetVariableArguments {
+    /// The reference of the scope that has the variable.
+    pub variables_reference: i32,
+    /// The variable's name.
+    pub name: Text,
+    /// The variable's new value, as the editor writes it.
+    pub value: Text,
+}
+
+/// The arguments; `Bad` where one of them is absent, or has another type than the schema's.
+pub(crate) fn arguments(
+    alloc: Global,
+    members: &Map<String, Value>,
+) -> Result<SetVariableArguments, Unread>
+    ensures { Reads result (set_variable_arguments (members_view members.now.entries)) }
+{
+    Ok(SetVariableArguments {
+        variables_reference: required(alloc, members, VARIABLES_REFERENCE)?,
+        name: required(alloc, members, VARIABLE_NAME)?,
+        value: required(alloc, members, VALUE)?,
+    })
+}

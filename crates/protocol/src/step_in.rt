@@ -1,0 +1,4 @@
+//! The request `stepIn`: a step into calls.
+
+/// The request's name.
+pub const NAME: &str = "stepIn";
