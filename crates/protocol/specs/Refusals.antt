@@ -103,7 +103,7 @@ abbrev pub refusal_of : ℕ → Option Refusal
 refusal_of id = numbered_among id refusals
 
 -- The number of a refusal is that of no other.
-the_refusal_of_its_number : (refusal : Refusal) → refusal_of (id_of refusal) ≡ Some refusal
+pub the_refusal_of_its_number : (refusal : Refusal) → refusal_of (id_of refusal) ≡ Some refusal
 the_refusal_of_its_number RepeatedSequence = refl
 the_refusal_of_its_number Cancelled = refl
 the_refusal_of_its_number UnknownCommand = refl

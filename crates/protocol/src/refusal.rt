@@ -1,6 +1,6 @@
 //! Why a request is refused.
 ghost use Rattle.std.specs.Prelude.{◌≡◌};
-ghost use Rattle.protocol.specs.Refusals.{id_of, name_of, refusal_of};
+ghost use Rattle.protocol.specs.Refusals.{has_text, id_of, name_of, refusal_of};
 
 /// Why a request is refused. The order of the variants is the order in which they apply.
 #[derive(Clone, Copy, Debug, PartialEq, Eq)]
@@ -67,6 +67,13 @@ impl Refusal {
         self.row().1
     }
 
+    /// Whether the response gives a text of the refusal's own as `body.error.format`, and not its name.
+    pub fn has_text(self) -> bool
+        ensures { result ≡ has_text self }
+    {
+        matches!(self, Refusal::AssemblyFailed)
+    }
+
     // The refusal's number and its name.
     fn row(self) -> (u32, &'static str)
         ensures id { result.0 ≡ id_of self }
@@ -99,7 +106,7 @@ impl Refusal {
     }
 
     /// The refusal that has this number, if one has.
-    pub fn from_id(id: u32) -> Option<Refusal>
+    pub fn from_id(id: u64) -> Option<Refusal>
         ensures { result ≡ refusal_of id }
     {
         match id {

@@ -5,9 +5,8 @@ use Rattle.std.proofs.lemmas.Slice.Eq.{bytes_eq-Decides}
 use Rattle.std.specs.List.{list_any}
 use Rattle.std.specs.Str.{bytes_eq}
 use Rattle.serde_json.specs.Data.{Data, object}
-use Rattle.protocol.specs.Refusals.{id_of}
+use Rattle.protocol.specs.Refusals.{has_text, id_of, refusal_of, the_refusal_of_its_number}
 use Rattle.protocol.specs.declared.refusal.Refusal.{Refusal}
-use Rattle.protocol.specs.declared.refusal.Refusal.TheVariants.{RepeatedSequence, Cancelled, UnknownCommand, BadArguments, WrongPhase, RequestGone}
 use Rattle.replies.specs.declared.message.Message.{Message}
 use Rattle.replies.specs.declared.message.Message.TheVariants.{Response}
 use Rattle.replies.specs.declared.response.Outcome.{Outcome}
@@ -15,8 +14,8 @@ use Rattle.replies.specs.declared.response.Outcome.TheVariants.{Done, Refused}
 use Rattle.replies.specs.declared.response.ResponseBody.{ResponseBody}
 use Rattle.replies.specs.declared.response.ResponseBody.TheVariants.{Initialize, Threads, Empty}
 use Rattle.replies.specs.Messages.{message_data, IsNumber, IsProper}
-use Rattle.replies.specs.Responses.{with_body, shared_members, body_data, outcome_data, without_body, IsBodyOf, has_text, IsOutcomeOf, IsProperResponse}
-use Rattle.replies.specs.Claims.{kept_if, number_at, text_at, truth_at, seq_in, request_seq_in, body_for, refusal_of, refusal_in, outcome_in, response_in, claim_in}
+use Rattle.replies.specs.Responses.{with_body, shared_members, body_data, outcome_data, without_body, IsBodyOf, IsOutcomeOf, IsProperResponse}
+use Rattle.replies.specs.Claims.{kept_if, number_at, text_at, truth_at, seq_in, request_seq_in, body_for, own_text, refusal_in, refused_in, error_in, outcome_in, response_in, claim_in}
 
 -- ---- a value that is a message
 
@@ -69,32 +68,16 @@ body_for-command command Initialize h = rw h refl
 body_for-command command Threads h = rw h refl
 body_for-command command Empty h = rw h refl
 
-refusal_of-id : (refusal : Refusal) → refusal_of (id_of refusal) ≡ Some refusal
-refusal_of-id RepeatedSequence = refl
-refusal_of-id Cancelled = refl
-refusal_of-id UnknownCommand = refl
-refusal_of-id BadArguments = refl
-refusal_of-id WrongPhase = refl
-refusal_of-id RequestGone = refl
-
-has_text-none : (refusal : Refusal) → has_text refusal ≡ false
-has_text-none RepeatedSequence = refl
-has_text-none Cancelled = refl
-has_text-none UnknownCommand = refl
-has_text-none BadArguments = refl
-has_text-none WrongPhase = refl
-has_text-none RequestGone = refl
-
-none_at : (text : Option (List ℕ)) → is_some text ≡ false → text ≡ None
-none_at None h = refl
-none_at (Some t) h = cc
-
-no_text : (refusal : Refusal) (text : Option (List ℕ)) → is_some text ≡ has_text refusal → text ≡ None
-no_text refusal text h = none_at text (h ∙ has_text-none refusal)
+own_text-error_data : (seq request_seq : ℕ) (command : List ℕ) (refusal : Refusal) (text : Option (List ℕ)) (has : Bool) → is_some text ≡ has → own_text has (outcome_data seq request_seq command (Refused refusal text)) ≡ Some text
+own_text-error_data seq request_seq command refusal None true h = absurd cc
+own_text-error_data seq request_seq command refusal (Some text) true h = refl
+own_text-error_data seq request_seq command refusal None false h = refl
+own_text-error_data seq request_seq command refusal (Some text) false h = absurd cc
 
 outcome_in-outcome_data : (seq request_seq : ℕ) (command : List ℕ) (outcome : Outcome) → IsOutcomeOf command outcome → outcome_in command (outcome_data seq request_seq command outcome) (succeeded outcome) ≡ Some outcome
 outcome_in-outcome_data seq request_seq command (Done body) h = ap (option_map Done) (body_for-command command body h)
-outcome_in-outcome_data seq request_seq command (Refused refusal text) h = rw (refusal_of-id refusal, no_text refusal text h) refl
+outcome_in-outcome_data seq request_seq command (Refused refusal text) h =
+    rw (the_refusal_of_its_number refusal, own_text-error_data seq request_seq command refusal text (has_text refusal) h) refl
 
 -- it claims to be that message
 pub claim_in-message_data : (seq : ℕ) (message : Message) → IsNumber seq → IsProper message → claim_in (message_data seq message) ≡ Some (seq, message)
@@ -142,13 +125,24 @@ done : (command : List ℕ) (o : Option ResponseBody) → IfSome o (IsBodyOf com
 done command None h = tt
 done command (Some body) h = h
 
-refused : (command : List ℕ) (o : Option Refusal) → IfSome (option_map (λ refusal. Refused refusal None) o) (IsOutcomeOf command)
-refused command None = tt
-refused command (Some refusal) = sym (has_text-none refusal)
+own : (b : Bool) (value : Data) → IfSome (own_text b value) (λ text. is_some text ≡ b)
+own true value = some (option_and_then (text_at (codes "format")) (error_in value)) where
+  some : (o : Option (List ℕ)) → IfSome (option_map (λ (s : List ℕ). Some s) o) (λ text. is_some text ≡ true)
+  some None = tt
+  some (Some s) = refl
+own false value = refl
+
+told : (command : List ℕ) (refusal : Refusal) (o : Option (Option (List ℕ))) → IfSome o (λ text. is_some text ≡ has_text refusal) → IfSome (option_map (λ text. Refused refusal text) o) (IsOutcomeOf command)
+told command refusal None h = tt
+told command refusal (Some text) h = h
+
+refused : (command : List ℕ) (value : Data) → IfSome (refused_in value) (IsOutcomeOf command)
+refused command value =
+    IfSome-and_then _ _ _ (refusal_in value) (any _) (λ refusal _. told command refusal (own_text (has_text refusal) value) (own (has_text refusal) value))
 
 IsOutcomeOf-outcome_in : (command : List ℕ) (value : Data) (success : Bool) → IfSome (outcome_in command value success) (IsOutcomeOf command)
 IsOutcomeOf-outcome_in command value true = done command (body_for command) (IsBodyOf-body_for command)
-IsOutcomeOf-outcome_in command value false = refused command (refusal_in value)
+IsOutcomeOf-outcome_in command value false = refused command value
 
 IsProperResponse-response_in : (value : Data) → IfSome (response_in value) IsProperResponse
 IsProperResponse-response_in value =

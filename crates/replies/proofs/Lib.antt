@@ -6,3 +6,5 @@ pub mod Appending
 pub mod Printing
 pub mod Claiming
 pub mod Finding
+pub mod Lawful
+pub mod Refusals

@@ -6,7 +6,6 @@ use Rattle.serde_json.specs.Data.{Num, unsigned, negative, float, Data, null, bo
 use Rattle.serde_json.specs.Read.{max_depth}
 use Rattle.serde_json.specs.Written.{has_float}
 use Rattle.protocol.specs.declared.refusal.Refusal.{Refusal}
-use Rattle.protocol.specs.declared.refusal.Refusal.TheVariants.{RepeatedSequence, Cancelled, UnknownCommand, BadArguments, WrongPhase, RequestGone}
 use Rattle.protocol.specs.Refusals.{id_of, name_of}
 use Rattle.replies.specs.declared.message.Message.{Message}
 use Rattle.replies.specs.declared.message.Message.TheVariants.{Response}
@@ -21,6 +20,7 @@ use Rattle.protocol.specs.Json.{json_of}
 use Rattle.replies.specs.Messages.{message_data, text_of, IsNumber, IsProper}
 use Rattle.replies.specs.Responses.{with_body, shared_members, body_data, format_of, outcome_data}
 use Rattle.replies.specs.Written.{HasNumbers}
+use Rattle.replies.proofs.Refusals.{text-name_of, small-id_of}
 use Rattle.replies.proofs.Texts.{json_of-compact_text, IsPlain, AreItemsPlain, AreMembersPlain, HasSmallNumbers, HasSmallNumbers-IsPlain}
 
 -- ---- bodies that are fixed
@@ -139,22 +139,6 @@ shared_plain seq request_seq command success small request_small text =
 plain_done : (seq request_seq : ℕ) (command : List ℕ) (body : Option Data) → IfSome body IsGood → seq < 2 ^ 31 → request_seq < 2 ^ 32 → IsUtf8 command → IsPlain (done_data seq request_seq command body)
 plain_done seq request_seq command None good small request_small text = shared_plain seq request_seq command true small request_small text
 plain_done seq request_seq command (Some body) good small request_small text = (IsUtf8-are_ascii (codes "body") refl, good.plain, shared_plain seq request_seq command true small request_small text)
-
-text-name_of : (refusal : Refusal) → IsUtf8 (name_of refusal)
-text-name_of RepeatedSequence = IsUtf8-are_ascii _ refl
-text-name_of Cancelled = IsUtf8-are_ascii _ refl
-text-name_of UnknownCommand = IsUtf8-are_ascii _ refl
-text-name_of BadArguments = IsUtf8-are_ascii _ refl
-text-name_of WrongPhase = IsUtf8-are_ascii _ refl
-text-name_of RequestGone = IsUtf8-are_ascii _ refl
-
-small-id_of : (refusal : Refusal) → id_of refusal < 2 ^ 64
-small-id_of RepeatedSequence = omega arith
-small-id_of Cancelled = omega arith
-small-id_of UnknownCommand = omega arith
-small-id_of BadArguments = omega arith
-small-id_of WrongPhase = omega arith
-small-id_of RequestGone = omega arith
 
 text-format_of : (refusal : Refusal) (text : Option (List ℕ)) → IfSome text IsUtf8 → IsUtf8 (format_of refusal text)
 text-format_of refusal None h = text-name_of refusal

@@ -9,9 +9,8 @@ use Rattle.std.specs.List.{list_any}
 use Rattle.std.specs.Str.{bytes_eq}
 use Rattle.serde_json.specs.Data.{Data}
 use Rattle.serde_json.specs.Find.{get, as_bool, as_number, as_str, as_u64}
+use Rattle.protocol.specs.Refusals.{has_text, refusal_of}
 use Rattle.protocol.specs.declared.refusal.Refusal.{Refusal}
-use Rattle.protocol.specs.declared.refusal.Refusal.TheVariants.{RepeatedSequence, Cancelled, UnknownCommand}
-use Rattle.protocol.specs.declared.refusal.Refusal.TheVariants.{BadArguments, WrongPhase, RequestGone}
 use Rattle.replies.specs.declared.response.Response as response
 use Rattle.replies.specs.declared.response.Outcome.{Outcome}
 use Rattle.replies.specs.declared.response.Outcome.TheVariants.{Done, Refused}
@@ -52,26 +51,29 @@ body_for command =
     else (if bytes_eq command (codes "initialize") then Some Initialize
     else (if bytes_eq command (codes "threads") then Some Threads else None))
 
--- the refusal of this number
-abbrev pub refusal_of : ℕ → Option Refusal
-refusal_of id =
-    if id == 1 then Some UnknownCommand
-    else (if id == 2 then Some BadArguments
-    else (if id == 3 then Some WrongPhase
-    else (if id == 5 then Some Cancelled
-    else (if id == 6 then Some RepeatedSequence
-    else (if id == 20 then Some RequestGone else None)))))
+-- what is said of a refusal
+abbrev pub error_in : Data → Option Data
+error_in value = option_and_then (get (codes "error")) (get (codes "body") value)
 
 -- the refusal
 abbrev pub refusal_in : Data → Option Refusal
-refusal_in value =
-    option_and_then refusal_of
-    (option_and_then (number_at (codes "id")) (option_and_then (get (codes "error")) (get (codes "body") value)))
+refusal_in value = option_and_then refusal_of (option_and_then (number_at (codes "id")) (error_in value))
+
+-- its own text, where it has one
+abbrev pub own_text : Bool → Data → Option (Option (List ℕ))
+own_text true value = option_map (λ s. Some s) (option_and_then (text_at (codes "format")) (error_in value))
+own_text false value = Some None
+
+-- the refusal, with its text
+abbrev pub refused_in : Data → Option Outcome
+refused_in value =
+    option_and_then (λ refusal. option_map (λ text. Refused refusal text) (own_text (has_text refusal) value))
+    (refusal_in value)
 
 -- what became of a request of this command
 abbrev pub outcome_in : List ℕ → Data → Bool → Option Outcome
 outcome_in command value true = option_map Done (body_for command)
-outcome_in command value false = option_map (λ refusal. Refused refusal None) (refusal_in value)
+outcome_in command value false = refused_in value
 
 infixl 10 ◌>>=◌
 -- the next step, where there is a value

@@ -1,5 +1,7 @@
 -- What the adapter answers, as JSON and as bytes. First the two bodies that are fixed.
 
+-- how the values of a message stand in JSON
+pub mod Forms
 -- the body that answers `initialize`: the capabilities
 pub mod Initialize
 -- the body that answers `threads`: the one hart

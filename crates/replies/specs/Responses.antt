@@ -12,9 +12,7 @@ use Rattle.std.specs.List.{list_any}
 use Rattle.std.specs.Str.{bytes_eq}
 use Rattle.serde_json.specs.Data.{Data, boolean, number, unsigned, string, object, Members, no_members, member, put}
 use Rattle.protocol.specs.declared.refusal.Refusal.{Refusal}
-use Rattle.protocol.specs.declared.refusal.Refusal.TheVariants.{RepeatedSequence, Cancelled, UnknownCommand}
-use Rattle.protocol.specs.declared.refusal.Refusal.TheVariants.{BadArguments, WrongPhase, RequestGone}
-use Rattle.protocol.specs.Refusals.{id_of, name_of}
+use Rattle.protocol.specs.Refusals.{has_text, id_of, name_of}
 use Rattle.replies.specs.declared.response.Response.{Response}
 use Rattle.replies.specs.declared.response.Outcome.{Outcome}
 use Rattle.replies.specs.declared.response.Outcome.TheVariants.{Done, Refused}
@@ -82,15 +80,6 @@ abbrev pub IsBodyOf : List ℕ → ResponseBody → Type 0
 IsBodyOf command Initialize = command ≡ codes "initialize"
 IsBodyOf command Threads = command ≡ codes "threads"
 IsBodyOf command Empty = IsTrue (list_any (bytes_eq command) without_body)
-
--- the refusal has a text of its own
-abbrev pub has_text : Refusal → Bool
-has_text RepeatedSequence = false
-has_text Cancelled = false
-has_text UnknownCommand = false
-has_text BadArguments = false
-has_text WrongPhase = false
-has_text RequestGone = false
 
 -- the body is of its command, and a refusal has a text exactly if it is of the kind that has
 abbrev pub IsOutcomeOf : List ℕ → Outcome → Type 0

@@ -1,17 +1,17 @@
 //! Messages found in JSON values.
-ghost use Rattle.std.specs.Prelude.{◌≡◌, ◌≤◌, IfOk, IsSome, OnErr};
+ghost use Rattle.std.specs.Prelude.{◌≡◌, ◌≤◌, IfOk, IsSome, OnErr, codes, option_and_then, option_map};
 ghost use Rattle.std.specs.List.{list_any};
 ghost use Rattle.std.specs.Str.{bytes_eq};
 ghost use Rattle.serde_json.specs.Data.{depth};
 ghost use Rattle.serde_json.specs.Read.{max_depth};
 ghost use Rattle.serde_json.specs.View.{view};
-ghost use Rattle.replies.specs.Claims.{number_at, seq_in, request_seq_in, body_for, refusal_of, refusal_in, outcome_in, response_in, claim_in};
+ghost use Rattle.replies.specs.Claims.{number_at, seq_in, request_seq_in, text_at, body_for, error_in, refusal_in, refused_in, outcome_in, response_in, claim_in};
 ghost use Rattle.replies.specs.Messages.{message_data};
 ghost use Rattle.replies.specs.Reading.{message_in};
 ghost use Rattle.replies.specs.Responses.{without_body};
 ghost use Rattle.replies.specs.Same.{is_same};
 
-use crate::members::{BODY, COMMAND, ERROR, ID, REQUEST_SEQ, SEQ, SUCCESS};
+use crate::members::{BODY, COMMAND, ERROR, FORMAT, ID, REQUEST_SEQ, SEQ, SUCCESS};
 use crate::{Message, Outcome, Response, ResponseBody, writing};
 use protocol::{Refusal, Text, cancel, disconnect, initialize, threads};
 use serde_json::Value;
@@ -69,37 +69,59 @@ fn body_for(command: &str) -> Option<ResponseBody>
     }
 }
 
-/// The refusal of this number.
-fn refusal_of(id: u64) -> Option<Refusal>
-    ensures { result ≡ refusal_of id }
+/// What a response says of a refusal.
+fn error_in(value: &Value) -> Option<&Value>
+    ensures { option_map (λ error. view error.now) result ≡ error_in (view value.now) }
 {
-    match id {
-        1 => Some(Refusal::UnknownCommand),
-        2 => Some(Refusal::BadArguments),
-        3 => Some(Refusal::WrongPhase),
-        5 => Some(Refusal::Cancelled),
-        6 => Some(Refusal::RepeatedSequence),
-        20 => Some(Refusal::RequestGone),
-        _ => None,
-    }
+    value.get(BODY)?.get(ERROR)
 }
 
 /// The refusal that a response says.
 fn refusal_in(value: &Value) -> Option<Refusal>
     ensures { result ≡ refusal_in (view value.now) }
 {
-    let error = value.get(BODY)?.get(ERROR)?;
-    refusal_of(number_at(error, ID)?)
+    Refusal::from_id(number_at(error_in(value)?, ID)?)
+}
+
+/// The text that a response says for people.
+fn format_in(value: &Value) -> Option<&str>
+    ensures { option_map (λ text. text.now) result ≡ option_and_then (text_at (codes "format")) (error_in (view value.now)) }
+{
+    error_in(value)?.get(FORMAT)?.as_str()
+}
+
+/// The refusal that a response says, with its text.
+fn refused_in(alloc: Global, value: &Value) -> Result<Option<Outcome>, AllocError>
+    ensures claims { IfOk result (λ o. o ≡ refused_in (view value.now)) }
+    ensures memory { OnErr result (IsSome (refused_in (view value.now))) }
+{
+    let Some(refusal) = refusal_in(value) else {
+        return Ok(None);
+    };
+    if !refusal.has_text() {
+        return Ok(Some(Outcome::Refused(refusal, None)));
+    }
+    let Some(text) = format_in(value) else {
+        return Ok(None);
+    };
+    let text = Text::from_string(String::from_str(alloc, text)?);
+    Ok(Some(Outcome::Refused(refusal, Some(text))))
 }
 
 /// What became of a request of this command.
-fn outcome_in(command: &str, value: &Value, success: bool) -> Option<Outcome>
-    ensures { result ≡ outcome_in command.now (view value.now) success }
+fn outcome_in(
+    alloc: Global,
+    command: &str,
+    value: &Value,
+    success: bool,
+) -> Result<Option<Outcome>, AllocError>
+    ensures claims { IfOk result (λ o. o ≡ outcome_in command.now (view value.now) success) }
+    ensures memory { OnErr result (IsSome (outcome_in command.now (view value.now) success)) }
 {
     if success {
-        Some(Outcome::Done(body_for(command)?))
+        Ok(body_for(command).map(Outcome::Done))
     } else {
-        Some(Outcome::Refused(refusal_in(value)?, None))
+        refused_in(alloc, value)
     }
 }
 
@@ -117,7 +139,7 @@ fn response_in(alloc: Global, value: &Value) -> Result<Option<Response>, AllocEr
     let Some(success) = value.get(SUCCESS).and_then(Value::as_bool) else {
         return Ok(None);
     };
-    let Some(outcome) = outcome_in(command, value, success) else {
+    let Some(outcome) = outcome_in(alloc, command, value, success)? else {
         return Ok(None);
     };
     Ok(Some(Response {
