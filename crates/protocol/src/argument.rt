@@ -1,21 +1,16 @@
 //! The arguments of requests, each read by its type from the property of its name. A property that
 //! is null counts as absent.
 ghost use Rattle.std.specs.Prelude.{◌≡◌, Option, Some, None, Err, IfOk};
-ghost use Rattle.base64.specs.Engines.{standard};
-ghost use Rattle.base64.specs.GeneralPurpose.{decoded_of};
 ghost use Rattle.serde_json.specs.Data.{Data};
-ghost use Rattle.serde_json.specs.View.{view, items_view, members_view};
+ghost use Rattle.serde_json.specs.View.{view, members_view};
 ghost use Rattle.serde_json.specs.Find.{as_object, as_str};
 ghost use Rattle.protocol.specs.Arguments as arguments;
-ghost use Rattle.protocol.specs.Arguments.{Reads, each};
+ghost use Rattle.protocol.specs.Arguments.{Reads};
 ghost use Rattle.protocol.specs.Properties as properties;
 
+use crate::Text;
 use crate::properties::property;
 use crate::unread::Unread;
-use crate::{Entries, Text};
-use base64::DecodeAllocError;
-use base64::engine::general_purpose::STANDARD;
-use byte_strings::Bytes;
 use serde_json::{Map, Value};
 use std::alloc::Global;
 
@@ -110,51 +105,6 @@ impl Argument for Text {
     fn read(alloc: Global, value: &Value) -> Result<Text, Unread> {
         Ok(Text::from_string(String::from_str(alloc, text(value)?)?))
     }
-}
-
-/// Bytes, spelled in base64 with padding (RFC 4648, section 4).
-impl Argument for Bytes {
-    ghost use Rattle.protocol.specs.Arguments.{base64};
-
-    ghost meaning = { base64 };
-
-    fn read(alloc: Global, value: &Value) -> Result<Bytes, Unread> {
-        decoded(alloc, text(value)?)
-    }
-}
-
-/// The bytes that a text spells.
-fn decoded(alloc: Global, text: &str) -> Result<Bytes, Unread>
-    ensures { Reads result (decoded_of standard text.now) }
-{
-    match STANDARD.decode(alloc, text.as_bytes()) {
-        Ok(bytes) => Ok(Bytes::from_vec(bytes)),
-        Err(DecodeAllocError::DecodeError(_)) => Err(Unread::Bad),
-        Err(DecodeAllocError::OutOfMemory) => Err(Unread::NoMemory),
-    }
-}
-
-/// A list, of which each entry is of that type.
-impl<T: Argument> Argument for Entries<T> {
-    ghost use Rattle.protocol.specs.Arguments.{list};
-
-    ghost meaning = { list T.meaning };
-
-    fn read(alloc: Global, value: &Value) -> Result<Entries<T>, Unread> {
-        let values = value.as_array().ok_or(Unread::Bad)?;
-        read_each(alloc, values.as_slice())
-    }
-}
-
-/// The entries of a list, one by one.
-fn read_each<T: Argument>(alloc: Global, values: &[Value]) -> Result<Entries<T>, Unread>
-    ensures { Reads result (each T.meaning (items_view values.now)) }
-{
-    let mut entries = Vec::with_capacity(alloc, values.len())?;
-    for value in values {
-        entries.push(T::read(alloc, value)?)?;
-    }
-    Ok(Entries::from_vec(entries))
 }
 
 /// The text that a value is; `Bad` where it is none.

@@ -5,26 +5,7 @@ ghost use Rattle.serde_json.specs.View.{view, members_view};
 ghost use Rattle.protocol.specs.Commands.{command_among, command_of, name_of, requests, Finds};
 ghost use Rattle.protocol.specs.Commands.{execution_requests, inspection_requests};
 
-use crate::cancel::CancelArguments;
-use crate::continue_::ContinueArguments;
-use crate::disassemble::DisassembleArguments;
-use crate::disconnect::DisconnectArguments;
-use crate::evaluate::EvaluateArguments;
-use crate::initialize::InitializeArguments;
-use crate::launch::LaunchArguments;
-use crate::next::NextArguments;
-use crate::pause::PauseArguments;
-use crate::read_memory::ReadMemoryArguments;
-use crate::scopes::ScopesArguments;
-use crate::set_breakpoints::SetBreakpointsArguments;
-use crate::set_instruction_breakpoints::SetInstructionBreakpointsArguments;
-use crate::set_variable::SetVariableArguments;
-use crate::stack_trace::StackTraceArguments;
-use crate::step_in::StepInArguments;
-use crate::step_out::StepOutArguments;
 use crate::unread::Unread;
-use crate::variables::VariablesArguments;
-use crate::write_memory::WriteMemoryArguments;
 use crate::{
     attach, cancel, configuration_done, continue_, disassemble, disconnect, evaluate, initialize,
     launch, next, pause, read_memory, restart, scopes, set_breakpoints, set_exception_breakpoints,
@@ -38,9 +19,9 @@ use std::alloc::Global;
 #[derive(Drop)]
 pub enum Command {
     /// The first request of a connection (`InitializeRequest`).
-    Initialize(InitializeArguments),
+    Initialize(initialize::InitializeArguments),
     /// A program is started (`LaunchRequest`).
-    Launch(LaunchArguments),
+    Launch(launch::LaunchArguments),
     /// The editor joins the program that is debugged (`AttachRequest`).
     Attach,
     /// The editor has said all before the program runs (`ConfigurationDoneRequest`).
@@ -48,45 +29,45 @@ pub enum Command {
     /// Which threads there are (`ThreadsRequest`).
     Threads,
     /// The cancellation of an earlier request (`CancelRequest`).
-    Cancel(CancelArguments),
+    Cancel(cancel::CancelArguments),
     /// The program starts again (`RestartRequest`).
     Restart,
     /// The program is to end (`TerminateRequest`).
     Terminate,
     /// The end of the session (`DisconnectRequest`).
-    Disconnect(DisconnectArguments),
+    Disconnect(disconnect::DisconnectArguments),
     /// The breakpoints at the lines of a source (`SetBreakpointsRequest`).
-    SetBreakpoints(SetBreakpointsArguments),
+    SetBreakpoints(set_breakpoints::SetBreakpointsArguments),
     /// The breakpoints at addresses (`SetInstructionBreakpointsRequest`).
-    SetInstructionBreakpoints(SetInstructionBreakpointsArguments),
+    SetInstructionBreakpoints(set_instruction_breakpoints::SetInstructionBreakpointsArguments),
     /// The exceptions to stop at (`SetExceptionBreakpointsRequest`).
     SetExceptionBreakpoints,
     /// A thread runs on (`ContinueRequest`).
-    Continue(ContinueArguments),
+    Continue(continue_::ContinueArguments),
     /// A step over calls (`NextRequest`).
-    Next(NextArguments),
+    Next(next::NextArguments),
     /// A step into calls (`StepInRequest`).
-    StepIn(StepInArguments),
+    StepIn(step_in::StepInArguments),
     /// A step out of the running call (`StepOutRequest`).
-    StepOut(StepOutArguments),
+    StepOut(step_out::StepOutArguments),
     /// A thread is to stop (`PauseRequest`).
-    Pause(PauseArguments),
+    Pause(pause::PauseArguments),
     /// The frames of the call stack (`StackTraceRequest`).
-    StackTrace(StackTraceArguments),
+    StackTrace(stack_trace::StackTraceArguments),
     /// The scopes of a frame (`ScopesRequest`).
-    Scopes(ScopesArguments),
+    Scopes(scopes::ScopesArguments),
     /// The variables of a scope (`VariablesRequest`).
-    Variables(VariablesArguments),
+    Variables(variables::VariablesArguments),
     /// Another value for a variable (`SetVariableRequest`).
-    SetVariable(SetVariableArguments),
+    SetVariable(set_variable::SetVariableArguments),
     /// The value of an expression (`EvaluateRequest`).
-    Evaluate(EvaluateArguments),
+    Evaluate(evaluate::EvaluateArguments),
     /// The instructions at an address (`DisassembleRequest`).
-    Disassemble(DisassembleArguments),
+    Disassemble(disassemble::DisassembleArguments),
     /// Bytes of memory are read (`ReadMemoryRequest`).
-    ReadMemory(ReadMemoryArguments),
+    ReadMemory(read_memory::ReadMemoryArguments),
     /// Bytes of memory are written (`WriteMemoryRequest`).
-    WriteMemory(WriteMemoryArguments),
+    WriteMemory(write_memory::WriteMemoryArguments),
 }
 
 impl Command {

@@ -1,6 +1,12 @@
 //! Lists that a message holds.
 ghost use Rattle.std.specs.Prelude.{◌≡◌};
+ghost use Rattle.serde_json.specs.View.{items_view};
+ghost use Rattle.protocol.specs.Arguments.{Reads, each};
 
+use crate::argument::Argument;
+use crate::unread::Unread;
+use serde_json::Value;
+use std::alloc::Global;
 use std::marker::Model;
 
 /// The entries of a list in a message, in their order. A contract sees them as a list.
@@ -39,4 +45,27 @@ impl<T> Entries<T> {
         let Entries { entries } = self;
         entries
     }
+}
+
+/// A list, of which each entry is of that type.
+impl<T: Argument> Argument for Entries<T> {
+    ghost use Rattle.protocol.specs.Arguments.{list};
+
+    ghost meaning = { list T.meaning };
+
+    fn read(alloc: Global, value: &Value) -> Result<Entries<T>, Unread> {
+        let values = value.as_array().ok_or(Unread::Bad)?;
+        read_each(alloc, values.as_slice())
+    }
+}
+
+/// The entries of a list, one by one.
+fn read_each<T: Argument>(alloc: Global, values: &[Value]) -> Result<Entries<T>, Unread>
+    ensures { Reads result (each T.meaning (items_view values.now)) }
+{
+    let mut entries = Vec::with_capacity(alloc, values.len())?;
+    for value in values {
+        entries.push(T::read(alloc, value)?)?;
+    }
+    Ok(Entries::from_vec(entries))
 }

@@ -6,6 +6,7 @@
 
 mod argument;
 pub mod attach;
+mod bytes;
 pub mod cancel;
 pub mod command;
 pub mod configuration_done;

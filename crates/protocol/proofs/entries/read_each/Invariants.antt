@@ -2,7 +2,7 @@ use Rattle.std.proofs.Common.{◌≡◌, drop}
 use Rattle.serde_json.specs.View.{items_view}
 use Rattle.protocol.specs.Arguments.{each}
 use Rattle.protocol.proofs.Lists.{with_others}
-use Rattle.protocol.proofs.argument.read_each.Given as goal
+use Rattle.protocol.proofs.entries.read_each.Given as goal
 
 -- the list means the entries so far, and then what is left of it
 abbrev pub invariant-loop-value : goal.invariant-loop-value

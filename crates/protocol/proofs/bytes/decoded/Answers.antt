@@ -2,7 +2,7 @@ use Rattle.std.proofs.Common.{sym, ap, ◌∙◌, Some}
 use Rattle.base64.specs.Engines.{standard}
 use Rattle.base64.specs.GeneralPurpose.{decoded_of}
 use Rattle.protocol.proofs.Decoding.{decoded_of-ok, decoded_of-err}
-use Rattle.protocol.proofs.argument.decoded.Goals as goal
+use Rattle.protocol.proofs.bytes.decoded.Goals as goal
 
 pub returns-in-Ok : goal.returns-in-Ok
 returns-in-Ok c =
