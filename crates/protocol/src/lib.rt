@@ -37,7 +37,7 @@ pub mod step_out;
 pub mod terminate;
 pub mod text;
 pub mod threads;
-mod unread;
+pub mod unread;
 pub mod variables;
 pub mod write_memory;
 
@@ -50,3 +50,4 @@ pub use properties::LAST_SEQ;
 pub use refusal::Refusal;
 pub use request::{Incoming, MessageError, Request, read_request};
 pub use text::Text;
+pub use unread::Unread;

@@ -33,7 +33,7 @@ if_is : {A : Type 0} (b : Bool) (x : A) (P : A → Type 0) → (b ≡ true → P
 if_is true x P h = h refl
 if_is false x P h = tt
 
-then_is : {A B : Type 0} (P : B → Type 0) (o : Option A) (f : A → Option B) → ((x : A) → IfSome (f x) P) → IfSome (option_and_then f o) P
+pub then_is : {A B : Type 0} (P : B → Type 0) (o : Option A) (f : A → Option B) → ((x : A) → IfSome (f x) P) → IfSome (option_and_then f o) P
 then_is P None f h = tt
 then_is P (Some x) f h = h x
 

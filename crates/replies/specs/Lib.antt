@@ -2,10 +2,18 @@
 
 -- how the values of a message stand in JSON
 pub mod Forms
+-- addresses and values of words, as texts
+pub mod Addresses
+-- ---- the bodies
 -- the body that answers `initialize`: the capabilities
 pub mod Initialize
 -- the body that answers `threads`: the one hart
 pub mod Threads
+-- the body that answers `stackTrace`: the frames
+pub mod StackTrace
+-- the table of the bodies
+pub mod Bodies
+-- ---- the whole
 -- a response as a JSON value, and which responses are the adapter's
 pub mod Responses
 -- a message with its number, as a JSON value and as text

@@ -21,3 +21,17 @@ pub const FORMAT: &str = "format";
 pub const THREADS: &str = "threads";
 /// The name of a thread (`Thread.name`).
 pub const NAME: &str = "name";
+/// The number of a column (`StackFrame.column`).
+pub const COLUMN: &str = "column";
+/// The address at which a frame is (`StackFrame.instructionPointerReference`).
+pub const INSTRUCTION_POINTER_REFERENCE: &str = "instructionPointerReference";
+/// The number of a line (`StackFrame.line`, `Breakpoint.line`).
+pub const LINE: &str = "line";
+/// Where a source is (`Source.path`).
+pub const PATH: &str = "path";
+/// The source of a line (`StackFrame.source`).
+pub const SOURCE: &str = "source";
+/// The frames of a stopped program (`StackTraceResponse.body.stackFrames`).
+pub const STACK_FRAMES: &str = "stackFrames";
+/// How many frames there are (`StackTraceResponse.body.totalFrames`).
+pub const TOTAL_FRAMES: &str = "totalFrames";

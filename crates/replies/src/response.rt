@@ -3,23 +3,26 @@ ghost use Rattle.std.specs.Prelude.{◌≡◌, None, IfOk};
 ghost use Rattle.protocol.specs.Commands.{name_of};
 ghost use Rattle.replies.specs.declared.response.Response as declared;
 
+use crate::stack_trace::StackTrace;
 use protocol::{Refusal, Request, Text};
 use std::alloc::{AllocError, Global};
 
 /// The body of a success, one variant for each body and named by its request. What the protocol's
 /// profile fixes has no fields.
-#[derive(Debug, Drop)]
+#[derive(Drop)]
 pub enum ResponseBody {
     /// What the adapter can do (`InitializeResponse`).
     Initialize,
     /// Which threads there are (`ThreadsResponse`).
     Threads,
+    /// The frames of a stopped program (`StackTraceResponse`).
+    StackTrace(StackTrace),
     /// No body: an acknowledgement.
     Empty,
 }
 
 /// What became of a request.
-#[derive(Debug, Drop)]
+#[derive(Drop)]
 pub enum Outcome {
     /// It succeeded, with this body.
     Done(ResponseBody),
@@ -28,7 +31,7 @@ pub enum Outcome {
 }
 
 /// An answer to a request (`Response`).
-#[derive(Debug, Drop)]
+#[derive(Drop)]
 pub struct Response {
     /// The number of the request.
     pub request_seq: u32,

@@ -1,0 +1,99 @@
+-- The bodies of successes, in one table.
+--
+-- A success of a request has one kind of body, which is that request's, or none (DAP specification, `Response.body`).
+-- How each is written stands in the file of its name.
+use Rattle.std.specs.Prelude.{◌≡◌, ℕ, List, [], ◌∷◌, Bool, true, Option, Some, None, codes, if◌then◌else◌, bytes_eq}
+use Rattle.std.specs.Prelude.{IsTrue, option_map}
+use Rattle.std.specs.List.{list_any}
+use Rattle.serde_json.specs.Data.{Data}
+use Rattle.serde_json.specs.Find.{get}
+use Rattle.protocol.specs.Properties.{◌>>=◌}
+use Rattle.replies.specs.Forms.{Form}
+use Rattle.replies.specs.Initialize.{initialize_body}
+use Rattle.replies.specs.Threads.{threads_body}
+use Rattle.replies.specs.StackTrace.{stack_trace}
+use Rattle.replies.specs.declared.response.ResponseBody.{ResponseBody}
+use Rattle.replies.specs.declared.response.ResponseBody.TheVariants.{Initialize, Threads, StackTrace, Empty}
+
+-- a body: the requests whose success has it, its JSON value if it has one, whether its numbers are in their ranges, and
+-- its texts
+pub record Row : Type 0 where
+  pub commands : List (List ℕ)
+  pub value : Option Data
+  pub has_numbers : Bool
+  pub texts : List (List ℕ)
+
+-- one that is always the same
+abbrev pub always : List ℕ → Data → Row
+always command value = record { commands = command ∷ []; value = Some value; has_numbers = true; texts = [] }
+
+-- one of this form
+abbrev pub in_form : {A : Type 0} → List ℕ → Form A → A → Row
+in_form command form x =
+    record { commands = command ∷ []; value = Some (form.value x); has_numbers = form.is_in x; texts = form.texts x }
+
+-- none, after any of these requests
+abbrev pub none_after : List (List ℕ) → Row
+none_after commands = record { commands = commands; value = None; has_numbers = true; texts = [] }
+
+-- the requests whose success has no body
+abbrev pub without_body : List (List ℕ)
+without_body = codes "cancel" ∷ codes "disconnect" ∷ []
+
+-- the table
+abbrev pub row : ResponseBody → Row
+row Initialize = always (codes "initialize") initialize_body
+row Threads = always (codes "threads") threads_body
+row (StackTrace t) = in_form (codes "stackTrace") stack_trace t
+row Empty = none_after without_body
+
+-- the body, if there is one
+abbrev pub body_data : ResponseBody → Option Data
+body_data body = (row body).value
+
+-- the body is that of a success of this command
+abbrev pub IsBodyOf : List ℕ → ResponseBody → Type 0
+IsBodyOf command body = IsTrue (list_any (bytes_eq command) (row body).commands)
+
+-- its numbers are values of their types
+abbrev pub has_numbers : ResponseBody → Bool
+has_numbers body = (row body).has_numbers
+
+-- its texts
+abbrev pub texts_in : ResponseBody → List (List ℕ)
+texts_in body = (row body).texts
+
+-- ---- for `exact` of `read_message` and private clauses: which body a message claims to have
+
+-- after a success of this command: what the message is taken for
+pub record Taken : Type 0 where
+  pub command : List ℕ
+  pub found : Data → Option ResponseBody
+
+-- what has always the same body, or none
+abbrev pub surely : ResponseBody → List ℕ → Taken
+surely body command = record { command = command; found = λ _. Some body }
+
+-- what has a body of this form
+abbrev pub formed : {A : Type 0} → List ℕ → Form A → (A → ResponseBody) → Taken
+formed command form body =
+    record { command = command; found = λ message. option_map body (get (codes "body") message >>= form.found) }
+
+abbrev pub all_taken : List Taken
+all_taken =
+    surely Initialize (codes "initialize")
+    ∷ surely Threads (codes "threads")
+    ∷ formed (codes "stackTrace") stack_trace (λ t. StackTrace t)
+    ∷ surely Empty (codes "cancel")
+    ∷ surely Empty (codes "disconnect")
+    ∷ []
+
+-- the first of them that is for the command
+abbrev pub taken_among : List Taken → List ℕ → Data → Option ResponseBody
+taken_among [] command message = None
+taken_among (t ∷ ts) command message =
+    if bytes_eq command t.command then t.found message else taken_among ts command message
+
+-- the body that a success of this command claims to have
+abbrev pub body_in : List ℕ → Data → Option ResponseBody
+body_in command message = taken_among all_taken command message
