@@ -49,4 +49,3 @@ mutual
       let p = and_parts _ _ h in
       let q = and_parts _ _ p.1 in
       (IsUtf8-are_ascii k p.0, IsPlain-is_simple d q.0, AreMembersPlain-simple ms q.1)
-

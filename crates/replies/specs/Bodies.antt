@@ -11,9 +11,19 @@ use Rattle.protocol.specs.Properties.{◌>>=◌}
 use Rattle.replies.specs.Forms.{Form}
 use Rattle.replies.specs.Initialize.{initialize_body}
 use Rattle.replies.specs.Threads.{threads_body}
+use Rattle.replies.specs.Continue.{continue_body}
+use Rattle.replies.specs.SetBreakpoints.{set_breakpoints}
+use Rattle.replies.specs.SetInstructionBreakpoints.{set_instruction_breakpoints}
 use Rattle.replies.specs.StackTrace.{stack_trace}
+use Rattle.replies.specs.Scopes.{scopes}
+use Rattle.replies.specs.Variables.{variables}
+use Rattle.replies.specs.SetVariable.{set_variable}
+use Rattle.replies.specs.Evaluate.{evaluate}
+use Rattle.replies.specs.WriteMemory.{write_memory}
 use Rattle.replies.specs.declared.response.ResponseBody.{ResponseBody}
-use Rattle.replies.specs.declared.response.ResponseBody.TheVariants.{Initialize, Threads, StackTrace, Empty}
+use Rattle.replies.specs.declared.response.ResponseBody.TheVariants.{Initialize, Threads, Continue, Empty}
+use Rattle.replies.specs.declared.response.ResponseBody.TheVariants.{SetBreakpoints, SetInstructionBreakpoints, StackTrace, Scopes, Variables}
+use Rattle.replies.specs.declared.response.ResponseBody.TheVariants.{SetVariable, Evaluate, WriteMemory}
 
 -- a body: the requests whose success has it, its JSON value if it has one, whether its numbers are in their ranges, and
 -- its texts
@@ -38,13 +48,24 @@ none_after commands = record { commands = commands; value = None; has_numbers = 
 
 -- the requests whose success has no body
 abbrev pub without_body : List (List ℕ)
-without_body = codes "cancel" ∷ codes "disconnect" ∷ []
+without_body =
+    codes "attach" ∷ codes "cancel" ∷ codes "configurationDone" ∷ codes "disconnect"
+    ∷ codes "launch" ∷ codes "next" ∷ codes "pause" ∷ codes "restart"
+    ∷ codes "setExceptionBreakpoints" ∷ codes "stepIn" ∷ codes "stepOut" ∷ codes "terminate" ∷ []
 
 -- the table
 abbrev pub row : ResponseBody → Row
 row Initialize = always (codes "initialize") initialize_body
 row Threads = always (codes "threads") threads_body
-row (StackTrace t) = in_form (codes "stackTrace") stack_trace t
+row Continue = always (codes "continue") continue_body
+row (SetBreakpoints b) = in_form (codes "setBreakpoints") set_breakpoints b
+row (SetInstructionBreakpoints b) = in_form (codes "setInstructionBreakpoints") set_instruction_breakpoints b
+row (StackTrace b) = in_form (codes "stackTrace") stack_trace b
+row (Scopes b) = in_form (codes "scopes") scopes b
+row (Variables b) = in_form (codes "variables") variables b
+row (SetVariable b) = in_form (codes "setVariable") set_variable b
+row (Evaluate b) = in_form (codes "evaluate") evaluate b
+row (WriteMemory b) = in_form (codes "writeMemory") write_memory b
 row Empty = none_after without_body
 
 -- the body, if there is one
@@ -83,14 +104,20 @@ abbrev pub all_taken : List Taken
 all_taken =
     surely Initialize (codes "initialize")
     ∷ surely Threads (codes "threads")
-    ∷ formed (codes "stackTrace") stack_trace (λ t. StackTrace t)
-    ∷ surely Empty (codes "cancel")
-    ∷ surely Empty (codes "disconnect")
+    ∷ surely Continue (codes "continue")
+    ∷ formed (codes "setBreakpoints") set_breakpoints (λ b. SetBreakpoints b)
+    ∷ formed (codes "setInstructionBreakpoints") set_instruction_breakpoints (λ b. SetInstructionBreakpoints b)
+    ∷ formed (codes "stackTrace") stack_trace (λ b. StackTrace b)
+    ∷ formed (codes "scopes") scopes (λ b. Scopes b)
+    ∷ formed (codes "variables") variables (λ b. Variables b)
+    ∷ formed (codes "setVariable") set_variable (λ b. SetVariable b)
+    ∷ formed (codes "evaluate") evaluate (λ b. Evaluate b)
+    ∷ formed (codes "writeMemory") write_memory (λ b. WriteMemory b)
     ∷ []
 
--- the first of them that is for the command
+-- the first of them that is for the command, or no body where the request has none
 abbrev pub taken_among : List Taken → List ℕ → Data → Option ResponseBody
-taken_among [] command message = None
+taken_among [] command message = if list_any (bytes_eq command) without_body then Some Empty else None
 taken_among (t ∷ ts) command message =
     if bytes_eq command t.command then t.found message else taken_among ts command message
 

@@ -9,8 +9,26 @@ pub mod Addresses
 pub mod Initialize
 -- the body that answers `threads`: the one hart
 pub mod Threads
+-- the body that answers `continue`
+pub mod Continue
+-- whether a breakpoint is set
+pub mod Breakpoints
+-- the body that answers `setBreakpoints`: what became of each
+pub mod SetBreakpoints
+-- the body that answers `setInstructionBreakpoints`, likewise
+pub mod SetInstructionBreakpoints
 -- the body that answers `stackTrace`: the frames
 pub mod StackTrace
+-- the body that answers `scopes`: the groups of variables
+pub mod Scopes
+-- the body that answers `variables`: names and values
+pub mod Variables
+-- the body that answers `setVariable`: the value
+pub mod SetVariable
+-- the body that answers `evaluate`: the value
+pub mod Evaluate
+-- the body that answers `writeMemory`: how much was written
+pub mod WriteMemory
 -- the table of the bodies
 pub mod Bodies
 -- ---- the whole

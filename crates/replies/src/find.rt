@@ -47,6 +47,13 @@ pub(crate) fn number(value: &Value, name: &str) -> Result<u32, Unread>
     }
 }
 
+/// The member that is a truth value.
+pub(crate) fn truth(value: &Value, name: &str) -> Result<bool, Unread>
+    ensures { Reads result (option_and_then forms.truth.found (get name.now (view value.now))) }
+{
+    value.get(name).and_then(Value::as_bool).ok_or(Unread::Bad)
+}
+
 /// The member that is a text.
 pub(crate) fn text(alloc: Global, value: &Value, name: &str) -> Result<Text, Unread>
     ensures { Reads result (option_and_then forms.text.found (get name.now (view value.now))) }

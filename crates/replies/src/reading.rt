@@ -1,20 +1,24 @@
 //! Messages found in JSON values.
 ghost use Rattle.std.specs.Prelude.{◌≡◌, ◌≤◌, IfOk, codes, option_and_then, option_map};
+ghost use Rattle.std.specs.List.{list_any};
+ghost use Rattle.std.specs.Str.{bytes_eq};
 ghost use Rattle.protocol.specs.Arguments.{Reads};
 ghost use Rattle.serde_json.specs.Data.{depth};
 ghost use Rattle.serde_json.specs.Read.{max_depth};
 ghost use Rattle.serde_json.specs.View.{view};
-ghost use Rattle.replies.specs.Bodies.{body_in};
+ghost use Rattle.replies.specs.Bodies.{body_in, without_body};
 ghost use Rattle.replies.specs.Claims.{claim_in, error_in, number_at, outcome_in, refusal_in, refused_in, request_seq_in, response_in, seq_in, text_at};
 ghost use Rattle.replies.specs.Messages.{message_data};
 ghost use Rattle.replies.specs.Reading.{message_in};
 ghost use Rattle.replies.specs.Same.{is_same};
 
-use crate::find;
 use crate::members::{BODY, COMMAND, ERROR, FORMAT, ID, REQUEST_SEQ, SEQ, SUCCESS};
-use crate::{Message, Outcome, Response, ResponseBody, writing};
+use crate::{Message, Outcome, Response, ResponseBody, find, writing};
 use protocol::{
-    Refusal, Text, Unread, cancel, disconnect, initialize, stack_trace, threads,
+    Refusal, Text, Unread, attach, cancel, configuration_done, continue_, disconnect, evaluate,
+    initialize, launch, next, pause, restart, scopes, set_breakpoints, set_exception_breakpoints,
+    set_instruction_breakpoints, set_variable, stack_trace, step_in, step_out, terminate, threads,
+    variables, write_memory,
 };
 use serde_json::Value;
 use std::alloc::{AllocError, Global};
@@ -46,6 +50,27 @@ fn request_seq_in(value: &Value) -> Option<u32>
     if n < 1 << 32 { Some(n as u32) } else { None }
 }
 
+/// Whether a success of this command has no body.
+fn is_without_body(command: &str) -> bool
+    ensures { result ≡ list_any (bytes_eq command.now) without_body }
+{
+    matches!(
+        command,
+        attach::NAME
+            | cancel::NAME
+            | configuration_done::NAME
+            | disconnect::NAME
+            | launch::NAME
+            | next::NAME
+            | pause::NAME
+            | restart::NAME
+            | set_exception_breakpoints::NAME
+            | step_in::NAME
+            | step_out::NAME
+            | terminate::NAME
+    )
+}
+
 /// The body that a success of this command claims to have.
 fn body_in(alloc: Global, command: &str, value: &Value) -> Result<ResponseBody, Unread>
     ensures { Reads result (body_in command.now (view value.now)) }
@@ -53,8 +78,18 @@ fn body_in(alloc: Global, command: &str, value: &Value) -> Result<ResponseBody, 
     match command {
         initialize::NAME => Ok(ResponseBody::Initialize),
         threads::NAME => Ok(ResponseBody::Threads),
+        continue_::NAME => Ok(ResponseBody::Continue),
+        set_breakpoints::NAME => Ok(ResponseBody::SetBreakpoints(find::part(alloc, value, BODY)?)),
+        set_instruction_breakpoints::NAME => Ok(ResponseBody::SetInstructionBreakpoints(find::part(
+            alloc, value, BODY,
+        )?)),
         stack_trace::NAME => Ok(ResponseBody::StackTrace(find::part(alloc, value, BODY)?)),
-        cancel::NAME | disconnect::NAME => Ok(ResponseBody::Empty),
+        scopes::NAME => Ok(ResponseBody::Scopes(find::part(alloc, value, BODY)?)),
+        variables::NAME => Ok(ResponseBody::Variables(find::part(alloc, value, BODY)?)),
+        set_variable::NAME => Ok(ResponseBody::SetVariable(find::part(alloc, value, BODY)?)),
+        evaluate::NAME => Ok(ResponseBody::Evaluate(find::part(alloc, value, BODY)?)),
+        write_memory::NAME => Ok(ResponseBody::WriteMemory(find::part(alloc, value, BODY)?)),
+        name if is_without_body(name) => Ok(ResponseBody::Empty),
         _ => Err(Unread::Bad),
     }
 }
@@ -95,12 +130,7 @@ fn refused_in(alloc: Global, value: &Value) -> Result<Outcome, Unread>
 }
 
 /// What became of a request of this command.
-fn outcome_in(
-    alloc: Global,
-    command: &str,
-    value: &Value,
-    success: bool,
-) -> Result<Outcome, Unread>
+fn outcome_in(alloc: Global, command: &str, value: &Value, success: bool) -> Result<Outcome, Unread>
     ensures { Reads result (outcome_in command.now (view value.now) success) }
 {
     if success {
@@ -115,8 +145,14 @@ fn response_in(alloc: Global, value: &Value) -> Result<Response, Unread>
     ensures { Reads result (response_in (view value.now)) }
 {
     let request_seq = request_seq_in(value).ok_or(Unread::Bad)?;
-    let command = value.get(COMMAND).and_then(Value::as_str).ok_or(Unread::Bad)?;
-    let success = value.get(SUCCESS).and_then(Value::as_bool).ok_or(Unread::Bad)?;
+    let command = value
+        .get(COMMAND)
+        .and_then(Value::as_str)
+        .ok_or(Unread::Bad)?;
+    let success = value
+        .get(SUCCESS)
+        .and_then(Value::as_bool)
+        .ok_or(Unread::Bad)?;
     let outcome = outcome_in(alloc, command, value, success)?;
     Ok(Response {
         request_seq,

@@ -3,7 +3,10 @@ ghost use Rattle.std.specs.Prelude.{◌≡◌, None, IfOk};
 ghost use Rattle.protocol.specs.Commands.{name_of};
 ghost use Rattle.replies.specs.declared.response.Response as declared;
 
-use crate::stack_trace::StackTrace;
+use crate::{
+    Evaluate, Scopes, SetBreakpoints, SetInstructionBreakpoints, SetVariable, StackTrace,
+    Variables, WriteMemory,
+};
 use protocol::{Refusal, Request, Text};
 use std::alloc::{AllocError, Global};
 
@@ -15,8 +18,24 @@ pub enum ResponseBody {
     Initialize,
     /// Which threads there are (`ThreadsResponse`).
     Threads,
+    /// That every thread goes on (`ContinueResponse`).
+    Continue,
+    /// What became of the breakpoints of a source (`SetBreakpointsResponse`).
+    SetBreakpoints(SetBreakpoints),
+    /// What became of the breakpoints at instructions (`SetInstructionBreakpointsResponse`).
+    SetInstructionBreakpoints(SetInstructionBreakpoints),
     /// The frames of a stopped program (`StackTraceResponse`).
     StackTrace(StackTrace),
+    /// The groups of variables of a frame (`ScopesResponse`).
+    Scopes(Scopes),
+    /// Variables (`VariablesResponse`).
+    Variables(Variables),
+    /// The value of a variable that was set (`SetVariableResponse`).
+    SetVariable(SetVariable),
+    /// The value of an expression (`EvaluateResponse`).
+    Evaluate(Evaluate),
+    /// How much was written to memory (`WriteMemoryResponse`).
+    WriteMemory(WriteMemory),
     /// No body: an acknowledgement.
     Empty,
 }

@@ -2,8 +2,7 @@
 ghost use Rattle.std.specs.Prelude.{◌≡◌};
 
 use crate::members::{
-    COLUMN, ID, INSTRUCTION_POINTER_REFERENCE, LINE, NAME, PATH, SOURCE, STACK_FRAMES,
-    TOTAL_FRAMES,
+    COLUMN, ID, INSTRUCTION_POINTER_REFERENCE, LINE, NAME, PATH, SOURCE, STACK_FRAMES, TOTAL_FRAMES,
 };
 use crate::part::Part;
 use crate::{find, member};
@@ -76,7 +75,11 @@ impl Part for StackFrame {
         out.begin_object()?;
         member::number(out, COLUMN, self.column)?;
         member::number(out, ID, self.id)?;
-        member::address(out, INSTRUCTION_POINTER_REFERENCE, self.instruction_pointer_reference)?;
+        member::address(
+            out,
+            INSTRUCTION_POINTER_REFERENCE,
+            self.instruction_pointer_reference,
+        )?;
         member::number(out, LINE, self.line)?;
         member::text(out, NAME, self.name.as_str())?;
         member::part_if(out, SOURCE, &self.source)?;

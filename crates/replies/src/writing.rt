@@ -11,7 +11,7 @@ ghost use Rattle.replies.specs.Written.{AreWritten, IsWritten};
 use crate::members::{
     BODY, COMMAND, ERROR, FORMAT, ID, MESSAGE, REQUEST_SEQ, RESPONSE, SEQ, SUCCESS, TYPE,
 };
-use crate::{Message, Outcome, Response, ResponseBody, initialize, member, threads};
+use crate::{Message, Outcome, Response, ResponseBody, continue_, initialize, member, threads};
 use json::Writer;
 use protocol::{Refusal, Text};
 use std::alloc::{AllocError, Global};
@@ -118,7 +118,18 @@ fn write_body(out: &mut Writer, body: &ResponseBody) -> Result<(), AllocError>
             out.key(BODY)?;
             threads::body(out)
         }
-        ResponseBody::StackTrace(trace) => member::part(out, BODY, trace),
+        ResponseBody::Continue => {
+            out.key(BODY)?;
+            continue_::body(out)
+        }
+        ResponseBody::SetBreakpoints(body) => member::part(out, BODY, body),
+        ResponseBody::SetInstructionBreakpoints(body) => member::part(out, BODY, body),
+        ResponseBody::StackTrace(body) => member::part(out, BODY, body),
+        ResponseBody::Scopes(body) => member::part(out, BODY, body),
+        ResponseBody::Variables(body) => member::part(out, BODY, body),
+        ResponseBody::SetVariable(body) => member::part(out, BODY, body),
+        ResponseBody::Evaluate(body) => member::part(out, BODY, body),
+        ResponseBody::WriteMemory(body) => member::part(out, BODY, body),
         ResponseBody::Empty => Ok(()),
     }
 }
