@@ -45,7 +45,7 @@ def function_at(crate, path, index):
     for first, line in enumerate(lines[:index + 1]):
         function, impl = FUNCTION.match(line), IMPL.match(line)
         if impl:
-            owner = [impl[2] + re.sub(r"\W", "", impl[1] or "")]
+            owner = [impl[2][0].upper() + impl[2][1:] + re.sub(r"\W", "", impl[1] or "")]
         elif function:
             name = "::".join(module + owner * bool(function[1]) + [function[2]])
             ends = (function[1] + "}", function[1] + "{}")

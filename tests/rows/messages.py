@@ -167,7 +167,7 @@ READING_REQUESTS = [
             '{"requestId":-2147483649}', '{"requestId":9223372036854775808}', '{"requestId":18446744073709551615}',
             '{"requestId":18446744073709551616}')], PROFILE),
     Row("refuses requests by name and then by arguments", requests(
-        ('{"seq":4,"type":"request","command":"launch","arguments":[]}', is_bad(4, "launch", "UnknownCommand")),
+        ('{"seq":4,"type":"request","command":"source","arguments":[]}', is_bad(4, "source", "UnknownCommand")),
         ('{"seq":0,"type":"request","command":"Threads"}', is_bad(0, "Threads", "UnknownCommand")),
         ('{"seq":4,"type":"request","command":""}', is_bad(4, "", "UnknownCommand")),
         ('{"seq":4,"type":"request","command":"thre\\u0061ds","arguments":[]}', is_bad(4, "threads", "BadArguments")),

@@ -1,6 +1,7 @@
 //! Plays `protocol` and `replies`: bodies that are read as requests, and responses that are made, written and read.
 #![tactic(auto)]
 
+mod arguments;
 mod errors;
 mod requests;
 mod responses;

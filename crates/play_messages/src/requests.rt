@@ -1,11 +1,11 @@
 //! Requests as they are shown.
 
+use crate::arguments as of;
 use play::{Fault, hexadecimal, parsed, shown};
 use protocol::{
     CancelArguments, Command, DisconnectArguments, Incoming, InitializeArguments, Request,
 };
-use std::alloc::{AllocError, Global};
-use std::fmt::Display;
+use std::alloc::Global;
 
 /// What a body is to the adapter.
 pub(crate) fn shown_incoming(alloc: Global, incoming: Incoming) -> Result<String, Fault> {
@@ -27,29 +27,37 @@ pub(crate) fn shown_incoming(alloc: Global, incoming: Incoming) -> Result<String
     }
 }
 
-/// The arguments, each with a space before it.
-fn shown_arguments(alloc: Global, command: &Command) -> Result<String, AllocError> {
+/// The arguments, each with a space before it: a number, a switch or a name as it is written, a text or
+/// bytes in hexadecimal digits, `none` for what is absent. A list has its entries one after the other.
+fn shown_arguments(alloc: Global, command: &Command) -> Result<String, Fault> {
     match command {
-        Command::Initialize(arguments) => {
-            let lines = arguments.lines_start_at1;
-            let columns = arguments.columns_start_at1;
-            format!(in alloc; " {lines} {columns}")
+        Command::Initialize(arguments) => of::initialize(alloc, arguments),
+        Command::Launch(arguments) => of::launch(alloc, arguments),
+        Command::Cancel(arguments) => of::cancel(alloc, arguments),
+        Command::Disconnect(arguments) => of::disconnect(alloc, arguments),
+        Command::SetBreakpoints(arguments) => of::set_breakpoints(alloc, arguments),
+        Command::SetInstructionBreakpoints(arguments) => {
+            of::set_instruction_breakpoints(alloc, arguments)
         }
-        Command::Threads => Ok(String::new(alloc)),
-        Command::Cancel(arguments) => optional(alloc, arguments.request_id),
-        Command::Disconnect(arguments) => {
-            let terminate = optional(alloc, arguments.terminate_debuggee)?;
-            let suspend = optional(alloc, arguments.suspend_debuggee)?;
-            format!(in alloc; "{terminate}{suspend}")
-        }
-    }
-}
-
-/// A value or `none`, with a space before it.
-fn optional<D: Display + Drop>(alloc: Global, value: Option<D>) -> Result<String, AllocError> {
-    match value {
-        Some(value) => format!(in alloc; " {value}"),
-        None => String::from_str(alloc, " none"),
+        Command::Continue(arguments) => of::thread(alloc, arguments.thread_id),
+        Command::Next(arguments) => of::step(alloc, arguments.thread_id, arguments.granularity),
+        Command::StepIn(arguments) => of::step(alloc, arguments.thread_id, arguments.granularity),
+        Command::StepOut(arguments) => of::step(alloc, arguments.thread_id, arguments.granularity),
+        Command::Pause(arguments) => of::thread(alloc, arguments.thread_id),
+        Command::StackTrace(arguments) => of::stack_trace(alloc, arguments),
+        Command::Scopes(arguments) => of::scopes(alloc, arguments),
+        Command::Variables(arguments) => of::variables(alloc, arguments),
+        Command::SetVariable(arguments) => of::set_variable(alloc, arguments),
+        Command::Evaluate(arguments) => of::evaluate(alloc, arguments),
+        Command::Disassemble(arguments) => of::disassemble(alloc, arguments),
+        Command::ReadMemory(arguments) => of::read_memory(alloc, arguments),
+        Command::WriteMemory(arguments) => of::write_memory(alloc, arguments),
+        Command::Attach
+        | Command::ConfigurationDone
+        | Command::Threads
+        | Command::Restart
+        | Command::Terminate
+        | Command::SetExceptionBreakpoints => Ok(String::new(alloc)),
     }
 }
 

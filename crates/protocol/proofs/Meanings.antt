@@ -6,7 +6,8 @@ use Rattle.serde_json.specs.Data.{Data, object, Members, put}
 use Rattle.serde_json.specs.Find.{as_object, as_number, as_u64}
 use Rattle.serde_json.proofs.Views.{get_member-put_other}
 use Rattle.protocol.specs.Json.{json_of}
-use Rattle.protocol.specs.Properties.{property, text, sequence_number, within_seq, non_null, arguments_members}
+use Rattle.protocol.specs.Properties.{property, text, sequence_number, within_i32_max, non_null}
+use Rattle.protocol.specs.Arguments.{arguments_members}
 use Rattle.protocol.specs.Commands.{Row, command_among, requests}
 use Rattle.protocol.specs.Reading.{◌>>=◌, received, request_of, typed_message_of, message_of, incoming_of}
 use Rattle.protocol.specs.Laws.{IsOfType, IgnoresWhatIsNoRequest, PassesOverUnknownMembers}
@@ -78,15 +79,16 @@ within_at : (b : Bool) (n m : ℕ) → leb n 2147483647 ≡ b → cond b (Some n
 within_at true n m test e = let same : n ≡ m = cc in grind (arith, nat_tests)
 within_at false n m test e = absurd (cc)
 
-then_within : (found : Option ℕ) (m : ℕ) → option_and_then within_seq found ≡ Some m
+then_within : (found : Option ℕ) (m : ℕ) → option_and_then within_i32_max found ≡ Some m
     → m ≤ 2147483647
 then_within None m e = absurd (cc)
 then_within (Some n) m e = within_at _ n m refl e
 
 sequence_number-within : (value : Option Data) (m : ℕ) → sequence_number value ≡ Some m
     → m ≤ 2147483647
-sequence_number-within value m e =
-    then_within (option_and_then as_u64 (option_and_then as_number value)) m e
+sequence_number-within None m e = absurd (cc)
+sequence_number-within (Some value) m e =
+    then_within (option_and_then as_u64 (as_number value)) m e
 
 request_of-sound : (members : Members) → IsSound (request_of members)
 request_of-sound members =

@@ -1,24 +1,16 @@
 -- What holds of the table of requests, row by row.
-use Rattle.std.proofs.Common.{◌≡◌, ℕ, Bool, true, false, cond, List, [], ◌∷◌, Option, Some, None, Result, Ok, Err, refl, sym, ◌∙◌, ap}
+use Rattle.std.proofs.Common.{◌≡◌, ℕ, Bool, true, false, cond, List, [], ◌∷◌, Option, Some, None, Result, Ok, Err, refl, sym, ◌∙◌, ap, rules, ◌++◌}
+use Rattle.std.proofs.lemmas.Grind.{common_steps}
 use Rattle.std.proofs.lemmas.Slice.Eq.{bytes_eq-Decides}
 use Rattle.std.specs.List.{AllByRecursion}
 use Rattle.std.specs.Prelude.{ok_or, bytes_eq, option_and_then, option_map}
 use Rattle.serde_json.specs.Data.{Members}
-use Rattle.protocol.specs.Properties.{arguments_members}
-use Rattle.protocol.specs.Initialize.{initialize_arguments}
-use Rattle.protocol.specs.Threads.{threads_arguments}
-use Rattle.protocol.specs.Cancel.{cancel_arguments}
-use Rattle.protocol.specs.Disconnect.{disconnect_arguments}
-use Rattle.protocol.specs.Commands.{Row, row, requests, command_among, name_of}
+use Rattle.protocol.specs.Arguments.{arguments_members}
+use Rattle.protocol.specs.Commands.{Row, row, bare, requests, execution_requests, inspection_requests, command_among, name_of}
 use Rattle.protocol.specs.Laws.{KnowsRequestsByName, KeepsTheName}
 use Rattle.protocol.specs.declared.command.Command.{Command}
-use Rattle.protocol.specs.declared.command.Command.TheVariants.{Initialize, Threads, Cancel, Disconnect}
 use Rattle.protocol.specs.declared.refusal.Refusal.{Refusal}
 use Rattle.protocol.specs.declared.refusal.Refusal.TheVariants.{UnknownCommand, BadArguments}
-use Rattle.protocol.specs.declared.initialize.TheConstants.{NAME as INITIALIZE}
-use Rattle.protocol.specs.declared.threads.TheConstants.{NAME as THREADS}
-use Rattle.protocol.specs.declared.cancel.TheConstants.{NAME as CANCEL}
-use Rattle.protocol.specs.declared.disconnect.TheConstants.{NAME as DISCONNECT}
 
 -- a name that no row has is unknown, whatever the members of the arguments are
 unknown_at : (here : Bool) (f g : Option Command) (x y : Result Command Refusal)
@@ -87,18 +79,24 @@ named_among (r ∷ rs) name members command keep e =
     named_at (bytes_eq name r.name) r name members _ command refl keep.0
     (named_among rs name members command keep.1) e
 
--- a pair, with its parts on lines of their own
-infixr 5 ◌and◌
-◌and◌ : {A B : Type 0} → A → B → A × B
-a and b = (a, b)
+-- names that are not asked for are passed over
+pub others_skipped : (rows rest : List Row) (name : List ℕ) (found : Option Members)
+    → AllByRecursion (λ r. name ≡ r.name → ⊥) rows
+    → command_among (rows ++ rest) name found ≡ command_among rest name found
+others_skipped [] rest name found others = refl
+others_skipped (r ∷ rs) rest name found others =
+    let other : bytes_eq name r.name ≡ false = search (rules, common_steps, bytes_eq-Decides) in
+    rw other (others_skipped rs rest name found others.1)
 
--- one line for each request
+bare_keeps : (name : List ℕ) (command : Command) → name_of command ≡ name → KeepsItsName (bare name command)
+bare_keeps name command named _ c e =
+    let same : command ≡ c = cc in
+    ap name_of (sym same) ∙ named
+
+-- each row does so
 requests_keep : AllByRecursion KeepsItsName requests
-requests_keep = row_keeps INITIALIZE.now initialize_arguments (λ a. Initialize a) (λ _. refl)
-    and row_keeps THREADS.now threads_arguments (λ _. Threads) (λ _. refl)
-    and row_keeps CANCEL.now cancel_arguments (λ a. Cancel a) (λ _. refl)
-    and row_keeps DISCONNECT.now disconnect_arguments (λ a. Disconnect a) (λ _. refl)
-    and tt
+unfolding execution_requests inspection_requests
+requests_keep = search (rules, row_keeps, bare_keeps)
 
 pub keeps_the_name : KeepsTheName
 keeps_the_name name arguments command e =

@@ -1,21 +1,39 @@
--- The arguments of requests: what their types are, and that they may be absent.
-use Rattle.std.specs.Prelude.{◌≡◌, ℕ, List, [], ◌∷◌, Option, Some, None, Result, Ok, Err, option_and_then, option_map}
+-- The arguments of requests.
+--
+-- An argument is a property of the request's `arguments`, and has the type that the protocol's schema gives it. One
+-- that the schema does not require may be absent. Where one that is required is absent, or any that is looked at has
+-- another type, the arguments are bad. Where there are no arguments at all, all are absent.
+use Rattle.std.specs.Prelude.{◌≡◌, ℕ, List, [], ◌∷◌, Option, Some, None, Result, Ok, Err, option_map, refl}
 use Rattle.base64.specs.Engines.{standard}
 use Rattle.base64.specs.GeneralPurpose.{decoded_of}
-use Rattle.serde_json.specs.Data.{Data, Items, no_items, item}
-use Rattle.serde_json.specs.Find.{as_array, as_str}
-use Rattle.protocol.specs.Properties.{◌>>=◌}
+use Rattle.serde_json.specs.Data.{Data, Items, no_items, item, Members, no_members, number, unsigned}
+use Rattle.serde_json.specs.Find.{as_array, as_bool, as_object, as_str}
+use Rattle.protocol.specs.Properties.{◌>>=◌, integer}
 use Rattle.protocol.specs.declared.unread.Unread.{Unread}
 use Rattle.protocol.specs.declared.unread.Unread.TheVariants.{Bad}
 
+-- the members of the arguments: absent ones are as an empty object; None where they are no object
+abbrev pub arguments_members : Option Data → Option Members
+arguments_members None = Some no_members
+arguments_members (Some value) = as_object value
+
 -- an argument that has to be there, by what its type makes of a value
 abbrev pub required : {A : Type 0} → (Data → Option A) → Option Data → Option A
-required meaning value = option_and_then meaning value
+required meaning value = value >>= meaning
 
--- an argument that may be absent; None where it is there, and something else than its type says
+-- an argument that may be absent; None where it is there, and has another type
 abbrev pub optional : {A : Type 0} → (Data → Option A) → Option Data → Option (Option A)
 optional meaning None = Some None
 optional meaning (Some value) = option_map (λ a. Some a) (meaning value)
+
+no_integer_is_fine : optional integer None ≡ Some None
+no_integer_is_fine = refl
+
+no_integer_is_bad : required integer None ≡ None
+no_integer_is_bad = refl
+
+a_number_is_not_true : optional as_bool (Some (number (unsigned 1))) ≡ None
+a_number_is_not_true = refl
 
 -- the bytes that a text spells in base64, with padding and no spare bits (RFC 4648, section 4)
 abbrev pub base64 : Data → Option (List ℕ)

@@ -6,14 +6,15 @@
 -- though no request has it. All else that the editor says, `progressId` too, is not looked at.
 use Rattle.std.specs.Prelude.{◌≡◌, Option, Some, None, pos, codes, refl}
 use Rattle.serde_json.specs.Data.{number, string, unsigned, Members, no_members, member}
-use Rattle.protocol.specs.Properties.{◌>>=◌, property, optional_integer}
+use Rattle.protocol.specs.Properties.{◌>>=◌, property, integer}
+use Rattle.protocol.specs.Arguments.{optional}
 use Rattle.protocol.specs.declared.cancel.CancelArguments.{CancelArguments}
 use Rattle.protocol.specs.declared.cancel.TheConstants.{REQUEST_ID}
 
 -- the arguments; None where the request's number is there and is no integer
 abbrev pub cancel_arguments : Members → Option CancelArguments
 cancel_arguments members = do
-  request ← optional_integer (property REQUEST_ID.now members)
+  request ← optional integer (property REQUEST_ID.now members)
   Some (record { request_id = request })
 
 request_8 : cancel_arguments (member (codes "requestId") (number (unsigned 8)) no_members)

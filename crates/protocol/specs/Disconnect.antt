@@ -4,15 +4,17 @@
 -- it depends on how the program was started. All else that it says is not looked at.
 use Rattle.std.specs.Prelude.{◌≡◌, Option, Some, None, true, codes, refl}
 use Rattle.serde_json.specs.Data.{boolean, Members, no_members, member}
-use Rattle.protocol.specs.Properties.{◌>>=◌, property, optional_bool}
+use Rattle.serde_json.specs.Find.{as_bool}
+use Rattle.protocol.specs.Properties.{◌>>=◌, property}
+use Rattle.protocol.specs.Arguments.{optional}
 use Rattle.protocol.specs.declared.disconnect.DisconnectArguments.{DisconnectArguments}
 use Rattle.protocol.specs.declared.disconnect.TheConstants.{TERMINATE_DEBUGGEE, SUSPEND_DEBUGGEE}
 
 -- the arguments; None where one of the two is there and is neither true nor false
 abbrev pub disconnect_arguments : Members → Option DisconnectArguments
 disconnect_arguments members = do
-  terminate ← optional_bool (property TERMINATE_DEBUGGEE.now members)
-  suspend ← optional_bool (property SUSPEND_DEBUGGEE.now members)
+  terminate ← optional as_bool (property TERMINATE_DEBUGGEE.now members)
+  suspend ← optional as_bool (property SUSPEND_DEBUGGEE.now members)
   Some (record { terminate_debuggee = terminate; suspend_debuggee = suspend })
 
 to_end : disconnect_arguments (member (codes "terminateDebuggee") (boolean true) no_members)

@@ -4,15 +4,17 @@
 -- true. All else that it says of itself is not looked at, so its `adapterID` may be absent.
 use Rattle.std.specs.Prelude.{◌≡◌, Option, Some, true, false, codes, unwrap_or, refl}
 use Rattle.serde_json.specs.Data.{boolean, Members, no_members, member}
-use Rattle.protocol.specs.Properties.{◌>>=◌, property, optional_bool}
+use Rattle.serde_json.specs.Find.{as_bool}
+use Rattle.protocol.specs.Properties.{◌>>=◌, property}
+use Rattle.protocol.specs.Arguments.{optional}
 use Rattle.protocol.specs.declared.initialize.InitializeArguments.{InitializeArguments}
 use Rattle.protocol.specs.declared.initialize.TheConstants.{LINES_START_AT1, COLUMNS_START_AT1}
 
 -- the arguments; None where one of the two is neither true nor false
 abbrev pub initialize_arguments : Members → Option InitializeArguments
 initialize_arguments members = do
-  lines ← optional_bool (property LINES_START_AT1.now members)
-  columns ← optional_bool (property COLUMNS_START_AT1.now members)
+  lines ← optional as_bool (property LINES_START_AT1.now members)
+  columns ← optional as_bool (property COLUMNS_START_AT1.now members)
   Some (record {
     lines_start_at1 = unwrap_or lines true;
     columns_start_at1 = unwrap_or columns true;

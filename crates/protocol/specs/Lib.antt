@@ -8,19 +8,30 @@ pub mod Json
 pub mod Properties
 -- the arguments of requests, by their types
 pub mod Arguments
--- ---- the requests
--- `initialize`: what its arguments mean
+-- how far a step goes
+pub mod Granularity
+-- a kind of variables
+pub mod Filter
+-- ---- the requests that take arguments: what these mean
 pub mod Initialize
--- `threads`, likewise
-pub mod Threads
--- `cancel`, likewise
+pub mod Launch
 pub mod Cancel
--- `disconnect`, likewise
 pub mod Disconnect
--- `setBreakpoints`, likewise
 pub mod SetBreakpoints
--- `setVariable`, likewise
+pub mod SetInstructionBreakpoints
+pub mod Continue
+pub mod Next
+pub mod StepIn
+pub mod StepOut
+pub mod Pause
+pub mod StackTrace
+pub mod Scopes
+pub mod Variables
 pub mod SetVariable
+pub mod Evaluate
+pub mod Disassemble
+pub mod ReadMemory
+pub mod WriteMemory
 -- the table of the requests, by their names
 pub mod Commands
 -- ---- the whole

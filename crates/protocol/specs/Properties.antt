@@ -7,10 +7,10 @@
 -- A property has the type that the schema gives it, or the message is not taken as it stands: 1 is
 -- not true, and "true" is not true either. Where the schema says integer, a whole number from
 -- -2,147,483,648 to 2,147,483,647 is taken, and no other. `1.0`, `1e2` and `-0` are floats.
-use Rattle.std.specs.Prelude.{◌≡◌, ℕ, List, Bool, Option, Some, None, codes, option_and_then, option_map, nat_le, ℤ}
+use Rattle.std.specs.Prelude.{◌≡◌, ℕ, List, Option, Some, None, codes, option_and_then, nat_le, ℤ}
 use Rattle.std.specs.Prelude.{pos, neg_ℤ, int_le, ◌&&◌, Float, refl, if◌then◌else◌}
 use Rattle.serde_json.specs.Data.{Data, null, number, string, unsigned, negative, float, Members, no_members, member}
-use Rattle.serde_json.specs.Find.{get_member, as_bool, as_i64, as_number, as_object, as_str, as_u64}
+use Rattle.serde_json.specs.Find.{get_member, as_i64, as_number, as_str, as_u64}
 
 -- what follows from a value, where there is one
 infixl 10 ◌>>=◌
@@ -33,26 +33,29 @@ null_is_no_property = refl
 abbrev pub text : Option Data → Option (List ℕ)
 text value = value >>= as_str
 
--- the number, where a message may have it (`ProtocolMessage.seq`)
-abbrev pub within_seq : ℕ → Option ℕ
-within_seq n = if nat_le n 2147483647 then Some n else None
-
--- a message's number, which has to be there: a whole number from 0 to 2,147,483,647
-abbrev pub sequence_number : Option Data → Option ℕ
-sequence_number value = value >>= as_number >>= as_u64 >>= within_seq
+-- the number, where it is at most the greatest of 32 bits with a sign
+abbrev pub within_i32_max : ℕ → Option ℕ
+within_i32_max n = if nat_le n 2147483647 then Some n else None
 
 -- a whole number from 0 to 2,147,483,647
 abbrev pub natural : Data → Option ℕ
-natural value = as_number value >>= as_u64 >>= within_seq
+natural value = as_number value >>= as_u64 >>= within_i32_max
 
-the_greatest_number : sequence_number (Some (number (unsigned 2147483647))) ≡ Some 2147483647
-the_greatest_number = refl
+the_greatest_natural : natural (number (unsigned 2147483647)) ≡ Some 2147483647
+the_greatest_natural = refl
 
-no_greater_number : sequence_number (Some (number (unsigned 2147483648))) ≡ None
-no_greater_number = refl
+no_greater_natural : natural (number (unsigned 2147483648)) ≡ None
+no_greater_natural = refl
 
-a_text_is_no_number : sequence_number (Some (string (codes "1"))) ≡ None
-a_text_is_no_number = refl
+a_number_below_0_is_no_natural : natural (number (negative (neg_ℤ (pos 1)))) ≡ None
+a_number_below_0_is_no_natural = refl
+
+a_text_is_no_natural : natural (string (codes "1")) ≡ None
+a_text_is_no_natural = refl
+
+-- a message's number, which has to be there (`ProtocolMessage.seq`)
+abbrev pub sequence_number : Option Data → Option ℕ
+sequence_number value = value >>= natural
 
 -- the whole number, where 32 bits hold it: -2,147,483,648 is the least, 2,147,483,647 the greatest
 abbrev pub within_i32 : ℤ → Option ℤ
@@ -63,46 +66,23 @@ within_i32 z =
 abbrev pub integer : Data → Option ℤ
 integer value = as_number value >>= as_i64 >>= within_i32
 
--- such a number, where it is there; None where it is something else
-abbrev pub optional_integer : Option Data → Option (Option ℤ)
-optional_integer None = Some None
-optional_integer (Some value) = option_map (λ z. Some z) (integer value)
-
-no_integer_is_fine : optional_integer None ≡ Some None
-no_integer_is_fine = refl
-
-the_greatest_integer : optional_integer (Some (number (unsigned 2147483647)))
-    ≡ Some (Some (pos 2147483647))
+the_greatest_integer : integer (number (unsigned 2147483647)) ≡ Some (pos 2147483647)
 the_greatest_integer = refl
 
-no_greater_integer : optional_integer (Some (number (unsigned 2147483648))) ≡ None
+no_greater_integer : integer (number (unsigned 2147483648)) ≡ None
 no_greater_integer = refl
 
-the_least_integer : optional_integer (Some (number (negative (neg_ℤ (pos 2147483648)))))
-    ≡ Some (Some (neg_ℤ (pos 2147483648)))
+the_least_integer : integer (number (negative (neg_ℤ (pos 2147483648)))) ≡ Some (neg_ℤ (pos 2147483648))
 the_least_integer = refl
 
-no_lesser_integer : optional_integer (Some (number (negative (neg_ℤ (pos 2147483649))))) ≡ None
+no_lesser_integer : integer (number (negative (neg_ℤ (pos 2147483649)))) ≡ None
 no_lesser_integer = refl
 
-no_integer_of_64_bits : optional_integer (Some (number (unsigned 18446744073709551615))) ≡ None
+no_integer_of_64_bits : integer (number (unsigned 18446744073709551615)) ≡ None
 no_integer_of_64_bits = refl
 
-a_float_is_no_integer : (x : Float) → optional_integer (Some (number (float x))) ≡ None
+a_float_is_no_integer : (x : Float) → integer (number (float x)) ≡ None
 a_float_is_no_integer x = refl
 
-a_text_is_no_integer : optional_integer (Some (string (codes "1"))) ≡ None
+a_text_is_no_integer : integer (string (codes "1")) ≡ None
 a_text_is_no_integer = refl
-
--- true or false, where it is there; None where it is something else
-abbrev pub optional_bool : Option Data → Option (Option Bool)
-optional_bool None = Some None
-optional_bool (Some value) = option_map (λ b. Some b) (as_bool value)
-
-a_number_is_not_true : optional_bool (Some (number (unsigned 1))) ≡ None
-a_number_is_not_true = refl
-
--- the members of the arguments: absent ones are as an empty object; None where they are no object
-abbrev pub arguments_members : Option Data → Option Members
-arguments_members None = Some no_members
-arguments_members (Some value) = as_object value

@@ -4,15 +4,17 @@
 -- for each, which are read later. Where it gives no list of breakpoints, it may give their lines alone,
 -- as older editors do. Where both are there, `lines` is not looked at, and where neither is, the source
 -- has no breakpoints. A line is not negative.
-use Rattle.std.specs.Prelude.{◌≡◌, ℕ, List, [], ◌∷◌, Option, Some, None, map, option_map, unwrap_or, codes, refl}
-use Rattle.serde_json.specs.Data.{Data, number, string, unsigned, array, object, no_items, item, Members, no_members, member}
+use Rattle.std.specs.Prelude.{◌≡◌, ℕ, List, [], ◌∷◌, Option, Some, None, map, unwrap_or, codes, refl}
+use Rattle.serde_json.specs.Data.{Data, number, string, unsigned, array, object, no_items, item}
+use Rattle.serde_json.specs.Data.{Members, no_members, member}
 use Rattle.serde_json.specs.Find.{as_object, as_str}
 use Rattle.protocol.specs.Properties.{◌>>=◌, property, natural}
 use Rattle.protocol.specs.Arguments.{required, optional, list}
 use Rattle.protocol.specs.declared.set_breakpoints.Source.{Source}
 use Rattle.protocol.specs.declared.set_breakpoints.SourceBreakpoint.{SourceBreakpoint}
 use Rattle.protocol.specs.declared.set_breakpoints.SetBreakpointsArguments.{SetBreakpointsArguments}
-use Rattle.protocol.specs.declared.set_breakpoints.TheConstants.{SOURCE, PATH, BREAKPOINTS, LINES, LINE, CONDITION, HIT_CONDITION}
+use Rattle.protocol.specs.declared.set_breakpoints.TheConstants.{SOURCE, PATH, LINES, LINE}
+use Rattle.protocol.specs.declared.members.TheConstants.{BREAKPOINTS, CONDITION, HIT_CONDITION}
 
 -- a source
 abbrev pub source_of : Data → Option Source
@@ -57,3 +59,23 @@ set_breakpoints_arguments members = do
   source ← optional source_of (property SOURCE.now members)
   breakpoints ← asked members
   Some (record { source = unwrap_or source (record { path = None }); breakpoints = breakpoints })
+
+no_breakpoints : set_breakpoints_arguments no_members
+    ≡ Some (record { source = record { path = None }; breakpoints = [] })
+no_breakpoints = refl
+
+lines_alone : set_breakpoints_arguments
+    (member (codes "lines") (array (item (number (unsigned 7)) no_items)) no_members)
+    ≡ Some (record { source = record { path = None }; breakpoints = at_line 7 ∷ [] })
+lines_alone = refl
+
+lines_are_not_looked_at : set_breakpoints_arguments
+    (member (codes "breakpoints") (array no_items)
+    (member (codes "lines") (string (codes "7")) no_members))
+    ≡ Some (record { source = record { path = None }; breakpoints = [] })
+lines_are_not_looked_at = refl
+
+a_line_has_to_be_there : source_breakpoint
+    (object (member (codes "condition") (string (codes "a0")) no_members))
+    ≡ None
+a_line_has_to_be_there = refl

@@ -5,7 +5,7 @@ ghost use Rattle.base64.specs.Engines.{standard};
 ghost use Rattle.base64.specs.GeneralPurpose.{decoded_of};
 ghost use Rattle.serde_json.specs.Data.{Data};
 ghost use Rattle.serde_json.specs.View.{view, items_view, members_view};
-ghost use Rattle.serde_json.specs.Find.{as_object};
+ghost use Rattle.serde_json.specs.Find.{as_object, as_str};
 ghost use Rattle.protocol.specs.Arguments as arguments;
 ghost use Rattle.protocol.specs.Arguments.{Reads, each};
 ghost use Rattle.protocol.specs.Properties as properties;
@@ -108,8 +108,7 @@ impl Argument for Text {
     ghost meaning = { as_str };
 
     fn read(alloc: Global, value: &Value) -> Result<Text, Unread> {
-        let text = value.as_str().ok_or(Unread::Bad)?;
-        Ok(Text::from_string(String::from_str(alloc, text)?))
+        Ok(Text::from_string(String::from_str(alloc, text(value)?)?))
     }
 }
 
@@ -120,8 +119,7 @@ impl Argument for Bytes {
     ghost meaning = { base64 };
 
     fn read(alloc: Global, value: &Value) -> Result<Bytes, Unread> {
-        let text = value.as_str().ok_or(Unread::Bad)?;
-        decoded(alloc, text)
+        decoded(alloc, text(value)?)
     }
 }
 
@@ -159,9 +157,17 @@ fn read_each<T: Argument>(alloc: Global, values: &[Value]) -> Result<Entries<T>,
     Ok(Entries::from_vec(entries))
 }
 
-/// The members of an object.
+/// The text that a value is; `Bad` where it is none.
+pub(crate) fn text(value: &Value) -> Result<&str, Unread>
+    ensures is { IfOk result (λ text. as_str (view value.now) ≡ Some text.now) }
+    ensures bad { result ≡ Err Unread.Bad → as_str (view value.now) ≡ None }
+{
+    value.as_str().ok_or(Unread::Bad)
+}
+
+/// The members of the object that a value is; `Bad` where it is none.
 pub(crate) fn object(value: &Value) -> Result<&Map<String, Value>, Unread>
-    ensures object { IfOk result (λ m. as_object (view value.now) ≡ Some (members_view m.now.entries)) }
+    ensures is { IfOk result (λ m. as_object (view value.now) ≡ Some (members_view m.now.entries)) }
     ensures bad { result ≡ Err Unread.Bad → as_object (view value.now) ≡ None }
 {
     value.as_object().ok_or(Unread::Bad)

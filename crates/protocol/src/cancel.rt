@@ -1,10 +1,12 @@
 //! The request `cancel`: an editor is no longer interested in the result of an earlier request.
-ghost use Rattle.std.specs.Prelude.{◌≡◌, option_and_then, option_map};
 ghost use Rattle.serde_json.specs.View.{members_view};
+ghost use Rattle.protocol.specs.Arguments.{Reads};
 ghost use Rattle.protocol.specs.Cancel.{cancel_arguments};
 
-use crate::properties::optional_integer;
+use crate::argument::optional;
+use crate::unread::Unread;
 use serde_json::{Map, Value};
+use std::alloc::Global;
 
 /// The request's name.
 pub const NAME: &str = "cancel";
@@ -14,20 +16,22 @@ pub const REQUEST_ID: &str = "requestId";
 
 /// What is to be cancelled (`CancelArguments`). What the editor says beside this, `progressId` too,
 /// is not looked at.
-#[derive(Clone, Copy, Debug, PartialEq, Eq)]
+#[derive(Clone, Copy)]
 pub struct CancelArguments {
     /// The number (`seq`) of the request to cancel, from -2,147,483,648 to 2,147,483,647. Absent:
     /// no request is named.
     pub request_id: Option<i32>,
 }
 
-/// The arguments; `None` where `requestId` is there and is no whole number from -2,147,483,648 to
+/// The arguments; `Bad` where `requestId` is there and is no whole number from -2,147,483,648 to
 /// 2,147,483,647.
-pub(crate) fn arguments(members: Option<&Map<String, Value>>) -> Option<CancelArguments>
-    ensures { result ≡ option_and_then cancel_arguments
-        (option_map (λ m. members_view m.now.entries) members.entry) }
+pub(crate) fn arguments(
+    alloc: Global,
+    members: &Map<String, Value>,
+) -> Result<CancelArguments, Unread>
+    ensures { Reads result (cancel_arguments (members_view members.now.entries)) }
 {
-    let members = members?;
-    let request_id = optional_integer(members, REQUEST_ID)?;
-    Some(CancelArguments { request_id })
+    Ok(CancelArguments {
+        request_id: optional(alloc, members, REQUEST_ID)?,
+    })
 }

@@ -1,27 +1,92 @@
 //! The requests that the adapter has, in one list.
-ghost use Rattle.std.specs.Prelude.{◌≡◌, option_map, ok_or};
+ghost use Rattle.std.specs.Prelude.{◌≡◌, ◌++◌, option_map};
+ghost use Rattle.std.specs.Result.{result_ok};
 ghost use Rattle.serde_json.specs.View.{view, members_view};
-ghost use Rattle.protocol.specs.Commands.{command_among, command_of, name_of, requests};
+ghost use Rattle.protocol.specs.Commands.{command_among, command_of, name_of, requests, Finds};
+ghost use Rattle.protocol.specs.Commands.{execution_requests, inspection_requests};
 
 use crate::cancel::CancelArguments;
+use crate::continue_::ContinueArguments;
+use crate::disassemble::DisassembleArguments;
 use crate::disconnect::DisconnectArguments;
+use crate::evaluate::EvaluateArguments;
 use crate::initialize::InitializeArguments;
-use crate::refusal::Refusal;
-use crate::{cancel, disconnect, initialize, threads};
+use crate::launch::LaunchArguments;
+use crate::next::NextArguments;
+use crate::pause::PauseArguments;
+use crate::read_memory::ReadMemoryArguments;
+use crate::scopes::ScopesArguments;
+use crate::set_breakpoints::SetBreakpointsArguments;
+use crate::set_instruction_breakpoints::SetInstructionBreakpointsArguments;
+use crate::set_variable::SetVariableArguments;
+use crate::stack_trace::StackTraceArguments;
+use crate::step_in::StepInArguments;
+use crate::step_out::StepOutArguments;
+use crate::unread::Unread;
+use crate::variables::VariablesArguments;
+use crate::write_memory::WriteMemoryArguments;
+use crate::{
+    attach, cancel, configuration_done, continue_, disassemble, disconnect, evaluate, initialize,
+    launch, next, pause, read_memory, restart, scopes, set_breakpoints, set_exception_breakpoints,
+    set_instruction_breakpoints, set_variable, stack_trace, step_in, step_out, terminate, threads,
+    variables, write_memory,
+};
 use serde_json::{Map, Value};
 use std::alloc::Global;
 
 /// A request with its arguments.
-#[derive(Debug, PartialEq, Eq, Drop)]
+#[derive(Drop)]
 pub enum Command {
     /// The first request of a connection (`InitializeRequest`).
     Initialize(InitializeArguments),
+    /// A program is started (`LaunchRequest`).
+    Launch(LaunchArguments),
+    /// The editor joins the program that is debugged (`AttachRequest`).
+    Attach,
+    /// The editor has said all before the program runs (`ConfigurationDoneRequest`).
+    ConfigurationDone,
     /// Which threads there are (`ThreadsRequest`).
     Threads,
     /// The cancellation of an earlier request (`CancelRequest`).
     Cancel(CancelArguments),
+    /// The program starts again (`RestartRequest`).
+    Restart,
+    /// The program is to end (`TerminateRequest`).
+    Terminate,
     /// The end of the session (`DisconnectRequest`).
     Disconnect(DisconnectArguments),
+    /// The breakpoints at the lines of a source (`SetBreakpointsRequest`).
+    SetBreakpoints(SetBreakpointsArguments),
+    /// The breakpoints at addresses (`SetInstructionBreakpointsRequest`).
+    SetInstructionBreakpoints(SetInstructionBreakpointsArguments),
+    /// The exceptions to stop at (`SetExceptionBreakpointsRequest`).
+    SetExceptionBreakpoints,
+    /// A thread runs on (`ContinueRequest`).
+    Continue(ContinueArguments),
+    /// A step over calls (`NextRequest`).
+    Next(NextArguments),
+    /// A step into calls (`StepInRequest`).
+    StepIn(StepInArguments),
+    /// A step out of the running call (`StepOutRequest`).
+    StepOut(StepOutArguments),
+    /// A thread is to stop (`PauseRequest`).
+    Pause(PauseArguments),
+    /// The frames of the call stack (`StackTraceRequest`).
+    StackTrace(StackTraceArguments),
+    /// The scopes of a frame (`ScopesRequest`).
+    Scopes(ScopesArguments),
+    /// The variables of a scope (`VariablesRequest`).
+    Variables(VariablesArguments),
+    /// Another value for a variable (`SetVariableRequest`).
+    SetVariable(SetVariableArguments),
+    /// The value of an expression (`EvaluateRequest`).
+    Evaluate(EvaluateArguments),
+    /// The instructions at an address (`DisassembleRequest`).
+    Disassemble(DisassembleArguments),
+    /// Bytes of memory are read (`ReadMemoryRequest`).
+    ReadMemory(ReadMemoryArguments),
+    /// Bytes of memory are written (`WriteMemoryRequest`).
+    WriteMemory(WriteMemoryArguments),
 }
 
 impl Command {
@@ -31,46 +96,143 @@ impl Command {
     {
         match self {
             Command::Initialize(_) => initialize::NAME,
+            Command::Launch(_) => launch::NAME,
+            Command::Attach => attach::NAME,
+            Command::ConfigurationDone => configuration_done::NAME,
             Command::Threads => threads::NAME,
             Command::Cancel(_) => cancel::NAME,
+            Command::Restart => restart::NAME,
+            Command::Terminate => terminate::NAME,
             Command::Disconnect(_) => disconnect::NAME,
+            Command::SetBreakpoints(_) => set_breakpoints::NAME,
+            Command::SetInstructionBreakpoints(_) => set_instruction_breakpoints::NAME,
+            Command::SetExceptionBreakpoints => set_exception_breakpoints::NAME,
+            Command::Continue(_) => continue_::NAME,
+            Command::Next(_) => next::NAME,
+            Command::StepIn(_) => step_in::NAME,
+            Command::StepOut(_) => step_out::NAME,
+            Command::Pause(_) => pause::NAME,
+            Command::StackTrace(_) => stack_trace::NAME,
+            Command::Scopes(_) => scopes::NAME,
+            Command::Variables(_) => variables::NAME,
+            Command::SetVariable(_) => set_variable::NAME,
+            Command::Evaluate(_) => evaluate::NAME,
+            Command::Disassemble(_) => disassemble::NAME,
+            Command::ReadMemory(_) => read_memory::NAME,
+            Command::WriteMemory(_) => write_memory::NAME,
         }
     }
 }
 
-/// The command of that name with those arguments. `UnknownCommand` where the adapter has no request
-/// of that name, whatever the arguments are. Else `BadArguments` where these are no object, or a
-/// property in them has another type than the schema's or is a number out of range.
+/// The members of the arguments of a request, or that these are no object.
+type Members<'v> = Result<&'v Map<String, Value>, Unread>;
+
+/// The command of that name with those arguments; `None` where the adapter has no request of that
+/// name, whatever the arguments are. Else `Bad` where these are no object, or one that is required
+/// is absent, or one that is looked at has another type than the schema's or is a number out of
+/// range.
 pub(crate) fn command_named(
     alloc: Global,
     name: &str,
     arguments: Option<&Value>,
-) -> Result<Command, Refusal>
-    ensures { result ≡ command_of name.now (option_map (λ value. view value.now) arguments.entry) }
+) -> Result<Option<Command>, Unread>
+    ensures { Finds result (command_of name.now (option_map (λ value. view value.now) arguments.entry)) }
 {
     match arguments {
-        Some(value) => command_with(name, value.as_object()),
-        None => command_with(name, Some(&Map::new(alloc))),
+        Some(value) => command_with(alloc, name, value.as_object().ok_or(Unread::Bad)),
+        None => command_with(alloc, name, Ok(&Map::new(alloc))),
     }
 }
 
-/// The same, of the members of the arguments; `None` where these are no object.
-fn command_with(name: &str, members: Option<&Map<String, Value>>) -> Result<Command, Refusal>
-    ensures { result ≡ command_among requests name.now
-        (option_map (λ m. members_view m.now.entries) members.entry) }
+/// The same, of the members of the arguments.
+fn command_with(alloc: Global, name: &str, members: Members) -> Result<Option<Command>, Unread>
+    ensures { Finds result (command_among requests name.now
+        (option_map (λ m. members_view m.now.entries) (result_ok members.entry))) }
 {
     match name {
-        initialize::NAME => or_bad(initialize::arguments(members).map(Command::Initialize)),
-        threads::NAME => or_bad(threads::arguments(members).map(|()| Command::Threads)),
-        cancel::NAME => or_bad(cancel::arguments(members).map(Command::Cancel)),
-        disconnect::NAME => or_bad(disconnect::arguments(members).map(Command::Disconnect)),
-        _ => Err(Refusal::UnknownCommand),
+        initialize::NAME => Ok(Some(Command::Initialize(initialize::arguments(alloc, members?)?))),
+        launch::NAME => Ok(Some(Command::Launch(launch::arguments(alloc, members?)?))),
+        attach::NAME => {
+            members?;
+            Ok(Some(Command::Attach))
+        }
+        configuration_done::NAME => {
+            members?;
+            Ok(Some(Command::ConfigurationDone))
+        }
+        threads::NAME => {
+            members?;
+            Ok(Some(Command::Threads))
+        }
+        cancel::NAME => Ok(Some(Command::Cancel(cancel::arguments(alloc, members?)?))),
+        restart::NAME => {
+            members?;
+            Ok(Some(Command::Restart))
+        }
+        terminate::NAME => {
+            members?;
+            Ok(Some(Command::Terminate))
+        }
+        disconnect::NAME => Ok(Some(Command::Disconnect(disconnect::arguments(alloc, members?)?))),
+        _ => execution_command(alloc, name, members),
     }
 }
 
-/// The command, or that its arguments are bad.
-fn or_bad(command: Option<Command>) -> Result<Command, Refusal>
-    ensures { result ≡ ok_or command Refusal.BadArguments }
+/// The same, where it is no request of the session itself.
+#[tactic(auto, unfolding(crate::specs::Commands::execution_requests))]
+fn execution_command(alloc: Global, name: &str, members: Members) -> Result<Option<Command>, Unread>
+    ensures { Finds result (command_among (execution_requests ++ inspection_requests) name.now
+        (option_map (λ m. members_view m.now.entries) (result_ok members.entry))) }
 {
-    command.ok_or(Refusal::BadArguments)
+    match name {
+        set_breakpoints::NAME => Ok(Some(Command::SetBreakpoints(set_breakpoints::arguments(
+            alloc, members?,
+        )?))),
+        set_instruction_breakpoints::NAME => Ok(Some(Command::SetInstructionBreakpoints(
+            set_instruction_breakpoints::arguments(alloc, members?)?,
+        ))),
+        set_exception_breakpoints::NAME => {
+            members?;
+            Ok(Some(Command::SetExceptionBreakpoints))
+        }
+        continue_::NAME => Ok(Some(Command::Continue(continue_::arguments(alloc, members?)?))),
+        next::NAME => Ok(Some(Command::Next(next::arguments(alloc, members?)?))),
+        step_in::NAME => Ok(Some(Command::StepIn(step_in::arguments(alloc, members?)?))),
+        step_out::NAME => Ok(Some(Command::StepOut(step_out::arguments(alloc, members?)?))),
+        pause::NAME => Ok(Some(Command::Pause(pause::arguments(alloc, members?)?))),
+        _ => inspection_command(alloc, name, members),
+    }
+}
+
+/// The same, where the program is only looked into.
+#[tactic(auto, unfolding(crate::specs::Commands::inspection_requests))]
+fn inspection_command(
+    alloc: Global,
+    name: &str,
+    members: Members,
+) -> Result<Option<Command>, Unread>
+    ensures { Finds result (command_among inspection_requests name.now
+        (option_map (λ m. members_view m.now.entries) (result_ok members.entry))) }
+{
+    match name {
+        stack_trace::NAME => Ok(Some(Command::StackTrace(stack_trace::arguments(
+            alloc, members?,
+        )?))),
+        scopes::NAME => Ok(Some(Command::Scopes(scopes::arguments(alloc, members?)?))),
+        variables::NAME => Ok(Some(Command::Variables(variables::arguments(alloc, members?)?))),
+        set_variable::NAME => Ok(Some(Command::SetVariable(set_variable::arguments(
+            alloc, members?,
+        )?))),
+        evaluate::NAME => Ok(Some(Command::Evaluate(evaluate::arguments(alloc, members?)?))),
+        disassemble::NAME => Ok(Some(Command::Disassemble(disassemble::arguments(
+            alloc, members?,
+        )?))),
+        read_memory::NAME => Ok(Some(Command::ReadMemory(read_memory::arguments(
+            alloc, members?,
+        )?))),
+        write_memory::NAME => Ok(Some(Command::WriteMemory(write_memory::arguments(
+            alloc, members?,
+        )?))),
+        _ => Ok(None),
+    }
 }

@@ -1,10 +1,12 @@
 //! The request `disconnect`: an editor ends the session.
-ghost use Rattle.std.specs.Prelude.{◌≡◌, option_and_then, option_map};
 ghost use Rattle.serde_json.specs.View.{members_view};
+ghost use Rattle.protocol.specs.Arguments.{Reads};
 ghost use Rattle.protocol.specs.Disconnect.{disconnect_arguments};
 
-use crate::properties::optional_bool;
+use crate::argument::optional;
+use crate::unread::Unread;
 use serde_json::{Map, Value};
+use std::alloc::Global;
 
 /// The request's name.
 pub const NAME: &str = "disconnect";
@@ -15,7 +17,7 @@ pub const TERMINATE_DEBUGGEE: &str = "terminateDebuggee";
 pub const SUSPEND_DEBUGGEE: &str = "suspendDebuggee";
 
 /// What becomes of the program (`DisconnectArguments`).
-#[derive(Clone, Copy, Debug, PartialEq, Eq)]
+#[derive(Clone, Copy)]
 pub struct DisconnectArguments {
     /// Whether the program is to be ended.
     pub terminate_debuggee: Option<bool>,
@@ -23,16 +25,15 @@ pub struct DisconnectArguments {
     pub suspend_debuggee: Option<bool>,
 }
 
-/// The arguments; `None` where one of the two is there and is neither true nor false.
-pub(crate) fn arguments(members: Option<&Map<String, Value>>) -> Option<DisconnectArguments>
-    ensures { result ≡ option_and_then disconnect_arguments
-        (option_map (λ m. members_view m.now.entries) members.entry) }
+/// The arguments; `Bad` where one of the two is there and is neither true nor false.
+pub(crate) fn arguments(
+    alloc: Global,
+    members: &Map<String, Value>,
+) -> Result<DisconnectArguments, Unread>
+    ensures { Reads result (disconnect_arguments (members_view members.now.entries)) }
 {
-    let members = members?;
-    let terminate_debuggee = optional_bool(members, TERMINATE_DEBUGGEE)?;
-    let suspend_debuggee = optional_bool(members, SUSPEND_DEBUGGEE)?;
-    Some(DisconnectArguments {
-        terminate_debuggee,
-        suspend_debuggee,
+    Ok(DisconnectArguments {
+        terminate_debuggee: optional(alloc, members, TERMINATE_DEBUGGEE)?,
+        suspend_debuggee: optional(alloc, members, SUSPEND_DEBUGGEE)?,
     })
 }

@@ -1,10 +1,12 @@
 //! The request `initialize`: an editor says how it counts lines and columns.
-ghost use Rattle.std.specs.Prelude.{◌≡◌, option_and_then, option_map};
 ghost use Rattle.serde_json.specs.View.{members_view};
+ghost use Rattle.protocol.specs.Arguments.{Reads};
 ghost use Rattle.protocol.specs.Initialize.{initialize_arguments};
 
-use crate::properties::optional_bool;
+use crate::argument::optional;
+use crate::unread::Unread;
 use serde_json::{Map, Value};
+use std::alloc::Global;
 
 /// The request's name.
 pub const NAME: &str = "initialize";
@@ -16,7 +18,7 @@ pub const COLUMNS_START_AT1: &str = "columnsStartAt1";
 
 /// What the editor says of itself (`InitializeRequestArguments`). What it says beside this is not
 /// looked at.
-#[derive(Clone, Copy, Debug, PartialEq, Eq)]
+#[derive(Clone, Copy)]
 pub struct InitializeArguments {
     /// The first line is line 1, and else line 0. Absent: 1.
     pub lines_start_at1: bool,
@@ -24,16 +26,15 @@ pub struct InitializeArguments {
     pub columns_start_at1: bool,
 }
 
-/// The arguments; `None` where one of the two is neither true nor false.
-pub(crate) fn arguments(members: Option<&Map<String, Value>>) -> Option<InitializeArguments>
-    ensures { result ≡ option_and_then initialize_arguments
-        (option_map (λ m. members_view m.now.entries) members.entry) }
+/// The arguments; `Bad` where one of the two is neither true nor false.
+pub(crate) fn arguments(
+    alloc: Global,
+    members: &Map<String, Value>,
+) -> Result<InitializeArguments, Unread>
+    ensures { Reads result (initialize_arguments (members_view members.now.entries)) }
 {
-    let members = members?;
-    let lines = optional_bool(members, LINES_START_AT1)?;
-    let columns = optional_bool(members, COLUMNS_START_AT1)?;
-    Some(InitializeArguments {
-        lines_start_at1: lines.unwrap_or(true),
-        columns_start_at1: columns.unwrap_or(true),
+    Ok(InitializeArguments {
+        lines_start_at1: optional(alloc, members, LINES_START_AT1)?.unwrap_or(true),
+        columns_start_at1: optional(alloc, members, COLUMNS_START_AT1)?.unwrap_or(true),
     })
 }

@@ -1,7 +1,7 @@
 //! What an editor says: the requests of the Debug Adapter Protocol, read from the bodies of frames.
 //!
-//! A request has a module of its own (`initialize`, `threads`, `cancel`, `disconnect`), with its
-//! arguments and how they are read. `command` lists them.
+//! A request has a module of its own name (`continue_` for `continue`), with its arguments and how
+//! they are read. `command` lists the requests. `argument` reads an argument by its type.
 #![tactic(auto)]
 
 mod argument;
@@ -14,6 +14,8 @@ pub mod disassemble;
 pub mod disconnect;
 pub mod entries;
 pub mod evaluate;
+pub mod filter;
+pub mod granularity;
 pub mod initialize;
 pub mod json;
 pub mod launch;
@@ -43,11 +45,32 @@ pub mod write_memory;
 
 pub use cancel::CancelArguments;
 pub use command::Command;
+pub use continue_::ContinueArguments;
+pub use disassemble::DisassembleArguments;
 pub use disconnect::DisconnectArguments;
 pub use entries::Entries;
+pub use evaluate::EvaluateArguments;
+pub use filter::Filter;
+pub use granularity::Granularity;
 pub use initialize::InitializeArguments;
+pub use launch::LaunchArguments;
+pub use next::NextArguments;
+pub use pause::PauseArguments;
 pub use properties::LAST_SEQ;
+pub use read_memory::ReadMemoryArguments;
 pub use refusal::Refusal;
 pub use request::{Incoming, MessageError, Request, read_request};
+pub use scopes::ScopesArguments;
+pub use set_breakpoints::{SetBreakpointsArguments, Source, SourceBreakpoint};
+pub use set_instruction_breakpoints::{InstructionBreakpoint, SetInstructionBreakpointsArguments};
+pub use set_variable::SetVariableArguments;
+pub use stack_trace::StackTraceArguments;
+pub use step_in::StepInArguments;
+pub use step_out::StepOutArguments;
 pub use text::Text;
+<<<<<<< HEAD
 pub use unread::Unread;
+=======
+pub use variables::VariablesArguments;
+pub use write_memory::WriteMemoryArguments;
+>>>>>>> 04b48e6879320f0e1549987bef87ec48e0f7f43c

@@ -47,38 +47,3 @@ pub(crate) fn sequence_number(members: &Map<String, Value>, name: &str) -> Optio
         None
     }
 }
-
-/// The property of that name, a whole number from -2,147,483,648 to 2,147,483,647, where it is there.
-/// `None` where it is something else.
-pub(crate) fn optional_integer(members: &Map<String, Value>, name: &str) -> Option<Option<i32>>
-    ensures { result ≡ properties.optional_integer
-        (properties.property name.now (members_view members.now.entries)) }
-{
-    match property(members, name) {
-        Some(value) => Some(Some(integer(value)?)),
-        None => Some(None),
-    }
-}
-
-/// The value, where it is a whole number from -2,147,483,648 to 2,147,483,647.
-fn integer(value: &Value) -> Option<i32>
-    ensures { result ≡ properties.integer (view value.now) }
-{
-    let number = value.as_i64()?;
-    if i64::from(i32::MIN) <= number && number <= i64::from(i32::MAX) {
-        Some(number as i32)
-    } else {
-        None
-    }
-}
-
-/// The property of that name, true or false, where it is there. `None` where it is something else.
-pub(crate) fn optional_bool(members: &Map<String, Value>, name: &str) -> Option<Option<bool>>
-    ensures { result ≡ properties.optional_bool
-        (properties.property name.now (members_view members.now.entries)) }
-{
-    match property(members, name) {
-        Some(value) => Some(Some(value.as_bool()?)),
-        None => Some(None),
-    }
-}

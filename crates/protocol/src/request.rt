@@ -1,5 +1,5 @@
 //! What a body means.
-ghost use Rattle.std.specs.Prelude.{◌≡◌, Err};
+ghost use Rattle.std.specs.Prelude.{◌≡◌, Err, IfOk};
 ghost use Rattle.std.specs.Str.{IsUtf8};
 ghost use Rattle.serde_json.specs.View.{members_view, view};
 ghost use Rattle.protocol.specs.Reading.{Gives, GivesMeaning, incoming_of, request_of, value_means};
@@ -7,13 +7,14 @@ ghost use Rattle.protocol.specs.Reading.{Gives, GivesMeaning, incoming_of, reque
 use crate::command::command_named;
 use crate::json::json_value;
 use crate::properties::{property, sequence_number, text};
+use crate::unread::Unread;
 use crate::{Command, Refusal, Text, members};
 use serde_json::{Map, Value};
 use std::alloc::{AllocError, Global};
 use thiserror::Error;
 
 /// A request (`Request`).
-#[derive(Debug, PartialEq, Eq, Drop)]
+#[derive(Drop)]
 pub struct Request {
     /// The number that the editor gave it, from 0 to 2,147,483,647.
     pub seq: u32,
@@ -22,7 +23,7 @@ pub struct Request {
 }
 
 /// What a body is to the adapter.
-#[derive(Debug, PartialEq, Eq, Drop)]
+#[derive(Drop)]
 pub enum Incoming {
     /// A request that can be looked at further.
     Request(Request),
@@ -102,14 +103,21 @@ fn incoming_request(alloc: Global, message: &Map<String, Value>) -> Result<Incom
     let name = text(message, members::COMMAND).ok_or(MessageError::NotAMessage)?;
     let seq = sequence_number(message, members::SEQ).ok_or(MessageError::BadSeq)?;
     match command_named(alloc, name, property(message, members::ARGUMENTS)) {
-        Ok(command) => Ok(Incoming::Request(Request { seq, command })),
-        Err(refusal) => {
-            let command = Text::from_string(String::from_str(alloc, name)?);
-            Ok(Incoming::Bad {
-                seq,
-                command,
-                refusal,
-            })
-        }
+        Ok(Some(command)) => Ok(Incoming::Request(Request { seq, command })),
+        Ok(None) => Ok(bad(alloc, seq, name, Refusal::UnknownCommand)?),
+        Err(Unread::Bad) => Ok(bad(alloc, seq, name, Refusal::BadArguments)?),
+        Err(Unread::NoMemory) => Err(MessageError::NoMemory),
     }
+}
+
+/// A request that is refused as it stands.
+fn bad(alloc: Global, seq: u32, name: &str, refusal: Refusal) -> Result<Incoming, AllocError>
+    ensures { IfOk result (λ i. i ≡ Incoming.Bad seq name.now refusal) }
+{
+    let command = Text::from_string(String::from_str(alloc, name)?);
+    Ok(Incoming::Bad {
+        seq,
+        command,
+        refusal,
+    })
 }

@@ -5,6 +5,7 @@ ghost use Rattle.protocol.specs.Arguments.{Reads};
 ghost use Rattle.protocol.specs.SetBreakpoints.{asked, at_line, set_breakpoints_arguments};
 
 use crate::argument::{Argument, object, optional, required};
+use crate::members::{BREAKPOINTS, CONDITION, HIT_CONDITION};
 use crate::unread::Unread;
 use crate::{Entries, Text};
 use serde_json::{Map, Value};
@@ -17,16 +18,10 @@ pub const NAME: &str = "setBreakpoints";
 pub const SOURCE: &str = "source";
 /// The source's path (`Source.path`).
 pub const PATH: &str = "path";
-/// The breakpoints (`SetBreakpointsArguments.breakpoints`).
-pub const BREAKPOINTS: &str = "breakpoints";
 /// The lines of the breakpoints, in an older form (`SetBreakpointsArguments.lines`).
 pub const LINES: &str = "lines";
 /// A breakpoint's line (`SourceBreakpoint.line`).
 pub const LINE: &str = "line";
-/// A breakpoint's condition (`SourceBreakpoint.condition`, `InstructionBreakpoint.condition`).
-pub const CONDITION: &str = "condition";
-/// Which of its hits stops (`SourceBreakpoint.hitCondition`, `InstructionBreakpoint.hitCondition`).
-pub const HIT_CONDITION: &str = "hitCondition";
 
 /// All breakpoints of a source (`SetBreakpointsArguments`).
 #[derive(Drop)]

@@ -5,6 +5,7 @@ ghost use Rattle.protocol.specs.SetVariable.{set_variable_arguments};
 
 use crate::Text;
 use crate::argument::required;
+use crate::members::VARIABLES_REFERENCE;
 use crate::unread::Unread;
 use serde_json::{Map, Value};
 use std::alloc::Global;
@@ -12,17 +13,15 @@ use std::alloc::Global;
 /// The request's name.
 pub const NAME: &str = "setVariable";
 
-/// The reference of the scope (`SetVariableArguments.variablesReference`).
-pub const VARIABLES_REFERENCE: &str = "variablesReference";
 /// The variable's name (`SetVariableArguments.name`).
 pub const VARIABLE_NAME: &str = "name";
-/// The variable's value (`SetVariableArguments.value`).
+/// The variable's new value (`SetVariableArguments.value`).
 pub const VALUE: &str = "value";
 
 /// Which variable gets which value (`SetVariableArguments`).
 #[derive(Drop)]
 pub struct SetVariableArguments {
-    /// The reference of the scope that has the variable.
+    /// The reference of the scope. A whole number from -2,147,483,648 to 2,147,483,647.
     pub variables_reference: i32,
     /// The variable's name.
     pub name: Text,
@@ -30,7 +29,8 @@ pub struct SetVariableArguments {
     pub value: Text,
 }
 
-/// The arguments; `Bad` where one of them is absent, or has another type than the schema's.
+/// The arguments; `Bad` where `variablesReference` is absent, or no whole number from
+/// -2,147,483,648 to 2,147,483,647, or where `name` or `value` is absent or no text.
 pub(crate) fn arguments(
     alloc: Global,
     members: &Map<String, Value>,

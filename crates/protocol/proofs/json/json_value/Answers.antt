@@ -1,5 +1,5 @@
 -- What the library says of a read is what the body is as JSON.
-use Rattle.std.proofs.Common.{◌≡◌, Err, subst, sym, ap, ◌∙◌}
+use Rattle.std.proofs.Common.{Err, subst, sym, ap, ◌∙◌}
 use Rattle.serde_json.specs.Read.{read}
 use Rattle.protocol.specs.declared.request.MessageError.{MessageError}
 use Rattle.protocol.specs.Json.{GivesValue, json_of}

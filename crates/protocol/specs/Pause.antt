@@ -1,0 +1,22 @@
+-- The request `pause` (`PauseRequest`): what its arguments mean.
+--
+-- The editor names a thread by an integer. Which threads there are is asked later.
+use Rattle.std.specs.Prelude.{None, Option, Some, codes, pos, refl, ◌≡◌}
+use Rattle.serde_json.specs.Data.{Members, member, no_members, number, unsigned}
+use Rattle.protocol.specs.Properties.{integer, property, ◌>>=◌}
+use Rattle.protocol.specs.Arguments.{required}
+use Rattle.protocol.specs.declared.members.TheConstants.{THREAD_ID}
+use Rattle.protocol.specs.declared.pause.PauseArguments.{PauseArguments}
+
+-- the arguments; None where the thread is absent, or no integer
+abbrev pub pause_arguments : Members → Option PauseArguments
+pause_arguments members = do
+  thread_id ← required integer (property THREAD_ID.now members)
+  Some (record { thread_id = thread_id })
+
+thread_1 : pause_arguments (member (codes "threadId") (number (unsigned 1)) no_members)
+    ≡ Some (record { thread_id = pos 1 })
+thread_1 = refl
+
+a_thread_has_to_be_named : pause_arguments no_members ≡ None
+a_thread_has_to_be_named = refl
