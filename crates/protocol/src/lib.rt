@@ -68,9 +68,6 @@ pub use stack_trace::StackTraceArguments;
 pub use step_in::StepInArguments;
 pub use step_out::StepOutArguments;
 pub use text::Text;
-<<<<<<< HEAD
 pub use unread::Unread;
-=======
 pub use variables::VariablesArguments;
 pub use write_memory::WriteMemoryArguments;
->>>>>>> 04b48e6879320f0e1549987bef87ec48e0f7f43c
