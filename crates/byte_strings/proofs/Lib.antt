@@ -1,2 +1,3 @@
 pub mod Conjunctions
 pub mod Trimming
+pub mod Below

@@ -17,7 +17,7 @@ use Rattle.expressions.specs.declared.token.Infix.TheVariants.{OrElse, AndThen, 
 use Rattle.expressions.specs.declared.token.Token.{Token}
 use Rattle.expressions.specs.declared.token.Token.TheVariants as t
 use Rattle.expressions.proofs.Words.{named_passes}
-use Rattle.expressions.proofs.Below.{all_below}
+use Rattle.byte_strings.proofs.Below.{all_below}
 
 -- ---- choices
 

@@ -1,4 +1,3 @@
-pub mod Below
 pub mod Words
 pub mod Same
 pub mod Scanned

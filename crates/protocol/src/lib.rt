@@ -40,7 +40,7 @@ pub mod step_out;
 pub mod terminate;
 pub mod text;
 pub mod threads;
-mod unread;
+pub mod unread;
 pub mod variables;
 pub mod write_memory;
 
@@ -69,5 +69,6 @@ pub use stack_trace::StackTraceArguments;
 pub use step_in::StepInArguments;
 pub use step_out::StepOutArguments;
 pub use text::Text;
+pub use unread::Unread;
 pub use variables::VariablesArguments;
 pub use write_memory::WriteMemoryArguments;

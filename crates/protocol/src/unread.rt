@@ -1,12 +1,12 @@
-//! Why arguments are not read.
+//! Why a part of a message is not read.
 
 use std::alloc::{AllocError, AllocFailed};
 
-/// Why arguments are not read.
+/// Why a part of a message is not read.
 #[derive(Clone, Copy)]
-pub(crate) enum Unread {
-    /// They are bad: an argument is missing, of another type than the protocol's schema gives it,
-    /// or a number out of range.
+pub enum Unread {
+    /// It is bad: it is missing or of another type than the protocol's schema gives it, a number is out
+    /// of range, or that holds of a part of it.
     Bad,
     /// No memory was left.
     NoMemory,

@@ -12,16 +12,18 @@ use Rattle.replies.specs.declared.message.Message.TheVariants.{Response}
 use Rattle.replies.specs.declared.response.Outcome.{Outcome}
 use Rattle.replies.specs.declared.response.Outcome.TheVariants.{Done, Refused}
 use Rattle.replies.specs.declared.response.ResponseBody.{ResponseBody}
-use Rattle.replies.specs.declared.response.ResponseBody.TheVariants.{Initialize, Threads, Empty}
 use Rattle.replies.specs.Messages.{message_data, IsNumber, IsProper}
-use Rattle.replies.specs.Responses.{with_body, shared_members, body_data, outcome_data, without_body, IsBodyOf, IsOutcomeOf, IsProperResponse}
-use Rattle.replies.specs.Claims.{kept_if, number_at, text_at, truth_at, seq_in, request_seq_in, body_for, own_text, refusal_in, refused_in, error_in, outcome_in, response_in, claim_in}
+use Rattle.replies.specs.Forms.{member_if}
+use Rattle.replies.specs.Bodies.{IsBodyOf, body_data, body_in, has_numbers}
+use Rattle.replies.specs.Responses.{shared_members, outcome_data, IsOutcomeOf, IsProperResponse}
+use Rattle.replies.proofs.BodyTable.{body_in-done, body_in-proper}
+use Rattle.replies.specs.Claims.{kept_if, number_at, text_at, truth_at, seq_in, request_seq_in, own_text, refusal_in, refused_in, error_in, outcome_in, response_in, claim_in}
 
 -- ---- a value that is a message
 
 -- a success with this body, if it has one
 abbrev done_data : ℕ → ℕ → List ℕ → Option Data → Data
-done_data seq request_seq command body = object (with_body body (shared_members seq request_seq command true))
+done_data seq request_seq command body = object (member_if (codes "body") (λ d. d) body (shared_members seq request_seq command true))
 
 kept_seq : (seq : ℕ) → IsNumber seq → kept_if (λ n. nat_lt 0 n && nat_lt n (2 ^ 31)) (Some seq) ≡ Some seq
 kept_seq seq h = rw (lt-ltb 0 seq (omega arith), lt-ltb seq (2 ^ 31) (omega arith)) refl
@@ -63,11 +65,6 @@ success_in-outcome_data : (seq request_seq : ℕ) (command : List ℕ) (outcome 
 success_in-outcome_data seq request_seq command (Done body) = success_in-done seq request_seq command (body_data body)
 success_in-outcome_data seq request_seq command (Refused refusal text) = refl
 
-body_for-command : (command : List ℕ) (body : ResponseBody) → IsBodyOf command body → body_for command ≡ Some body
-body_for-command command Initialize h = rw h refl
-body_for-command command Threads h = rw h refl
-body_for-command command Empty h = rw h refl
-
 own_text-error_data : (seq request_seq : ℕ) (command : List ℕ) (refusal : Refusal) (text : Option (List ℕ)) (has : Bool) → is_some text ≡ has → own_text has (outcome_data seq request_seq command (Refused refusal text)) ≡ Some text
 own_text-error_data seq request_seq command refusal None true h = absurd cc
 own_text-error_data seq request_seq command refusal (Some text) true h = refl
@@ -75,7 +72,7 @@ own_text-error_data seq request_seq command refusal None false h = refl
 own_text-error_data seq request_seq command refusal (Some text) false h = absurd cc
 
 outcome_in-outcome_data : (seq request_seq : ℕ) (command : List ℕ) (outcome : Outcome) → IsOutcomeOf command outcome → outcome_in command (outcome_data seq request_seq command outcome) (succeeded outcome) ≡ Some outcome
-outcome_in-outcome_data seq request_seq command (Done body) h = ap (option_map Done) (body_for-command command body h)
+outcome_in-outcome_data seq request_seq command (Done body) h = ap (option_map Done) (body_in-done seq request_seq command body h.0 h.1)
 outcome_in-outcome_data seq request_seq command (Refused refusal text) h =
     rw (the_refusal_of_its_number refusal, own_text-error_data seq request_seq command refusal text (has_text refusal) h) refl
 
@@ -114,14 +111,7 @@ IsNumber-seq_in value = IfSome-kept_if IsNumber _ (number_at (codes "seq") value
 small-request_seq_in : (value : Data) → IfSome (request_seq_in value) (λ n. n < 2 ^ 32)
 small-request_seq_in value = IfSome-kept_if (λ n. n < 2 ^ 32) _ (number_at (codes "request_seq") value) (λ n e. ltb-true _ _ e)
 
-IsBodyOf-body_for : (command : List ℕ) → IfSome (body_for command) (IsBodyOf command)
-IsBodyOf-body_for command =
-    let P : Option ResponseBody → Type 0 = λ o. IfSome o (IsBodyOf command) in
-    if_keeps P (list_any (bytes_eq command) without_body) _ _ (λ e. e)
-    (if_keeps P (bytes_eq command (codes "initialize")) _ _ (bytes_eq-Decides command (codes "initialize")).0
-    (if_keeps P (bytes_eq command (codes "threads")) _ _ (bytes_eq-Decides command (codes "threads")).0 tt))
-
-done : (command : List ℕ) (o : Option ResponseBody) → IfSome o (IsBodyOf command) → IfSome (option_map Done o) (IsOutcomeOf command)
+done : (command : List ℕ) (o : Option ResponseBody) → IfSome o (λ body. IsBodyOf command body × (has_numbers body ≡ true)) → IfSome (option_map Done o) (IsOutcomeOf command)
 done command None h = tt
 done command (Some body) h = h
 
@@ -141,7 +131,7 @@ refused command value =
     IfSome-and_then _ _ _ (refusal_in value) (any _) (λ refusal _. told command refusal (own_text (has_text refusal) value) (own (has_text refusal) value))
 
 IsOutcomeOf-outcome_in : (command : List ℕ) (value : Data) (success : Bool) → IfSome (outcome_in command value success) (IsOutcomeOf command)
-IsOutcomeOf-outcome_in command value true = done command (body_for command) (IsBodyOf-body_for command)
+IsOutcomeOf-outcome_in command value true = done command (body_in command value) (body_in-proper command value)
 IsOutcomeOf-outcome_in command value false = refused command value
 
 IsProperResponse-response_in : (value : Data) → IfSome (response_in value) IsProperResponse

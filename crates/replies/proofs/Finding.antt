@@ -34,8 +34,8 @@ IsMessage-message_in value seq message e =
 
 -- ---- bytes
 
-pub reading_of-value : (bytes : List ℕ) (value : Data) (found o : Option (ℕ × Message)) → json_of bytes ≡ Some value → o ≡ message_in value → o ≡ found → reading_of bytes ≡ ok_or found NotAMessage
-reading_of-value bytes value found o json e is = rw json (ap (λ f. ok_or f NotAMessage) (sym e ∙ is))
+pub reading_of-value : (bytes : List ℕ) (value : Data) (found : Option (ℕ × Message)) → json_of bytes ≡ Some value → message_in value ≡ found → reading_of bytes ≡ ok_or found NotAMessage
+reading_of-value bytes value found json e = rw json (ap (λ f. ok_or f NotAMessage) e)
 
 found_at : (bytes : List ℕ) (value : Data) (found : Option (ℕ × Message)) → json_of bytes ≡ Some value → message_in value ≡ found → ReadsAs bytes (ok_or found NotAMessage)
 found_at bytes value None json e = (

@@ -1,5 +1,5 @@
 -- What is written in a form is taken for what it was, and is plain JSON.
-use Rattle.std.proofs.Common.{◌≡◌, ℕ, ◌^◌, ◌<◌, ◌≤◌, ◌&&◌, suc, max, List, [], ◌∷◌, ◌++◌, Bool, true, false, Option, Some, None, IfSome, IsUtf8, option_and_then, option_map, Ordering, Less, Equal, Greater, refl, sym, ap, ◌∙◌, arith, lt-ltb, ltb-true}
+use Rattle.std.proofs.Common.{◌≡◌, ℕ, ◌^◌, ◌<◌, ◌≤◌, ◌&&◌, suc, max, List, [], ◌∷◌, ◌++◌, Bool, true, false, Option, Some, None, IfSome, IsUtf8, ◌⊎◌, inl, inr, option_and_then, option_map, Ordering, Less, Equal, Greater, refl, sym, ap, ◌∙◌, arith, lt-ltb, ltb-true}
 use Rattle.std.specs.Prelude.{if◌then◌else◌}
 use Rattle.std.proofs.lemmas.Bool.{and_parts}
 use Rattle.std.proofs.lemmas.Slice.Eq.{bytes_eq-Decides}
@@ -13,7 +13,7 @@ use Rattle.serde_json.specs.Data.{Data, object, array, Items, no_items, item, Me
 use Rattle.serde_json.specs.Find.{get, get_member, as_array, as_number, as_u64}
 use Rattle.protocol.specs.Properties.{◌>>=◌}
 use Rattle.serde_json.specs.Written.{has_float, items_have_float, members_have_float}
-use Rattle.replies.specs.Forms.{Form, Fields, whole, truth, text, list, none, field, fixed, optional, object_of, made_of, all_found, items_of, texts_of, member_if, found_if, is_in_if, texts_if, AreTexts, is_word, within_word}
+use Rattle.replies.specs.Forms.{Form, Fields, whole, truth, text, list, none, field, fixed, optional, object_of, either, left_or_right, members_either, is_in_either, texts_either, made_of, all_found, items_of, texts_of, member_if, found_if, is_in_if, texts_if, AreTexts, is_word, within_word}
 use Rattle.replies.specs.Laws.{begins_above, is_ordered, are_items_ordered, are_members_ordered}
 use Rattle.replies.proofs.Texts.{IsPlain, AreItemsPlain, AreMembersPlain}
 
@@ -33,7 +33,7 @@ if_is : {A : Type 0} (b : Bool) (x : A) (P : A → Type 0) → (b ≡ true → P
 if_is true x P h = h refl
 if_is false x P h = tt
 
-then_is : {A B : Type 0} (P : B → Type 0) (o : Option A) (f : A → Option B) → ((x : A) → IfSome (f x) P) → IfSome (option_and_then f o) P
+pub then_is : {A B : Type 0} (P : B → Type 0) (o : Option A) (f : A → Option B) → ((x : A) → IfSome (f x) P) → IfSome (option_and_then f o) P
 then_is P None f h = tt
 then_is P (Some x) f h = h x
 
@@ -279,8 +279,8 @@ back_if form rest name first h k (Some x) xs before e new =
     let p = and_parts (form.is_in x) (rest.is_in xs) e in
     let here : get_member name (joined before (member name (form.value x) (rest.members xs))) ≡ Some (form.value x) = get-joined name before _ new.0 ∙ get_itself name (form.value x) (rest.members xs) in
     let later : rest.found (object (joined before (member name (form.value x) (rest.members xs)))) ≡ Some xs =
-        ap (λ ms. rest.found (object ms)) (sym (joined-joined before name (form.value x) (rest.members xs)))
-        ∙ k.back xs (joined before (member name (form.value x) no_members)) p.1 (AreNew-joined name (form.value x) rest.names before first new.1) in
+    ap (λ ms. rest.found (object ms)) (sym (joined-joined before name (form.value x) (rest.members xs)))
+    ∙ k.back xs (joined before (member name (form.value x) no_members)) p.1 (AreNew-joined name (form.value x) rest.names before first new.1) in
     rw (here, h.back x p.0, later) refl
 
 kept_if_there : {n : ℕ} {A : Type 0} (form : Form A) → Lawful n form → (o : Option Data) → IfSome (found_if form.found o) (λ x. is_in_if form.is_in x ≡ true)
@@ -339,6 +339,49 @@ lawful_object {n} {A} {fields} k = record {
   ordered = λ x. k.ordered x;
   plain = λ x e t. k.plain x e t;
 }
+
+-- one of two kinds of objects
+pub lawful_either : {n : ℕ} {A B : Type 0} {left : Fields A} {right : Fields B} (is_left : Data → Option Bool) → ((x : A) → is_left (object (left.members x)) ≡ Some true) → ((y : B) → is_left (object (right.members y)) ≡ Some false) → LawfulFields n left → LawfulFields n right
+    → Lawful (suc n) (either is_left left right)
+lawful_either {n} {A} {B} {left} {right} is_left is_so is_other h k = record {
+  back = back_either;
+  kept = λ d. then_is _ (is_left d) (λ b. left_or_right left.found right.found b d) (kept_either d);
+  shallow = shallow_either;
+  no_float = no_float_either;
+  ordered = ordered_either;
+  plain = plain_either;
+} where
+  back_either : (x : A ⊎ B) → is_in_either left right x ≡ true → (either is_left left right).found (object (members_either left right x)) ≡ Some x
+  back_either (inl a) e = rw (is_so a) (ap (option_map (λ x. inl x)) (h.back a no_members e (AreNew-none left.names)))
+  back_either (inr b) e = rw (is_other b) (ap (option_map (λ y. inr y)) (k.back b no_members e (AreNew-none right.names)))
+
+  shallow_either : (x : A ⊎ B) → depth ((either is_left left right).value x) ≤ suc n
+  shallow_either (inl a) = let most : members_depth (left.members a) ≤ n = h.shallow a in omega (arith, most)
+  shallow_either (inr b) = let most : members_depth (right.members b) ≤ n = k.shallow b in omega (arith, most)
+
+  no_float_either : (x : A ⊎ B) → has_float ((either is_left left right).value x) ≡ false
+  no_float_either (inl a) = h.no_float a
+  no_float_either (inr b) = k.no_float b
+
+  ordered_either : (x : A ⊎ B) → is_ordered ((either is_left left right).value x) ≡ true
+  ordered_either (inl a) = h.ordered a
+  ordered_either (inr b) = k.ordered b
+
+  plain_either : (x : A ⊎ B) → is_in_either left right x ≡ true → AreTexts (texts_either left right x) → IsPlain ((either is_left left right).value x)
+  plain_either (inl a) = h.plain a
+  plain_either (inr b) = k.plain b
+
+  kept_left : (o : Option A) → IfSome o (λ x. left.is_in x ≡ true) → IfSome (option_map (λ (x : A). inl x) o) (λ x. is_in_either left right x ≡ true)
+  kept_left None h = tt
+  kept_left (Some a) h = h
+
+  kept_right : (o : Option B) → IfSome o (λ y. right.is_in y ≡ true) → IfSome (option_map (λ (y : B). inr y) o) (λ x. is_in_either left right x ≡ true)
+  kept_right None h = tt
+  kept_right (Some b) h = h
+
+  kept_either : (d : Data) (b : Bool) → IfSome (left_or_right left.found right.found b d) (λ x. is_in_either left right x ≡ true)
+  kept_either d true = kept_left (left.found d) (h.kept d)
+  kept_either d false = kept_right (right.found d) (k.kept d)
 
 -- ---- the same value in other words
 

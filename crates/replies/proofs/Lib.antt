@@ -8,3 +8,7 @@ pub mod Claiming
 pub mod Finding
 pub mod Lawful
 pub mod Refusals
+pub mod Simple
+pub mod Addresses
+pub mod LawfulBodies
+pub mod BodyTable

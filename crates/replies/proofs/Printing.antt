@@ -9,9 +9,9 @@ use Rattle.serde_json.proofs.Texts.{print-outline}
 use Rattle.protocol.specs.Json.{json_of}
 use Rattle.replies.specs.declared.message.Message.{Message}
 use Rattle.replies.specs.Messages.{message_data}
-use Rattle.replies.specs.Written.{Appends, HasNumbers, tokens_of}
+use Rattle.replies.specs.Written.{Appends, HasSmallNumbers, tokens_of}
 use Rattle.replies.proofs.Texts.{json_of-tokens}
-use Rattle.replies.proofs.Values.{HasSmallNumbers-message_data, is_ordered-message_data, depth-message_data}
+use Rattle.replies.proofs.Values.{is_ordered-message_data, depth-message_data}
 
 -- it has written this value, and nothing else
 pub record Holds (items : List ℕ) (end : Written) (value : Data) : Type 0 where
@@ -29,8 +29,7 @@ pub compact_text-Holds : (items : List ℕ) (end : Written) (value : Data) → H
 compact_text-Holds items end value h = h.items_are ∙ ap print h.tokens_are ∙ print-outline value
 
 -- it reads as the message
-pub json_of-Holds : (items : List ℕ) (end : Written) (seq : ℕ) (message : Message) → Holds items end (message_data seq message) → tokens (print end.tokens) ≡ end.tokens → IsUtf8 (print end.tokens) → seq < 2 ^ 32 → HasNumbers message
+pub json_of-Holds : (items : List ℕ) (end : Written) (seq : ℕ) (message : Message) → Holds items end (message_data seq message) → tokens (print end.tokens) ≡ end.tokens → IsUtf8 (print end.tokens) → HasSmallNumbers (message_data seq message)
     → json_of items ≡ Some (message_data seq message)
-json_of-Holds items end seq message h reads_back utf8 small numbers =
-    json_of-tokens items (message_data seq message) (subst IsUtf8 (sym h.items_are) utf8) (ap tokens h.items_are ∙ reads_back ∙ h.tokens_are) (HasSmallNumbers-message_data seq message small numbers)
-    (is_ordered-message_data seq message) (depth-message_data seq message)
+json_of-Holds items end seq message h reads_back utf8 small =
+    json_of-tokens items (message_data seq message) (subst IsUtf8 (sym h.items_are) utf8) (ap tokens h.items_are ∙ reads_back ∙ h.tokens_are) small (is_ordered-message_data seq message) (depth-message_data seq message)

@@ -1,26 +1,28 @@
 -- The compact text of a value without floats reads as the value, and is UTF-8 where its texts are.
-use Rattle.std.proofs.Common.{◌≡◌, ℕ, suc, ◌^◌, ◌<◌, ◌≤◌, List, [], ◌∷◌, Bool, true, false, Some, option_and_then, decimal, IsUtf8, Ordering, Less, Equal, Greater, refl, sym, ap, ◌∙◌, arith, append-nil, lt-ltb}
+use Rattle.std.proofs.Common.{◌≡◌, ℕ, suc, pos, negsuc, ◌^◌, ◌<◌, ◌≤◌, List, [], ◌∷◌, Bool, true, false, Some, option_and_then, decimal, IsUtf8, Ordering, Less, Equal, Greater, refl, sym, ap, ◌∙◌, arith, append-nil, lt-ltb}
 use Rattle.std.proofs.lemmas.Bool.{and_parts}
 use Rattle.std.proofs.lemmas.Cmp.{nat_list_cmp_total}
 use Rattle.std.proofs.lemmas.Fmt.{decimal_is_IsNumeral}
 use Rattle.std.proofs.lemmas.Str.{IsUtf8-append, IsUtf8-nil}
 use Rattle.std.specs.Char.{digit_value}
 use Rattle.std.specs.Cmp.Lexicographic.{slice_cmp}
+use Rattle.std.specs.Fmt.{signed_decimal}
 use Rattle.std.specs.Ordering.{nat_cmp, is_lt, ordering_reverse}
 use Rattle.std.specs.Str.Parse.{AllDigits}
 use Rattle.json.specs.Json as json
 use Rattle.json.specs.Lex.{tokens}
 use Rattle.json.specs.Tree as tree
-use Rattle.json.proofs.Printed.Decimals.{IsNumber-decimal}
+use Rattle.json.proofs.Printed.Decimals.{IsNumber-decimal, IsNumber-signed_decimal}
 use Rattle.json.proofs.Printed.Tokens.{tokens-print}
 use Rattle.json.proofs.Printed.Trees.{value-json_tokens, ArePrintable-json_tokens}
 use Rattle.json.proofs.Printed.Utf8.{are_ascii, IsUtf8-are_ascii, IsUtf8-quoted, IsUtf8-boolean}
 use Rattle.serde_json.specs.Data.{Num, unsigned, negative, float, Data, null, boolean, number, string, array, object, Items, no_items, item, Members, no_members, member, put, depth, items_depth, members_depth}
 use Rattle.serde_json.specs.Read.{read, of_json, of_items, of_members, max_depth}
 use Rattle.serde_json.specs.Written.{outline, items_outline, members_outline, comma_if, compact_text, items_text, members_text}
-use Rattle.serde_json.proofs.Numbers.{number_of-decimal}
+use Rattle.serde_json.proofs.Numbers.{number_of-decimal, number_of-negative}
 use Rattle.serde_json.proofs.Texts.{print-outline}
 use Rattle.protocol.specs.Json.{json_of}
+use Rattle.replies.specs.Written.{IsSmallNumber, HasSmallNumbers, ItemsHaveSmallNumbers, MembersHaveSmallNumbers}
 use Rattle.replies.specs.Laws.{begins_above, is_ordered, are_items_ordered, are_members_ordered}
 use Rattle.protocol.proofs.JsonTexts.{json_of-text}
 
@@ -46,18 +48,18 @@ digits_are_ascii (d ∷ ds) h =
 pub IsUtf8-decimal : (n : ℕ) → n < 2 ^ 64 → IsUtf8 (decimal n)
 IsUtf8-decimal n h = IsUtf8-are_ascii (decimal n) (digits_are_ascii (decimal n) (decimal_is_IsNumeral n h).0.1)
 
--- a number that is not negative and fits 64 bits
-abbrev pub IsPlainNumber : Num → Type 0
-IsPlainNumber (unsigned n) = n < 2 ^ 64
-IsPlainNumber (negative z) = ⊥
-IsPlainNumber (float x) = ⊥
+ascii_then : (x : ℕ) (s : List ℕ) → are_ascii (x ∷ []) ≡ true → IsUtf8 s → IsUtf8 (x ∷ s)
+ascii_then x s h u = IsUtf8-append (x ∷ []) s (IsUtf8-are_ascii (x ∷ []) h) u
 
--- the numbers are such ones, and the texts are UTF-8
+IsUtf8-negative : (n : ℕ) → n < 2 ^ 63 → IsUtf8 (signed_decimal (negsuc n))
+IsUtf8-negative n h = ascii_then 45 (decimal (suc n)) refl (IsUtf8-decimal (suc n) (omega (arith, h)))
+
+-- the numbers are small, and the texts are UTF-8
 abbrev mutual
   pub IsPlain : Data → Type 0
   IsPlain null = Unit {0}
   IsPlain (boolean b) = Unit {0}
-  IsPlain (number n) = IsPlainNumber n
+  IsPlain (number n) = IsSmallNumber n
   IsPlain (string s) = IsUtf8 s
   IsPlain (array ds) = AreItemsPlain ds
   IsPlain (object ms) = AreMembersPlain ms
@@ -70,9 +72,6 @@ abbrev mutual
   AreMembersPlain no_members = Unit {0}
   AreMembersPlain (member k d ms) = IsUtf8 k × IsPlain d × AreMembersPlain ms
 
-ascii_then : (x : ℕ) (s : List ℕ) → are_ascii (x ∷ []) ≡ true → IsUtf8 s → IsUtf8 (x ∷ s)
-ascii_then x s h u = IsUtf8-append (x ∷ []) s (IsUtf8-are_ascii (x ∷ []) h) u
-
 comma : (later : Bool) → IsUtf8 (comma_if later)
 comma true = IsUtf8-are_ascii (44 ∷ []) refl
 comma false = IsUtf8-nil
@@ -82,7 +81,8 @@ mutual
   IsUtf8-compact_text null h = IsUtf8-are_ascii _ refl
   IsUtf8-compact_text (boolean b) h = IsUtf8-boolean b
   IsUtf8-compact_text (number (unsigned n)) h = IsUtf8-decimal n h
-  IsUtf8-compact_text (number (negative z)) h = absurd h
+  IsUtf8-compact_text (number (negative (pos n))) h = absurd h
+  IsUtf8-compact_text (number (negative (negsuc n))) h = IsUtf8-negative n h
   IsUtf8-compact_text (number (float x)) h = absurd h
   IsUtf8-compact_text (string s) h = IsUtf8-quoted s h
   IsUtf8-compact_text (array ds) h = ascii_then 91 _ refl (IsUtf8-items_text false ds h)
@@ -98,24 +98,6 @@ mutual
       IsUtf8-append _ _ (comma later) (IsUtf8-append _ _ (IsUtf8-quoted k h.0) (ascii_then 58 _ refl (IsUtf8-append _ _ (IsUtf8-compact_text d h.1) (IsUtf8-members_text true ms h.2))))
 
 -- ---- the value of its outline
-
--- the numbers are not negative and fit 64 bits
-abbrev mutual
-  pub HasSmallNumbers : Data → Type 0
-  HasSmallNumbers null = Unit {0}
-  HasSmallNumbers (boolean b) = Unit {0}
-  HasSmallNumbers (number n) = IsPlainNumber n
-  HasSmallNumbers (string s) = Unit {0}
-  HasSmallNumbers (array ds) = ItemsHaveSmallNumbers ds
-  HasSmallNumbers (object ms) = MembersHaveSmallNumbers ms
-
-  pub ItemsHaveSmallNumbers : Items → Type 0
-  ItemsHaveSmallNumbers no_items = Unit {0}
-  ItemsHaveSmallNumbers (item d ds) = HasSmallNumbers d × ItemsHaveSmallNumbers ds
-
-  pub MembersHaveSmallNumbers : Members → Type 0
-  MembersHaveSmallNumbers no_members = Unit {0}
-  MembersHaveSmallNumbers (member k d ms) = HasSmallNumbers d × MembersHaveSmallNumbers ms
 
 mutual
   pub HasSmallNumbers-IsPlain : (d : Data) → IsPlain d → HasSmallNumbers d
@@ -139,7 +121,8 @@ mutual
   HasNumbers-outline null h = tt
   HasNumbers-outline (boolean b) h = tt
   HasNumbers-outline (number (unsigned n)) h = IsNumber-decimal n h
-  HasNumbers-outline (number (negative z)) h = absurd h
+  HasNumbers-outline (number (negative (pos n))) h = absurd h
+  HasNumbers-outline (number (negative (negsuc n))) h = IsNumber-signed_decimal (negsuc n) (omega (arith, h))
   HasNumbers-outline (number (float x)) h = absurd h
   HasNumbers-outline (string s) h = tt
   HasNumbers-outline (array ds) h = ItemsHaveNumbers-outline ds h
@@ -221,7 +204,8 @@ mutual
   of_json-outline null h o = refl
   of_json-outline (boolean b) h o = refl
   of_json-outline (number (unsigned n)) h o = rw (number_of-decimal n h) refl
-  of_json-outline (number (negative z)) h o = absurd h
+  of_json-outline (number (negative (pos n))) h o = absurd h
+  of_json-outline (number (negative (negsuc n))) h o = rw (number_of-negative n h) refl
   of_json-outline (number (float x)) h o = absurd h
   of_json-outline (string s) h o = refl
   of_json-outline (array ds) h o = rw (of_items-outline ds h o) refl

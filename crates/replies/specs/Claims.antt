@@ -14,11 +14,10 @@ use Rattle.protocol.specs.declared.refusal.Refusal.{Refusal}
 use Rattle.replies.specs.declared.response.Response as response
 use Rattle.replies.specs.declared.response.Outcome.{Outcome}
 use Rattle.replies.specs.declared.response.Outcome.TheVariants.{Done, Refused}
-use Rattle.replies.specs.declared.response.ResponseBody.{ResponseBody}
-use Rattle.replies.specs.declared.response.ResponseBody.TheVariants.{Initialize, Threads, Empty}
 use Rattle.replies.specs.declared.message.Message.{Message}
 use Rattle.replies.specs.declared.message.Message.TheVariants.{Response}
-use Rattle.replies.specs.Responses.{without_body}
+use Rattle.protocol.specs.Properties.{◌>>=◌}
+use Rattle.replies.specs.Bodies.{body_in}
 
 -- the value, if it passes the test
 abbrev pub kept_if : {A : Type 0} → (A → Bool) → Option A → Option A
@@ -44,13 +43,6 @@ seq_in value = kept_if (λ n. nat_lt 0 n && nat_lt n (2 ^ 31)) (number_at (codes
 abbrev pub request_seq_in : Data → Option ℕ
 request_seq_in value = kept_if (λ n. nat_lt n (2 ^ 32)) (number_at (codes "request_seq") value)
 
--- the body of a success of this command
-abbrev pub body_for : List ℕ → Option ResponseBody
-body_for command =
-    if list_any (bytes_eq command) without_body then Some Empty
-    else (if bytes_eq command (codes "initialize") then Some Initialize
-    else (if bytes_eq command (codes "threads") then Some Threads else None))
-
 -- what is said of a refusal
 abbrev pub error_in : Data → Option Data
 error_in value = option_and_then (get (codes "error")) (get (codes "body") value)
@@ -72,13 +64,8 @@ refused_in value =
 
 -- what became of a request of this command
 abbrev pub outcome_in : List ℕ → Data → Bool → Option Outcome
-outcome_in command value true = option_map Done (body_for command)
+outcome_in command value true = option_map Done (body_in command value)
 outcome_in command value false = refused_in value
-
-infixl 10 ◌>>=◌
--- the next step, where there is a value
-abbrev pub ◌>>=◌ : {A B : Type 0} → Option A → (A → Option B) → Option B
-found >>= next = option_and_then next found
 
 -- the response that the value claims to be
 abbrev pub response_in : Data → Option response.Response

@@ -4,7 +4,8 @@
 -- value each such value is written, and which one a JSON value is taken for. What is taken for a frame need not be
 -- one: members that a frame does not have are not looked at, and neither is what stands in every frame.
 use Rattle.std.specs.Prelude.{◌≡◌, ℕ, ◌^◌, ◌/◌, ◌%◌, ◌<◌, nat_lt, ℤ, pos, negsuc, ◌&&◌, Bool, true, false, List, [], ◌∷◌}
-use Rattle.std.specs.Prelude.{◌++◌, Option, Some, None, option_map, option_and_then, if◌then◌else◌, IsUtf8}
+use Rattle.std.specs.Prelude.{◌++◌, Option, Some, None, option_map, option_and_then, if◌then◌else◌, IsUtf8, ◌⊎◌}
+use mathlib.Core.Logic.{inl, inr}
 use Rattle.std.specs.Option.{ok_or}
 use Rattle.std.specs.List.{list_all}
 use Rattle.serde_json.specs.Data.{Data, boolean, number, unsigned, string, array, object, Items, no_items, item, Members}
@@ -170,6 +171,31 @@ object_of fields = record {
   found = fields.found;
   is_in = fields.is_in;
   texts = fields.texts;
+}
+
+-- one of two kinds of objects, of which something in the object says which it is
+abbrev pub left_or_right : {A B : Type 0} → (Data → Option A) → (Data → Option B) → Bool → Data → Option (A ⊎ B)
+left_or_right left right true d = option_map (λ x. inl x) (left d)
+left_or_right left right false d = option_map (λ y. inr y) (right d)
+
+abbrev pub members_either : {A B : Type 0} → Fields A → Fields B → A ⊎ B → Members
+members_either left right (inl x) = left.members x
+members_either left right (inr y) = right.members y
+
+abbrev pub is_in_either : {A B : Type 0} → Fields A → Fields B → A ⊎ B → Bool
+is_in_either left right (inl x) = left.is_in x
+is_in_either left right (inr y) = right.is_in y
+
+abbrev pub texts_either : {A B : Type 0} → Fields A → Fields B → A ⊎ B → List (List ℕ)
+texts_either left right (inl x) = left.texts x
+texts_either left right (inr y) = right.texts y
+
+abbrev pub either : {A B : Type 0} → (Data → Option Bool) → Fields A → Fields B → Form (A ⊎ B)
+either is_left left right = record {
+  value = λ x. object (members_either left right x);
+  found = λ d. is_left d >>= (λ b. left_or_right left.found right.found b d);
+  is_in = is_in_either left right;
+  texts = texts_either left right;
 }
 
 -- ---- the same value in other words

@@ -3,7 +3,7 @@
 -- A capability is a member with the value true (DAP specification, `Capabilities`). What is not named, the adapter
 -- cannot do. The names stand in byte order, as the members of every object here do.
 use Rattle.std.specs.Prelude.{ℕ, List, [], ◌∷◌, true, codes}
-use Rattle.serde_json.specs.Data.{Data, boolean, object, Members, no_members, put}
+use Rattle.serde_json.specs.Data.{Data, boolean, object, Members, no_members, member}
 
 -- the names of the capabilities
 abbrev pub capabilities : List (List ℕ)
@@ -25,11 +25,11 @@ capabilities =
     ∷ codes "supportsWriteMemoryRequest"
     ∷ []
 
--- the members, and one of each name that is true
-abbrev pub with_true : List (List ℕ) → Members → Members
-with_true [] members = members
-with_true (name ∷ names) members = with_true names (put name (boolean true) members)
+-- a member of each name, that is true
+abbrev pub all_true : List (List ℕ) → Members
+all_true [] = no_members
+all_true (name ∷ names) = member name (boolean true) (all_true names)
 
 -- the body
 abbrev pub initialize_body : Data
-initialize_body = object (with_true capabilities no_members)
+initialize_body = object (all_true capabilities)

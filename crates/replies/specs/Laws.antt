@@ -12,6 +12,8 @@ use Rattle.replies.specs.declared.message.Message.TheVariants.{Response}
 use Rattle.replies.specs.declared.response.Outcome.{Outcome}
 use Rattle.replies.specs.declared.response.Outcome.TheVariants.{Done, Refused}
 use Rattle.protocol.specs.Json.{json_of}
+use Rattle.replies.specs.Bodies.{texts_in}
+use Rattle.replies.specs.Forms.{AreTexts}
 use Rattle.replies.specs.Messages.{message_data, text_of, IsProper, IsNumber}
 use Rattle.replies.specs.Reading.{IsMessage, ReadsAs, reading_of}
 
@@ -19,7 +21,7 @@ use Rattle.replies.specs.Reading.{IsMessage, ReadsAs, reading_of}
 
 -- the texts of an outcome are UTF-8
 abbrev pub HasOutcomeTexts : Outcome → Type 0
-HasOutcomeTexts (Done body) = Unit {0}
+HasOutcomeTexts (Done body) = AreTexts (texts_in body)
 HasOutcomeTexts (Refused refusal text) = IfSome text IsUtf8
 
 -- the texts of a message are UTF-8, as they are in each that a program holds

@@ -2,10 +2,36 @@
 
 -- how the values of a message stand in JSON
 pub mod Forms
+-- addresses and values of words, as texts
+pub mod Addresses
+-- ---- the bodies
 -- the body that answers `initialize`: the capabilities
 pub mod Initialize
 -- the body that answers `threads`: the one hart
 pub mod Threads
+-- the body that answers `continue`
+pub mod Continue
+-- whether a breakpoint is set
+pub mod Breakpoints
+-- the body that answers `setBreakpoints`: what became of each
+pub mod SetBreakpoints
+-- the body that answers `setInstructionBreakpoints`, likewise
+pub mod SetInstructionBreakpoints
+-- the body that answers `stackTrace`: the frames
+pub mod StackTrace
+-- the body that answers `scopes`: the groups of variables
+pub mod Scopes
+-- the body that answers `variables`: names and values
+pub mod Variables
+-- the body that answers `setVariable`: the value
+pub mod SetVariable
+-- the body that answers `evaluate`: the value
+pub mod Evaluate
+-- the body that answers `writeMemory`: how much was written
+pub mod WriteMemory
+-- the table of the bodies
+pub mod Bodies
+-- ---- the whole
 -- a response as a JSON value, and which responses are the adapter's
 pub mod Responses
 -- a message with its number, as a JSON value and as text

@@ -6,31 +6,15 @@
 -- one, else its name.
 --
 -- The members of each object stand in byte order of their names, which is where `put` puts them.
-use Rattle.std.specs.Prelude.{◌≡◌, ℕ, ◌^◌, ◌<◌, List, [], ◌∷◌, Bool, true, false, Option, Some, None, is_some, IsTrue}
-use Rattle.std.specs.Prelude.{codes}
-use Rattle.std.specs.List.{list_any}
-use Rattle.std.specs.Str.{bytes_eq}
+use Rattle.std.specs.Prelude.{◌≡◌, ℕ, ◌^◌, ◌<◌, List, Bool, true, false, Option, Some, None, is_some, codes}
 use Rattle.serde_json.specs.Data.{Data, boolean, number, unsigned, string, object, Members, no_members, member, put}
 use Rattle.protocol.specs.declared.refusal.Refusal.{Refusal}
 use Rattle.protocol.specs.Refusals.{has_text, id_of, name_of}
 use Rattle.replies.specs.declared.response.Response.{Response}
 use Rattle.replies.specs.declared.response.Outcome.{Outcome}
 use Rattle.replies.specs.declared.response.Outcome.TheVariants.{Done, Refused}
-use Rattle.replies.specs.declared.response.ResponseBody.{ResponseBody}
-use Rattle.replies.specs.declared.response.ResponseBody.TheVariants.{Initialize, Threads, Empty}
-use Rattle.replies.specs.Initialize.{initialize_body}
-use Rattle.replies.specs.Threads.{threads_body}
-
--- the body, if there is one
-abbrev pub body_data : ResponseBody → Option Data
-body_data Initialize = Some initialize_body
-body_data Threads = Some threads_body
-body_data Empty = None
-
--- the members, and a body if there is one
-abbrev pub with_body : Option Data → Members → Members
-with_body None members = members
-with_body (Some body) members = put (codes "body") body members
+use Rattle.replies.specs.Forms.{member_if}
+use Rattle.replies.specs.Bodies.{IsBodyOf, body_data, has_numbers}
 
 -- the text for people
 abbrev pub format_of : Refusal → Option (List ℕ) → List ℕ
@@ -46,20 +30,25 @@ error_data refusal text =
     no_members)))
     no_members)
 
--- the members of every response: its number, the request's number and command, and whether the request succeeded
-abbrev pub shared_members : ℕ → ℕ → List ℕ → Bool → Members
-shared_members seq request_seq command success =
-    member (codes "command") (string command)
-    (member (codes "request_seq") (number (unsigned request_seq))
+-- the members of every response that stand after its command: the request's number, its own number, and whether the
+-- request succeeded
+abbrev pub last_members : ℕ → ℕ → Bool → Members
+last_members seq request_seq success =
+    member (codes "request_seq") (number (unsigned request_seq))
     (member (codes "seq") (number (unsigned seq))
     (member (codes "success") (boolean success)
     (member (codes "type") (string (codes "response"))
-    no_members))))
+    no_members)))
+
+-- the members of every response
+abbrev pub shared_members : ℕ → ℕ → List ℕ → Bool → Members
+shared_members seq request_seq command success =
+    member (codes "command") (string command) (last_members seq request_seq success)
 
 -- a response with this number, to a request of this number and command
 abbrev pub outcome_data : ℕ → ℕ → List ℕ → Outcome → Data
 outcome_data seq request_seq command (Done body) =
-    object (with_body (body_data body) (shared_members seq request_seq command true))
+    object (member_if (codes "body") (λ d. d) (body_data body) (shared_members seq request_seq command true))
 outcome_data seq request_seq command (Refused refusal text) =
     object (put (codes "body") (error_data refusal text)
     (put (codes "message") (string (name_of refusal))
@@ -71,19 +60,9 @@ response_data seq response = outcome_data seq response.request_seq response.comm
 
 -- ---- which responses are the adapter's
 
--- the requests whose success has no body
-abbrev pub without_body : List (List ℕ)
-without_body = codes "cancel" ∷ codes "disconnect" ∷ []
-
--- the body is that of a success of this command
-abbrev pub IsBodyOf : List ℕ → ResponseBody → Type 0
-IsBodyOf command Initialize = command ≡ codes "initialize"
-IsBodyOf command Threads = command ≡ codes "threads"
-IsBodyOf command Empty = IsTrue (list_any (bytes_eq command) without_body)
-
--- the body is of its command, and a refusal has a text exactly if it is of the kind that has
+-- the body is of its command and its numbers are in range, and a refusal has a text exactly if it is of the kind that has
 abbrev pub IsOutcomeOf : List ℕ → Outcome → Type 0
-IsOutcomeOf command (Done body) = IsBodyOf command body
+IsOutcomeOf command (Done body) = IsBodyOf command body × (has_numbers body ≡ true)
 IsOutcomeOf command (Refused refusal text) = is_some text ≡ has_text refusal
 
 -- a response of the adapter: the request's number is a `u32`, and the outcome is of the command

@@ -3,15 +3,13 @@
 -- A JSON text is written one token after another (RFC 8259, section 2): a bracket, the name of a member, or a value
 -- that is neither an array nor an object. The library `json` puts the commas and the colons and escapes the texts, so
 -- what is written for the tokens of a value is the value's compact text.
-use Rattle.std.specs.Prelude.{◌≡◌, ℕ, ◌^◌, ◌<◌, List, [], ◌∷◌, ◌++◌, Bool, true, Option, Some, None, codes, decimal}
-use Rattle.std.specs.Prelude.{refl}
-use Rattle.json.specs.Token.{Token, begin_object, end_object, begin_array, end_array, key, string, number, boolean}
+use Rattle.std.specs.Prelude.{◌≡◌, ℕ, ◌^◌, ◌<◌, pos, negsuc, List, [], ◌∷◌, ◌++◌, codes, decimal, refl}
+use Rattle.json.specs.Token.{Token, begin_object, end_object, begin_array, end_array, key, string as text, number as digits}
 use Rattle.json.specs.Tree.{json_tokens}
 use Rattle.json.specs.Written.{Written}
-use Rattle.serde_json.specs.Data.{Data}
+use Rattle.serde_json.specs.Data.{Num, unsigned, negative, float, Data, null, boolean, number, string, array, object}
+use Rattle.serde_json.specs.Data.{Items, no_items, item, Members, no_members, member}
 use Rattle.serde_json.specs.Written.{outline}
-use Rattle.replies.specs.declared.message.Message.{Message}
-use Rattle.replies.specs.declared.message.Message.TheVariants.{Response}
 use Rattle.replies.specs.Threads.{threads_body}
 
 -- what a writer has written since is these tokens
@@ -19,32 +17,61 @@ pub record Appends (old new : Written) (added : List Token) : Type 0 where
   pub before : new.before ≡ old.before
   pub tokens : new.tokens ≡ old.tokens ++ added
 
--- the numbers of a message are values of their types, as they are in each that a program holds
-abbrev pub HasNumbers : Message → Type 0
-HasNumbers (Response response) = response.request_seq < 2 ^ 32
-
 -- the tokens of a value
 abbrev pub tokens_of : Data → List Token
 tokens_of value = json_tokens (outline value)
 
--- the member `body`, if there is one
-abbrev pub body_tokens : Option Data → List Token
-body_tokens None = []
-body_tokens (Some body) = key (codes "body") ∷ tokens_of body
+-- the tokens of members, without the end of their object
+abbrev pub members_tokens : Members → List Token
+members_tokens no_members = []
+members_tokens (member name value rest) = key name ∷ (tokens_of value ++ members_tokens rest)
 
--- the members of every response that stand after the others, and the end of the response
-abbrev pub last_tokens : ℕ → ℕ → Bool → List Token
-last_tokens seq request_seq success =
-    key (codes "request_seq") ∷ number (decimal request_seq)
-    ∷ key (codes "seq") ∷ number (decimal seq)
-    ∷ key (codes "success") ∷ boolean success
-    ∷ key (codes "type") ∷ string (codes "response")
-    ∷ end_object ∷ []
+-- the tokens of items, without the end of their array
+abbrev pub items_tokens : Items → List Token
+items_tokens no_items = []
+items_tokens (item value rest) = tokens_of value ++ items_tokens rest
 
--- a member of each name that is true
-abbrev pub true_tokens : List (List ℕ) → List Token
-true_tokens [] = []
-true_tokens (name ∷ names) = key name ∷ boolean true ∷ true_tokens names
+-- ---- numbers that 64 bits hold, as all have that a program writes
+
+abbrev pub IsSmallNumber : Num → Type 0
+IsSmallNumber (unsigned n) = n < 2 ^ 64
+IsSmallNumber (negative (pos n)) = ⊥
+IsSmallNumber (negative (negsuc n)) = n < 2 ^ 63
+IsSmallNumber (float x) = ⊥
+
+abbrev mutual
+  pub HasSmallNumbers : Data → Type 0
+  HasSmallNumbers null = Unit {0}
+  HasSmallNumbers (boolean b) = Unit {0}
+  HasSmallNumbers (number n) = IsSmallNumber n
+  HasSmallNumbers (string s) = Unit {0}
+  HasSmallNumbers (array ds) = ItemsHaveSmallNumbers ds
+  HasSmallNumbers (object ms) = MembersHaveSmallNumbers ms
+
+  pub ItemsHaveSmallNumbers : Items → Type 0
+  ItemsHaveSmallNumbers no_items = Unit {0}
+  ItemsHaveSmallNumbers (item d ds) = HasSmallNumbers d × ItemsHaveSmallNumbers ds
+
+  pub MembersHaveSmallNumbers : Members → Type 0
+  MembersHaveSmallNumbers no_members = Unit {0}
+  MembersHaveSmallNumbers (member k d ms) = HasSmallNumbers d × MembersHaveSmallNumbers ms
+
+-- ---- what was written
+
+-- a value
+pub record IsWritten (old new : Written) (value : Data) : Type 0 where
+  pub appends : Appends old new (tokens_of value)
+  pub small : HasSmallNumbers value
+
+-- members of an object
+pub record AreWritten (old new : Written) (members : Members) : Type 0 where
+  pub appends : Appends old new (members_tokens members)
+  pub small : MembersHaveSmallNumbers members
+
+-- items of an array
+pub record ItemsWritten (old new : Written) (items : Items) : Type 0 where
+  pub appends : Appends old new (items_tokens items)
+  pub small : ItemsHaveSmallNumbers items
 
 -- ---- an example
 
@@ -53,8 +80,8 @@ example-threads : tokens_of threads_body
     ≡ begin_object
     ∷ key (codes "threads") ∷ begin_array
     ∷ begin_object
-    ∷ key (codes "id") ∷ number (decimal 1)
-    ∷ key (codes "name") ∷ string (codes "hart 0")
+    ∷ key (codes "id") ∷ digits (decimal 1)
+    ∷ key (codes "name") ∷ text (codes "hart 0")
     ∷ end_object
     ∷ end_array
     ∷ end_object ∷ []

@@ -1,7 +1,7 @@
 //! The body that answers `initialize`: what the adapter can do.
 ghost use Rattle.std.specs.Prelude.{OnOk, map};
-ghost use Rattle.replies.specs.Initialize.{initialize_body};
-ghost use Rattle.replies.specs.Written.{Appends, tokens_of, true_tokens};
+ghost use Rattle.replies.specs.Initialize.{all_true, initialize_body};
+ghost use Rattle.replies.specs.Written.{Appends, IsWritten, members_tokens};
 
 use crate::member;
 use json::Writer;
@@ -28,7 +28,7 @@ const CAPABILITIES: &[&str] = &[
 
 /// The capabilities, each of them true.
 pub(crate) fn body(out: &mut Writer) -> Result<(), AllocError>
-    ensures { OnOk result (Appends out.old out.new (tokens_of initialize_body)) }
+    ensures { OnOk result (IsWritten out.old out.new initialize_body) }
 {
     out.begin_object()?;
     all_true(out, CAPABILITIES)?;
@@ -38,7 +38,7 @@ pub(crate) fn body(out: &mut Writer) -> Result<(), AllocError>
 /// A member of each name, each of them true.
 fn all_true(out: &mut Writer, names: &[&str]) -> Result<(), AllocError>
     ensures { OnOk result (Appends out.old out.new
-        (true_tokens (map (λ name. name.now) names.now))) }
+        (members_tokens (all_true (map (λ name. name.now) names.now)))) }
 {
     for name in names {
         member::truth(out, name, true)?;

@@ -5,15 +5,35 @@
 //! `threads`). `response` lists them.
 #![tactic(auto)]
 
+mod address;
+mod continue_;
+pub mod evaluate;
+mod find;
 mod initialize;
 pub mod laws;
 mod member;
 mod members;
 pub mod message;
+mod part;
 mod reading;
 pub mod response;
+pub mod scopes;
+pub mod set_breakpoints;
+pub mod set_instruction_breakpoints;
+pub mod set_variable;
+pub mod stack_trace;
 mod threads;
+pub mod variables;
+pub mod write_memory;
 mod writing;
 
+pub use evaluate::Evaluate;
 pub use message::{Message, read_message, write_message};
 pub use response::{Outcome, Response, ResponseBody};
+pub use scopes::{Scope, Scopes};
+pub use set_breakpoints::{SetBreakpoints, SourceBreakpoint};
+pub use set_instruction_breakpoints::{InstructionBreakpoint, SetInstructionBreakpoints};
+pub use set_variable::SetVariable;
+pub use stack_trace::{Source, StackFrame, StackTrace};
+pub use variables::{Variable, Variables};
+pub use write_memory::WriteMemory;

@@ -1,15 +1,41 @@
-//! Members of JSON objects that are no array and no object, written. Each call fails where no
-//! memory is left, and then the writer is of no more use.
-ghost use Rattle.std.specs.Prelude.{[], ◌∷◌, OnOk, decimal};
-ghost use Rattle.json.specs.Token.{key, string, number, boolean};
-ghost use Rattle.replies.specs.Written.{Appends};
+//! Members of JSON objects, written. Each call fails where no memory is left, and then the writer is
+//! of no more use.
+ghost use Rattle.std.specs.Prelude.{OnOk};
+ghost use Rattle.serde_json.specs.Data.{boolean, member, no_members, number, string, unsigned};
+ghost use Rattle.replies.specs.Addresses as addresses;
+ghost use Rattle.replies.specs.Forms.{member_if};
+ghost use Rattle.replies.specs.Written.{AreWritten};
 
+use crate::address;
+use crate::part::Part;
 use json::Writer;
 use std::alloc::AllocError;
 
+/// A member that is a part.
+pub(crate) fn part<T: Part>(out: &mut Writer, name: &str, part: &T) -> Result<(), AllocError>
+    ensures { OnOk result (AreWritten out.old out.new (member name.now (T.form.value part.now) no_members)) }
+{
+    out.key(name)?;
+    part.write(out)
+}
+
+/// A member that is a part, where it is there.
+pub(crate) fn part_if<T: Part>(
+    out: &mut Writer,
+    name: &str,
+    part: &Option<T>,
+) -> Result<(), AllocError>
+    ensures { OnOk result (AreWritten out.old out.new (member_if name.now T.form.value part.now no_members)) }
+{
+    match part {
+        Some(there) => self::part(out, name, there),
+        None => Ok(()),
+    }
+}
+
 /// A member that is a text.
 pub(crate) fn text(out: &mut Writer, name: &str, value: &str) -> Result<(), AllocError>
-    ensures { OnOk result (Appends out.old out.new (key name.now ∷ string value.now ∷ [])) }
+    ensures { OnOk result (AreWritten out.old out.new (member name.now (string value.now) no_members)) }
 {
     out.key(name)?;
     out.string(value)
@@ -17,15 +43,23 @@ pub(crate) fn text(out: &mut Writer, name: &str, value: &str) -> Result<(), Allo
 
 /// A member that is a whole number.
 pub(crate) fn number(out: &mut Writer, name: &str, value: u32) -> Result<(), AllocError>
-    ensures { OnOk result (Appends out.old out.new (key name.now ∷ number (decimal value) ∷ [])) }
+    ensures { OnOk result (AreWritten out.old out.new (member name.now (number (unsigned value)) no_members)) }
 {
     out.key(name)?;
     out.u64(u64::from(value))
 }
 
+/// A member that is a word as a text.
+pub(crate) fn address(out: &mut Writer, name: &str, value: u32) -> Result<(), AllocError>
+    ensures { OnOk result (AreWritten out.old out.new (member name.now (addresses.address.value value) no_members)) }
+{
+    out.key(name)?;
+    address::write(out, value)
+}
+
 /// A member that is a truth value.
 pub(crate) fn truth(out: &mut Writer, name: &str, value: bool) -> Result<(), AllocError>
-    ensures { OnOk result (Appends out.old out.new (key name.now ∷ boolean value ∷ [])) }
+    ensures { OnOk result (AreWritten out.old out.new (member name.now (boolean value) no_members)) }
 {
     out.key(name)?;
     out.boolean(value)

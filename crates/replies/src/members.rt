@@ -7,7 +7,7 @@ pub use protocol::members::{COMMAND, RESPONSE, SEQ, TYPE};
 pub const REQUEST_SEQ: &str = "request_seq";
 /// Whether the request succeeded (`Response.success`).
 pub const SUCCESS: &str = "success";
-/// The name of the refusal (`Response.message`).
+/// The name of the refusal (`Response.message`), why a breakpoint is not set (`Breakpoint.message`).
 pub const MESSAGE: &str = "message";
 /// What the answer is made of (`Response.body`).
 pub const BODY: &str = "body";
@@ -21,3 +21,41 @@ pub const FORMAT: &str = "format";
 pub const THREADS: &str = "threads";
 /// The name of a thread (`Thread.name`).
 pub const NAME: &str = "name";
+/// The number of a column (`StackFrame.column`).
+pub const COLUMN: &str = "column";
+/// The address at which a frame is (`StackFrame.instructionPointerReference`).
+pub const INSTRUCTION_POINTER_REFERENCE: &str = "instructionPointerReference";
+/// The number of a line (`StackFrame.line`, `Breakpoint.line`).
+pub const LINE: &str = "line";
+/// Where a source is (`Source.path`).
+pub const PATH: &str = "path";
+/// The source of a line (`StackFrame.source`).
+pub const SOURCE: &str = "source";
+/// The frames of a stopped program (`StackTraceResponse.body.stackFrames`).
+pub const STACK_FRAMES: &str = "stackFrames";
+/// How many frames there are (`StackTraceResponse.body.totalFrames`).
+pub const TOTAL_FRAMES: &str = "totalFrames";
+/// Whether every thread goes on (`ContinueResponse.body.allThreadsContinued`).
+pub const ALL_THREADS_CONTINUED: &str = "allThreadsContinued";
+/// What became of breakpoints (`SetBreakpointsResponse.body.breakpoints`).
+pub const BREAKPOINTS: &str = "breakpoints";
+/// The address of a breakpoint (`Breakpoint.instructionReference`).
+pub const INSTRUCTION_REFERENCE: &str = "instructionReference";
+/// Whether a breakpoint is set (`Breakpoint.verified`).
+pub const VERIFIED: &str = "verified";
+/// The groups of variables of a frame (`ScopesResponse.body.scopes`).
+pub const SCOPES: &str = "scopes";
+/// Whether a group of variables is expensive to show (`Scope.expensive`).
+pub const EXPENSIVE: &str = "expensive";
+/// How to show something (`Scope.presentationHint`, `DisassembledInstruction.presentationHint`).
+pub const PRESENTATION_HINT: &str = "presentationHint";
+/// The number of a group of variables, 0 for none (`Scope.variablesReference`).
+pub const VARIABLES_REFERENCE: &str = "variablesReference";
+/// Variables (`VariablesResponse.body.variables`).
+pub const VARIABLES: &str = "variables";
+/// The value of a variable (`Variable.value`).
+pub const VALUE: &str = "value";
+/// The value of an expression (`EvaluateResponse.body.result`).
+pub const RESULT: &str = "result";
+/// How many bytes were written (`WriteMemoryResponse.body.bytesWritten`).
+pub const BYTES_WRITTEN: &str = "bytesWritten";

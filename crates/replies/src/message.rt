@@ -8,12 +8,12 @@ ghost use Rattle.replies.specs.Reading.{ReadsAs, reading_of};
 
 use crate::response::Response;
 use crate::{reading, writing};
-use protocol::MessageError;
 use protocol::json::json_value;
+use protocol::{MessageError, Unread};
 use std::alloc::{AllocError, Global};
 
 /// What the adapter sends (`ProtocolMessage`).
-#[derive(Debug, Drop)]
+#[derive(Drop)]
 pub enum Message {
     /// An answer to a request.
     Response(Response),
@@ -43,8 +43,8 @@ pub fn read_message(alloc: Global, body: &[u8]) -> Result<(u32, Message), Messag
 {
     let value = json_value(alloc, body)?;
     match reading::message(alloc, &value) {
-        Ok(Some(found)) => Ok(found),
-        Ok(None) => Err(MessageError::NotAMessage),
-        Err(_) => Err(MessageError::NoMemory),
+        Ok(found) => Ok(found),
+        Err(Unread::Bad) => Err(MessageError::NotAMessage),
+        Err(Unread::NoMemory) => Err(MessageError::NoMemory),
     }
 }

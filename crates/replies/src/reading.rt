@@ -1,24 +1,27 @@
 //! Messages found in JSON values.
-ghost use Rattle.std.specs.Prelude.{◌≡◌, ◌≤◌, IfOk, IsSome, OnErr, codes, option_and_then, option_map};
+ghost use Rattle.std.specs.Prelude.{◌≡◌, ◌≤◌, IfOk, codes, option_and_then, option_map};
 ghost use Rattle.std.specs.List.{list_any};
 ghost use Rattle.std.specs.Str.{bytes_eq};
+ghost use Rattle.protocol.specs.Arguments.{Reads};
 ghost use Rattle.serde_json.specs.Data.{depth};
 ghost use Rattle.serde_json.specs.Read.{max_depth};
 ghost use Rattle.serde_json.specs.View.{view};
-ghost use Rattle.replies.specs.Claims.{number_at, seq_in, request_seq_in, text_at, body_for, error_in, refusal_in, refused_in, outcome_in, response_in, claim_in};
+ghost use Rattle.replies.specs.Bodies.{body_in, without_body};
+ghost use Rattle.replies.specs.Claims.{claim_in, error_in, number_at, outcome_in, refusal_in, refused_in, request_seq_in, response_in, seq_in, text_at};
 ghost use Rattle.replies.specs.Messages.{message_data};
 ghost use Rattle.replies.specs.Reading.{message_in};
-ghost use Rattle.replies.specs.Responses.{without_body};
 ghost use Rattle.replies.specs.Same.{is_same};
 
 use crate::members::{BODY, COMMAND, ERROR, FORMAT, ID, REQUEST_SEQ, SEQ, SUCCESS};
-use crate::{Message, Outcome, Response, ResponseBody, writing};
-use protocol::{Refusal, Text, cancel, disconnect, initialize, threads};
+use crate::{Message, Outcome, Response, ResponseBody, find, writing};
+use protocol::{
+    Refusal, Text, Unread, attach, cancel, configuration_done, continue_, disconnect, evaluate,
+    initialize, launch, next, pause, restart, scopes, set_breakpoints, set_exception_breakpoints,
+    set_instruction_breakpoints, set_variable, stack_trace, step_in, step_out, terminate, threads,
+    variables, write_memory,
+};
 use serde_json::Value;
 use std::alloc::{AllocError, Global};
-
-/// The requests whose success has no body.
-const WITHOUT_BODY: &[&str] = &[cancel::NAME, disconnect::NAME];
 
 /// The whole number of this name.
 fn number_at(value: &Value, name: &str) -> Option<u64>
@@ -51,21 +54,43 @@ fn request_seq_in(value: &Value) -> Option<u32>
 fn is_without_body(command: &str) -> bool
     ensures { result ≡ list_any (bytes_eq command.now) without_body }
 {
-    WITHOUT_BODY.contains(&command)
+    matches!(
+        command,
+        attach::NAME
+            | cancel::NAME
+            | configuration_done::NAME
+            | disconnect::NAME
+            | launch::NAME
+            | next::NAME
+            | pause::NAME
+            | restart::NAME
+            | set_exception_breakpoints::NAME
+            | step_in::NAME
+            | step_out::NAME
+            | terminate::NAME
+    )
 }
 
-/// The body of a success of this command.
-fn body_for(command: &str) -> Option<ResponseBody>
-    ensures { result ≡ body_for command.now }
+/// The body that a success of this command claims to have.
+fn body_in(alloc: Global, command: &str, value: &Value) -> Result<ResponseBody, Unread>
+    ensures { Reads result (body_in command.now (view value.now)) }
 {
-    if is_without_body(command) {
-        Some(ResponseBody::Empty)
-    } else if command == initialize::NAME {
-        Some(ResponseBody::Initialize)
-    } else if command == threads::NAME {
-        Some(ResponseBody::Threads)
-    } else {
-        None
+    match command {
+        initialize::NAME => Ok(ResponseBody::Initialize),
+        threads::NAME => Ok(ResponseBody::Threads),
+        continue_::NAME => Ok(ResponseBody::Continue),
+        set_breakpoints::NAME => Ok(ResponseBody::SetBreakpoints(find::part(alloc, value, BODY)?)),
+        set_instruction_breakpoints::NAME => Ok(ResponseBody::SetInstructionBreakpoints(find::part(
+            alloc, value, BODY,
+        )?)),
+        stack_trace::NAME => Ok(ResponseBody::StackTrace(find::part(alloc, value, BODY)?)),
+        scopes::NAME => Ok(ResponseBody::Scopes(find::part(alloc, value, BODY)?)),
+        variables::NAME => Ok(ResponseBody::Variables(find::part(alloc, value, BODY)?)),
+        set_variable::NAME => Ok(ResponseBody::SetVariable(find::part(alloc, value, BODY)?)),
+        evaluate::NAME => Ok(ResponseBody::Evaluate(find::part(alloc, value, BODY)?)),
+        write_memory::NAME => Ok(ResponseBody::WriteMemory(find::part(alloc, value, BODY)?)),
+        name if is_without_body(name) => Ok(ResponseBody::Empty),
+        _ => Err(Unread::Bad),
     }
 }
 
@@ -85,82 +110,64 @@ fn refusal_in(value: &Value) -> Option<Refusal>
 
 /// The text that a response says for people.
 fn format_in(value: &Value) -> Option<&str>
-    ensures { option_map (λ text. text.now) result ≡ option_and_then (text_at (codes "format")) (error_in (view value.now)) }
+    ensures { option_map (λ text. text.now) result
+        ≡ option_and_then (text_at (codes "format")) (error_in (view value.now)) }
 {
     error_in(value)?.get(FORMAT)?.as_str()
 }
 
 /// The refusal that a response says, with its text.
-fn refused_in(alloc: Global, value: &Value) -> Result<Option<Outcome>, AllocError>
-    ensures claims { IfOk result (λ o. o ≡ refused_in (view value.now)) }
-    ensures memory { OnErr result (IsSome (refused_in (view value.now))) }
+fn refused_in(alloc: Global, value: &Value) -> Result<Outcome, Unread>
+    ensures { Reads result (refused_in (view value.now)) }
 {
-    let Some(refusal) = refusal_in(value) else {
-        return Ok(None);
-    };
+    let refusal = refusal_in(value).ok_or(Unread::Bad)?;
     if !refusal.has_text() {
-        return Ok(Some(Outcome::Refused(refusal, None)));
+        return Ok(Outcome::Refused(refusal, None));
     }
-    let Some(text) = format_in(value) else {
-        return Ok(None);
-    };
+    let text = format_in(value).ok_or(Unread::Bad)?;
     let text = Text::from_string(String::from_str(alloc, text)?);
-    Ok(Some(Outcome::Refused(refusal, Some(text))))
+    Ok(Outcome::Refused(refusal, Some(text)))
 }
 
 /// What became of a request of this command.
-fn outcome_in(
-    alloc: Global,
-    command: &str,
-    value: &Value,
-    success: bool,
-) -> Result<Option<Outcome>, AllocError>
-    ensures claims { IfOk result (λ o. o ≡ outcome_in command.now (view value.now) success) }
-    ensures memory { OnErr result (IsSome (outcome_in command.now (view value.now) success)) }
+fn outcome_in(alloc: Global, command: &str, value: &Value, success: bool) -> Result<Outcome, Unread>
+    ensures { Reads result (outcome_in command.now (view value.now) success) }
 {
     if success {
-        Ok(body_for(command).map(Outcome::Done))
+        Ok(Outcome::Done(body_in(alloc, command, value)?))
     } else {
         refused_in(alloc, value)
     }
 }
 
 /// The response that a value claims to be.
-fn response_in(alloc: Global, value: &Value) -> Result<Option<Response>, AllocError>
-    ensures claims { IfOk result (λ o. o ≡ response_in (view value.now)) }
-    ensures memory { OnErr result (IsSome (response_in (view value.now))) }
+fn response_in(alloc: Global, value: &Value) -> Result<Response, Unread>
+    ensures { Reads result (response_in (view value.now)) }
 {
-    let Some(request_seq) = request_seq_in(value) else {
-        return Ok(None);
-    };
-    let Some(command) = value.get(COMMAND).and_then(Value::as_str) else {
-        return Ok(None);
-    };
-    let Some(success) = value.get(SUCCESS).and_then(Value::as_bool) else {
-        return Ok(None);
-    };
-    let Some(outcome) = outcome_in(alloc, command, value, success)? else {
-        return Ok(None);
-    };
-    Ok(Some(Response {
+    let request_seq = request_seq_in(value).ok_or(Unread::Bad)?;
+    let command = value
+        .get(COMMAND)
+        .and_then(Value::as_str)
+        .ok_or(Unread::Bad)?;
+    let success = value
+        .get(SUCCESS)
+        .and_then(Value::as_bool)
+        .ok_or(Unread::Bad)?;
+    let outcome = outcome_in(alloc, command, value, success)?;
+    Ok(Response {
         request_seq,
         command: Text::from_string(String::from_str(alloc, command)?),
         outcome,
-    }))
+    })
 }
 
 /// The number and the message that a value claims to be.
-fn claim_in(alloc: Global, value: &Value) -> Result<Option<(u32, Message)>, AllocError>
-    ensures claims { IfOk result (λ o. o ≡ claim_in (view value.now)) }
-    ensures memory { OnErr result (IsSome (claim_in (view value.now))) }
+fn claim_in(alloc: Global, value: &Value) -> Result<(u32, Message), Unread>
+    ensures { Reads result (claim_in (view value.now)) }
 {
-    let Some(seq) = seq_in(value) else {
-        return Ok(None);
-    };
-    let Some(response) = response_in(alloc, value)? else {
-        return Ok(None);
-    };
-    Ok(Some((seq, Message::Response(response))))
+    let seq = seq_in(value).ok_or(Unread::Bad)?;
+    let response = response_in(alloc, value)?;
+    Ok((seq, Message::Response(response)))
 }
 
 /// Whether the value is that of the message with this number. It is exactly where their compact
@@ -174,18 +181,15 @@ fn is_same(alloc: Global, value: &Value, seq: u32, message: &Message) -> Result<
     Ok(text.as_slice() == written.as_slice())
 }
 
-/// The number and the message that a value is, if it is one.
-pub(crate) fn message(alloc: Global, value: &Value) -> Result<Option<(u32, Message)>, AllocError>
+/// The number and the message that a value is; `Bad` where it is none.
+pub(crate) fn message(alloc: Global, value: &Value) -> Result<(u32, Message), Unread>
     requires { depth (view value.now) ≤ max_depth }
-    ensures reads { IfOk result (λ o. o ≡ message_in (view value.now)) }
-    ensures memory { OnErr result (IsSome (claim_in (view value.now))) }
+    ensures { Reads result (message_in (view value.now)) }
 {
-    let Some((seq, message)) = claim_in(alloc, value)? else {
-        return Ok(None);
-    };
+    let (seq, message) = claim_in(alloc, value)?;
     if is_same(alloc, value, seq, &message)? {
-        Ok(Some((seq, message)))
+        Ok((seq, message))
     } else {
-        Ok(None)
+        Err(Unread::Bad)
     }
 }

@@ -3,23 +3,45 @@ ghost use Rattle.std.specs.Prelude.{◌≡◌, None, IfOk};
 ghost use Rattle.protocol.specs.Commands.{name_of};
 ghost use Rattle.replies.specs.declared.response.Response as declared;
 
+use crate::{
+    Evaluate, Scopes, SetBreakpoints, SetInstructionBreakpoints, SetVariable, StackTrace,
+    Variables, WriteMemory,
+};
 use protocol::{Refusal, Request, Text};
 use std::alloc::{AllocError, Global};
 
 /// The body of a success, one variant for each body and named by its request. What the protocol's
 /// profile fixes has no fields.
-#[derive(Debug, Drop)]
+#[derive(Drop)]
 pub enum ResponseBody {
     /// What the adapter can do (`InitializeResponse`).
     Initialize,
     /// Which threads there are (`ThreadsResponse`).
     Threads,
+    /// That every thread goes on (`ContinueResponse`).
+    Continue,
+    /// What became of the breakpoints of a source (`SetBreakpointsResponse`).
+    SetBreakpoints(SetBreakpoints),
+    /// What became of the breakpoints at instructions (`SetInstructionBreakpointsResponse`).
+    SetInstructionBreakpoints(SetInstructionBreakpoints),
+    /// The frames of a stopped program (`StackTraceResponse`).
+    StackTrace(StackTrace),
+    /// The groups of variables of a frame (`ScopesResponse`).
+    Scopes(Scopes),
+    /// Variables (`VariablesResponse`).
+    Variables(Variables),
+    /// The value of a variable that was set (`SetVariableResponse`).
+    SetVariable(SetVariable),
+    /// The value of an expression (`EvaluateResponse`).
+    Evaluate(Evaluate),
+    /// How much was written to memory (`WriteMemoryResponse`).
+    WriteMemory(WriteMemory),
     /// No body: an acknowledgement.
     Empty,
 }
 
 /// What became of a request.
-#[derive(Debug, Drop)]
+#[derive(Drop)]
 pub enum Outcome {
     /// It succeeded, with this body.
     Done(ResponseBody),
@@ -28,7 +50,7 @@ pub enum Outcome {
 }
 
 /// An answer to a request (`Response`).
-#[derive(Debug, Drop)]
+#[derive(Drop)]
 pub struct Response {
     /// The number of the request.
     pub request_seq: u32,

@@ -1,7 +1,7 @@
 //! The body that answers `threads`: which threads there are.
 ghost use Rattle.std.specs.Prelude.{OnOk};
 ghost use Rattle.replies.specs.Threads.{threads_body};
-ghost use Rattle.replies.specs.Written.{Appends, tokens_of};
+ghost use Rattle.replies.specs.Written.{IsWritten};
 
 use crate::member;
 use crate::members::{ID, NAME, THREADS};
@@ -10,7 +10,7 @@ use std::alloc::AllocError;
 
 /// The one thread of the machine (`Thread`), which is its hart.
 pub(crate) fn body(out: &mut Writer) -> Result<(), AllocError>
-    ensures { OnOk result (Appends out.old out.new (tokens_of threads_body)) }
+    ensures { OnOk result (IsWritten out.old out.new threads_body) }
 {
     out.begin_object()?;
     out.key(THREADS)?;

@@ -1,14 +1,17 @@
 //! Messages written as compact JSON, member by member into one buffer.
-ghost use Rattle.std.specs.Prelude.{◌≡◌, ◌^◌, ◌<◌, Some, IfOk, OnOk};
+ghost use Rattle.std.specs.Prelude.{◌≡◌, Some, IfOk, OnOk, codes};
+ghost use Rattle.serde_json.specs.Data.{no_members};
 ghost use Rattle.protocol.specs.Json.{json_of};
 ghost use Rattle.replies.specs.Messages.{message_data, text_of};
-ghost use Rattle.replies.specs.Responses.{response_data, outcome_data, body_data, error_data, format_of};
-ghost use Rattle.replies.specs.Written.{Appends, HasNumbers, tokens_of, body_tokens, last_tokens};
+ghost use Rattle.replies.specs.Bodies.{body_data};
+ghost use Rattle.replies.specs.Forms.{member_if};
+ghost use Rattle.replies.specs.Responses.{response_data, outcome_data, error_data, format_of, last_members};
+ghost use Rattle.replies.specs.Written.{AreWritten, IsWritten};
 
 use crate::members::{
     BODY, COMMAND, ERROR, FORMAT, ID, MESSAGE, REQUEST_SEQ, RESPONSE, SEQ, SUCCESS, TYPE,
 };
-use crate::{Message, Outcome, Response, ResponseBody, initialize, member, threads};
+use crate::{Message, Outcome, Response, ResponseBody, continue_, initialize, member, threads};
 use json::Writer;
 use protocol::{Refusal, Text};
 use std::alloc::{AllocError, Global};
@@ -29,9 +32,7 @@ pub(crate) fn message(alloc: Global, seq: u32, message: &Message) -> Result<Vec<
 /// The message with this number, written. As each function below, it fails where no memory is
 /// left, and then the writer is of no more use.
 fn write(out: &mut Writer, seq: u32, message: &Message) -> Result<(), AllocError>
-    ensures tokens { OnOk result (Appends out.old out.new
-        (tokens_of (message_data seq message.now))) }
-    ensures numbers { OnOk result (HasNumbers message.now) }
+    ensures { OnOk result (IsWritten out.old out.new (message_data seq message.now)) }
 {
     match message {
         Message::Response(response) => write_response(out, seq, response),
@@ -40,9 +41,7 @@ fn write(out: &mut Writer, seq: u32, message: &Message) -> Result<(), AllocError
 
 /// The response with this number.
 fn write_response(out: &mut Writer, seq: u32, response: &Response) -> Result<(), AllocError>
-    ensures tokens { OnOk result (Appends out.old out.new
-        (tokens_of (response_data seq response.now))) }
-    ensures numbers { OnOk result (response.now.request_seq < 2 ^ 32) }
+    ensures { OnOk result (IsWritten out.old out.new (response_data seq response.now)) }
 {
     let request_seq = response.request_seq;
     let command = response.command.as_str();
@@ -62,13 +61,13 @@ fn success(
     command: &str,
     body: &ResponseBody,
 ) -> Result<(), AllocError>
-    ensures { OnOk result (Appends out.old out.new
-        (tokens_of (outcome_data seq request_seq command.now (Outcome.Done body.now)))) }
+    ensures { OnOk result (IsWritten out.old out.new (outcome_data seq request_seq command.now (Outcome.Done body.now))) }
 {
     out.begin_object()?;
     write_body(out, body)?;
     member::text(out, COMMAND, command)?;
-    last_members(out, seq, request_seq, true)
+    last_members(out, seq, request_seq, true)?;
+    out.end_object()
 }
 
 /// The response with this number to the request of this number and command, which was refused.
@@ -80,36 +79,35 @@ fn refused(
     refusal: Refusal,
     text: &Option<Text>,
 ) -> Result<(), AllocError>
-    ensures { OnOk result (Appends out.old out.new
-        (tokens_of (outcome_data seq request_seq command.now (Outcome.Refused refusal text.now)))) }
+    ensures { OnOk result (IsWritten out.old out.new (outcome_data seq request_seq command.now (Outcome.Refused refusal text.now))) }
 {
     out.begin_object()?;
     out.key(BODY)?;
     error(out, refusal, text)?;
     member::text(out, COMMAND, command)?;
     member::text(out, MESSAGE, refusal.name())?;
-    last_members(out, seq, request_seq, false)
+    last_members(out, seq, request_seq, false)?;
+    out.end_object()
 }
 
-/// The members of every response that stand after the others, and the end of the response.
+/// The members of every response that stand after the others.
 fn last_members(
     out: &mut Writer,
     seq: u32,
     request_seq: u32,
     success: bool,
 ) -> Result<(), AllocError>
-    ensures { OnOk result (Appends out.old out.new (last_tokens seq request_seq success)) }
+    ensures { OnOk result (AreWritten out.old out.new (last_members seq request_seq success)) }
 {
     member::number(out, REQUEST_SEQ, request_seq)?;
     member::number(out, SEQ, seq)?;
     member::truth(out, SUCCESS, success)?;
-    member::text(out, TYPE, RESPONSE)?;
-    out.end_object()
+    member::text(out, TYPE, RESPONSE)
 }
 
 /// The member that is the body, if there is one.
 fn write_body(out: &mut Writer, body: &ResponseBody) -> Result<(), AllocError>
-    ensures { OnOk result (Appends out.old out.new (body_tokens (body_data body.now))) }
+    ensures { OnOk result (AreWritten out.old out.new (member_if (codes "body") (λ d. d) (body_data body.now) no_members)) }
 {
     match body {
         ResponseBody::Initialize => {
@@ -120,13 +118,25 @@ fn write_body(out: &mut Writer, body: &ResponseBody) -> Result<(), AllocError>
             out.key(BODY)?;
             threads::body(out)
         }
+        ResponseBody::Continue => {
+            out.key(BODY)?;
+            continue_::body(out)
+        }
+        ResponseBody::SetBreakpoints(body) => member::part(out, BODY, body),
+        ResponseBody::SetInstructionBreakpoints(body) => member::part(out, BODY, body),
+        ResponseBody::StackTrace(body) => member::part(out, BODY, body),
+        ResponseBody::Scopes(body) => member::part(out, BODY, body),
+        ResponseBody::Variables(body) => member::part(out, BODY, body),
+        ResponseBody::SetVariable(body) => member::part(out, BODY, body),
+        ResponseBody::Evaluate(body) => member::part(out, BODY, body),
+        ResponseBody::WriteMemory(body) => member::part(out, BODY, body),
         ResponseBody::Empty => Ok(()),
     }
 }
 
 /// The body of a refusal.
 fn error(out: &mut Writer, refusal: Refusal, text: &Option<Text>) -> Result<(), AllocError>
-    ensures { OnOk result (Appends out.old out.new (tokens_of (error_data refusal text.now))) }
+    ensures { OnOk result (IsWritten out.old out.new (error_data refusal text.now)) }
 {
     out.begin_object()?;
     out.key(ERROR)?;

@@ -1,5 +1,4 @@
 pub mod Fields
-pub mod Below
 pub mod Registers
 pub mod Said
 pub mod Labelling

@@ -14,7 +14,7 @@ use Rattle.statements.specs.Numbers.{bits_by, bits_in, bits_within, magnitude, m
 use Rattle.statements.specs.Operands.{immediate_in, is_operand}
 use Rattle.statements.specs.Spelling.{stripped}
 use Rattle.statements.specs.declared.number.Number.{Number}
-use Rattle.statements.proofs.Below.{all_below, all_below_at}
+use Rattle.byte_strings.proofs.Below.{all_below, all_below_at}
 use Rattle.byte_strings.proofs.Conjunctions.{and_left}
 use Rattle.statements.proofs.Solid.{Solid, all_weaker, is_solid}
 use Rattle.byte_strings.proofs.Conjunctions.{and_both}

@@ -10,7 +10,7 @@ use Rattle.statements.specs.Operands.{index_of, register_of}
 use Rattle.std.specs.Str.{bytes_eq, IsUtf8}
 use Rattle.std.proofs.lemmas.Str.{IsUtf8-from_ascii}
 use Rattle.statements.specs.Spelling.{begins_name, is_name, is_name_byte, named}
-use Rattle.statements.proofs.Below.{all_below, all_below_at}
+use Rattle.byte_strings.proofs.Below.{all_below, all_below_at}
 
 name_byte_small : (b : ℕ) → is_name_byte b ≡ true → b < 128
 name_byte_small b h = grind (arith, nat_tests)

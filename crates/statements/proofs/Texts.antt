@@ -43,7 +43,7 @@ use Rattle.statements.specs.declared.statement.Statement.TheVariants as say
 use Rattle.statements.specs.declared.statement.Target.TheVariants.{Address}
 use Rattle.statements.specs.declared.mnemonics.Mnemonic.{Mnemonic}
 use Rattle.statements.specs.declared.mnemonics.Mnemonic.TheVariants.{Registers, Immediate, Shift, Load, Store, Branch, LoadUpper, AddUpper, JumpAndLink, JumpAndLinkRegister, Fence, Data}
-use Rattle.statements.proofs.Below.{all_below, all_below_at}
+use Rattle.byte_strings.proofs.Below.{all_below, all_below_at}
 use Rattle.statements.proofs.Numerals.{High, IsImmediate, decimal_read, hex_high, hex_read, high_prefix, high_no_bracket, high_solid, immediate_is, is_high, turned_down, writes_decimal, writes_eight, writes_hex, writes_high}
 use Rattle.statements.proofs.Registers.{register_named}
 use Rattle.byte_strings.proofs.Conjunctions.{and_left, and_right}

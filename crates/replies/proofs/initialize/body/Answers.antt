@@ -1,7 +1,13 @@
-use Rattle.std.proofs.lemmas.Result.{on_ok_weaker}
-use Rattle.replies.proofs.Appending.{Appends-then, Appends-token, Appends-last}
+use Rattle.std.proofs.Common.{ℕ, List, [], ◌∷◌}
+use Rattle.replies.specs.Initialize.{all_true, capabilities}
+use Rattle.replies.specs.Written.{MembersHaveSmallNumbers}
+use Rattle.replies.proofs.Appending.{object_written}
 use Rattle.replies.proofs.initialize.body.Goals as goal
 
+-- there is no number in it
+small : (names : List (List ℕ)) → MembersHaveSmallNumbers (all_true names)
+small [] = tt
+small (name ∷ names) = (tt, small names)
+
 pub returns : goal.returns
-returns c =
-    on_ok_weaker c.end_object.result (λ end. Appends-token c.in_ok-begin_object.ensures (Appends-then c.in_ok-all_true.ensures end)) (Appends-last c.end_object.result c.end_object.ensures)
+returns c = object_written c.end_object.result c.in_ok-begin_object.ensures (record { appends = c.in_ok-all_true.ensures; small = small capabilities }) c.end_object.ensures

@@ -1,16 +1,10 @@
-use Rattle.std.proofs.lemmas.Result.{on_ok_weaker}
-use Rattle.replies.proofs.Appending.{Appends-then, Appends-token, Appends-last}
+use Rattle.replies.proofs.Appending.{object_written, object_is_written, member_written, array_is_written, item_then, no_item, and_then}
 use Rattle.replies.proofs.threads.body.Goals as goal
 
 pub returns : goal.returns
 returns c =
-    on_ok_weaker c.end_object-2.result
-    (λ end.
-    Appends-token c.in_ok-begin_object.ensures
-    (Appends-token c.in_ok-key.ensures
-    (Appends-token c.in_ok-begin_array.ensures
-    (Appends-token c.in_ok-begin_object-2.ensures
-    (Appends-then c.in_ok-number.ensures
-    (Appends-then c.in_ok-text.ensures
-    (Appends-token c.in_ok-end_object.ensures
-    (Appends-token c.in_ok-end_array.ensures end)))))))) (Appends-last c.end_object-2.result c.end_object-2.ensures)
+    object_written c.end_object-2.result c.in_ok-begin_object.ensures
+    (member_written c.in_ok-key.ensures
+    (array_is_written c.in_ok-begin_array.ensures
+    (item_then (object_is_written c.in_ok-begin_object-2.ensures (and_then c.in_ok-number.ensures c.in_ok-text.ensures) c.in_ok-end_object.ensures) no_item)
+    c.in_ok-end_array.ensures)) c.end_object-2.ensures

@@ -1,13 +1,10 @@
-use Rattle.std.proofs.lemmas.Result.{on_ok_weaker}
-use Rattle.replies.proofs.Appending.{Appends-then, Appends-token, Appends-last}
+use Rattle.replies.proofs.Appending.{object_written, object_is_written, and_then, member_written}
 use Rattle.replies.proofs.writing.error.Goals as goal
 
 pub returns : goal.returns
 returns c =
     let format = rw c.format_of.ensures at c.in_ok-text.ensures in
     let id = rw c.id.ensures at c.in_ok-number.ensures in
-    on_ok_weaker c.end_object-2.result
-    (λ end.
-    Appends-token c.in_ok-begin_object.ensures
-    (Appends-token c.in_ok-key.ensures
-    (Appends-token c.in_ok-begin_object-2.ensures (Appends-then format (Appends-then id (Appends-token c.in_ok-end_object.ensures end)))))) (Appends-last c.end_object-2.result c.end_object-2.ensures)
+    object_written c.end_object-2.result c.in_ok-begin_object.ensures
+    (member_written c.in_ok-key.ensures (object_is_written c.in_ok-begin_object-2.ensures (and_then format id) c.in_ok-end_object.ensures))
+    c.end_object-2.ensures

@@ -5,10 +5,10 @@ use Rattle.replies.proofs.writing.message.Goals as goal
 pub returns-clause-text : goal.returns-clause-text
 returns-clause-text c =
     let empty = c.new-out.ensures.before ∙ c.in_ok-with_capacity.ensures.items in
-    compact_text-Holds _ _ _ (Holds-Appends _ _ _ _ empty c.new-out.ensures.tokens c.in_ok-write.ensures.tokens c.into_inner.ensures.items)
+    compact_text-Holds _ _ _ (Holds-Appends _ _ _ _ empty c.new-out.ensures.tokens c.in_ok-write.ensures.appends c.into_inner.ensures.items)
 
 pub returns-clause-value : goal.returns-clause-value
 returns-clause-value c =
     let empty = c.new-out.ensures.before ∙ c.in_ok-with_capacity.ensures.items in
-    let all = Holds-Appends _ _ _ _ empty c.new-out.ensures.tokens c.in_ok-write.ensures.tokens c.into_inner.ensures.items in
-    json_of-Holds _ _ c.args.seq _ all c.into_inner.ensures.reads_back c.into_inner.ensures.utf8 c.ranges.seq.fits c.in_ok-write.ensures.numbers
+    let all = Holds-Appends _ _ _ _ empty c.new-out.ensures.tokens c.in_ok-write.ensures.appends c.into_inner.ensures.items in
+    json_of-Holds _ _ c.args.seq _ all c.into_inner.ensures.reads_back c.into_inner.ensures.utf8 c.in_ok-write.ensures.small

@@ -1,0 +1,74 @@
+//! What the members of a JSON object are taken for, each looked up by its name.
+ghost use Rattle.std.specs.Prelude.{option_and_then};
+ghost use Rattle.protocol.specs.Arguments.{Reads};
+ghost use Rattle.serde_json.specs.Find.{get};
+ghost use Rattle.serde_json.specs.View.{view};
+ghost use Rattle.replies.specs.Addresses as addresses;
+ghost use Rattle.replies.specs.Forms as forms;
+
+use crate::part::Part;
+use protocol::{Text, Unread};
+use serde_json::Value;
+use std::alloc::Global;
+
+/// The member that is a part.
+pub(crate) fn part<T: Part>(alloc: Global, value: &Value, name: &str) -> Result<T, Unread>
+    ensures { Reads result (option_and_then T.form.found (get name.now (view value.now))) }
+{
+    match value.get(name) {
+        Some(member) => T::read(alloc, member),
+        None => Err(Unread::Bad),
+    }
+}
+
+/// The member that is a part, where it is there.
+pub(crate) fn part_if<T: Part>(
+    alloc: Global,
+    value: &Value,
+    name: &str,
+) -> Result<Option<T>, Unread>
+    ensures { Reads result (forms.found_if T.form.found (get name.now (view value.now))) }
+{
+    match value.get(name) {
+        Some(member) => Ok(Some(T::read(alloc, member)?)),
+        None => Ok(None),
+    }
+}
+
+/// The member that is a whole number of 32 bits.
+pub(crate) fn number(value: &Value, name: &str) -> Result<u32, Unread>
+    ensures { Reads result (option_and_then forms.whole.found (get name.now (view value.now))) }
+{
+    let number = value.get(name).and_then(Value::as_u64).ok_or(Unread::Bad)?;
+    if number < 1 << 32 {
+        Ok(number as u32)
+    } else {
+        Err(Unread::Bad)
+    }
+}
+
+/// The member that is a truth value.
+pub(crate) fn truth(value: &Value, name: &str) -> Result<bool, Unread>
+    ensures { Reads result (option_and_then forms.truth.found (get name.now (view value.now))) }
+{
+    value.get(name).and_then(Value::as_bool).ok_or(Unread::Bad)
+}
+
+/// The member that is a text.
+pub(crate) fn text(alloc: Global, value: &Value, name: &str) -> Result<Text, Unread>
+    ensures { Reads result (option_and_then forms.text.found (get name.now (view value.now))) }
+{
+    let text = value.get(name).and_then(Value::as_str).ok_or(Unread::Bad)?;
+    Ok(Text::from_string(String::from_str(alloc, text)?))
+}
+
+/// The member that is a word as a text.
+pub(crate) fn address(value: &Value, name: &str) -> Result<u32, Unread>
+    ensures { Reads result (option_and_then addresses.address.found (get name.now (view value.now))) }
+{
+    let text = value.get(name).and_then(Value::as_str).ok_or(Unread::Bad)?;
+    match numerals::magnitude(text.as_bytes()) {
+        Ok(word) => Ok(word),
+        Err(_) => Err(Unread::Bad),
+    }
+}
