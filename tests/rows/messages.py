@@ -124,8 +124,26 @@ REFUSALS = (
     ("UnknownCommand", "unknownCommand", 1),
     ("BadArguments", "badArguments", 2),
     ("WrongPhase", "wrongPhase", 3),
+    ("NoMachine", "noMachine", 22),
+    ("Ended", "ended", 18),
+    ("NoThread", "noThread", 7),
+    ("NotStopped", "notStopped", 4),
+    ("UnknownReference", "unknownReference", 9),
+    ("StaleReference", "staleReference", 8),
+    ("BadMemoryReference", "badMemoryReference", 13),
+    ("TooMuch", "tooMuch", 15),
+    ("OutsideMemory", "outsideMemory", 14),
+    ("UnknownName", "unknownName", 10),
+    ("NotWritable", "notWritable", 12),
+    ("BadExpression", "badExpression", 16),
+    ("BadValue", "badValue", 11),
+    ("AssemblyFailed", "assemblyFailed", 17),
+    ("ReferencesExhausted", "referencesExhausted", 19),
     ("RequestGone", "requestGone", 20),
+    ("FileUnreadable", "fileUnreadable", 21),
 )
+# Those whose format is their name.
+NAMED_REFUSALS = [row for row in REFUSALS if row[0] != "AssemblyFailed"]
 
 INITIALIZE_TEXT = CAPABILITIES % (1, 1)
 THREADS_TEXT = THREADS % (2, 2)
@@ -263,7 +281,7 @@ RESPONSES = [
         *written(1, refuse(1, "threads", "WrongPhase"), REFUSED_TEXT),
     ], PROFILE),
     Row("each refusal has its text", [
-        step for variant, name, number in REFUSALS
+        step for variant, name, number in NAMED_REFUSALS
         for step in written(3, refuse(5, "threads", variant), refusal_text(name, number, "threads", 5, 3))
     ], PROFILE),
     Row("parts of what is read", [
@@ -319,6 +337,14 @@ RESPONSES = [
     Row("bodies that are no JSON", [no_message(body, "NotJson") for body in (b'', b'{', b'{"seq":01}', b'"\xff"')], JSON),
     Row("answers name their request", [step for name in ("initialize", "threads", "cancel", "disconnect") for step in (
         success(7, name, "Threads"), refuse(7, name, "BadArguments"), ack(7, name))], PROFILE),
+    Row("the text of a program's error is read and written", [
+        *written(3, refused(2, "launch", "AssemblyFailed", spelled("line 1: Undefined")),
+                 '{"body":{"error":{"format":"line 1: Undefined","id":17}},"command":"launch","message":"assemblyFailed",'
+                 '"request_seq":2,"seq":3,"success":false,"type":"response"}'),
+        *written(3, refused(2, "launch", "AssemblyFailed", spelled("assemblyFailed")), refusal_text("assemblyFailed", 17, "launch", 2, 3)),
+        no_message('{"body":{"error":{"id":17}},"command":"launch","message":"assemblyFailed",'
+                   '"request_seq":2,"seq":3,"success":false,"type":"response"}'),
+    ], PROFILE),
     Row("a refusal with a text shows it", [
         refused(5, "quit", "UnknownCommand", spelled("no such request")),
         write(4, '{"body":{"error":{"format":"no such request","id":1}},"command":"quit",'
@@ -400,7 +426,7 @@ GREATEST_SIZES = [
         *written(GREATEST, success(GREATEST, "threads", "Threads"), THREADS % (GREATEST, GREATEST)),
         *written(GREATEST, ack(GREATEST, "cancel"), CANCELLED % (GREATEST, GREATEST)),
         *written(GREATEST, ack(GREATEST, "disconnect"), DISCONNECTED % (GREATEST, GREATEST)),
-        *(step for variant, name, number in REFUSALS for step in written(
+        *(step for variant, name, number in NAMED_REFUSALS for step in written(
             GREATEST, refuse(GREATEST, "disconnect", variant), refusal_text(name, number, "disconnect", GREATEST, GREATEST))),
     ], PROFILE),
     Row("numbers beyond those of messages are written, and not read", [

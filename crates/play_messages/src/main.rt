@@ -2,6 +2,7 @@
 #![tactic(auto)]
 
 mod arguments;
+mod bodies;
 mod errors;
 mod requests;
 mod responses;

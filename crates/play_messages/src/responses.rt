@@ -1,5 +1,6 @@
 //! Responses as they are shown.
 
+use crate::bodies::shown_body;
 use crate::errors::refusal_named;
 use play::{Fault, bytes_of, hexadecimal, parsed};
 use protocol::Text;
@@ -11,7 +12,10 @@ pub(crate) fn shown_response(alloc: Global, response: &Response) -> Result<Strin
     let seq = response.request_seq;
     let name = hexadecimal(alloc, response.command.as_str().as_bytes())?;
     let outcome = match &response.outcome {
-        Outcome::Done(body) => format!(in alloc; "done {body:?}")?,
+        Outcome::Done(body) => {
+            let body = shown_body(alloc, body)?;
+            format!(in alloc; "done {body}")?
+        }
         Outcome::Refused(refusal, None) => format!(in alloc; "refused {refusal:?} none")?,
         Outcome::Refused(refusal, Some(text)) => {
             let text = hexadecimal(alloc, text.as_str().as_bytes())?;
@@ -49,11 +53,12 @@ pub(crate) fn refused(
     })
 }
 
-/// The body of this name.
+/// The body of this name, of those that are always the same.
 pub(crate) fn body_named(name: &str) -> Result<ResponseBody, Fault> {
     match name {
         "Initialize" => Ok(ResponseBody::Initialize),
         "Threads" => Ok(ResponseBody::Threads),
+        "Continue" => Ok(ResponseBody::Continue),
         "Empty" => Ok(ResponseBody::Empty),
         _ => Err(Fault::NoCommand),
     }
