@@ -5,7 +5,7 @@
 -- known one are bad where they are no object, or where one that is required is absent, or one that is looked at has
 -- another type than the schema's or is a number out of range.
 use Rattle.std.specs.Prelude.{◌≡◌, ℕ, List, [], ◌∷◌, ◌++◌, Option, Some, None, option_map, option_and_then, Result}
-use Rattle.std.specs.Prelude.{Ok, Err, ok_or, bytes_eq, true, codes, refl, if◌then◌else◌}
+use Rattle.std.specs.Prelude.{Ok, Err, map, ok_or, bytes_eq, true, codes, refl, if◌then◌else◌}
 use Rattle.serde_json.specs.Data.{Data, array, no_items, Members}
 use Rattle.protocol.specs.Arguments.{arguments_members}
 use Rattle.protocol.specs.Initialize.{initialize_arguments}
@@ -119,6 +119,16 @@ inspection_requests = row STACK_TRACE.now stack_trace_arguments (λ a. StackTrac
 -- the requests
 abbrev pub requests : List Row
 requests = session_requests ++ (execution_requests ++ inspection_requests)
+
+their_names : map (λ r. r.name) requests
+    ≡ codes "initialize" ∷ codes "launch" ∷ codes "attach" ∷ codes "configurationDone" ∷ codes "threads"
+    ∷ codes "cancel" ∷ codes "restart" ∷ codes "terminate" ∷ codes "disconnect" ∷ codes "setBreakpoints"
+    ∷ codes "setInstructionBreakpoints" ∷ codes "setExceptionBreakpoints" ∷ codes "continue" ∷ codes "next"
+    ∷ codes "stepIn" ∷ codes "stepOut" ∷ codes "pause" ∷ codes "stackTrace" ∷ codes "scopes"
+    ∷ codes "variables" ∷ codes "setVariable" ∷ codes "evaluate" ∷ codes "disassemble" ∷ codes "readMemory"
+    ∷ codes "writeMemory" ∷ []
+unfolding execution_requests inspection_requests
+their_names = refl
 
 -- the command of that name among the requests, by the members of its arguments (None: they are no
 -- object), or why it is refused

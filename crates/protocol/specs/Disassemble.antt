@@ -40,3 +40,16 @@ their_number_has_to_be_there : disassemble_arguments
     (member (codes "memoryReference") (string (codes "0x00010000")) no_members)
     ≡ None
 their_number_has_to_be_there = refl
+
+from_another : disassemble_arguments
+    (member (codes "instructionCount") (number (unsigned 8))
+    (member (codes "instructionOffset") (number (unsigned 2))
+    (member (codes "memoryReference") (string (codes "0"))
+    (member (codes "offset") (number (unsigned 4)) no_members))))
+    ≡ Some (record {
+      memory_reference = codes "0";
+      offset = pos 4;
+      instruction_offset = pos 2;
+      instruction_count = 8;
+    })
+from_another = refl

@@ -2,8 +2,8 @@
 --
 -- The editor gives a text, which is read later, and may name a frame by an integer. `context` and
 -- `format` are not looked at.
-use Rattle.std.specs.Prelude.{None, Option, Some, codes, refl, ◌≡◌}
-use Rattle.serde_json.specs.Data.{Members, member, no_members, string}
+use Rattle.std.specs.Prelude.{None, Option, Some, codes, refl, ◌≡◌, pos}
+use Rattle.serde_json.specs.Data.{Members, member, no_members, string, number, unsigned}
 use Rattle.serde_json.specs.Find.{as_str}
 use Rattle.protocol.specs.Properties.{integer, property, ◌>>=◌}
 use Rattle.protocol.specs.Arguments.{optional, required}
@@ -24,3 +24,9 @@ in_no_frame = refl
 
 an_expression_has_to_be_there : evaluate_arguments no_members ≡ None
 an_expression_has_to_be_there = refl
+
+in_a_frame : evaluate_arguments
+    (member (codes "expression") (string (codes "a0"))
+    (member (codes "frameId") (number (unsigned 1000)) no_members))
+    ≡ Some (record { expression = codes "a0"; frame_id = Some (pos 1000) })
+in_a_frame = refl

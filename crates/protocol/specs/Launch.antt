@@ -3,8 +3,8 @@
 -- The standard leaves the arguments of `launch` to the adapter (`LaunchRequestArguments`). This one takes
 -- the path of a program, and whether it is to stop before its first instruction. All else that the
 -- editor says, `noDebug` too, is not looked at.
-use Rattle.std.specs.Prelude.{None, Option, Some, codes, false, refl, unwrap_or, ◌≡◌}
-use Rattle.serde_json.specs.Data.{Members, member, no_members, string}
+use Rattle.std.specs.Prelude.{None, Option, Some, codes, false, refl, unwrap_or, ◌≡◌, true}
+use Rattle.serde_json.specs.Data.{Members, member, no_members, string, boolean}
 use Rattle.serde_json.specs.Find.{as_bool, as_str}
 use Rattle.protocol.specs.Properties.{property, ◌>>=◌}
 use Rattle.protocol.specs.Arguments.{optional, required}
@@ -24,3 +24,9 @@ it_does_not_stop = refl
 
 a_program_has_to_be_named : launch_arguments no_members ≡ None
 a_program_has_to_be_named = refl
+
+to_stop_on_entry : launch_arguments
+    (member (codes "program") (string (codes "a.s"))
+    (member (codes "stopOnEntry") (boolean true) no_members))
+    ≡ Some (record { program = codes "a.s"; stop_on_entry = true })
+to_stop_on_entry = refl

@@ -1,8 +1,11 @@
 -- What follows from the meaning of a body, in the protocol's own terms.
-use Rattle.std.specs.Prelude.{◌≡◌, ◌≢◌, ◌≤◌, ◌⊎◌, ℕ, List, Option, Some, Ok, Err}
-use Rattle.serde_json.specs.Data.{Data, object, Members, put}
+use Rattle.std.specs.Prelude.{◌≡◌, ◌≢◌, ◌≤◌, ◌⊎◌, ◌↔◌, ℕ, List, Option, Some, Ok, Err}
+use Rattle.base64.specs.Engines.{standard}
+use Rattle.base64.specs.GeneralPurpose.{IsBytes, encode_of}
+use Rattle.serde_json.specs.Data.{Data, object, string, Members, put}
 use Rattle.protocol.specs.Json.{json_of}
 use Rattle.protocol.specs.Properties.{property, text}
+use Rattle.protocol.specs.Arguments.{base64}
 use Rattle.protocol.specs.Commands.{command_of, name_of}
 use Rattle.protocol.specs.Reading.{incoming_of, message_of}
 use Rattle.protocol.specs.declared.command.Command.{Command}
@@ -63,3 +66,9 @@ PassesOverUnknownMembers =
 -- What a body means is never that memory ran out.
 abbrev pub NeverMeansNoMemory : Type 0
 NeverMeansNoMemory = (body : List ℕ) → incoming_of body ≢ Err NoMemory
+
+-- A text in base64 stands for the bytes of which it is the encoding (RFC 4648, section 4), and no other text does.
+abbrev pub ReadsEncodings : Type 0
+ReadsEncodings =
+    (text bytes : List ℕ) → IsBytes text → IsBytes bytes
+    → (base64 (string text) ≡ Some bytes) ↔ (text ≡ encode_of standard bytes)

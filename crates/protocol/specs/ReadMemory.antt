@@ -28,3 +28,10 @@ their_number_has_to_be_there : read_memory_arguments
     (member (codes "memoryReference") (string (codes "0x00010000")) no_members)
     ≡ None
 their_number_has_to_be_there = refl
+
+four_bytes_further_on : read_memory_arguments
+    (member (codes "count") (number (unsigned 4))
+    (member (codes "memoryReference") (string (codes "0"))
+    (member (codes "offset") (number (unsigned 8)) no_members)))
+    ≡ Some (record { memory_reference = codes "0"; offset = pos 8; count = 4 })
+four_bytes_further_on = refl

@@ -79,3 +79,15 @@ a_line_has_to_be_there : source_breakpoint
     (object (member (codes "condition") (string (codes "a0")) no_members))
     ≡ None
 a_line_has_to_be_there = refl
+
+with_conditions : source_breakpoint
+    (object (member (codes "condition") (string (codes "a0"))
+    (member (codes "hitCondition") (string (codes "3"))
+    (member (codes "line") (number (unsigned 7)) no_members))))
+    ≡ Some (record { line = 7; condition = Some (codes "a0"); hit_condition = Some (codes "3") })
+with_conditions = refl
+
+at_its_path : set_breakpoints_arguments
+    (member (codes "source") (object (member (codes "path") (string (codes "a.s")) no_members)) no_members)
+    ≡ Some (record { source = record { path = Some (codes "a.s") }; breakpoints = [] })
+at_its_path = refl

@@ -3,7 +3,7 @@
 -- The editor says which breakpoints at addresses there are to be. Each has an address, which is a text, and
 -- may have a number that is added to it, and two texts. The texts are read later. `mode` is not looked at.
 use Rattle.std.specs.Prelude.{◌≡◌, [], Option, Some, None, pos, codes, refl, unwrap_or}
-use Rattle.serde_json.specs.Data.{Data, object, array, no_items, string, Members, no_members, member}
+use Rattle.serde_json.specs.Data.{Data, object, array, no_items, string, Members, no_members, member, number, unsigned}
 use Rattle.serde_json.specs.Find.{as_object, as_str}
 use Rattle.protocol.specs.Properties.{◌>>=◌, property, integer}
 use Rattle.protocol.specs.Arguments.{required, optional, list}
@@ -49,3 +49,9 @@ at_an_address : instruction_breakpoint
       hit_condition = None;
     })
 at_an_address = refl
+
+with_an_offset : instruction_breakpoint
+    (object (member (codes "instructionReference") (string (codes "0"))
+    (member (codes "offset") (number (unsigned 4)) no_members)))
+    ≡ Some (record { instruction_reference = codes "0"; offset = pos 4; condition = None; hit_condition = None })
+with_an_offset = refl

@@ -28,3 +28,9 @@ twenty_frames : stack_trace_arguments
     (member (codes "threadId") (number (unsigned 1)) no_members))
     ≡ Some (record { thread_id = pos 1; start_frame = 0; levels = Some 20 })
 twenty_frames = refl
+
+from_frame_2 : stack_trace_arguments
+    (member (codes "startFrame") (number (unsigned 2))
+    (member (codes "threadId") (number (unsigned 1)) no_members))
+    ≡ Some (record { thread_id = pos 1; start_frame = 2; levels = None })
+from_frame_2 = refl

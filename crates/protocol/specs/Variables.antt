@@ -8,6 +8,7 @@ use Rattle.serde_json.specs.Data.{Members, member, no_members, number, string, u
 use Rattle.protocol.specs.Properties.{integer, natural, property, ◌>>=◌}
 use Rattle.protocol.specs.Arguments.{optional, required}
 use Rattle.protocol.specs.Filter.{filter_of}
+use Rattle.protocol.specs.declared.filter.Filter.TheVariants.{Named}
 use Rattle.protocol.specs.declared.members.TheConstants.{VARIABLES_REFERENCE, COUNT}
 use Rattle.protocol.specs.declared.variables.VariablesArguments.{VariablesArguments}
 use Rattle.protocol.specs.declared.variables.TheConstants.{FILTER, START}
@@ -35,3 +36,11 @@ of_another_kind : variables_arguments
     (member (codes "variablesReference") (number (unsigned 1001)) no_members))
     ≡ None
 of_another_kind = refl
+
+some_variables : variables_arguments
+    (member (codes "count") (number (unsigned 8))
+    (member (codes "filter") (string (codes "named"))
+    (member (codes "start") (number (unsigned 4))
+    (member (codes "variablesReference") (number (unsigned 1001)) no_members))))
+    ≡ Some (record { variables_reference = pos 1001; filter = Some Named; start = 4; count = Some 8 })
+some_variables = refl

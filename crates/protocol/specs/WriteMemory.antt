@@ -29,3 +29,6 @@ bytes_have_to_be_there : write_memory_arguments
     (member (codes "memoryReference") (string (codes "0x00010000")) no_members)
     ≡ None
 bytes_have_to_be_there = refl
+
+their_names : (DATA.now ≡ codes "data") × (ALLOW_PARTIAL.now ≡ codes "allowPartial")
+their_names = (refl, refl)

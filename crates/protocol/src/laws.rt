@@ -37,3 +37,8 @@ pub fn passes_over_unknown_members()
 pub fn never_means_no_memory()
     ensures { law.NeverMeansNoMemory }
 {}
+
+/// Bytes in base64 are read from their encoding, and from no other text.
+pub fn reads_encodings()
+    ensures { law.ReadsEncodings }
+{}
