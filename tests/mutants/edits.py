@@ -46,13 +46,18 @@ def function_at(crate, path, index):
         function, impl = FUNCTION.match(line), IMPL.match(line)
         if impl:
             owner = [impl[2][0].upper() + impl[2][1:] + re.sub(r"\W", "", impl[1] or "")]
-        elif function:
+        elif function and has_body(lines[first:]):
             name = "::".join(module + owner * bool(function[1]) + [function[2]])
             ends = (function[1] + "}", function[1] + "{}")
             last = first if line.endswith("}") else next(i for i in range(first, len(lines)) if lines[i] in ends)
             if index <= last:
                 return name
     return None
+
+
+def has_body(lines):
+    """Whether the function that begins with these lines has a body, as one that a trait declares has not."""
+    return next(line for line in lines if line.endswith((";", "{"))).endswith("{")
 
 
 def read(crate, file):
