@@ -2,6 +2,7 @@
 
 ghost use Rattle.stepping.specs.Laws.{ReturnsKeepCalls, ReturnsKeepDepth};
 ghost use Rattle.stepping.specs.Past.{LoadedRemembersNone, TicksRemember};
+ghost use Rattle.stepping.specs.TicksStop.{RunsStopThere, StopIsUnique, TickIsDeterministic, TicksSayWhere};
 
 /// Calls that returned leave the depth as it was. Of the calls of before they leave those that were
 /// never forgotten meanwhile, and no other comes back.
@@ -15,4 +16,18 @@ pub fn returns_undo_calls()
 pub fn machines_remember_their_past()
     ensures loaded { LoadedRemembersNone }
     ensures ticks { TicksRemember }
+{}
+
+/// A machine has one tick: registers, memory, calls, breakpoints and goal settle what it answers and what it
+/// leaves.
+pub fn tick_is_deterministic()
+    ensures { TickIsDeterministic }
+{}
+
+/// Ticks stop where a run stops: at the least number at which a reason applies, for the first reason there, and
+/// before that number they go on.
+pub fn ticks_stop_where_a_run_stops()
+    ensures says { TicksSayWhere }
+    ensures stops { RunsStopThere }
+    ensures unique { StopIsUnique }
 {}
