@@ -15,7 +15,7 @@ use Rattle.rv32i.specs.declared.stepped.Stepped.{Stepped}
 use Rattle.rv32i.proofs.OneMove.{one_move}
 use Rattle.rv32i.proofs.Unique.{one_instruction}
 use Rattle.stepping.specs.Ticks.{Debugged, IsFetched, Moves, Settles, entry_checked, entry_tick, moved_as, settled, tick_of}
-use Rattle.stepping.specs.TicksStop.{TickIsDeterministic}
+use Rattle.stepping.specs.RunLaws.{TickIsDeterministic}
 use Rattle.stepping.specs.declared.tick.Tick.{Tick}
 
 -- ---- harts with the same pc and registers are equal: that x0 is 0 is a fact

@@ -9,3 +9,4 @@ pub mod Determined
 pub mod Advancing
 pub mod Reasons
 pub mod Stopping
+pub mod Ticking

@@ -2,7 +2,7 @@
 
 ghost use Rattle.stepping.specs.Laws.{ReturnsKeepCalls, ReturnsKeepDepth};
 ghost use Rattle.stepping.specs.Past.{LoadedRemembersNone, TicksRemember};
-ghost use Rattle.stepping.specs.TicksStop.{RunsStopThere, StopIsUnique, TickIsDeterministic, TicksSayWhere};
+ghost use Rattle.stepping.specs.RunLaws.{CountsAnew, MovesEnd, RunsSayWhere, RunsStopThere, StopIsUnique, TickIsDeterministic, TicksSayWhere};
 
 /// Calls that returned leave the depth as it was. Of the calls of before they leave those that were
 /// never forgotten meanwhile, and no other comes back.
@@ -18,16 +18,23 @@ pub fn machines_remember_their_past()
     ensures ticks { TicksRemember }
 {}
 
-/// A machine has one tick: registers, memory, calls, breakpoints and goal settle what it answers and what it
-/// leaves.
+/// A run stops at one number at most, for one reason. Its moves end before an instruction that traps or ends
+/// the program. It may be left where nothing has stopped it, and its moves counted anew from there.
+pub fn run_stops_at_one_number()
+    ensures unique { StopIsUnique }
+    ensures end { MovesEnd }
+    ensures anew { CountsAnew }
+{}
+
+/// A machine has one tick: it settles what the tick answers, and what it leaves.
 pub fn tick_is_deterministic()
     ensures { TickIsDeterministic }
 {}
 
-/// Ticks stop where a run stops: at the least number at which a reason applies, for the first reason there, and
-/// before that number they go on.
+/// Ticks stop where a run stops: at the least number at which a reason applies, and for the first reason there.
+/// Before that number they go on.
 pub fn ticks_stop_where_a_run_stops()
     ensures says { TicksSayWhere }
     ensures stops { RunsStopThere }
-    ensures unique { StopIsUnique }
+    ensures runs { RunsSayWhere }
 {}
