@@ -18,8 +18,8 @@
 -- Each move meets what the moves before it left: registers and memory, the breakpoints and their hits. Where something
 -- else changes one of these between two moves, the run goes on from the machine as it is then, and its moves are
 -- counted anew from there, from 1.
-use Rattle.std.specs.Prelude.{◌≡◌, ℕ, ℤ, zero, suc, ◌+◌, ◌<◌, ◌≤◌, Bool, true, false, if◌then◌else◌, List, [], Some}
-use Rattle.std.specs.Prelude.{IsTrue, Ok}
+use Rattle.std.specs.Prelude.{◌≡◌, ℕ, ℤ, zero, suc, ◌+◌, ◌<◌, ◌≤◌, Bool, true, false, IsTrue, if◌then◌else◌, List, []}
+use Rattle.std.specs.Prelude.{◌∷◌, map, replicate, Some, None, Ok, refl}
 use Rattle.std.specs.List.{list_any}
 use Rattle.breakpoints.specs.Stops.{checked, stops}
 use Rattle.breakpoints.specs.declared.breakpoint.Breakpoint.{Breakpoint}
@@ -28,9 +28,10 @@ use Rattle.rv32i.specs.declared.instr.Instr.{Instr}
 use Rattle.rv32i.specs.declared.stepped.Cause.{Cause}
 use Rattle.rv32i.specs.declared.stepped.Stepped.{Stepped}
 use Rattle.rv32i.specs.declared.stepped.Stepped.TheVariants.{Retired, Printed, Break, Exit, Trap}
-use Rattle.stepping.specs.Calls.{noted}
+use Rattle.stepping.specs.Calls.{noted, nothing_kept}
 use Rattle.stepping.specs.Goals.{is_met}
 use Rattle.stepping.specs.Ticks.{Debugged}
+use Rattle.stepping.specs.declared.goal.Goal.TheVariants.{Go}
 use Rattle.stepping.specs.declared.tick.Outcome.{Outcome}
 use Rattle.stepping.specs.declared.tick.Outcome.TheVariants.{Went, Stopped, Ended}
 use Rattle.stepping.specs.declared.tick.Reason.TheVariants.{Exception, Ebreak, Source, Instruction, Goal}
@@ -62,7 +63,7 @@ pub record Advances (before after : Debugged) : Type 0 where
     retired = before.retired + 1;
   }
 
--- the machine before the first move, where a check is due at the entry and where none is
+-- the machine before its first move: where a check is due, it has looked at the breakpoints at the entry
 abbrev pub entered : Debugged → Debugged
 entered start = if start.check_due
     then record start {
@@ -71,7 +72,7 @@ entered start = if start.check_due
     }
     else start
 
--- the machine after so many moves
+-- the machine after so many moves, if there are so many
 abbrev pub After : ℕ → Debugged → Debugged → Type 0
 After zero start after = after ≡ entered start
 After (suc n) start after = (before : Debugged) × (After n start before × Advances before after)
@@ -133,6 +134,35 @@ abbrev pub AppliesAt : ℕ → Outcome → Debugged → Type 0
 AppliesAt zero outcome start = IsTrue start.check_due × AppliesAtEntry outcome start
 AppliesAt (suc n) outcome start = (before : Debugged) × (After n start before × Applies outcome before)
 
+-- A first run of a program that begins at 65536, where one breakpoint of an instruction is set, which stops from the
+-- given hit on. The check at the entry counts a hit. So one that stops from its first hit on stops the run at 0.
+abbrev pub first_run : ℕ → Debugged
+first_run hit = record {
+  hart = record { pc = 65536; x = replicate 32 0; zero = refl };
+  memory = [];
+  size = 4096;
+  calls = nothing_kept;
+  lists = record {
+    source = [];
+    instructions = record { id = 1; address = 65536; condition = None; hit = hit; hits = 0 } ∷ [];
+    ids = [];
+  };
+  retired = 0;
+  goal = Go;
+  start = 0;
+  check_due = true;
+  table = record { rows = []; labels = []; end = 65536 };
+}
+
+stops_at_the_entry : AppliesAt 0 (Stopped Instruction) (first_run 1)
+stops_at_the_entry = (refl, refl)
+
+counts_its_hit : map (λ b. b.hits) (entered (first_run 2)).lists.instructions ≡ 1 ∷ []
+counts_its_hit = refl
+
+goes_on_at_its_first : list_any (stops 65536 (first_run 2).hart []) (first_run 2).lists.instructions ≡ false
+goes_on_at_its_first = refl
+
 -- the places of the reasons in their order
 abbrev pub place : Outcome → ℕ
 place (Stopped (Exception cause)) = 1
@@ -153,12 +183,14 @@ pub record StopsAt (n : ℕ) (outcome : Outcome) (start : Debugged) : Type 0 whe
   pub first : (other : Outcome) → AppliesAt n other start → place outcome ≤ place other
   pub least : NoneBelow n start
 
--- The machine that it leaves: the one after so many moves. Where the last instruction did not retire, it is the one
--- before it, but that no breakpoint has stopped.
+-- ---- the machine that a run leaves
+
+-- the one after so many moves, but that no breakpoint is named as one that stopped
 abbrev pub Unmoved : ℕ → Debugged → Debugged → Type 0
 Unmoved n start after = (before : Debugged)
     × (After n start before × (after ≡ record before { lists = record before.lists { ids = [] } }))
 
+-- the one after as many moves as the number says; where the last instruction did not retire, after one less
 abbrev pub Leaves : ℕ → Outcome → Debugged → Debugged → Type 0
 Leaves (suc n) (Stopped (Exception cause)) start after = Unmoved n start after
 Leaves (suc n) (Ended code) start after = Unmoved n start after
