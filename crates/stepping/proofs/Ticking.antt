@@ -1,18 +1,14 @@
 -- Ticks stop at the least number at which a reason applies.
-use Rattle.std.proofs.Common.{◌≡◌, ℕ, zero, suc, ◌<◌, ◌≤◌, Bool, true, false, ◌⊎◌, inl, inr, Option, None, Result, Ok, Err, MatchBool, if◌then◌else◌, eqb, Decides, refl, sym, ap, subst, ◌∙◌, arith}
-use Rattle.std.specs.Prelude.{ℤ}
+use Rattle.std.proofs.Common.{◌≡◌, ℕ, zero, suc, ◌<◌, ◌≤◌, Bool, true, false, ◌⊎◌, inl, inr, Option, None, Result, Ok, Err, IsOk, MatchBool, if◌then◌else◌, eqb, Decides, refl, sym, ap, subst, ◌∙◌, arith}
+use Rattle.std.specs.Prelude.{ℤ, alloc_error}
 use Rattle.std.specs.List.{list_any}
 use Rattle.std.specs.declared.alloc.AllocError.{AllocError}
 use Rattle.std.proofs.lemmas.Bool.Decides.{Decides-eqb, not_from_Decides}
 use Rattle.breakpoints.specs.Stops.{stops}
-use Rattle.rv32i.specs.Machine.{Effect, machine_of}
-use Rattle.rv32i.specs.declared.stepped.Stepped.{Stepped}
-use Rattle.rv32i.specs.declared.stepped.Stepped.TheVariants.{Break, Exit, Trap}
-use Rattle.rv32i.proofs.OneMove.{one_move}
 use Rattle.stepping.specs.Plain.{plain_tick}
 use Rattle.stepping.specs.Runs.{EndsRun, Goes}
-use Rattle.stepping.specs.Stopping.{Advances, After, Answers, Applies, AppliesAt, AppliesAtEntry, NoneBelow, StopsAt, place}
-use Rattle.stepping.specs.Ticks.{Debugged, IsTick, Moves, Settles, entry_checked, entry_tick, moved_as, outcome_of, tick_of}
+use Rattle.stepping.specs.Stopping.{After, Applies, AppliesAt, AppliesAtEntry, NoneBelow, StopsAt, place}
+use Rattle.stepping.specs.Ticks.{Debugged, IsTick, Moves, entry_checked, entry_tick, outcome_of}
 use Rattle.stepping.specs.RunLaws.{AnswersWith, EndingSays, GoOn, RunsSayWhere, RunsStopThere, Says, TicksSayWhere, number_after}
 use Rattle.stepping.specs.declared.tick.Ending.{Ending}
 use Rattle.stepping.specs.declared.tick.Ending.TheVariants.{Spent, Ticked, NoMemory}
@@ -20,7 +16,7 @@ use Rattle.stepping.specs.declared.tick.Outcome.{Outcome}
 use Rattle.stepping.specs.declared.tick.Outcome.TheVariants.{Went, Stopped, Ended}
 use Rattle.stepping.specs.declared.tick.Reason.TheVariants.{Exception, Ebreak, Source, Instruction, Goal}
 use Rattle.stepping.specs.declared.tick.Tick.{Tick}
-use Rattle.stepping.proofs.Advancing.{Made, advance_answers, after_equal, after_lower, after_ready, ticks_by_moves}
+use Rattle.stepping.proofs.Advancing.{after_ready, each_tick_answers, ticks_by_moves}
 use Rattle.stepping.proofs.Reasons.{SaysOnce, one_says}
 use Rattle.stepping.proofs.Stopping.{applies_here, stop_is_unique}
 
@@ -150,46 +146,9 @@ ticks_say_where ticks start before after tick g t = numbered start.check_due tic
 
 -- ---- a tick up to the number at which a run stops
 
-applied_answers : (outcome : Outcome) (before : Debugged) → Applies outcome before → (s : Stepped) × Answers before s
-applied_answers (Stopped (Exception cause)) before x = (Trap cause, x)
-applied_answers (Ended code) before x = (Exit code, x)
-applied_answers (Stopped Ebreak) before x = (Break, x)
-applied_answers (Stopped Source) before x = (x.1.0.answer, advance_answers before x.0 x.1.0)
-applied_answers (Stopped Instruction) before x = (x.1.0.answer, advance_answers before x.0 x.1.0)
-applied_answers (Stopped Goal) before x = (x.1.0.answer, advance_answers before x.0 x.1.0)
-applied_answers Went before x = absurd x
-
-abbrev IsAnswered : Result Tick AllocError → Type 0
-IsAnswered answer = (tick : Tick) × (answer ≡ Ok tick)
-
-answered : (before after : Debugged) (answer : Result Tick AllocError) (s : Stepped) → Answers before s → Moves before answer after → IsAnswered answer
-answered before after answer s a m =
-    let same : m.stepped ≡ Ok s = ap (λ (e : Effect). e.answer) (one_move (machine_of before.hart before.memory) _ _ m.moved a.1) in
-    let settles : Settles before m.instr (Ok s) answer after = subst (λ r. Settles before m.instr r answer after) same m.settles in
-    (tick_of s m.instr before.hart.pc (moved_as before after), settles.0)
-
--- the hart has an answer wherever the run has not stopped yet
-has_answer : (k n : ℕ) (outcome : Outcome) (start before : Debugged) → Ready k start before → AppliesAt n outcome start → (s : Stepped) × Answers before s
-has_answer k zero outcome start before r x = absurd (r.0 zero outcome (omega arith) x)
-has_answer k (suc m) outcome start before r x = go (eqb m k) (Decides-eqb m k) where
-  go : (same : Bool) → Decides same (m ≡ k) → (s : Stepped) × Answers before s
-  go true d = applied_answers outcome before (applies_here k start before outcome r.1 (subst (λ (j : ℕ). AppliesAt (suc j) outcome start) (d.0 refl) x))
-  go false d =
-      let differs : (m ≡ k → ⊥) = not_from_Decides false d refl in
-      let reached : (suc m < suc k → ⊥) = λ l. r.0 (suc m) outcome l x in
-      let made : Made k start = after_lower m k start x.0 (omega (arith, differs, reached)) x.1.0 in
-      let moves : Advances before made.1.0 = subst (λ (d : Debugged). Advances d made.1.0) (after_equal k start made.0 before made.1.1.0 r.1) made.1.1.1 in
-      (moves.answer, advance_answers before made.1.0 moves)
-
-ready_answered : (k n : ℕ) (outcome : Outcome) (start before after : Debugged) (answer : Result Tick AllocError) → Ready k start before → AppliesAt n outcome start → IsTick before answer after → IsAnswered answer
-ready_answered k n outcome start before after answer r x t =
-    let s = has_answer k n outcome start before r x in
-    answered before after answer s.0 s.1 (ticks_by_moves before after answer (after_ready k start before r.1) t)
-
-is_answered : (due : Bool) (ticks n : ℕ) (outcome : Outcome) (start before after : Debugged) (answer : Result Tick AllocError) → start.check_due ≡ due → ReadyFor due ticks start before → AppliesAt n outcome start → IsTick before answer after → IsAnswered answer
-is_answered true zero n outcome start before after answer e r x t = (entry_tick start, (by_entry start after answer e (subst (λ (d : Debugged). IsTick d answer after) r t)).0)
-is_answered true (suc k) n outcome start before after answer e r x t = ready_answered k n outcome start before after answer r x t
-is_answered false ticks n outcome start before after answer e r x t = ready_answered ticks n outcome start before after answer r x t
+answered : (answer : Result Tick AllocError) → IsOk answer → (tick : Tick) × (answer ≡ Ok tick)
+answered (Ok tick) o = (tick, refl)
+answered (Err error) o = let never : false ≡ true = o in cc
 
 abbrev Settled : ℕ → ℕ → Outcome → Result Tick AllocError → Type 0
 Settled k n outcome answer = ((k < n) × AnswersWith Went answer) ⊎ ((k ≡ n) × AnswersWith outcome answer)
@@ -208,7 +167,7 @@ says_so k n outcome (Ended code) start after tick answer a e stop s =
 pub runs_stop_there : RunsStopThere
 runs_stop_there ticks n outcome start before after answer stop g t =
     let ready = ready_after start.check_due ticks start before refl g in
-    let ok = is_answered start.check_due ticks n outcome start before after answer refl ready stop.applies t in
+    let ok = answered answer (each_tick_answers before after answer t) in
     let tick : IsTick before (Ok ok.0) after = subst (λ a. IsTick before a after) ok.1 t in
     says_so (number_after ticks start) n outcome ok.0.outcome start after ok.0 answer ok.1 refl stop (numbered start.check_due ticks start before after ok.0 refl ready tick)
 
@@ -233,5 +192,5 @@ runs_say_where most ran start after run = go ran.ending run.ends where
 
   go : (ending : Ending) → EndsRun most ran.went ending run.middle after → EndingSays ran.went ending start after
   go Spent e = none
-  go NoMemory e = none
+  go NoMemory e = let never : false ≡ true = each_tick_answers run.middle after (Err alloc_error) e.1 in cc
   go (Ticked tick) e = ticks_say_where ran.went start run.middle after tick went e.1.1

@@ -4,7 +4,7 @@
 -- is the check at the entry, and in any other for 1. A tick goes on where no reason to stop applies at its number or at
 -- a lower one. It stops, or says that the program has ended, exactly at the least number at which one applies, and for
 -- the first reason there.
-use Rattle.std.specs.Prelude.{◌≡◌, ℕ, ℤ, zero, suc, ◌+◌, ◌<◌, ◌≤◌, ◌⊎◌, ◌↔◌, if◌then◌else◌, Option, Result, Ok}
+use Rattle.std.specs.Prelude.{◌≡◌, ℕ, ℤ, zero, suc, ◌+◌, ◌<◌, ◌≤◌, ◌⊎◌, ◌↔◌, if◌then◌else◌, Option, Result, Ok, IsOk}
 use Rattle.std.specs.declared.alloc.AllocError.{AllocError}
 use Rattle.stepping.specs.Runs.{IsRun}
 use Rattle.stepping.specs.Stopping.{After, AppliesAt, Leaves, NoneBelow, StopsAt, place}
@@ -41,6 +41,10 @@ abbrev pub TickIsDeterministic : Type 0
 TickIsDeterministic = (before after other : Debugged) (answer another : Result Tick AllocError) →
     IsTick before answer after → IsTick before another other → (answer ≡ another) × (after ≡ other)
 
+-- No tick lacks memory: all of it was made when the machine was.
+abbrev pub EachTickAnswers : Type 0
+EachTickAnswers = (before after : Debugged) (answer : Result Tick AllocError) → IsTick before answer after → IsOk answer
+
 -- a tick answers with this outcome, whatever was printed
 abbrev pub AnswersWith : Outcome → Result Tick AllocError → Type 0
 AnswersWith outcome answer = (printed : Option ℤ) × (answer ≡ Ok (record { printed = printed; outcome = outcome }))
@@ -66,8 +70,7 @@ abbrev pub TicksSayWhere : Type 0
 TicksSayWhere = (ticks : ℕ) (start before after : Debugged) (tick : Tick) → GoOn ticks start before →
     IsTick before (Ok tick) after → Says (number_after ticks start) tick.outcome start after
 
--- And ticks say all of it. Where a run stops at a number, those before it go on, and the one at it gives the reason;
--- for none of them memory runs out.
+-- And ticks say all of it. Where a run stops at a number, those before it go on, and the one at it gives the reason.
 abbrev pub RunsStopThere : Type 0
 RunsStopThere = (ticks n : ℕ) (outcome : Outcome) (start before after : Debugged) (answer : Result Tick AllocError) →
     StopsAt n outcome start → GoOn ticks start before → IsTick before answer after →
@@ -76,11 +79,11 @@ RunsStopThere = (ticks n : ℕ) (outcome : Outcome) (start before after : Debugg
 
 -- ---- many ticks in one call
 
--- what they say, by what ended them
+-- what they say, by what ended them, which is never a lack of memory
 abbrev pub EndingSays : ℕ → Ending → Debugged → Debugged → Type 0
 EndingSays went Spent start after = NoneBelow (number_after went start) start
 EndingSays went (Ticked tick) start after = Says (number_after went start) tick.outcome start after
-EndingSays went NoMemory start after = NoneBelow (number_after went start) start
+EndingSays went NoMemory start after = ⊥
 
 -- What they say is so.
 abbrev pub RunsSayWhere : Type 0

@@ -2,7 +2,7 @@
 
 ghost use Rattle.stepping.specs.Laws.{ReturnsKeepCalls, ReturnsKeepDepth};
 ghost use Rattle.stepping.specs.Past.{LoadedRemembersNone, TicksRemember};
-ghost use Rattle.stepping.specs.RunLaws.{CountsAnew, MovesEnd, RunsSayWhere, RunsStopThere, StopIsUnique, TickIsDeterministic, TicksSayWhere};
+ghost use Rattle.stepping.specs.RunLaws.{CountsAnew, EachTickAnswers, MovesEnd, RunsSayWhere, RunsStopThere, StopIsUnique, TickIsDeterministic, TicksSayWhere};
 
 /// Calls that returned leave the depth as it was. Of the calls of before they leave those that were
 /// never forgotten meanwhile, and no other comes back.
@@ -29,6 +29,11 @@ pub fn run_stops_at_one_number()
 /// A machine has one tick: it settles what the tick answers, and what it leaves.
 pub fn tick_is_deterministic()
     ensures { TickIsDeterministic }
+{}
+
+/// No tick lacks memory, so that each one answers.
+pub fn each_tick_answers()
+    ensures { EachTickAnswers }
 {}
 
 /// Ticks stop where a run stops: at the least number at which a reason applies, and for the first reason there.
