@@ -18,6 +18,9 @@
 -- Each move meets what the moves before it left: registers and memory, the breakpoints and their hits. Where something
 -- else changes one of these between two moves, the run goes on from the machine as it is then, and its moves are
 -- counted anew from there, from 1.
+--
+-- A machine is a `Debugged`: hart and memory, the calls, the breakpoints, the goal of the run and the depth at its
+-- start, and whether the check at the entry is due, as it is where a first run begins.
 use Rattle.std.specs.Prelude.{◌≡◌, ℕ, ℤ, zero, suc, ◌+◌, ◌<◌, ◌≤◌, Bool, true, false, IsTrue, if◌then◌else◌, List, []}
 use Rattle.std.specs.Prelude.{◌∷◌, map, replicate, Some, None, Ok, refl}
 use Rattle.std.specs.List.{list_any}
