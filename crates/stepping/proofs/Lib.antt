@@ -5,3 +5,8 @@ pub mod Returning
 pub mod Moving
 pub mod Going
 pub mod Remembering
+pub mod Determined
+pub mod Advancing
+pub mod Reasons
+pub mod Stopping
+pub mod Ticking

@@ -16,7 +16,7 @@ use Rattle.stepping.specs.declared.tick.Tick.{Tick}
 abbrev with_machine : Debugged → Hart → List ℕ → Debugged
 with_machine d hart memory = record d { hart = hart; memory = memory }
 
-decoded_is_fetched : (m : Machine) (instr : Option Instr) → IsDecodedAtPc m instr → IsFetched m instr
+pub decoded_is_fetched : (m : Machine) (instr : Option Instr) → IsDecodedAtPc m instr → IsFetched m instr
 decoded_is_fetched m instr h = rw h.1.0 h.1.1
 
 settled_moves : (before : Debugged) (hart : Hart) (memory : List ℕ) (instr : Option Instr) (s : Stepped) → IsFetched (machine_of before.hart before.memory) instr → IsMove (machine_of before.hart before.memory) (record { answer = Ok s; machine = machine_of hart memory }) → Moves before (Ok (tick_of s instr before.hart.pc (with_machine before hart memory))) (settled s instr before.hart.pc (with_machine before hart memory))

@@ -36,7 +36,7 @@ same before after retired c n h = (
 )
 
 -- where no instruction was fetched, none retires
-abbrev GoesOn : Result Stepped AllocError → Type 0
+abbrev pub GoesOn : Result Stepped AllocError → Type 0
 GoesOn (Ok stepped.Retired) = ⊥
 GoesOn (Ok (stepped.Printed number)) = ⊥
 GoesOn (Ok stepped.Break) = ⊥
@@ -52,7 +52,7 @@ faults_stay fault.NoMemory m = tt
 abbrev nothing : Option Instr
 nothing = None
 
-none_retires : (m : Machine) (e : Effect) → IsFetched m None → IsMove m e → GoesOn e.answer
+pub none_retires : (m : Machine) (e : Effect) → IsFetched m None → IsMove m e → GoesOn e.answer
 none_retires m e f i = go (word_at m.memory m.pc) f i where
   go : (w : Result ℕ MemFault) → MatchResult w (λ word. IsDecoding word None) (λ fault. nothing ≡ None) → MatchResult w (λ word. ((j : Instr) → Encodes j word → e ≡ effect_of j m) × (IsIllegal word → e ≡ trapped Illegal m)) (λ f. e ≡ fetch_fault f m) → GoesOn e.answer
   go (Ok word) d h = subst (λ (x : Effect). GoesOn x.answer) (sym (h.1 d)) tt

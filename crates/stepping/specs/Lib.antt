@@ -13,6 +13,10 @@ pub mod Ticks
 -- a tick of which there is nothing to report, and many ticks
 pub mod Plain
 pub mod Runs
+-- where a run stops: the least number at which a reason applies
+pub mod Stopping
+-- what holds of every run: ticks stop there
+pub mod RunLaws
 -- a machine into which a program was just loaded
 pub mod Loading
 -- what a machine keeps of its past

@@ -2,6 +2,7 @@
 
 ghost use Rattle.stepping.specs.Laws.{ReturnsKeepCalls, ReturnsKeepDepth};
 ghost use Rattle.stepping.specs.Past.{LoadedRemembersNone, TicksRemember};
+ghost use Rattle.stepping.specs.RunLaws.{CountsAnew, EachTickAnswers, MovesEnd, RunsSayWhere, RunsStopThere, StopIsUnique, TickIsDeterministic, TicksSayWhere};
 
 /// Calls that returned leave the depth as it was. Of the calls of before they leave those that were
 /// never forgotten meanwhile, and no other comes back.
@@ -15,4 +16,30 @@ pub fn returns_undo_calls()
 pub fn machines_remember_their_past()
     ensures loaded { LoadedRemembersNone }
     ensures ticks { TicksRemember }
+{}
+
+/// A run stops at one number at most, for one reason. Its moves end before an instruction that traps or ends
+/// the program. It may be left where nothing has stopped it, and its moves counted anew from there.
+pub fn run_stops_at_one_number()
+    ensures unique { StopIsUnique }
+    ensures end { MovesEnd }
+    ensures anew { CountsAnew }
+{}
+
+/// A machine has one tick: it settles what the tick answers, and what it leaves.
+pub fn tick_is_deterministic()
+    ensures { TickIsDeterministic }
+{}
+
+/// No tick lacks memory, so that each one answers.
+pub fn each_tick_answers()
+    ensures { EachTickAnswers }
+{}
+
+/// Ticks stop where a run stops: at the least number at which a reason applies, and for the first reason there.
+/// Before that number they go on.
+pub fn ticks_stop_where_a_run_stops()
+    ensures says { TicksSayWhere }
+    ensures stops { RunsStopThere }
+    ensures runs { RunsSayWhere }
 {}

@@ -1,0 +1,187 @@
+-- What one tick after the entry says: it goes on where no reason applies, and else gives the first.
+use Rattle.std.proofs.Common.{◌≡◌, ℕ, ◌≤◌, Bool, true, false, Result, Ok, Err, IsTrue, refl, sym, ap, subst, ◌∙◌, arith}
+use Rattle.std.specs.List.{list_any}
+use Rattle.std.specs.declared.alloc.AllocError.{AllocError}
+use Rattle.breakpoints.specs.Stops.{stops}
+use Rattle.rv32i.specs.Machine.{IsMove, machine_of}
+use Rattle.rv32i.specs.declared.stepped.Stepped.{Stepped}
+use Rattle.rv32i.specs.declared.stepped.Stepped.TheVariants.{Retired, Printed, Break, Exit, Trap}
+use Rattle.stepping.specs.Goals.{is_met}
+use Rattle.stepping.specs.Stopping.{Advances, Answers, Applies, MeetsGoal, MeetsInstruction, MeetsSource, OneStops, has_retired, place}
+use Rattle.stepping.specs.Ticks.{Debugged, Moves, Settles, gone_on, meets_goal, moved_as, outcome_of, settled, stayed, went_on}
+use Rattle.stepping.specs.declared.tick.Outcome.{Outcome}
+use Rattle.stepping.specs.declared.tick.Outcome.TheVariants.{Went, Stopped, Ended}
+use Rattle.stepping.specs.declared.tick.Reason.TheVariants.{Exception, Ebreak, Source, Instruction, Goal}
+use Rattle.stepping.specs.declared.tick.Tick.{Tick}
+use Rattle.stepping.proofs.Advancing.{advance_answers, advance_equal, advances_so, answers_equal, stays_so}
+
+-- the first reason at an instruction
+pub record IsFirst (outcome : Outcome) (before : Debugged) : Type 0 where
+  pub applies : Applies outcome before
+  pub first : (other : Outcome) → Applies other before → place outcome ≤ place other
+
+-- what one tick says
+abbrev pub SaysOnce : Outcome → Debugged → Debugged → Type 0
+SaysOnce Went before after = ((other : Outcome) → Applies other before → ⊥) × Advances before after
+SaysOnce (Stopped (Exception cause)) before after = IsFirst (Stopped (Exception cause)) before × (after ≡ stayed before)
+SaysOnce (Ended code) before after = IsFirst (Ended code) before × (after ≡ stayed before)
+SaysOnce (Stopped Ebreak) before after = IsFirst (Stopped Ebreak) before × Advances before after
+SaysOnce (Stopped Source) before after = IsFirst (Stopped Source) before × Advances before after
+SaysOnce (Stopped Instruction) before after = IsFirst (Stopped Instruction) before × Advances before after
+SaysOnce (Stopped Goal) before after = IsFirst (Stopped Goal) before × Advances before after
+
+-- ---- the reasons that an answer of the hart leaves
+
+abbrev Leads : Stepped → Outcome → Type 0
+Leads s (Stopped (Exception cause)) = s ≡ Trap cause
+Leads s (Ended code) = s ≡ Exit code
+Leads s (Stopped Ebreak) = s ≡ Break
+Leads s (Stopped Source) = IsTrue (has_retired s)
+Leads s (Stopped Instruction) = IsTrue (has_retired s)
+Leads s (Stopped Goal) = IsTrue (has_retired s)
+Leads s Went = ⊥
+
+advanced : (before after : Debugged) (s : Stepped) → Answers before s → Advances before after → IsTrue (has_retired s)
+advanced before after s a m = ap has_retired (answers_equal before s m.answer a (advance_answers before after m)) ∙ m.retires
+
+leads : (before : Debugged) (s : Stepped) (other : Outcome) → Answers before s → Applies other before → Leads s other
+leads before s (Stopped (Exception cause)) a x = answers_equal before s (Trap cause) a x
+leads before s (Ended code) a x = answers_equal before s (Exit code) a x
+leads before s (Stopped Ebreak) a x = answers_equal before s Break a x
+leads before s (Stopped Source) a x = advanced before x.0 s a x.1.0
+leads before s (Stopped Instruction) a x = advanced before x.0 s a x.1.0
+leads before s (Stopped Goal) a x = advanced before x.0 s a x.1.0
+leads before s Went a x = x
+
+-- the least place of a reason that it leaves
+abbrev lowest : Stepped → ℕ
+lowest (Trap cause) = 1
+lowest (Exit code) = 2
+lowest Break = 3
+lowest Retired = 4
+lowest (Printed number) = 4
+
+at_least : (s : Stepped) (other : Outcome) → Leads s other → lowest s ≤ place other
+at_least (Trap cause) (Stopped (Exception c)) h = omega arith
+at_least (Trap cause) (Stopped Ebreak) h = omega arith
+at_least (Trap cause) (Stopped Source) h = omega arith
+at_least (Trap cause) (Stopped Instruction) h = omega arith
+at_least (Trap cause) (Stopped Goal) h = omega arith
+at_least (Trap cause) (Ended code) h = omega arith
+at_least (Trap cause) Went h = absurd h
+at_least (Exit code) (Stopped (Exception c)) h = cc
+at_least (Exit code) (Stopped Ebreak) h = omega arith
+at_least (Exit code) (Stopped Source) h = omega arith
+at_least (Exit code) (Stopped Instruction) h = omega arith
+at_least (Exit code) (Stopped Goal) h = omega arith
+at_least (Exit code) (Ended c) h = omega arith
+at_least (Exit code) Went h = absurd h
+at_least Break (Stopped (Exception c)) h = cc
+at_least Break (Stopped Ebreak) h = omega arith
+at_least Break (Stopped Source) h = omega arith
+at_least Break (Stopped Instruction) h = omega arith
+at_least Break (Stopped Goal) h = omega arith
+at_least Break (Ended c) h = cc
+at_least Break Went h = absurd h
+at_least Retired (Stopped (Exception c)) h = cc
+at_least Retired (Stopped Ebreak) h = cc
+at_least Retired (Stopped Source) h = omega arith
+at_least Retired (Stopped Instruction) h = omega arith
+at_least Retired (Stopped Goal) h = omega arith
+at_least Retired (Ended c) h = cc
+at_least Retired Went h = absurd h
+at_least (Printed number) (Stopped (Exception c)) h = cc
+at_least (Printed number) (Stopped Ebreak) h = cc
+at_least (Printed number) (Stopped Source) h = omega arith
+at_least (Printed number) (Stopped Instruction) h = omega arith
+at_least (Printed number) (Stopped Goal) h = omega arith
+at_least (Printed number) (Ended c) h = cc
+at_least (Printed number) Went h = absurd h
+
+above : (before : Debugged) (s : Stepped) → Answers before s → (other : Outcome) → Applies other before → lowest s ≤ place other
+above before s a other x = at_least s other (leads before s other a x)
+
+-- ---- after an instruction that retired
+
+next_place : (before : Debugged) (other : Outcome) → Applies other before → 4 ≤ place other → (MeetsSource before → ⊥) → 5 ≤ place other
+next_place before (Stopped Source) x l none = absurd (none x)
+next_place before (Stopped (Exception c)) x l none = omega (arith, l)
+next_place before (Stopped Ebreak) x l none = omega (arith, l)
+next_place before (Stopped Instruction) x l none = omega arith
+next_place before (Stopped Goal) x l none = omega arith
+next_place before (Ended c) x l none = omega (arith, l)
+next_place before Went x l none = absurd x
+
+last_place : (before : Debugged) (other : Outcome) → Applies other before → 5 ≤ place other → (MeetsInstruction before → ⊥) → 6 ≤ place other
+last_place before (Stopped Instruction) x l none = absurd (none x)
+last_place before (Stopped Source) x l none = omega (arith, l)
+last_place before (Stopped (Exception c)) x l none = omega (arith, l)
+last_place before (Stopped Ebreak) x l none = omega (arith, l)
+last_place before (Stopped Goal) x l none = omega arith
+last_place before (Ended c) x l none = omega (arith, l)
+last_place before Went x l none = absurd x
+
+no_place : (before : Debugged) (other : Outcome) → Applies other before → 6 ≤ place other → (MeetsGoal before → ⊥) → ⊥
+no_place before (Stopped Goal) x l none = none x
+no_place before (Stopped Source) x l none = absurd (omega (arith, l))
+no_place before (Stopped Instruction) x l none = absurd (omega (arith, l))
+no_place before (Stopped (Exception c)) x l none = absurd (omega (arith, l))
+no_place before (Stopped Ebreak) x l none = absurd (omega (arith, l))
+no_place before (Ended c) x l none = absurd (omega (arith, l))
+no_place before Went x l none = x
+
+module _ (before after : Debugged) (moves : Advances before after) where
+  abbrev at_source : Bool
+  at_source = list_any (stops after.hart.pc after.hart after.memory) before.lists.source
+
+  abbrev at_instruction : Bool
+  at_instruction = list_any (stops after.hart.pc after.hart after.memory) before.lists.instructions
+
+  abbrev at_goal : Debugged → Bool
+  at_goal d = is_met d.goal d.start d.table d.hart.pc d.calls.depth
+
+  no_source : at_source ≡ false → MeetsSource before → ⊥
+  no_source e m =
+      let stops : OneStops before.lists.source after = subst (λ (d : Debugged). OneStops before.lists.source d) (advance_equal before m.0 after m.1.0 moves) m.1.1 in
+      let never : true ≡ false = sym stops ∙ e in cc
+
+  no_instruction : at_instruction ≡ false → MeetsInstruction before → ⊥
+  no_instruction e m =
+      let stops : OneStops before.lists.instructions after = subst (λ (d : Debugged). OneStops before.lists.instructions d) (advance_equal before m.0 after m.1.0 moves) m.1.1 in
+      let never : true ≡ false = sym stops ∙ e in cc
+
+  no_goal : at_goal after ≡ false → MeetsGoal before → ⊥
+  no_goal e m =
+      let met : IsTrue (at_goal after) = subst (λ (d : Debugged). IsTrue (at_goal d)) (advance_equal before m.0 after m.1.0 moves) m.1.1 in
+      let never : true ≡ false = sym met ∙ e in cc
+
+  retired_says : ((other : Outcome) → Applies other before → 4 ≤ place other) → (source instruction goal : Bool) → at_source ≡ source → at_instruction ≡ instruction → at_goal after ≡ goal → SaysOnce (outcome_of (record { source = source; instruction = instruction }) goal) before after
+  retired_says low true instruction goal s i g = (record { applies = (after, (moves, s)); first = low }, moves)
+  retired_says low false true goal s i g = (record { applies = (after, (moves, i)); first = λ other x. next_place before other x (low other x) (no_source s) }, moves)
+  retired_says low false false true s i g = (record { applies = (after, (moves, g)); first = λ other x. last_place before other x (next_place before other x (low other x) (no_source s)) (no_instruction i) }, moves)
+  retired_says low false false false s i g = (λ other x. no_place before other x (last_place before other x (next_place before other x (low other x) (no_source s)) (no_instruction i)) (no_goal g), moves)
+
+-- ---- one tick
+
+abbrev outcome_in : Outcome → Result Tick AllocError → Outcome
+outcome_in other (Ok tick) = tick.outcome
+outcome_in other (Err error) = other
+
+pub one_says : (before after : Debugged) (tick : Tick) → Moves before (Ok tick) after → SaysOnce tick.outcome before after
+one_says before after tick m = go m.stepped m.moved m.settles where
+  answered : (s : Stepped) → IsMove (machine_of before.hart before.memory) (record { answer = Ok s; machine = machine_of after.hart after.memory }) → Answers before s
+  answered s i = (machine_of after.hart after.memory, i)
+
+  went : (s : Stepped) → IsTrue (has_retired s) → lowest s ≡ 4 → IsMove (machine_of before.hart before.memory) (record { answer = Ok s; machine = machine_of after.hart after.memory }) → after ≡ settled s m.instr before.hart.pc (moved_as before after) → after ≡ gone_on m.instr before.hart.pc (moved_as before after) → SaysOnce (went_on m.instr before.hart.pc (moved_as before after)) before after
+  went s r l i e g =
+      let moves : Advances before after = (advances_so before after m.instr s m.fetched i r e).1.1 in
+      let low : (other : Outcome) → Applies other before → 4 ≤ place other = λ other x. subst (λ (n : ℕ). n ≤ place other) l (above before s (answered s i) other x) in
+      retired_says before after moves low (at_source before after moves) (at_instruction before after moves) (meets_goal m.instr before.hart.pc (moved_as before after)) refl refl (ap (at_goal before after moves) g)
+
+  go : (s : Result Stepped AllocError) → IsMove (machine_of before.hart before.memory) (record { answer = s; machine = machine_of after.hart after.memory }) → Settles before m.instr s (Ok tick) after → SaysOnce tick.outcome before after
+  go (Err error) i t = absurd (let never = t.0 in cc)
+  go (Ok (Trap cause)) i t = subst (λ (o : Outcome). SaysOnce o before after) (sym (ap (outcome_in Went) t.0)) (record { applies = answered (Trap cause) i; first = above before (Trap cause) (answered (Trap cause) i) }, stays_so before after (Trap cause) refl i t.1)
+  go (Ok (Exit code)) i t = subst (λ (o : Outcome). SaysOnce o before after) (sym (ap (outcome_in Went) t.0)) (record { applies = answered (Exit code) i; first = above before (Exit code) (answered (Exit code) i) }, stays_so before after (Exit code) refl i t.1)
+  go (Ok Break) i t = subst (λ (o : Outcome). SaysOnce o before after) (sym (ap (outcome_in Went) t.0)) (record { applies = answered Break i; first = above before Break (answered Break i) }, (advances_so before after m.instr Break m.fetched i refl t.1).1.1)
+  go (Ok Retired) i t = subst (λ (o : Outcome). SaysOnce o before after) (sym (ap (outcome_in Went) t.0)) (went Retired refl refl i t.1 t.1)
+  go (Ok (Printed number)) i t = subst (λ (o : Outcome). SaysOnce o before after) (sym (ap (outcome_in Went) t.0)) (went (Printed number) refl refl i t.1 t.1)
