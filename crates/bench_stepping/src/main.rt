@@ -45,7 +45,11 @@ fn measure(rt: &HostRuntime, image: &Image, argument: u32, way: Way<'_>) -> io::
         return Ok(ExitCode::FAILURE);
     };
     match way.breaks(rt.alloc(), image.entry) {
-        Ok(specs) => runner.breaks_mut().set_instructions(specs)?,
+        Ok(specs) => {
+            if !specs.is_empty() {
+                runner.breaks_mut().set_instructions(specs)?;
+            }
+        }
         Err(error) => {
             eprintln!(rt; "{error}")?;
             return Ok(ExitCode::FAILURE);

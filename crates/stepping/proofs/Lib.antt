@@ -5,3 +5,4 @@ pub mod Returning
 pub mod Moving
 pub mod Going
 pub mod Remembering
+pub mod Quiet

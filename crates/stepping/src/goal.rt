@@ -1,6 +1,8 @@
 //! Where a run is meant to stop.
 
-ghost use Rattle.std.specs.Prelude.{◌≡◌};
+ghost use Rattle.std.specs.Prelude.{◌≡◌, ℕ, false};
+ghost use Rattle.std.specs.Bool.{OnTrue};
+ghost use Rattle.image.specs.Lines.{Table};
 ghost use Rattle.stepping.specs.Goals.{is_met, is_place};
 
 use image::LineTable;
@@ -37,6 +39,19 @@ impl Goal {
             Goal::In(granularity) => granularity.is_place(lines, pc),
             Goal::Over(granularity) => depth <= start && granularity.is_place(lines, pc),
             Goal::Out(_) => depth < start,
+        }
+    }
+
+    /// Whether it is known by the depths alone that the goal is not met: a quick answer for most moves of a long run.
+    #[inline]
+    pub(crate) fn is_out_of_reach(self, start: u64, depth: u64) -> bool
+        ensures { OnTrue result ((lines : Table) (pc : ℕ) → is_met self start lines pc depth ≡ false) }
+    {
+        match self {
+            Goal::Go => true,
+            Goal::In(_) => false,
+            Goal::Over(_) => depth > start,
+            Goal::Out(_) => depth >= start,
         }
     }
 }

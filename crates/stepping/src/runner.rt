@@ -21,16 +21,16 @@ use std::marker::Model;
 #[derive(Drop)]
 pub struct Runner {
     alloc: Global,
-    hart: Hart,
-    memory: Memory,
+    pub(crate) hart: Hart,
+    pub(crate) memory: Memory,
     size: u32,
-    calls: Calls,
+    pub(crate) calls: Calls,
     pub(crate) breaks: Breaks,
     retired: u64,
-    goal: Goal,
-    start: u64,
+    pub(crate) goal: Goal,
+    pub(crate) start: u64,
     check_due: bool,
-    lines: LineTable,
+    pub(crate) lines: LineTable,
 }
 
 impl Model for Runner {
@@ -164,7 +164,7 @@ impl Runner {
     {
         let copy = instr;
         match self.hart.execute(copy, &mut self.memory) {
-            Ok(stepped) => Ok(self.settle(stepped, instr, pc)),
+            Ok(stepped) => Ok(self.settle_quickly(stepped, instr, pc)),
             Err(error) => Err(error),
         }
     }
@@ -196,8 +196,10 @@ impl Runner {
         }
     }
 
-    // What comes of a move that was made, from this pc.
-    fn settle(&mut self, stepped: Stepped, instr: Option<Instr>, pc: u32) -> Tick
+    /// What comes of a move that was made, from this pc.
+    #[cold]
+    #[inline(never)]
+    pub(crate) fn settle(&mut self, stepped: Stepped, instr: Option<Instr>, pc: u32) -> Tick
         requires { self.old.retired < 2 ^ 62 }
         ensures tick { result ≡ tick_of stepped instr pc self.old }
         ensures state { self.new ≡ settled stepped instr pc self.old }
@@ -242,15 +244,12 @@ impl Runner {
         ensures state { self.new ≡ gone_on instr pc self.old }
     {
         self.note(instr, pc);
-        let hit = self.breaks.check(self.hart.pc, &self.hart, &self.memory);
-        let met = self
-            .goal
-            .is_met(self.start, &self.lines, self.hart.pc, self.calls.depth());
-        outcome_of(hit, met)
+        self.look()
     }
 
-    // The marks of an instruction that has retired.
-    fn note(&mut self, instr: Option<Instr>, pc: u32)
+    /// The marks of an instruction that has retired.
+    #[inline]
+    pub(crate) fn note(&mut self, instr: Option<Instr>, pc: u32)
         requires { self.old.retired < 2 ^ 62 }
         ensures { self.new ≡ record self.old { calls = noted_if self.old.calls instr pc; retired = self.old.retired + 1 } }
     {
@@ -318,8 +317,8 @@ impl Runner {
     }
 }
 
-// What the breakpoints come to, and then the goal.
-fn outcome_of(hit: Hit, goal_met: bool) -> Outcome
+/// What the breakpoints come to, and then the goal.
+pub(crate) fn outcome_of(hit: Hit, goal_met: bool) -> Outcome
     ensures { result ≡ outcome_of hit goal_met }
 {
     if hit.source {

@@ -10,4 +10,4 @@ returns-in-Ok-clause-moves c =
     let before : Debugged = record { hart = r.hart; memory = r.memory; size = r.size; calls = r.calls; lists = r.breaks; retired = r.retired; goal = r.goal; start = r.start; check_due = r.check_due; table = r.lines } in
     let at = subst (λ (d : Debugged). d.hart.pc ≡ c.args.pc) (sym c.self.view_is) c.requires.pc in
     let decoded = subst (λ (d : Debugged). IsDecodedAtPc (machine_of d.hart d.memory) c.args.instr) (sym c.self.view_is) c.requires.decoded in
-    subst (λ (d : Debugged). Moves d (Ok c.settle.result) c.settle.new.self) c.self.view_is (moves_so before _ _ _ c.args.instr c.in-Ok.stepped c.args.pc _ at decoded c.in-Ok.ensures.moves c.settle.ensures.tick c.settle.ensures.state)
+    subst (λ (d : Debugged). Moves d (Ok c.settle_quickly.result) c.settle_quickly.new.self) c.self.view_is (moves_so before _ _ _ c.args.instr c.in-Ok.stepped c.args.pc _ at decoded c.in-Ok.ensures.moves c.settle_quickly.ensures.tick c.settle_quickly.ensures.state)
