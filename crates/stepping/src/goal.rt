@@ -1,9 +1,8 @@
 //! Where a run is meant to stop.
 
-ghost use Rattle.std.specs.Prelude.{◌≡◌, ℕ, false};
-ghost use Rattle.std.specs.Bool.{OnTrue};
-ghost use Rattle.image.specs.Lines.{Table};
+ghost use Rattle.std.specs.Prelude.{◌≡◌};
 ghost use Rattle.stepping.specs.Goals.{is_met, is_place};
+ghost use Rattle.stepping.specs.Running.{IsOutOfReach};
 
 use image::LineTable;
 
@@ -42,16 +41,15 @@ impl Goal {
         }
     }
 
-    /// Whether it is known by the depths alone that the goal is not met: a quick answer for most moves of a long run.
-    #[inline]
-    pub(crate) fn is_out_of_reach(self, start: u64, depth: u64) -> bool
-        ensures { OnTrue result ((lines : Table) (pc : ℕ) → is_met self start lines pc depth ≡ false) }
+    /// From how many open calls on the goal is out of reach, by the depth at the start of the run.
+    pub(crate) fn out_of_reach(self, start: u64) -> u64
+        ensures { IsOutOfReach result self start }
     {
         match self {
-            Goal::Go => true,
-            Goal::In(_) => false,
-            Goal::Over(_) => depth > start,
-            Goal::Out(_) => depth >= start,
+            Goal::Go => 0,
+            Goal::In(_) => u64::MAX,
+            Goal::Over(_) => start.saturating_add(1),
+            Goal::Out(_) => start,
         }
     }
 }
