@@ -1,17 +1,44 @@
 -- The ticks of a run, and how it ends with one.
-use Rattle.std.proofs.Common.{◌≡◌, ℕ, ◌+◌, ◌<◌, ◌≤◌, suc, true, Option, Some, None, Result, Ok, Err, alloc_error, refl, sym, subst, arith, add-one}
+use Rattle.std.proofs.Common.{◌≡◌, ℕ, ◌+◌, ◌<◌, ◌≤◌, suc, Bool, true, false, Option, Some, None, Result, Ok, Err, alloc_error, MatchBool, refl, sym, ap, subst, arith, add-one}
 use Rattle.std.specs.declared.alloc.AllocError.{AllocError}
+use Rattle.rv32i.specs.Machine.{IsDecodedAtPc, IsMove, machine_of}
+use Rattle.rv32i.specs.declared.instr.Instr.{Instr}
+use Rattle.rv32i.specs.declared.stepped.Stepped.{Stepped}
+use Rattle.rv32i.specs.declared.stepped.Stepped.TheVariants.{Retired, Printed, Break, Exit, Trap}
 use Rattle.stepping.specs.Plain.{plain_tick}
-use Rattle.stepping.specs.Running.{Advances, IsEnding}
-use Rattle.stepping.specs.Runs.{Goes, IsRun}
-use Rattle.stepping.specs.Ticks.{Debugged, IsTick, entry_checked, entry_tick}
+use Rattle.stepping.specs.Running.{Advances, IsEnding, MovesOn, RetiresQuietly, seen}
+use Rattle.stepping.specs.Runs.{EndsRun, Goes, IsRun}
+use Rattle.stepping.specs.Ticks.{Debugged, IsTick, Moves, Settles, entry_checked, entry_tick, moved_as, settled, tick_of, with_check}
 use Rattle.stepping.specs.declared.tick.Ending.{Ending}
 use Rattle.stepping.specs.declared.tick.Ending.TheVariants.{Spent, Ticked, NoMemory}
+use Rattle.stepping.specs.declared.tick.Ran.{Ran}
 use Rattle.stepping.specs.declared.tick.Tick.{Tick}
+use Rattle.stepping.proofs.Moving.{moves_on}
 
--- a tick may be the check at the entry
+-- a tick is the check at the entry, or a move
 pub entry_advances : (before after : Debugged) (ending : Option Ending) → before.check_due ≡ true → IsEnding (Ok (entry_tick before)) ending → after ≡ entry_checked before → Advances before ending after
 entry_advances before after ending due e a = record { answer = Ok (entry_tick before); is_ending = e; tick = rw due (refl, a) }
+
+pub moves_advance : (before after : Debugged) (ending : Option Ending) → before.check_due ≡ false → MovesOn before ending after → Advances before ending after
+moves_advance before after ending due m = record {
+  answer = m.answer;
+  is_ending = m.is_ending;
+  tick = subst (λ (t : Bool). MatchBool t ((m.answer ≡ Ok (entry_tick before)) × (after ≡ entry_checked before)) (Moves before m.answer after)) (sym due) m.moves;
+}
+
+-- a move, and what it comes to
+pub settles_advance : (before moved after : Debugged) (instr : Option Instr) (s : Stepped) (pc : ℕ) (ending : Option Ending) → before.check_due ≡ false → before.hart.pc ≡ pc → IsDecodedAtPc (machine_of before.hart before.memory) instr → IsMove (machine_of before.hart before.memory) (record { answer = Ok s; machine = machine_of moved.hart moved.memory }) → moved ≡ moved_as before moved → IsEnding (Ok (tick_of s instr pc moved)) ending → after ≡ settled s instr pc moved → Advances before ending after
+settles_advance before moved after instr s pc ending due at d m rest e a =
+    let ends = subst (λ (x : Debugged). IsEnding (Ok (tick_of s instr pc x)) ending) rest e in
+    let leaves = subst (λ (x : Debugged). after ≡ settled s instr pc x) rest a in
+    moves_advance before after ending due (moves_on before after moved.hart moved.memory instr s pc ending at d m ends leaves)
+
+-- an instruction that has retired, and a look at pc
+pub looks_advance : (before moved noted after : Debugged) (instr : Option Instr) (pc : ℕ) (ending : Option Ending) → before.check_due ≡ false → before.hart.pc ≡ pc → IsDecodedAtPc (machine_of before.hart before.memory) instr → IsMove (machine_of before.hart before.memory) (record { answer = Ok Retired; machine = machine_of moved.hart moved.memory }) → moved ≡ moved_as before moved → RetiresQuietly false instr pc moved noted → IsEnding (Ok (record { printed = None; outcome = seen noted })) ending → after ≡ with_check noted → Advances before ending after
+looks_advance before moved noted after instr pc ending due at d m rest n e a =
+    let ends = subst (λ (x : Debugged). IsEnding (Ok (record { printed = None; outcome = seen x })) ending) n e in
+    let leaves = subst (λ (x : Debugged). after ≡ with_check x) n a in
+    settles_advance before moved after instr Retired pc ending due at d m rest ends leaves
 
 -- what it answers, by how a run ends with it
 pub plain : (before after : Debugged) → Advances before None after → IsTick before (Ok plain_tick) after
@@ -39,3 +66,26 @@ pub all_went : (most went : ℕ) (before after : Debugged) → went ≤ most →
 all_went most went before after a b h =
     let e : went ≡ most = omega (arith, a, b) in
     record { middle = after; goes = subst (λ k. Goes k before after) e h; ends = (refl, refl) }
+
+-- at most one instruction retires in a tick
+pub one_retires : (before after : Debugged) (ending : Option Ending) → Advances before ending after → after.retired ≤ before.retired + 1
+one_retires before after ending h = by_due before.check_due h.tick where
+  by_stepped : (m : Moves before h.answer after) (s : Result Stepped AllocError) → Settles before m.instr s h.answer after → after.retired ≤ before.retired + 1
+  by_stepped m (Ok Retired) e = omega (arith, ap (λ (d : Debugged). d.retired) e.1)
+  by_stepped m (Ok (Printed number)) e = omega (arith, ap (λ (d : Debugged). d.retired) e.1)
+  by_stepped m (Ok Break) e = omega (arith, ap (λ (d : Debugged). d.retired) e.1)
+  by_stepped m (Ok (Exit code)) e = omega (arith, ap (λ (d : Debugged). d.retired) e.1)
+  by_stepped m (Ok (Trap cause)) e = omega (arith, ap (λ (d : Debugged). d.retired) e.1)
+  by_stepped m (Err error) e = omega (arith, ap (λ (d : Debugged). d.retired) e.1)
+
+  by_due : (t : Bool) → MatchBool t ((h.answer ≡ Ok (entry_tick before)) × (after ≡ entry_checked before)) (Moves before h.answer after) → after.retired ≤ before.retired + 1
+  by_due true e = omega (arith, ap (λ (d : Debugged). d.retired) e.1)
+  by_due false m = by_stepped m m.stepped m.settles
+
+-- a run of one tick that ends with it
+pub one_ticked : (before after : Debugged) (ran : Ran) (tick : Tick) → ran.ending ≡ Ticked tick → IsRun 1 before ran after → IsTick before (Ok tick) after
+one_ticked before after ran tick e h =
+    let ends : EndsRun 1 ran.went (Ticked tick) h.middle after = subst (λ (x : Ending). EndsRun 1 ran.went x h.middle after) e h.ends in
+    let none : ran.went ≡ 0 = omega (arith, ends.0) in
+    let at : h.middle ≡ before = subst (λ (k : ℕ). Goes k before h.middle) none h.goes in
+    subst (λ (d : Debugged). IsTick d (Ok tick) after) at ends.1.1

@@ -4,9 +4,10 @@ use Rattle.std.specs.Result.{MatchResult}
 use Rattle.image.specs.Memory.{word_at}
 use Rattle.image.specs.declared.fault.MemFault.{MemFault}
 use Rattle.rv32i.specs.Encoding.{IsDecoding}
-use Rattle.rv32i.specs.Machine.{IsDecodedAtPc, IsMove, Machine, machine_of}
+use Rattle.rv32i.specs.Machine.{IsDecodedAtPc, IsMove, Machine, fetch_fault, machine_of, trapped}
 use Rattle.rv32i.specs.declared.hart.Hart.{Hart}
 use Rattle.rv32i.specs.declared.instr.Instr.{Instr}
+use Rattle.rv32i.specs.declared.stepped.Cause.{Cause}
 use Rattle.rv32i.specs.declared.stepped.Stepped.{Stepped}
 use Rattle.rv32i.specs.declared.stepped.Stepped.TheVariants as stepped
 use Rattle.stepping.specs.Running.{IsEnding, MovesOn}
@@ -59,9 +60,15 @@ moves_on before after hart memory instr s pc ending at d m e a = record {
   moves = moves_so before after hart memory instr s pc (tick_of s instr pc (with_machine before hart memory)) at d m refl a;
 }
 
-pub faults_on : (before after : Debugged) (hart : Hart) (memory : List ℕ) (s : Stepped) (pc : ℕ) (ending : Option Ending) → before.hart.pc ≡ pc → IsErr (word_at before.memory pc) → IsMove (machine_of before.hart before.memory) (record { answer = Ok s; machine = machine_of hart memory }) → IsEnding (Ok (tick_of s None pc (with_machine before hart memory))) ending → after ≡ settled s None pc (with_machine before hart memory) → MovesOn before ending after
+faults_on : (before after : Debugged) (hart : Hart) (memory : List ℕ) (s : Stepped) (pc : ℕ) (ending : Option Ending) → before.hart.pc ≡ pc → IsErr (word_at before.memory pc) → IsMove (machine_of before.hart before.memory) (record { answer = Ok s; machine = machine_of hart memory }) → IsEnding (Ok (tick_of s None pc (with_machine before hart memory))) ending → after ≡ settled s None pc (with_machine before hart memory) → MovesOn before ending after
 faults_on before after hart memory s pc ending at f m e a = record {
   answer = Ok (tick_of s None pc (with_machine before hart memory));
   is_ending = e;
   moves = faults_so before after hart memory s pc (tick_of s None pc (with_machine before hart memory)) at f m refl a;
 }
+
+-- a trap where no word can be fetched
+pub trap_on : (before after : Debugged) (fault : MemFault) (cause : Cause) (ending : Option Ending) → word_at before.memory before.hart.pc ≡ Err fault → ((m : Machine) → trapped cause m ≡ fetch_fault fault m) → IsEnding (Ok (tick_of (stepped.Trap cause) None before.hart.pc before)) ending → after ≡ settled (stepped.Trap cause) None before.hart.pc before → MovesOn before ending after
+trap_on before after fault cause ending w t e a =
+    let none : IsErr (word_at before.memory before.hart.pc) = subst (λ (r : Result ℕ MemFault). IsErr r) (sym w) refl in
+    faults_on before after before.hart before.memory (stepped.Trap cause) before.hart.pc ending refl none (rw w (t (machine_of before.hart before.memory))) e a

@@ -1,10 +1,13 @@
 -- What holds of every machine that is debugged, and how a run goes on or ends: cited by private clauses alone.
-use Rattle.std.specs.Prelude.{◌≡◌, ◌≢◌, ℕ, ◌%◌, ◌^◌, ◌≤◌, false, Option, Some, None, Result, Ok, Err, alloc_error}
+use Rattle.std.specs.Prelude.{◌≡◌, ◌≢◌, ℕ, ◌+◌, ◌%◌, ◌^◌, ◌≤◌, Bool, true, false, Option, Some, None, Result, Ok, Err, alloc_error}
 use Rattle.std.specs.declared.alloc.AllocError.{AllocError}
 use Rattle.image.specs.Lines.{Table}
 use Rattle.stepping.specs.Goals.{is_met}
 use Rattle.stepping.specs.Plain.{plain_tick}
-use Rattle.stepping.specs.Ticks.{Debugged, IsTick, Moves, hit_at_pc, outcome_of, stayed, with_check}
+use Rattle.rv32i.specs.declared.instr.Instr.{Instr}
+use Rattle.rv32i.specs.declared.stepped.Stepped.TheVariants.{Retired}
+use Rattle.stepping.specs.Ticks.{Debugged, IsTick, Moves, hit_at_pc, noted_if, outcome_of, settled, stayed, tick_of}
+use Rattle.stepping.specs.Ticks.{with_check}
 use Rattle.stepping.specs.declared.goal.Goal.{Goal}
 use Rattle.stepping.specs.declared.tick.Ending.{Ending}
 use Rattle.stepping.specs.declared.tick.Ending.TheVariants.{Spent, Ticked, NoMemory}
@@ -38,6 +41,12 @@ seen d = outcome_of (hit_at_pc d) (is_met d.goal d.start d.table d.hart.pc d.cal
 pub record IsQuiet (d : Debugged) : Type 0 where
   pub went : seen d ≡ Went
   pub checked : with_check d ≡ stayed d
+
+-- An instruction has retired, and it is known at once that there is nothing to report; or it has its marks, and no
+-- breakpoint was looked at yet.
+abbrev pub RetiresQuietly : Bool → Option Instr → ℕ → Debugged → Debugged → Type 0
+RetiresQuietly true instr pc before after = (tick_of Retired instr pc before ≡ plain_tick) × (after ≡ settled Retired instr pc before)
+RetiresQuietly false instr pc before after = after ≡ record before { calls = noted_if before.calls instr pc; retired = before.retired + 1 }
 
 -- ---- a tick of a run
 

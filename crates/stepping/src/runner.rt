@@ -117,11 +117,10 @@ impl Runner {
         ensures tick { IsTick self.old result self.new }
         ensures retired { self.new.retired ≤ self.old.retired + 1 }
     {
-        match self.advance() {
-            None => Ok(Tick::PLAIN),
-            Some(Ending::Ticked(tick)) => Ok(tick),
-            Some(Ending::NoMemory) => Err(AllocError),
-            Some(Ending::Spent) => unreachable!(),
+        match self.go(1).ending {
+            Ending::Spent => Ok(Tick::PLAIN),
+            Ending::Ticked(tick) => Ok(tick),
+            Ending::NoMemory => Err(AllocError),
         }
     }
 
@@ -132,15 +131,7 @@ impl Runner {
         ensures run { IsRun most self.old result self.new }
         ensures retired { self.new.retired ≤ self.old.retired + most }
     {
-        for went in 0..most {
-            if let Some(ending) = self.advance() {
-                return Ran { went, ending };
-            }
-        }
-        Ran {
-            went: most,
-            ending: Ending::Spent,
-        }
+        self.go(most)
     }
 
     /// Writes bytes to memory. `Outside`: one of the addresses has no byte, and nothing is written.

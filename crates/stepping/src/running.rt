@@ -1,64 +1,90 @@
 //! The ticks of a run. After most moves there is nothing to report: no breakpoint is at the new pc, and the goal is out of reach.
 
-ghost use Rattle.std.specs.Prelude.{◌≡◌, ◌+◌, ◌^◌, ◌<◌, ◌≤◌, IsErr};
+ghost use Rattle.std.specs.Prelude.{◌≡◌, ◌+◌, ◌^◌, ◌<◌, ◌≤◌, IsOk};
 ghost use Rattle.std.specs.Bool.{OnTrue};
 ghost use Rattle.image.specs.Memory.{word_at};
-ghost use Rattle.rv32i.specs.Machine.{IsDecodedAtPc, machine_of};
-ghost use Rattle.stepping.specs.Running.{Advances, IsEnding, IsQuiet, MovesOn, seen};
-ghost use Rattle.stepping.specs.Ticks.{entry_checked, entry_tick, gone_on, noted_if, outcome_of, settled, tick_of, went_on, with_check};
+ghost use Rattle.rv32i.specs.Machine.{IsDecodedAtPc, IsMove, machine_of};
+ghost use Rattle.stepping.specs.Running.{IsEnding, IsQuiet, MovesOn, RetiresQuietly, seen};
+ghost use Rattle.stepping.specs.Runs.{IsRun};
+ghost use Rattle.stepping.specs.Ticks.{entry_checked, entry_tick, gone_on, moved_as, noted_if, outcome_of, settled, tick_of, went_on, with_check};
 
 use crate::runner::Runner;
-use crate::tick::{Ending, Outcome, Reason, Tick};
+use crate::tick::{Ending, Outcome, Ran, Reason, Tick};
 use breakpoints::Hit;
-use rv32i::{Instr, Stepped, decode};
+use image::MemFault;
+use rv32i::{Cause, Instr, Stepped, decode};
+use std::alloc::AllocError;
 
 impl Runner {
-    /// One tick, and how a run ends with it; `None`: there is nothing to report, and the run goes on.
-    #[inline]
-    pub(crate) fn advance(&mut self) -> Option<Ending>
-        requires { self.old.retired < 2 ^ 62 }
-        ensures tick { Advances self.old result self.new }
-        ensures retired { self.new.retired ≤ self.old.retired + 1 }
+    /// Makes so many ticks at most, and ends with the first of which there is something to report.
+    #[inline(never)]
+    pub(crate) fn go(&mut self, most: u32) -> Ran
+        requires { self.old.retired + most ≤ 2 ^ 62 }
+        ensures run { IsRun most self.old result self.new }
+        ensures retired { self.new.retired ≤ self.old.retired + most }
     {
-        if self.check_due {
-            return self.check_entry();
+        for went in 0..most {
+            if self.check_due {
+                match self.check_entry() {
+                    None => continue,
+                    Some(ending) => return Ran { went, ending },
+                }
+            }
+            let pc = self.hart.pc;
+            let instr = match self.memory.word(pc) {
+                Ok(word) => decode(word),
+                Err(fault) => match self.fault(fault) {
+                    None => continue,
+                    Some(ending) => return Ran { went, ending },
+                },
+            };
+            let copy = instr;
+            let slow = match self.move_by(copy) {
+                Ok(Stepped::Retired) => {
+                    if self.retires_quietly(&instr, pc) {
+                        continue;
+                    }
+                    self.look_closely()
+                }
+                Ok(stepped) => self.settle(stepped, &instr, pc),
+                Err(_) => Some(Ending::NoMemory),
+            };
+            if let Some(ending) = slow {
+                return Ran { went, ending };
+            }
         }
-        let pc = self.hart.pc;
-        let Ok(word) = self.memory.word(pc) else {
-            return self.fault(pc);
-        };
-        self.carry_out(&decode(word), pc)
+        Ran {
+            went: most,
+            ending: Ending::Spent,
+        }
     }
 
-    // A move of which the instruction is known, or that the word at pc is illegal.
+    // The hart moves by an instruction, or by none where the word at pc is illegal.
     #[inline]
-    fn carry_out(&mut self, instr: &Option<Instr>, pc: u32) -> Option<Ending>
-        requires retired { self.old.retired < 2 ^ 62 }
-        requires pc { self.old.hart.pc ≡ pc }
-        requires decoded { IsDecodedAtPc (machine_of self.old.hart self.old.memory) instr.now }
-        ensures moves { MovesOn self.old result self.new }
-        ensures retired { self.new.retired ≤ self.old.retired + 1 }
+    fn move_by(&mut self, instr: Option<Instr>) -> Result<Stepped, AllocError>
+        requires { IsDecodedAtPc (machine_of self.old.hart self.old.memory) instr }
+        ensures moves { IsMove (machine_of self.old.hart self.old.memory) (record { answer = result; machine = machine_of self.new.hart self.new.memory }) }
+        ensures rest { self.new ≡ moved_as self.old self.new }
+        ensures answers { IsOk result }
+        ensures decoded { IsDecodedAtPc (machine_of self.old.hart self.old.memory) instr }
     {
-        let copy = *instr;
-        match self.hart.execute(copy, &mut self.memory) {
-            Ok(stepped) => self.settle_quickly(stepped, instr, pc),
-            Err(_) => Some(Ending::NoMemory),
-        }
+        self.hart.execute(instr, &mut self.memory)
     }
 
-    // A move where no word can be fetched.
+    // A move where no word can be fetched: the hart traps.
     #[cold]
     #[inline(never)]
-    fn fault(&mut self, pc: u32) -> Option<Ending>
+    fn fault(&mut self, fault: MemFault) -> Option<Ending>
         requires retired { self.old.retired < 2 ^ 62 }
-        requires pc { self.old.hart.pc ≡ pc }
-        requires fault { IsErr (word_at self.old.memory pc) }
+        requires fault { word_at self.old.memory self.old.hart.pc ≡ Err fault }
         ensures moves { MovesOn self.old result self.new }
         ensures retired { self.new.retired ≤ self.old.retired + 1 }
     {
-        match self.hart.step(&mut self.memory) {
-            Ok(stepped) => self.settle(stepped, &None, pc),
-            Err(_) => Some(Ending::NoMemory),
+        let pc = self.hart.pc;
+        match fault {
+            MemFault::Misaligned => self.settle(Stepped::Trap(Cause::JumpMisaligned), &None, pc),
+            MemFault::Outside => self.settle(Stepped::Trap(Cause::FetchOutside), &None, pc),
+            MemFault::NoMemory => Some(Ending::NoMemory),
         }
     }
 
@@ -77,20 +103,19 @@ impl Runner {
         })
     }
 
-    // What comes of a move that was made, from this pc, where most instructions retire.
+    // An instruction, which was at this pc, has retired. Whether it is known at once that there is nothing to report; else it
+    // is left to look at the breakpoints and the goal.
     #[inline]
-    fn settle_quickly(&mut self, stepped: Stepped, instr: &Option<Instr>, pc: u32) -> Option<Ending>
+    fn retires_quietly(&mut self, instr: &Option<Instr>, pc: u32) -> bool
         requires { self.old.retired < 2 ^ 62 }
-        ensures ending { IsEnding (Ok (tick_of stepped instr.now pc self.old)) result }
-        ensures state { self.new ≡ settled stepped instr.now pc self.old }
+        ensures { RetiresQuietly result instr.now pc self.old self.new }
     {
-        match stepped {
-            Stepped::Retired => {
-                self.note(instr, pc);
-                self.look_quickly()
-            }
-            stepped => self.settle(stepped, instr, pc),
+        self.note(instr, pc);
+        if !self.is_quiet() {
+            return false;
         }
+        self.breaks.forget_ids();
+        true
     }
 
     // What comes of a move that was made, from this pc.
@@ -166,20 +191,6 @@ impl Runner {
         self.retired += 1;
     }
 
-    // What there is to see at pc, and how a run ends with it.
-    #[inline]
-    fn look_quickly(&mut self) -> Option<Ending>
-        requires { self.old.retired ≤ 2 ^ 62 }
-        ensures ending { IsEnding (Ok (record { printed = None; outcome = seen self.old })) result }
-        ensures state { self.new ≡ with_check self.old }
-    {
-        if self.is_quiet() {
-            self.breaks.forget_ids();
-            return None;
-        }
-        self.look_closely()
-    }
-
     // Whether it is known that there is nothing to see.
     #[inline]
     fn is_quiet(&self) -> bool
@@ -192,7 +203,7 @@ impl Runner {
         self.calls.depth() >= self.out_of_reach
     }
 
-    // The same as `look_quickly`, where it is not.
+    // What there is to see at pc, and how a run ends with it.
     #[cold]
     #[inline(never)]
     fn look_closely(&mut self) -> Option<Ending>
