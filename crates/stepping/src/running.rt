@@ -169,13 +169,13 @@ impl Runner {
         }
     }
 
-    // An instruction, which was at this pc, has retired.
-    fn go_on(&mut self, instr: &Option<Instr>, pc: u32) -> Outcome
+    // An instruction, which was at this address, has retired.
+    fn go_on(&mut self, instr: &Option<Instr>, at: u32) -> Outcome
         requires { self.old.retired < 2 ^ 62 }
-        ensures outcome { result ≡ went_on instr.now pc self.old }
-        ensures state { self.new ≡ gone_on instr.now pc self.old }
+        ensures outcome { result ≡ went_on instr.now at self.old }
+        ensures state { self.new ≡ gone_on instr.now at self.old }
     {
-        self.note(instr, pc);
+        self.note(instr, at);
         self.look()
     }
 
