@@ -1,14 +1,16 @@
 -- The ticks of a run, and how it ends with one.
-use Rattle.std.proofs.Common.{◌≡◌, ℕ, ◌+◌, ◌<◌, ◌≤◌, suc, Bool, true, false, Option, Some, None, Result, Ok, Err, alloc_error, MatchBool, refl, sym, ap, subst, arith, add-one}
+use Rattle.std.proofs.Common.{◌≡◌, ℕ, ◌+◌, ◌<◌, ◌≤◌, suc, Bool, true, false, Option, Some, None, Result, Ok, Err, alloc_error, MatchBool, refl, sym, ap, subst, ◌∙◌, arith, add-one}
 use Rattle.std.specs.declared.alloc.AllocError.{AllocError}
 use Rattle.rv32i.specs.Machine.{IsDecodedAtPc, IsMove, machine_of}
 use Rattle.rv32i.specs.declared.instr.Instr.{Instr}
 use Rattle.rv32i.specs.declared.stepped.Stepped.{Stepped}
 use Rattle.rv32i.specs.declared.stepped.Stepped.TheVariants.{Retired, Printed, Break, Exit, Trap}
+use Rattle.stepping.specs.Calls.{Kept}
+use Rattle.stepping.specs.Goals.{is_met}
 use Rattle.stepping.specs.Plain.{plain_tick}
-use Rattle.stepping.specs.Running.{Advances, IsEnding, MovesOn, RetiresQuietly, seen}
+use Rattle.stepping.specs.Running.{Advances, HasMarksOf, IsEnding, MovesOn, RetiresQuietly, seen}
 use Rattle.stepping.specs.Runs.{EndsRun, Goes, IsRun}
-use Rattle.stepping.specs.Ticks.{Debugged, IsTick, Moves, Settles, entry_checked, entry_tick, moved_as, settled, tick_of, with_check}
+use Rattle.stepping.specs.Ticks.{Debugged, IsTick, Moves, Settles, entry_checked, entry_tick, hit_at_pc, moved_as, outcome_of, settled, tick_of, with_check}
 use Rattle.stepping.specs.declared.tick.Ending.{Ending}
 use Rattle.stepping.specs.declared.tick.Ending.TheVariants.{Spent, Ticked, NoMemory}
 use Rattle.stepping.specs.declared.tick.Ran.{Ran}
@@ -26,19 +28,35 @@ moves_advance before after ending due m = record {
   tick = subst (λ (t : Bool). MatchBool t ((m.answer ≡ Ok (entry_tick before)) × (after ≡ entry_checked before)) (Moves before m.answer after)) (sym due) m.moves;
 }
 
--- a move, and what it comes to
-pub settles_advance : (before moved after : Debugged) (instr : Option Instr) (s : Stepped) (pc : ℕ) (ending : Option Ending) → before.check_due ≡ false → before.hart.pc ≡ pc → IsDecodedAtPc (machine_of before.hart before.memory) instr → IsMove (machine_of before.hart before.memory) (record { answer = Ok s; machine = machine_of moved.hart moved.memory }) → moved ≡ moved_as before moved → IsEnding (Ok (tick_of s instr pc moved)) ending → after ≡ settled s instr pc moved → Advances before ending after
-settles_advance before moved after instr s pc ending due at d m rest e a =
-    let ends = subst (λ (x : Debugged). IsEnding (Ok (tick_of s instr pc x)) ending) rest e in
-    let leaves = subst (λ (x : Debugged). after ≡ settled s instr pc x) rest a in
+-- what a move comes to, by an instruction with the same marks
+tick_so : (s : Stepped) (jump instr : Option Instr) (pc : ℕ) (d : Debugged) → HasMarksOf jump instr → tick_of s jump pc d ≡ tick_of s instr pc d
+tick_so Retired jump instr pc d same = ap (λ (k : Kept). record { printed = None; outcome = outcome_of (hit_at_pc d) (is_met d.goal d.start d.table d.hart.pc k.depth) }) (same d.calls pc)
+tick_so (Printed number) jump instr pc d same = ap (λ (k : Kept). record { printed = Some number; outcome = outcome_of (hit_at_pc d) (is_met d.goal d.start d.table d.hart.pc k.depth) }) (same d.calls pc)
+tick_so Break jump instr pc d same = refl
+tick_so (Exit code) jump instr pc d same = refl
+tick_so (Trap cause) jump instr pc d same = refl
+
+settled_so : (s : Stepped) (jump instr : Option Instr) (pc : ℕ) (d : Debugged) → HasMarksOf jump instr → settled s jump pc d ≡ settled s instr pc d
+settled_so Retired jump instr pc d same = ap (λ (k : Kept). with_check (record d { calls = k; retired = d.retired + 1 })) (same d.calls pc)
+settled_so (Printed number) jump instr pc d same = ap (λ (k : Kept). with_check (record d { calls = k; retired = d.retired + 1 })) (same d.calls pc)
+settled_so Break jump instr pc d same = ap (λ (k : Kept). with_check (record d { calls = k; retired = d.retired + 1 })) (same d.calls pc)
+settled_so (Exit code) jump instr pc d same = refl
+settled_so (Trap cause) jump instr pc d same = refl
+
+pub settles_advance : (before moved after : Debugged) (jump instr : Option Instr) (s : Stepped) (pc : ℕ) (ending : Option Ending) → HasMarksOf jump instr → before.check_due ≡ false → before.hart.pc ≡ pc → IsDecodedAtPc (machine_of before.hart before.memory) instr → IsMove (machine_of before.hart before.memory) (record { answer = Ok s; machine = machine_of moved.hart moved.memory }) → moved ≡ moved_as before moved → IsEnding (Ok (tick_of s jump pc moved)) ending → after ≡ settled s jump pc moved → Advances before ending after
+settles_advance before moved after jump instr s pc ending same due at d m rest e a =
+    let told = subst (λ (t : Tick). IsEnding (Ok t) ending) (tick_so s jump instr pc moved same) e in
+    let ends = subst (λ (x : Debugged). IsEnding (Ok (tick_of s instr pc x)) ending) rest told in
+    let left = a ∙ settled_so s jump instr pc moved same in
+    let leaves = subst (λ (x : Debugged). after ≡ settled s instr pc x) rest left in
     moves_advance before after ending due (moves_on before after moved.hart moved.memory instr s pc ending at d m ends leaves)
 
 -- an instruction that has retired, and a look at pc
-pub looks_advance : (before moved noted after : Debugged) (instr : Option Instr) (pc : ℕ) (ending : Option Ending) → before.check_due ≡ false → before.hart.pc ≡ pc → IsDecodedAtPc (machine_of before.hart before.memory) instr → IsMove (machine_of before.hart before.memory) (record { answer = Ok Retired; machine = machine_of moved.hart moved.memory }) → moved ≡ moved_as before moved → RetiresQuietly false instr pc moved noted → IsEnding (Ok (record { printed = None; outcome = seen noted })) ending → after ≡ with_check noted → Advances before ending after
-looks_advance before moved noted after instr pc ending due at d m rest n e a =
+pub looks_advance : (before moved noted after : Debugged) (jump instr : Option Instr) (pc : ℕ) (ending : Option Ending) → HasMarksOf jump instr → before.check_due ≡ false → before.hart.pc ≡ pc → IsDecodedAtPc (machine_of before.hart before.memory) instr → IsMove (machine_of before.hart before.memory) (record { answer = Ok Retired; machine = machine_of moved.hart moved.memory }) → moved ≡ moved_as before moved → RetiresQuietly false jump pc moved noted → IsEnding (Ok (record { printed = None; outcome = seen noted })) ending → after ≡ with_check noted → Advances before ending after
+looks_advance before moved noted after jump instr pc ending same due at d m rest n e a =
     let ends = subst (λ (x : Debugged). IsEnding (Ok (record { printed = None; outcome = seen x })) ending) n e in
     let leaves = subst (λ (x : Debugged). after ≡ with_check x) n a in
-    settles_advance before moved after instr Retired pc ending due at d m rest ends leaves
+    settles_advance before moved after jump instr Retired pc ending same due at d m rest ends leaves
 
 -- what it answers, by how a run ends with it
 pub plain : (before after : Debugged) → Advances before None after → IsTick before (Ok plain_tick) after

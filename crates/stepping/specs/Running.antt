@@ -2,6 +2,7 @@
 use Rattle.std.specs.Prelude.{◌≡◌, ◌≢◌, ℕ, ◌+◌, ◌%◌, ◌^◌, ◌≤◌, Bool, true, false, Option, Some, None, Result, Ok, Err, alloc_error}
 use Rattle.std.specs.declared.alloc.AllocError.{AllocError}
 use Rattle.image.specs.Lines.{Table}
+use Rattle.stepping.specs.Calls.{Kept}
 use Rattle.stepping.specs.Goals.{is_met}
 use Rattle.stepping.specs.Plain.{plain_tick}
 use Rattle.rv32i.specs.declared.instr.Instr.{Instr}
@@ -41,6 +42,10 @@ seen d = outcome_of (hit_at_pc d) (is_met d.goal d.start d.table d.hart.pc d.cal
 pub record IsQuiet (d : Debugged) : Type 0 where
   pub went : seen d ≡ Went
   pub checked : with_check d ≡ stayed d
+
+-- an instruction, or none, has the marks of another
+abbrev pub HasMarksOf : Option Instr → Option Instr → Type 0
+HasMarksOf jump instr = (calls : Kept) (pc : ℕ) → noted_if calls jump pc ≡ noted_if calls instr pc
 
 -- An instruction has retired, and it is known at once that there is nothing to report; or it has its marks, and no
 -- breakpoint was looked at yet.

@@ -4,7 +4,7 @@ ghost use Rattle.std.specs.Prelude.{◌≡◌, ◌+◌, ◌^◌, ◌<◌, ◌≤
 ghost use Rattle.std.specs.Bool.{OnTrue};
 ghost use Rattle.image.specs.Memory.{word_at};
 ghost use Rattle.rv32i.specs.Machine.{IsDecodedAtPc, IsMove, machine_of};
-ghost use Rattle.stepping.specs.Running.{IsEnding, IsQuiet, MovesOn, RetiresQuietly, seen};
+ghost use Rattle.stepping.specs.Running.{HasMarksOf, IsEnding, IsQuiet, MovesOn, RetiresQuietly, seen};
 ghost use Rattle.stepping.specs.Runs.{IsRun};
 ghost use Rattle.stepping.specs.Ticks.{entry_checked, entry_tick, gone_on, moved_as, noted_if, outcome_of, settled, tick_of, went_on, with_check};
 
@@ -38,15 +38,15 @@ impl Runner {
                     Some(ending) => return Ran { went, ending },
                 },
             };
-            let copy = instr;
-            let slow = match self.move_by(copy) {
+            let jump = jump_in(&instr);
+            let slow = match self.move_by(instr) {
                 Ok(Stepped::Retired) => {
-                    if self.retires_quietly(&instr, pc) {
+                    if self.retires_quietly(&jump, pc) {
                         continue;
                     }
                     self.look_closely()
                 }
-                Ok(stepped) => self.settle(stepped, &instr, pc),
+                Ok(stepped) => self.settle(stepped, &jump, pc),
                 Err(_) => Some(Ending::NoMemory),
             };
             if let Some(ending) = slow {
@@ -227,6 +227,37 @@ impl Runner {
             .goal
             .is_met(self.start, &self.lines, self.hart.pc, self.calls.depth());
         outcome_of(hit, met)
+    }
+}
+
+// The instruction where it is a jump, which alone may leave marks: to keep each instruction is slow, since a processor that has
+// written the parts of one has to wait before it can read it as a whole.
+#[inline]
+fn jump_in(instr: &Option<Instr>) -> Option<Instr>
+    ensures { HasMarksOf result instr.now }
+{
+    match instr {
+        Some(instr) => jump_of(instr),
+        None => None,
+    }
+}
+
+// The same of an instruction.
+#[inline]
+fn jump_of(instr: &Instr) -> Option<Instr>
+    ensures { HasMarksOf result (Some instr.now) }
+{
+    match instr {
+        Instr::Jal { rd, offset } => Some(Instr::Jal {
+            rd: *rd,
+            offset: *offset,
+        }),
+        Instr::Jalr { rd, rs1, imm } => Some(Instr::Jalr {
+            rd: *rd,
+            rs1: *rs1,
+            imm: *imm,
+        }),
+        _ => None,
     }
 }
 
