@@ -4,6 +4,7 @@ import re
 
 FUNCTION = re.compile(r"( *)(?:pub(?:\([a-z]+\))? )?(?:const )?fn (\w+)")
 IMPL = re.compile(r"impl(?:<[^>]*>)? (?:(.*) for )?(\w+)")
+TYPE = re.compile(r"(?:pub(?:\([a-z]+\))? )?(?:struct|enum) (\w+)")
 
 
 class BadEdit(Exception):
@@ -40,19 +41,28 @@ def function_at(crate, path, index):
     """The function of src/ that a line belongs to, as the prover calls it, or None. The file is in the layout of rt fmt."""
     if not path.startswith("src/"):
         return None
-    lines, owner = crate.lines(path), []
-    module = [it for it in path[len("src/"):-len(".rt")].split("/") if it not in ("lib", "main")]
+    lines, owner, module = crate.lines(path), [], module_of(path)
     for first, line in enumerate(lines[:index + 1]):
         function, impl = FUNCTION.match(line), IMPL.match(line)
         if impl:
-            owner = [impl[2] + re.sub(r"\W", "", impl[1] or "")]
+            owner = (module if impl[1] else home_of(crate, path, impl[2])) + [impl[2] + re.sub(r"\W", "", impl[1] or "")]
         elif function:
-            name = "::".join(module + owner * bool(function[1]) + [function[2]])
+            name = "::".join((owner if function[1] else module) + [function[2]])
             ends = (function[1] + "}", function[1] + "{}")
             last = first if line.endswith("}") else next(i for i in range(first, len(lines)) if lines[i] in ends)
             if index <= last:
                 return name
     return None
+
+
+def module_of(path):
+    return [it for it in path[len("src/"):-len(".rt")].split("/") if it not in ("lib", "main")]
+
+
+def home_of(crate, path, name):
+    """The module of a type: its methods go by it, wherever they stand."""
+    declares = [it for it in crate.files("src") if any(said and said[1] == name for said in map(TYPE.match, crate.lines(it)))]
+    return module_of(path if path in declares or not declares else declares[0])
 
 
 def read(crate, file):
