@@ -50,8 +50,10 @@ HasMarksOf jump instr = (calls : Kept) (pc : ℕ) → noted_if calls jump pc ≡
 -- An instruction has retired, and it is known at once that there is nothing to report; or it has its marks, and no
 -- breakpoint was looked at yet.
 abbrev pub RetiresQuietly : Bool → Option Instr → ℕ → Debugged → Debugged → Type 0
-RetiresQuietly true instr pc before after = (tick_of Retired instr pc before ≡ plain_tick) × (after ≡ settled Retired instr pc before)
-RetiresQuietly false instr pc before after = after ≡ record before { calls = noted_if before.calls instr pc; retired = before.retired + 1 }
+RetiresQuietly true instr pc before after =
+    (tick_of Retired instr pc before ≡ plain_tick) × (after ≡ settled Retired instr pc before)
+RetiresQuietly false instr pc before after =
+    after ≡ record before { calls = noted_if before.calls instr pc; retired = before.retired + 1 }
 
 -- ---- a tick of a run
 
