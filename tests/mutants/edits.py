@@ -4,6 +4,7 @@ import re
 
 FUNCTION = re.compile(r"( *)(?:pub(?:\([a-z]+\))? )?(?:const )?fn (\w+)")
 IMPL = re.compile(r"impl(?:<[^>]*>)? (?:(.*) for )?(\w+)")
+TYPE = re.compile(r"(?:pub(?:\([a-z]+\))? )?(?:struct|enum) (\w+)")
 
 
 class BadEdit(Exception):
@@ -40,14 +41,13 @@ def function_at(crate, path, index):
     """The function of src/ that a line belongs to, as the prover calls it, or None. The file is in the layout of rt fmt."""
     if not path.startswith("src/"):
         return None
-    lines, owner = crate.lines(path), []
-    module = [it for it in path[len("src/"):-len(".rt")].split("/") if it not in ("lib", "main")]
+    lines, owner, module = crate.lines(path), [], module_of(path)
     for first, line in enumerate(lines[:index + 1]):
         function, impl = FUNCTION.match(line), IMPL.match(line)
         if impl:
-            owner = [impl[2][0].upper() + impl[2][1:] + re.sub(r"\W", "", impl[1] or "")]
+            owner = (module if impl[1] else home_of(crate, path, impl[2])) + [capitalized(impl[2]) + re.sub(r"\W", "", impl[1] or "")]
         elif function and has_body(lines[first:]):
-            name = "::".join(module + owner * bool(function[1]) + [function[2]])
+            name = "::".join((owner if function[1] else module) + [function[2]])
             ends = (function[1] + "}", function[1] + "{}")
             last = first if line.endswith("}") else next(i for i in range(first, len(lines)) if lines[i] in ends)
             if index <= last:
@@ -58,6 +58,21 @@ def function_at(crate, path, index):
 def has_body(lines):
     """Whether the function that begins with these lines has a body, as one that a trait declares has not."""
     return next(line for line in lines if line.endswith((";", "{"))).endswith("{")
+
+
+def module_of(path):
+    return [it for it in path[len("src/"):-len(".rt")].split("/") if it not in ("lib", "main")]
+
+
+def home_of(crate, path, name):
+    """The module of a type: its methods go by it, wherever they stand."""
+    declares = [it for it in crate.files("src") if any(said and said[1] == name for said in map(TYPE.match, crate.lines(it)))]
+    return module_of(path if path in declares or not declares else declares[0])
+
+
+def capitalized(name):
+    """The name of a type as the prover writes it: Bool for bool."""
+    return name[0].upper() + name[1:]
 
 
 def read(crate, file):

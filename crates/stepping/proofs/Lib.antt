@@ -10,3 +10,4 @@ pub mod Advancing
 pub mod Reasons
 pub mod Stopping
 pub mod Ticking
+pub mod Quiet

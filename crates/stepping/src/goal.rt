@@ -2,6 +2,7 @@
 
 ghost use Rattle.std.specs.Prelude.{◌≡◌};
 ghost use Rattle.stepping.specs.Goals.{is_met, is_place};
+ghost use Rattle.stepping.specs.Running.{IsOutOfReach};
 
 use image::LineTable;
 
@@ -37,6 +38,18 @@ impl Goal {
             Goal::In(granularity) => granularity.is_place(lines, pc),
             Goal::Over(granularity) => depth <= start && granularity.is_place(lines, pc),
             Goal::Out(_) => depth < start,
+        }
+    }
+
+    /// From how many open calls on the goal is out of reach, by the depth at the start of the run.
+    pub(crate) fn out_of_reach(self, start: u64) -> u64
+        ensures { IsOutOfReach result self start }
+    {
+        match self {
+            Goal::Go => 0,
+            Goal::In(_) => u64::MAX,
+            Goal::Over(_) => start.saturating_add(1),
+            Goal::Out(_) => start,
         }
     }
 }

@@ -6,6 +6,7 @@ mod goal;
 pub mod laws;
 mod lending;
 mod runner;
+mod running;
 mod tick;
 
 pub use calls::Calls;

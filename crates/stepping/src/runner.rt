@@ -1,18 +1,17 @@
 //! A debugged machine, which goes tick by tick.
 
-ghost use Rattle.std.specs.Prelude.{◌≡◌, ◌+◌, ◌^◌, ◌<◌, ◌≤◌, IfOk, IsErr, OnErr, OnOk, length, replicate};
-ghost use Rattle.image.specs.Memory.{fault_at, first_address, memory_after, unless_fault, with_bytes, word_at};
-ghost use Rattle.rv32i.specs.Machine.{IsDecodedAtPc, machine_of};
+ghost use Rattle.std.specs.Prelude.{◌≡◌, ◌+◌, ◌^◌, ◌<◌, ◌≤◌, IfOk, OnErr, OnOk, length, replicate};
+ghost use Rattle.image.specs.Memory.{fault_at, first_address, memory_after, unless_fault, with_bytes};
 ghost use Rattle.stepping.specs.Loading.{CanBeLoaded, IsLoaded, no_breakpoints, not_hit};
 ghost use Rattle.stepping.specs.Runs.{IsRun};
-ghost use Rattle.stepping.specs.Ticks.{entry_checked, entry_tick, gone_on, noted_if, outcome_of, settled, stayed, tick_of, went_on, IsTick, Moves};
+ghost use Rattle.stepping.specs.Ticks.{IsTick};
 
 use crate::calls::Calls;
 use crate::goal::Goal;
-use crate::tick::{Ending, Outcome, Ran, Reason, Tick};
-use breakpoints::{Breaks, Hit};
+use crate::tick::{Ending, Ran, Tick};
+use breakpoints::Breaks;
 use image::{FIRST_ADDRESS, Image, LineTable, MemFault, Memory};
-use rv32i::{Hart, Instr, Stepped, decode};
+use rv32i::Hart;
 use std::alloc::{AllocError, Global};
 use std::marker::Model;
 
@@ -21,16 +20,18 @@ use std::marker::Model;
 #[derive(Drop)]
 pub struct Runner {
     alloc: Global,
-    hart: Hart,
-    memory: Memory,
+    pub(crate) hart: Hart,
+    pub(crate) memory: Memory,
     size: u32,
-    calls: Calls,
+    pub(crate) calls: Calls,
     pub(crate) breaks: Breaks,
-    retired: u64,
-    goal: Goal,
-    start: u64,
-    check_due: bool,
-    lines: LineTable,
+    pub(crate) retired: u64,
+    pub(crate) goal: Goal,
+    pub(crate) start: u64,
+    /// From how many open calls on the goal is out of reach.
+    pub(crate) out_of_reach: u64,
+    pub(crate) check_due: bool,
+    pub(crate) lines: LineTable,
 }
 
 impl Model for Runner {
@@ -45,7 +46,7 @@ impl Model for Runner {
 
     ghost view = { λ r. record { hart = r.hart; memory = r.memory; size = r.size; calls = r.calls; lists = r.breaks; retired = r.retired; goal = r.goal; start = r.start; check_due = r.check_due; table = r.lines } };
 
-    ghost invariant = { λ r. IsSound r.size r.calls.depth r.retired };
+    ghost invariant = { λ r. IsSound r.size r.calls.depth r.retired r.out_of_reach r.goal r.start };
 }
 
 impl Runner {
@@ -69,6 +70,7 @@ impl Runner {
             retired: 0,
             goal: Goal::Go,
             start: 0,
+            out_of_reach: 0,
             check_due: false,
             lines,
         })
@@ -91,6 +93,7 @@ impl Runner {
         self.retired = 0;
         self.goal = Goal::Go;
         self.start = 0;
+        self.out_of_reach = 0;
         self.check_due = false;
         self.lines = lines;
         Ok(())
@@ -103,6 +106,7 @@ impl Runner {
     {
         self.goal = goal;
         self.start = self.calls.depth();
+        self.out_of_reach = goal.out_of_reach(self.start);
         self.check_due = first;
     }
 
@@ -113,14 +117,11 @@ impl Runner {
         ensures tick { IsTick self.old result self.new }
         ensures retired { self.new.retired ≤ self.old.retired + 1 }
     {
-        if self.check_due {
-            return Ok(self.check_entry());
+        match self.go(1).ending {
+            Ending::Spent => Ok(Tick::PLAIN),
+            Ending::Ticked(tick) => Ok(tick),
+            Ending::NoMemory => Err(AllocError),
         }
-        let pc = self.hart.pc;
-        let Ok(word) = self.memory.word(pc) else {
-            return self.fault(pc);
-        };
-        self.carry_out(decode(word), pc)
     }
 
     /// Makes so many ticks at most, and ends with the first that prints a number, stops the machine or ends the program, or for which no
@@ -130,134 +131,7 @@ impl Runner {
         ensures run { IsRun most self.old result self.new }
         ensures retired { self.new.retired ≤ self.old.retired + most }
     {
-        for went in 0..most {
-            match self.tick() {
-                Ok(tick) => {
-                    if !tick.is_plain() {
-                        return Ran {
-                            went,
-                            ending: Ending::Ticked(tick),
-                        };
-                    }
-                }
-                Err(_) => {
-                    return Ran {
-                        went,
-                        ending: Ending::NoMemory,
-                    };
-                }
-            }
-        }
-        Ran {
-            went: most,
-            ending: Ending::Spent,
-        }
-    }
-
-    // A move of which the instruction is known, or that the word at pc is illegal.
-    fn carry_out(&mut self, instr: Option<Instr>, pc: u32) -> Result<Tick, AllocError>
-        requires retired { self.old.retired < 2 ^ 62 }
-        requires pc { self.old.hart.pc ≡ pc }
-        requires decoded { IsDecodedAtPc (machine_of self.old.hart self.old.memory) instr }
-        ensures moves { Moves self.old result self.new }
-        ensures retired { self.new.retired ≤ self.old.retired + 1 }
-    {
-        let copy = instr;
-        match self.hart.execute(copy, &mut self.memory) {
-            Ok(stepped) => Ok(self.settle(stepped, instr, pc)),
-            Err(error) => Err(error),
-        }
-    }
-
-    // A move where no word can be fetched.
-    fn fault(&mut self, pc: u32) -> Result<Tick, AllocError>
-        requires retired { self.old.retired < 2 ^ 62 }
-        requires pc { self.old.hart.pc ≡ pc }
-        requires fault { IsErr (word_at self.old.memory pc) }
-        ensures moves { Moves self.old result self.new }
-        ensures retired { self.new.retired ≤ self.old.retired + 1 }
-    {
-        match self.hart.step(&mut self.memory) {
-            Ok(stepped) => Ok(self.settle(stepped, None, pc)),
-            Err(error) => Err(error),
-        }
-    }
-
-    // The check at the entry.
-    fn check_entry(&mut self) -> Tick
-        ensures tick { result ≡ entry_tick self.old }
-        ensures state { self.new ≡ entry_checked self.old }
-    {
-        self.check_due = false;
-        let hit = self.breaks.check(self.hart.pc, &self.hart, &self.memory);
-        Tick {
-            printed: None,
-            outcome: outcome_of(hit, false),
-        }
-    }
-
-    // What comes of a move that was made, from this pc.
-    fn settle(&mut self, stepped: Stepped, instr: Option<Instr>, pc: u32) -> Tick
-        requires { self.old.retired < 2 ^ 62 }
-        ensures tick { result ≡ tick_of stepped instr pc self.old }
-        ensures state { self.new ≡ settled stepped instr pc self.old }
-    {
-        match stepped {
-            Stepped::Retired => Tick {
-                printed: None,
-                outcome: self.go_on(instr, pc),
-            },
-            Stepped::Printed(number) => Tick {
-                printed: Some(number),
-                outcome: self.go_on(instr, pc),
-            },
-            Stepped::Break => {
-                self.go_on(instr, pc);
-                Tick {
-                    printed: None,
-                    outcome: Outcome::Stopped(Reason::Ebreak),
-                }
-            }
-            Stepped::Exit(code) => {
-                self.breaks.forget_ids();
-                Tick {
-                    printed: None,
-                    outcome: Outcome::Ended(code),
-                }
-            }
-            Stepped::Trap(cause) => {
-                self.breaks.forget_ids();
-                Tick {
-                    printed: None,
-                    outcome: Outcome::Stopped(Reason::Exception(cause)),
-                }
-            }
-        }
-    }
-
-    // An instruction, which was at this pc, has retired.
-    fn go_on(&mut self, instr: Option<Instr>, pc: u32) -> Outcome
-        requires { self.old.retired < 2 ^ 62 }
-        ensures outcome { result ≡ went_on instr pc self.old }
-        ensures state { self.new ≡ gone_on instr pc self.old }
-    {
-        self.note(instr, pc);
-        let hit = self.breaks.check(self.hart.pc, &self.hart, &self.memory);
-        let met = self
-            .goal
-            .is_met(self.start, &self.lines, self.hart.pc, self.calls.depth());
-        outcome_of(hit, met)
-    }
-
-    // The marks of an instruction that has retired.
-    fn note(&mut self, instr: Option<Instr>, pc: u32)
-        requires { self.old.retired < 2 ^ 62 }
-        ensures { self.new ≡ record self.old { calls = noted_if self.old.calls instr pc; retired = self.old.retired + 1 } }
-    {
-        if let Some(instr) = instr {
-            self.calls.note(&instr, pc);
-        }
-        self.retired += 1;
+        self.go(most)
     }
 
     /// Writes bytes to memory. `Outside`: one of the addresses has no byte, and nothing is written.
@@ -315,21 +189,6 @@ impl Runner {
         ensures { result ≡ self.now.retired }
     {
         self.retired
-    }
-}
-
-// What the breakpoints come to, and then the goal.
-fn outcome_of(hit: Hit, goal_met: bool) -> Outcome
-    ensures { result ≡ outcome_of hit goal_met }
-{
-    if hit.source {
-        Outcome::Stopped(Reason::Source)
-    } else if hit.instruction {
-        Outcome::Stopped(Reason::Instruction)
-    } else if goal_met {
-        Outcome::Stopped(Reason::Goal)
-    } else {
-        Outcome::Went
     }
 }
 

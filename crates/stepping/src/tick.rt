@@ -41,6 +41,12 @@ pub enum Reason {
 }
 
 impl Tick {
+    /// The tick of which there is nothing to report.
+    pub(crate) const PLAIN: Tick = Tick {
+        printed: None,
+        outcome: Outcome::Went,
+    };
+
     /// Whether there is nothing to report: the machine goes on, and nothing was printed.
     #[inline]
     pub fn is_plain(&self) -> bool

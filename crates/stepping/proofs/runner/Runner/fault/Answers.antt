@@ -1,13 +1,10 @@
-use Rattle.std.proofs.Common.{◌≡◌, Ok, subst, sym, IsErr}
-use Rattle.image.specs.Memory.{word_at}
-use Rattle.stepping.specs.Ticks.{Debugged, Moves}
-use Rattle.stepping.proofs.Moving.{faults_so}
+use Rattle.std.proofs.Common.{Err, refl, ap, ◌∙◌}
+use Rattle.image.specs.declared.fault.MemFault.TheVariants.{Misaligned, Outside}
+use Rattle.stepping.proofs.Moving.{trap_on}
 use Rattle.stepping.proofs.runner.Runner.fault.Goals as goal
 
-pub returns-in-Ok-clause-moves : goal.returns-in-Ok-clause-moves
-returns-in-Ok-clause-moves c =
-    let r = c.self.inside in
-    let before : Debugged = record { hart = r.hart; memory = r.memory; size = r.size; calls = r.calls; lists = r.breaks; retired = r.retired; goal = r.goal; start = r.start; check_due = r.check_due; table = r.lines } in
-    let at = subst (λ (d : Debugged). d.hart.pc ≡ c.args.pc) (sym c.self.view_is) c.requires.pc in
-    let none = subst (λ (d : Debugged). IsErr (word_at d.memory c.args.pc)) (sym c.self.view_is) c.requires.fault in
-    subst (λ (d : Debugged). Moves d (Ok c.settle.result) c.settle.new.self) c.self.view_is (faults_so before _ _ _ c.in-Ok.stepped c.args.pc _ at none c.in-Ok.ensures.moves c.settle.ensures.tick c.settle.ensures.state)
+pub returns-in-Misaligned-clause-moves : goal.returns-in-Misaligned-clause-moves
+returns-in-Misaligned-clause-moves c = trap_on _ _ Misaligned _ _ (c.requires.fault ∙ ap Err c.in-Misaligned.is) (λ m. refl) c.settle.ensures.ending c.settle.ensures.state
+
+pub returns-in-Outside-clause-moves : goal.returns-in-Outside-clause-moves
+returns-in-Outside-clause-moves c = trap_on _ _ Outside _ _ (c.requires.fault ∙ ap Err c.in-Outside.is) (λ m. refl) c.settle-in-Outside.ensures.ending c.settle-in-Outside.ensures.state

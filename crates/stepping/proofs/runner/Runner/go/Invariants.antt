@@ -1,6 +1,6 @@
 use Rattle.std.proofs.Common.{◌≤◌, ◌+◌}
 use Rattle.stepping.specs.Runs.{Goes}
-use Rattle.stepping.proofs.runner.Runner.run.Given as goal
+use Rattle.stepping.proofs.runner.Runner.go.Given as goal
 
 abbrev pub invariant-loop-went : goal.invariant-loop-went
 invariant-loop-went l = record {
