@@ -1,7 +1,6 @@
 -- What the answer to a request leaves, in one look.
-use Rattle.std.proofs.Common.{◌≡◌, ℕ, ◌+◌, ◌<◌, Bool, true, false, cond, ltb, eqb, List, [], ◌∷◌, ◌++◌, Option, Some, None, ◌⊎◌, ◌==◌, inl, inr, refl, sym, ap, ◌∙◌, subst, ltb-true}
+use Rattle.std.proofs.Common.{◌≡◌, ◌+◌, ◌<◌, Bool, true, false, cond, ltb, eqb, [], ◌∷◌, ◌++◌, Option, Some, None, ◌⊎◌, ◌==◌, inl, inr, refl, sym, ap, ◌∙◌, subst, ltb-true}
 use Rattle.std.specs.Prelude.{if◌then◌else◌}
-use Rattle.framing.specs.Reading.{Tail}
 use Rattle.replies.specs.declared.response.Outcome.{Outcome}
 use Rattle.replies.specs.declared.message.Message.TheVariants.{Response as IsResponse}
 use Rattle.session.specs.declared.link.Link.{Link}
@@ -11,8 +10,8 @@ use Rattle.session.specs.declared.phase.Phase.TheVariants.{Fresh, Initialized, L
 use Rattle.session.specs.Refusals.{answer_to, response_to}
 use Rattle.session.specs.Arrivals.{first_pending, others_pending}
 use Rattle.session.specs.Effects.{performed}
-use Rattle.session.specs.Outcomes.{Now, Numbered, Act, Enter, Reply, leaving, answering, numbered, left_to_answer, replied, reply_on}
-use Rattle.session.specs.Sessions.{Session, On, histories, performed_on, with_message, on_now}
+use Rattle.session.specs.Outcomes.{Numbered, Enter, Reply, leaving, answering, numbered, left_to_answer, replied, reply_on}
+use Rattle.session.specs.Sessions.{Session, histories, with_message, on_now}
 
 -- the message by which a request is answered
 abbrev pub reply_to : Link → Pending → Outcome → Numbered

@@ -1,21 +1,18 @@
 -- Wherever what an editor sends is cut, the session takes the same of it.
-use Rattle.std.proofs.Common.{◌≡◌, ℕ, ◌+◌, ◌≤◌, Bool, true, false, cond, ltb, leb, List, [], ◌∷◌, ◌++◌, length, map, fold, Option, Some, None, is_some, Result, Ok, Err, ◌⊎◌, inl, inr, refl, sym, ap, ◌∙◌, subst, arith, append_assoc}
+use Rattle.std.proofs.Common.{◌≡◌, ℕ, ◌+◌, ◌≤◌, Bool, true, false, cond, ltb, leb, List, [], ◌∷◌, ◌++◌, length, map, Option, Some, None, is_some, Ok, Err, ◌⊎◌, inl, inr, refl, sym, ap, ◌∙◌, subst, arith, append_assoc}
 use Rattle.std.specs.Prelude.{All}
 use Rattle.std.proofs.lemmas.List.{map-append}
 use Rattle.std.proofs.lemmas.List.Elements.{All-weaker, All-nil}
 use Rattle.framing.specs.Reading.{Reading, Tail, reading_of, with_bodies}
-use Rattle.framing.specs.Reading.Tail.{Partial}
 use Rattle.framing.specs.Streams.{reading_after, fault_of}
 use Rattle.framing.proofs.Cutting.{reading_of-append}
 use Rattle.framing.proofs.Pasts.{nothing_stands}
 use Rattle.session.specs.declared.TheConstants.{BODY_LIMIT}
 use Rattle.session.specs.declared.state.TheConstants.{MOST_PIECE, MOST_PENDING}
-use Rattle.session.specs.declared.event.Applied.{Applied}
 use Rattle.session.specs.declared.event.Applied.TheVariants.{Recv as Received}
 use Rattle.session.specs.declared.event.Event.{Event}
 use Rattle.session.specs.declared.event.Event.TheVariants.{Recv}
-use Rattle.session.specs.declared.event.EventError.{EventError}
-use Rattle.session.specs.declared.event.EventError.TheVariants.{NotConnected, Busy, PieceTooLong, Closing}
+use Rattle.session.specs.declared.event.EventError.TheVariants.{Busy, PieceTooLong, Closing}
 use Rattle.session.specs.declared.event.LinkFault.{LinkFault}
 use Rattle.session.specs.declared.limits.Limits.{Limits}
 use Rattle.session.specs.declared.link.Link.{Link}
@@ -23,12 +20,12 @@ use Rattle.session.specs.declared.pending.Ask.{Ask}
 use Rattle.session.specs.declared.pending.Pending.{Pending}
 use Rattle.session.specs.Arrivals.{Arrivals, joined, all_joined, first_pending, asks_of, message_fault_of}
 use Rattle.session.specs.Effects.{performed}
-use Rattle.session.specs.Outcomes.{Now, Outcome, Act, Open, Close, Accept, Take, refused, done, outcome, outcome_at, answering, to_link, read_on, accepted, fault_or, fault_of_reading, tail_kept}
+use Rattle.session.specs.Outcomes.{Outcome, Open, Accept, refused, done, outcome, outcome_at, answering, read_on, fault_or, fault_of_reading, tail_kept}
 use Rattle.session.specs.Sessions.{Session, On, Effect, Answer, on_connection, performed_on, histories, start, After, up_to_fault, is_faulty}
-use Rattle.session.specs.Laws.{RequestsAreRead, FaultIsOfTheBytes, IsTaken, CutsDoNotMatter, RefusedChangesNothing}
+use Rattle.session.specs.Laws.{RequestsAreRead, FaultIsOfTheBytes, IsTaken, CutsDoNotMatter}
 use Rattle.session.proofs.Standing.{none_later}
 use Rattle.session.proofs.Reaching.{KeptByEvents, reached}
-use Rattle.session.proofs.Answering.{Answered, answered_by}
+use Rattle.session.proofs.Answering.{answered_by}
 use Rattle.session.proofs.Order.{put, more_on, none_is, some_is, by_now_same, all_by_now, accepting}
 use Rattle.session.proofs.Reading.{asks_of-append, message_fault_of-append, fault_stays, asks_up_to, fault_up_to, up_to_fault_all, up_to_fault-append, ends_at_fault, reading_after-append, no_message_fault, none_if}
 

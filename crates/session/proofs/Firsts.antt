@@ -1,7 +1,5 @@
 -- The first of a list, where there is one.
-use Rattle.std.proofs.Common.{◌≡◌, ℕ, List, [], ◌∷◌, length, Option, Some, None, refl, ap, true, arith}
-use Rattle.std.specs.Prelude.{◌==◌}
-use Rattle.std.proofs.lemmas.Bool.Decides.{nat_tests}
+use Rattle.std.proofs.Common.{◌≡◌, ℕ, List, [], ◌∷◌, Some, None, refl, ap}
 use Rattle.framing.specs.Streams.{first_of}
 
 pub first_some : (waiting : List (List ℕ)) (b : List ℕ) → Some b ≡ first_of waiting → (bs : List (List ℕ)) × (waiting ≡ b ∷ bs)

@@ -6,6 +6,7 @@ pub mod Happening
 pub mod Reaching
 pub mod Answering
 pub mod Order
+pub mod Serving
 pub mod Once
 pub mod Waiting
 pub mod Reading

@@ -1,5 +1,5 @@
 -- `initialize` succeeds once at most on a connection, and messages have the numbers 1, 2, 3 and so on.
-use Rattle.std.proofs.Common.{◌≡◌, ℕ, ◌+◌, ◌≤◌, Bool, true, false, cond, eqb, List, [], ◌∷◌, ◌++◌, length, Option, Some, None, ◌⊎◌, inl, inr, refl, sym, ap, ◌∙◌, subst, arith, eqb-true}
+use Rattle.std.proofs.Common.{◌≡◌, ℕ, ◌+◌, ◌≤◌, Bool, true, false, eqb, List, [], ◌∷◌, ◌++◌, length, Some, None, ◌⊎◌, inl, inr, refl, sym, ap, ◌∙◌, subst, arith, eqb-true}
 use Rattle.std.specs.Prelude.{All}
 use Rattle.std.proofs.lemmas.List.{length-append}
 use Rattle.std.proofs.lemmas.List.Elements.{All-push, All-weaker, All-nil}
@@ -10,18 +10,19 @@ use Rattle.session.specs.declared.event.Event.{Event}
 use Rattle.session.specs.declared.limits.Limits.{Limits}
 use Rattle.session.specs.declared.link.Link.{Link}
 use Rattle.session.specs.declared.pending.Ask.{Ask}
-use Rattle.session.specs.declared.pending.Ask.TheVariants.{Request, Bad}
 use Rattle.session.specs.declared.pending.Fate.{Fate}
-use Rattle.session.specs.declared.pending.Fate.TheVariants.{Waits, Repeated, Cancelled, NamesNone}
 use Rattle.session.specs.declared.pending.Pending.{Pending}
 use Rattle.session.specs.declared.phase.Phase.{Phase}
 use Rattle.session.specs.declared.phase.Phase.TheVariants.{Fresh, Initialized, Left}
-use Rattle.session.specs.Refusals.{answer_to}
+use Rattle.session.specs.declared.refusals.Answer.{Answer}
+use Rattle.session.specs.Refusals.{succeeded, answer_to}
+use Rattle.session.specs.Requests.{is_taken_in}
 use Rattle.session.specs.Arrivals.{first_pending}
 use Rattle.session.specs.Effects.{performed}
-use Rattle.session.specs.Outcomes.{Now, Numbered, Open, Close, Accept, Take, answering, to_link, read_on, accepted}
+use Rattle.session.specs.Outcomes.{Numbered, Open, Accept, answering}
 use Rattle.session.specs.Sessions.{Session, On, on_connection, performed_on, histories, start, After}
 use Rattle.session.specs.Laws.{AreNumberedFrom, NumbersRise, initializes, initializes_by, times_initialized, InitializesOnce}
+use Rattle.session.proofs.Serving.{of_answer, not_taken}
 use Rattle.session.proofs.Standing.{none_later}
 use Rattle.session.proofs.Reaching.{KeptByEvents, reached}
 use Rattle.session.proofs.Answering.{Answered, Replied, NotReplied, reply_to, answered_by}
@@ -50,43 +51,21 @@ fewer Fresh n k h = omega (arith, h)
 fewer Initialized n k h = omega (arith, h)
 fewer Left n k h = omega (arith, h)
 
-abbrev SuitsAfter : Phase → Ask → Fate → ℕ → Type 0
-SuitsAfter phase ask fate n = Suits (answer_to phase (record { ask = ask; fate = fate })).phase (n + initializes (answer_to phase (record { ask = ask; fate = fate })).outcome)
+abbrev SuitsAfter : ℕ → Answer → Type 0
+SuitsAfter n answer = Suits answer.phase (n + initializes answer.outcome)
 
-command_suits : (phase : Phase) (seq : ℕ) (command : Command) (fate : Fate) (n : ℕ) → Suits phase n → SuitsAfter phase (Request (record { seq = seq; command = command })) fate n
-command_suits phase seq command Repeated n h = refused_suits phase n h
-command_suits phase seq command Cancelled n h = refused_suits phase n h
-command_suits Fresh seq (Initialize arguments) Waits n h = omega (arith, h)
-command_suits Initialized seq (Initialize arguments) Waits n h = omega (arith, h)
-command_suits Left seq (Initialize arguments) Waits n h = omega (arith, h)
-command_suits Fresh seq Threads Waits n h = omega (arith, h)
-command_suits Initialized seq Threads Waits n h = omega (arith, h)
-command_suits Left seq Threads Waits n h = omega (arith, h)
-command_suits Fresh seq (Cancel arguments) Waits n h = omega (arith, h)
-command_suits Initialized seq (Cancel arguments) Waits n h = omega (arith, h)
-command_suits Left seq (Cancel arguments) Waits n h = omega (arith, h)
-command_suits Fresh seq (Disconnect arguments) Waits n h = omega (arith, h)
-command_suits Initialized seq (Disconnect arguments) Waits n h = omega (arith, h)
-command_suits Left seq (Disconnect arguments) Waits n h = omega (arith, h)
-command_suits Fresh seq (Initialize arguments) NamesNone n h = omega (arith, h)
-command_suits Initialized seq (Initialize arguments) NamesNone n h = omega (arith, h)
-command_suits Left seq (Initialize arguments) NamesNone n h = omega (arith, h)
-command_suits Fresh seq Threads NamesNone n h = omega (arith, h)
-command_suits Initialized seq Threads NamesNone n h = omega (arith, h)
-command_suits Left seq Threads NamesNone n h = omega (arith, h)
-command_suits Fresh seq (Cancel arguments) NamesNone n h = omega (arith, h)
-command_suits Initialized seq (Cancel arguments) NamesNone n h = omega (arith, h)
-command_suits Left seq (Cancel arguments) NamesNone n h = omega (arith, h)
-command_suits Fresh seq (Disconnect arguments) NamesNone n h = omega (arith, h)
-command_suits Initialized seq (Disconnect arguments) NamesNone n h = omega (arith, h)
-command_suits Left seq (Disconnect arguments) NamesNone n h = omega (arith, h)
+taken_suits : (seq : ℕ) (command : Command) (phase : Phase) (n : ℕ) → is_taken_in phase command ≡ true → Suits phase n → SuitsAfter n (succeeded phase (record { seq = seq; command = command }))
+taken_suits seq (Initialize arguments) Fresh n taken h = omega (arith, h)
+taken_suits seq Threads Initialized n taken h = omega (arith, h)
+taken_suits seq (Cancel arguments) Fresh n taken h = omega (arith, h)
+taken_suits seq (Cancel arguments) Initialized n taken h = omega (arith, h)
+taken_suits seq (Disconnect arguments) Fresh n taken h = omega (arith, h)
+taken_suits seq (Disconnect arguments) Initialized n taken h = omega (arith, h)
+taken_suits seq command phase n taken h = absurd (not_taken taken)
 
-suits_by : (phase : Phase) (ask : Ask) (fate : Fate) (n : ℕ) → Suits phase n → SuitsAfter phase ask fate n
-suits_by phase (Request r) fate n h = command_suits phase r.seq r.command fate n h
-suits_by phase (Bad seq command refusal) Repeated n h = refused_suits phase n h
-suits_by phase (Bad seq command refusal) Cancelled n h = refused_suits phase n h
-suits_by phase (Bad seq command refusal) Waits n h = refused_suits phase n h
-suits_by phase (Bad seq command refusal) NamesNone n h = refused_suits phase n h
+suits_by : (phase : Phase) (ask : Ask) (fate : Fate) (n : ℕ) → Suits phase n → SuitsAfter n (answer_to phase (record { ask = ask; fate = fate }))
+suits_by phase ask fate n h =
+    of_answer (λ _. SuitsAfter n) phase ask fate (λ refusal _. refused_suits phase n h) (λ r taken. taken_suits r.seq r.command phase n taken h)
 
 times-append : (xs : List Numbered) (m : Numbered) → times_initialized (xs ++ m ∷ []) ≡ times_initialized xs + initializes_by m.message
 times-append [] m = let e : initializes_by m.message + 0 ≡ 0 + initializes_by m.message = omega arith in e

@@ -1,7 +1,7 @@
 -- Requests are answered in their order, and messages are numbered in theirs.
-use Rattle.std.proofs.Common.{◌≡◌, ℕ, ◌+◌, ◌<◌, ◌≤◌, ℤ, Bool, true, false, cond, ltb, eqb, List, [], ◌∷◌, ◌++◌, length, map, fold, Option, Some, None, ◌⊎◌, ◌==◌, inl, inr, refl, sym, ap, ◌∙◌, subst, arith, append-nil, append_assoc, eqb-true, eq-eqb, lt-ltb, is_some}
+use Rattle.std.proofs.Common.{◌≡◌, ℕ, ◌+◌, ◌<◌, ◌≤◌, ℤ, Bool, true, false, cond, eqb, List, [], ◌∷◌, ◌++◌, map, Option, Some, None, ◌⊎◌, inl, inr, refl, sym, ap, ◌∙◌, subst, arith, append-nil, append_assoc, eqb-true, eq-eqb, is_some}
 use Rattle.std.specs.Prelude.{All, if◌then◌else◌}
-use Rattle.std.proofs.lemmas.List.{map-append, length-append}
+use Rattle.std.proofs.lemmas.List.{map-append}
 use Rattle.std.proofs.lemmas.List.Elements.{All-push, All-weaker, All-nil}
 use Rattle.replies.specs.declared.response.Outcome.{Outcome}
 use Rattle.session.specs.declared.limits.Limits.{Limits}
@@ -9,45 +9,48 @@ use Rattle.session.specs.declared.link.Link.{Link}
 use Rattle.session.specs.declared.pending.Ask.{Ask}
 use Rattle.session.specs.declared.pending.Fate.TheVariants.{Waits, Repeated, Cancelled}
 use Rattle.session.specs.declared.pending.Pending.{Pending}
-use Rattle.session.specs.declared.phase.Phase.{Phase}
 use Rattle.session.specs.declared.event.Event.{Event}
 use Rattle.session.specs.Refusals.{answer_to}
 use Rattle.session.specs.Arrivals.{Arrivals, first_pending, others_pending, is_above, number_of, is_named, cancels, cancelled_by, pending_with, joined, all_joined, asks_of}
 use Rattle.session.specs.Effects.{performed}
 use Rattle.session.specs.Prefixes.{IsPrefixOf}
-use Rattle.session.specs.Outcomes.{Now, Numbered, Open, Close, Accept, Take, answering, to_link, read_on, accepted, fault_of_reading}
-use Rattle.session.specs.Sessions.{Session, On, on_connection, on_now, performed_on, histories, start, After, up_to_fault, with_asks}
-use Rattle.session.specs.Laws.{Named, asked_as, answered_as, asked_on, answered_on, pending_as, AnswersInOrder, AreNumberedFrom, NumbersRise}
-use Rattle.session.proofs.Standing.{on_connection-append, none_later, one_on, prefix_of_more}
+use Rattle.session.specs.Outcomes.{Numbered, Open, Close, Accept, answering, to_link, read_on, accepted, fault_of_reading}
+use Rattle.session.specs.Sessions.{Session, On, on_connection, performed_on, histories, start, After, up_to_fault, with_asks}
+use Rattle.session.specs.Laws.{asked_as, answered_as, asked_on, answered_on, pending_as, AnswersInOrder}
+use Rattle.session.proofs.Standing.{on_connection-append, none_later, prefix_of_more}
 use Rattle.session.proofs.Reaching.{KeptByEvents, reached}
 use Rattle.session.proofs.Answering.{Answered, Replied, NotReplied, reply_to, answered_by}
 
 -- ---- requests that join
 
-same_asks : (id : ℤ) (pending : List Pending) → pending_as (map (cancelled_by id) pending) ≡ pending_as pending
-same_asks id [] = refl
-same_asks id (p ∷ pending) = ap (λ (n : Named). n ∷ pending_as (map (cancelled_by id) pending)) (same (is_named id p)) ∙ ap (λ l. asked_as p.ask ∷ l) (same_asks id pending) where
-  same : (b : Bool) → asked_as (let q : Pending = if b then record p { fate = Cancelled } else p in q).ask ≡ asked_as p.ask
+-- what is seen of the requests that wait, by what is seen of one
+abbrev pub seen_as : {X : Type 0} → (Ask → X) → List Pending → List X
+seen_as f pending = map (λ p. f p.ask) pending
+
+same_asks : {X : Type 0} (f : Ask → X) (id : ℤ) (pending : List Pending) → seen_as f (map (cancelled_by id) pending) ≡ seen_as f pending
+same_asks f id [] = refl
+same_asks f id (p ∷ pending) = ap (λ x. x ∷ seen_as f (map (cancelled_by id) pending)) (same (is_named id p)) ∙ ap (λ l. f p.ask ∷ l) (same_asks f id pending) where
+  same : (b : Bool) → f (let q : Pending = if b then record p { fate = Cancelled } else p in q).ask ≡ f p.ask
   same true = refl
   same false = refl
 
-pending_as-append : (xs ys : List Pending) → pending_as (xs ++ ys) ≡ pending_as xs ++ pending_as ys
-pending_as-append xs ys = map-append (λ (p : Pending). asked_as p.ask) xs ys
+seen_as-append : {X : Type 0} (f : Ask → X) (xs ys : List Pending) → seen_as f (xs ++ ys) ≡ seen_as f xs ++ seen_as f ys
+seen_as-append f xs ys = map-append (λ (p : Pending). f p.ask) xs ys
 
-pending_with_as : (id : Option ℤ) (pending : List Pending) (ask : Ask) → pending_as (pending_with id pending ask) ≡ pending_as pending ++ asked_as ask ∷ []
-pending_with_as None pending ask = pending_as-append pending (record { ask = ask; fate = Waits } ∷ [])
-pending_with_as (Some id) pending ask = pending_as-append (map (cancelled_by id) pending) _ ∙ ap (λ l. l ++ asked_as ask ∷ []) (same_asks id pending)
+pending_with_as : {X : Type 0} (f : Ask → X) (id : Option ℤ) (pending : List Pending) (ask : Ask) → seen_as f (pending_with id pending ask) ≡ seen_as f pending ++ f ask ∷ []
+pending_with_as f None pending ask = seen_as-append f pending (record { ask = ask; fate = Waits } ∷ [])
+pending_with_as f (Some id) pending ask = seen_as-append f (map (cancelled_by id) pending) _ ∙ ap (λ l. l ++ f ask ∷ []) (same_asks f id pending)
 
-joined_as : (came : Arrivals) (ask : Ask) → pending_as (joined came ask).pending ≡ pending_as came.pending ++ asked_as ask ∷ []
-joined_as came ask = by_test (is_above came.highest (number_of ask)) where
-  by_test : (b : Bool) → pending_as (let a : Arrivals = if b then record { highest = Some (number_of ask); pending = pending_with (cancels ask) came.pending ask } else record { highest = came.highest; pending = came.pending ++ record { ask = ask; fate = Repeated } ∷ [] } in a).pending
-      ≡ pending_as came.pending ++ asked_as ask ∷ []
-  by_test true = pending_with_as (cancels ask) came.pending ask
-  by_test false = pending_as-append came.pending (record { ask = ask; fate = Repeated } ∷ [])
+joined_as : {X : Type 0} (f : Ask → X) (came : Arrivals) (ask : Ask) → seen_as f (joined came ask).pending ≡ seen_as f came.pending ++ f ask ∷ []
+joined_as f came ask = by_test (is_above came.highest (number_of ask)) where
+  by_test : (b : Bool) → seen_as f (let a : Arrivals = if b then record { highest = Some (number_of ask); pending = pending_with (cancels ask) came.pending ask } else record { highest = came.highest; pending = came.pending ++ record { ask = ask; fate = Repeated } ∷ [] } in a).pending
+      ≡ seen_as f came.pending ++ f ask ∷ []
+  by_test true = pending_with_as f (cancels ask) came.pending ask
+  by_test false = seen_as-append f came.pending (record { ask = ask; fate = Repeated } ∷ [])
 
-pub all_joined_as : (asks : List Ask) (came : Arrivals) → pending_as (all_joined came asks).pending ≡ pending_as came.pending ++ map asked_as asks
-all_joined_as [] came = sym (append-nil (pending_as came.pending))
-all_joined_as (ask ∷ asks) came = all_joined_as asks (joined came ask) ∙ ap (λ l. l ++ map asked_as asks) (joined_as came ask) ∙ append_assoc (pending_as came.pending) (asked_as ask ∷ []) (map asked_as asks)
+pub all_joined_as : {X : Type 0} (f : Ask → X) (asks : List Ask) (came : Arrivals) → seen_as f (all_joined came asks).pending ≡ seen_as f came.pending ++ map f asks
+all_joined_as f [] came = sym (append-nil (seen_as f came.pending))
+all_joined_as f (ask ∷ asks) came = all_joined_as f asks (joined came ask) ∙ ap (λ l. l ++ map f asks) (joined_as f came ask) ∙ append_assoc (seen_as f came.pending) (f ask ∷ []) (map f asks)
 
 -- ---- on one connection
 
@@ -128,7 +131,7 @@ ordered_accepts s l piece e n h =
           ap (map asked_as) (more_on c s.asked asks) ∙ map-append asked_as (on_connection c s.asked) asks
           ∙ ap (λ x. x ++ map asked_as asks) before
           ∙ append_assoc (answered_on c s) (pending_as s.now.arrivals.pending) (map asked_as asks)
-          ∙ sym (ap (λ x. answered_on c s ++ x) (all_joined_as asks s.now.arrivals));
+          ∙ sym (ap (λ x. answered_on c s ++ x) (all_joined_as asked_as asks s.now.arrivals));
       queued_by_now = h.queued_by_now;
       asked_by_now = all_by_now c asks s.asked h.asked_by_now;
     }) where

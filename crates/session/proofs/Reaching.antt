@@ -1,6 +1,5 @@
 -- What holds at the start, and is kept by each event, holds after any list of events.
-use Rattle.std.proofs.Common.{◌≡◌, ℕ, ◌+◌, Bool, true, false, cond, ltb, leb, eqb, List, [], ◌∷◌, length, Option, Some, None, Result, Ok, Err, refl, sym, ap, ◌∙◌, subst}
-use Rattle.session.specs.declared.TheConstants.{BODY_LIMIT}
+use Rattle.std.proofs.Common.{◌≡◌, ℕ, Bool, true, false, cond, ltb, leb, eqb, List, [], ◌∷◌, length, Option, Some, None, refl}
 use Rattle.session.specs.declared.state.TheConstants.{MOST_PIECE, MOST_PENDING, FULL, LAST_CONNECTION}
 use Rattle.session.specs.declared.event.Event.{Event}
 use Rattle.session.specs.declared.event.Event.TheVariants.{Connect, Recv, Turn, Sent, DropConnection}
@@ -9,7 +8,7 @@ use Rattle.session.specs.declared.link.Link.{Link}
 use Rattle.session.specs.declared.pending.Pending.{Pending}
 use Rattle.session.specs.Arrivals.{first_pending}
 use Rattle.session.specs.Effects.{performed, after_all}
-use Rattle.session.specs.Outcomes.{Outcome, Seen, Act, Open, Close, Accept, Take, outcome_at, on_link, with_no_link, next_turn, answering}
+use Rattle.session.specs.Outcomes.{Outcome, Open, Close, Accept, Take, outcome_at, next_turn, answering}
 use Rattle.session.specs.Sessions.{Session, Effect, After, histories, performed_on, start, waiting_of}
 
 -- what holds of either choice holds of the one that is made

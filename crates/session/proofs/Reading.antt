@@ -1,6 +1,5 @@
 -- The requests that came are those of the bytes that were accepted, and two pieces are as one.
-use Rattle.std.proofs.Common.{◌≡◌, ℕ, ◌+◌, ◌≤◌, Bool, true, false, cond, List, [], ◌∷◌, ◌++◌, length, map, fold, Option, Some, None, is_some, Result, Ok, Err, ◌⊎◌, inl, inr, refl, sym, ap, ◌∙◌, subst, arith, append-nil, append_assoc}
-use Rattle.std.specs.Prelude.{All, if◌then◌else◌}
+use Rattle.std.proofs.Common.{◌≡◌, ℕ, Bool, true, false, cond, List, [], ◌∷◌, ◌++◌, map, Option, Some, None, is_some, Result, Ok, Err, refl, sym, ap, ◌∙◌, append-nil, append_assoc}
 use Rattle.std.proofs.lemmas.List.{map-append}
 use Rattle.framing.specs.Reading.{Reading, Tail, reading_of, with_bodies}
 use Rattle.framing.specs.Reading.Tail.{Partial, Faulty}
@@ -14,7 +13,6 @@ use Rattle.protocol.specs.declared.request.MessageError.{MessageError}
 use Rattle.session.specs.declared.TheConstants.{BODY_LIMIT}
 use Rattle.session.specs.declared.event.LinkFault.{LinkFault}
 use Rattle.session.specs.declared.event.LinkFault.TheVariants.{Message}
-use Rattle.session.specs.declared.link.Link.{Link}
 use Rattle.session.specs.declared.pending.Ask.{Ask}
 use Rattle.session.specs.Arrivals.{asks_in, asks_of, fault_in, message_fault_of}
 use Rattle.session.specs.Outcomes.{fault_or, fault_of_reading}

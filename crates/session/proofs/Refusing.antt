@@ -1,5 +1,5 @@
 -- An event that is refused changes nothing.
-use Rattle.std.proofs.Common.{◌≡◌, ℕ, Bool, ltb, leb, eqb, List, [], ◌∷◌, length, Option, Some, None, Result, Ok, Err, refl}
+use Rattle.std.proofs.Common.{◌≡◌, ltb, leb, eqb, List, length, Option, Some, None, Result, Ok, Err, refl}
 use Rattle.session.specs.declared.state.TheConstants.{MOST_PIECE, MOST_PENDING, FULL, LAST_CONNECTION}
 use Rattle.session.specs.declared.event.Applied.{Applied}
 use Rattle.session.specs.declared.event.Event.{Event}

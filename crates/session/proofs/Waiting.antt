@@ -1,9 +1,8 @@
 -- The bytes of a connection: those that were taken, and then those that wait.
-use Rattle.std.proofs.Common.{◌≡◌, ℕ, List, ◌++◌, length, drop, Option, Some, refl, sym, ap, ◌∙◌, subst}
+use Rattle.std.proofs.Common.{◌≡◌, List, ◌++◌, Some, sym, ap, ◌∙◌, subst}
 use Rattle.session.specs.declared.event.Event.{Event}
 use Rattle.session.specs.declared.limits.Limits.{Limits}
 use Rattle.session.specs.declared.link.Link.{Link}
-use Rattle.session.specs.Effects.{after_all}
 use Rattle.session.specs.Prefixes.{IsPrefixOf}
 use Rattle.session.specs.Sessions.{Session, bytes_of, taken_of, not_taken, histories, start, After}
 use Rattle.session.specs.Kept.{Stands, keepings, nothing_kept}

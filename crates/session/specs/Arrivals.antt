@@ -10,13 +10,13 @@
 -- cancelled; what it did stays.
 --
 -- What is no request is passed over. What is no message at all ends the reading: nothing after it is looked at.
-use Rattle.std.specs.Prelude.{◌≡◌, ℕ, ℤ, pos, negsuc, Bool, true, false, not, ◌&&◌, ◌==◌, nat_lt, if◌then◌else◌, List}
-use Rattle.std.specs.Prelude.{[], ◌∷◌, ◌++◌, map, fold, Option, Some, None, Result, Ok, Err, refl}
+use Rattle.std.specs.Prelude.{ℕ, ℤ, pos, negsuc, Bool, true, false, not, ◌&&◌, ◌==◌, nat_lt, if◌then◌else◌, List}
+use Rattle.std.specs.Prelude.{[], ◌∷◌, ◌++◌, map, fold, Option, Some, None, Result, Ok, Err}
 use Rattle.std.specs.List.{list_any}
 use Rattle.protocol.specs.Commands.{name_of}
 use Rattle.protocol.specs.Reading.{incoming_of}
 use Rattle.protocol.specs.declared.command.Command.{Command}
-use Rattle.protocol.specs.declared.command.Command.TheVariants.{Initialize, Threads, Cancel, Disconnect}
+use Rattle.protocol.specs.declared.command.Command.TheVariants.{Cancel}
 use Rattle.protocol.specs.declared.request.Incoming.{Incoming}
 use Rattle.protocol.specs.declared.request.Incoming.TheVariants.{Request as IsRequest, Bad as IsBad, Ignored}
 use Rattle.protocol.specs.declared.request.MessageError.{MessageError}
@@ -38,10 +38,8 @@ name_asked (Bad seq command refusal) = command
 
 -- the number that a command cancels, if it cancels one
 abbrev pub cancels_by : Command → Option ℤ
-cancels_by (Initialize arguments) = None
-cancels_by Threads = None
 cancels_by (Cancel arguments) = arguments.request_id
-cancels_by (Disconnect arguments) = None
+cancels_by other = None
 
 -- the number that a request cancels, if it cancels one
 abbrev pub cancels : Ask → Option ℤ

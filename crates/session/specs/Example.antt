@@ -13,6 +13,7 @@ use Rattle.session.specs.declared.event.Event.{Event}
 use Rattle.session.specs.declared.event.Event.TheVariants.{Connect, Recv, Turn, Sent}
 use Rattle.session.specs.Limits.{greatest_limits}
 use Rattle.session.specs.Outcomes.{is_finished}
+use Rattle.session.specs.Requests.{is_served}
 use Rattle.session.specs.Sessions.{After, histories, waiting_of}
 use Rattle.session.specs.Writing.{frame_of}
 
@@ -45,7 +46,7 @@ abbrev one_answered : List Event
 one_answered = Connect ∷ Recv first_piece ∷ Turn None ∷ []
 
 the_refusal_waits : waiting_of (After greatest_limits one_answered) ≡ refusal
-unfolding json_on_literals reading_of start_of json_of incoming_of frame_of
+unfolding json_on_literals reading_of start_of json_of incoming_of is_served frame_of
 the_refusal_waits = refl
 
 -- the rest of `disconnect` came too, and both were answered
@@ -53,12 +54,12 @@ abbrev both_answered : List Event
 both_answered = one_answered ++ Recv second_piece ∷ Turn None ∷ []
 
 both_answers_wait : waiting_of (After greatest_limits both_answered) ≡ refusal ++ success
-unfolding json_on_literals reading_of start_of json_of incoming_of frame_of
+unfolding json_on_literals reading_of start_of json_of incoming_of is_served frame_of
 both_answers_wait = refl
 
 -- 180 bytes were sent
 the_rest_waits : waiting_of (After greatest_limits (both_answered ++ Sent 180 ∷ [])) ≡ drop 180 (refusal ++ success)
-unfolding json_on_literals reading_of start_of json_of incoming_of frame_of
+unfolding json_on_literals reading_of start_of json_of incoming_of is_served frame_of
 the_rest_waits = refl
 
 -- all 276 were
@@ -66,5 +67,5 @@ abbrev all_sent : List Event
 all_sent = both_answered ++ Sent 180 ∷ Sent 96 ∷ []
 
 all_is_said : is_finished (histories.see (After greatest_limits all_sent)) ≡ true
-unfolding json_on_literals reading_of start_of json_of incoming_of frame_of
+unfolding json_on_literals reading_of start_of json_of incoming_of is_served frame_of
 all_is_said = refl

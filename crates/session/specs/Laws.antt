@@ -2,7 +2,7 @@
 --
 -- A list of events is any: requests cut anywhere, repeated or cancelled, turns and bytes taken in between, connections
 -- that end and others that follow, and events that are refused.
-use Rattle.std.specs.Prelude.{◌≡◌, ℕ, ◌+◌, ◌<◌, ◌≤◌, List, [], ◌∷◌, ◌++◌, map, All, Option, Some, None, Result, Ok, Err}
+use Rattle.std.specs.Prelude.{◌≡◌, ℕ, ◌+◌, ◌<◌, ◌≤◌, List, [], ◌∷◌, ◌++◌, map, All, Some, Ok, Err}
 use Rattle.std.specs.Prelude.{◌⊎◌}
 use Rattle.framing.specs.Reading.{reading_of}
 use Rattle.replies.specs.declared.message.Message.{Message}
@@ -17,14 +17,13 @@ use Rattle.session.specs.declared.event.Event.{Event}
 use Rattle.session.specs.declared.event.Event.TheVariants.{Recv}
 use Rattle.session.specs.declared.event.EventError.{EventError}
 use Rattle.session.specs.declared.event.EventError.TheVariants.{Closing}
-use Rattle.session.specs.declared.limits.Limits.{Limits}
 use Rattle.session.specs.declared.link.Link.{Link}
 use Rattle.session.specs.declared.pending.Ask.{Ask}
 use Rattle.session.specs.declared.pending.Pending.{Pending}
 use Rattle.session.specs.Arrivals.{number_of, name_asked, asks_of}
 use Rattle.session.specs.Prefixes.{IsPrefixOf}
 use Rattle.session.specs.Outcomes.{Numbered, fault_of_reading}
-use Rattle.session.specs.Sessions.{Session, On, on_connection, bytes_of, taken_of, waiting_of, After, Effect, Answer}
+use Rattle.session.specs.Sessions.{Session, On, on_connection, bytes_of, taken_of, waiting_of, Effect, Answer}
 
 -- ---- bytes
 

@@ -3,10 +3,10 @@
 -- Each request has one answer. It is refused for the first reason of a list that applies, and then only its answer is
 -- sent: a refused request changes nothing. One that no reason applies to succeeds: its answer has the body of that
 -- request, and the connection goes on in the phase that the request leads to.
-use Rattle.std.specs.Prelude.{ℕ, Bool, true, false, not, List, [], ◌∷◌, Option, Some, None, if◌then◌else◌}
+use Rattle.std.specs.Prelude.{Bool, true, false, not, List, [], ◌∷◌, Option, Some, None, if◌then◌else◌}
 use Rattle.protocol.specs.declared.refusal.Refusal.{Refusal}
 use Rattle.protocol.specs.declared.refusal.Refusal.TheVariants.{RepeatedSequence, Cancelled as IsCancelled, WrongPhase}
-use Rattle.protocol.specs.declared.refusal.Refusal.TheVariants.{RequestGone}
+use Rattle.protocol.specs.declared.refusal.Refusal.TheVariants.{UnknownCommand, RequestGone}
 use Rattle.protocol.specs.declared.request.Request.{Request as ARequest}
 use Rattle.replies.specs.declared.response.Outcome.TheVariants.{Done, Refused}
 use Rattle.replies.specs.declared.response.Outcome.{Outcome}
@@ -19,7 +19,7 @@ use Rattle.session.specs.declared.pending.Fate.{Fate}
 use Rattle.session.specs.declared.pending.Fate.TheVariants.{Waits, Repeated, Cancelled, NamesNone}
 use Rattle.session.specs.declared.pending.Pending.{Pending}
 use Rattle.session.specs.Arrivals.{number_of, name_asked, is_repeat}
-use Rattle.session.specs.Requests.{is_taken_in, success_of}
+use Rattle.session.specs.Requests.{is_served, is_taken_in, success_of}
 
 -- whether a later `cancel` named the request
 abbrev pub is_cancelled : Fate → Bool
@@ -39,6 +39,10 @@ names_none NamesNone = true
 abbrev pub where_so : Bool → Refusal → Option Refusal
 where_so reason refusal = if reason then Some refusal else None
 
+-- whether its name is one that the session does not serve, whatever its arguments are
+abbrev pub is_unknown : Ask → Bool
+is_unknown ask = not (is_served (name_asked ask))
+
 -- why the request could not be read as one that the adapter has
 abbrev pub misread : Ask → Option Refusal
 misread (Request r) = None
@@ -53,6 +57,7 @@ comes_wrong phase (Bad seq command refusal) = false
 abbrev pub refusals : Phase → Pending → List (Option Refusal)
 refusals phase p = where_so (is_repeat p.fate) RepeatedSequence
     ∷ where_so (is_cancelled p.fate) IsCancelled
+    ∷ where_so (is_unknown p.ask) UnknownCommand
     ∷ misread p.ask
     ∷ where_so (comes_wrong phase p.ask) WrongPhase
     ∷ where_so (names_none p.fate) RequestGone
@@ -60,7 +65,11 @@ refusals phase p = where_so (is_repeat p.fate) RepeatedSequence
 
 -- those of them that the request itself gives
 abbrev pub as_it_stands : Phase → Ask → List (Option Refusal)
-as_it_stands phase ask = misread ask ∷ where_so (comes_wrong phase ask) WrongPhase ∷ []
+as_it_stands phase ask =
+    where_so (is_unknown ask) UnknownCommand
+    ∷ misread ask
+    ∷ where_so (comes_wrong phase ask) WrongPhase
+    ∷ []
 
 -- the first that applies, if one does
 abbrev pub first_refusal : List (Option Refusal) → Option Refusal

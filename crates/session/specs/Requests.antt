@@ -1,6 +1,15 @@
 -- The requests: in which phases each is taken, and what comes of it. This is the list of them; what there is to say of
 -- one stands in the file of its name.
-use Rattle.std.specs.Prelude.{Bool}
+--
+-- Those of the profile that a session does not serve yet are to it as any name that nobody knows: none is taken in any
+-- phase, and nothing comes of it (DAP specification, `Request.command`).
+use Rattle.std.specs.Prelude.{◌≡◌, ℕ, Bool, true, false, List, [], ◌∷◌, codes, bytes_eq, refl}
+use Rattle.std.specs.List.{list_any}
+use Rattle.protocol.specs.declared.initialize.TheConstants.{NAME as INITIALIZE}
+use Rattle.protocol.specs.declared.threads.TheConstants.{NAME as THREADS}
+use Rattle.protocol.specs.declared.cancel.TheConstants.{NAME as CANCEL}
+use Rattle.protocol.specs.declared.disconnect.TheConstants.{NAME as DISCONNECT}
+use Rattle.replies.specs.declared.response.ResponseBody.TheVariants as body
 use Rattle.protocol.specs.declared.command.Command.{Command}
 use Rattle.protocol.specs.declared.command.Command.TheVariants.{Initialize, Threads, Cancel, Disconnect}
 use Rattle.session.specs.declared.phase.Phase.{Phase}
@@ -10,12 +19,29 @@ use Rattle.session.specs.Threads as threads
 use Rattle.session.specs.Cancel as cancel
 use Rattle.session.specs.Disconnect as disconnect
 
+-- the names of the requests that are served
+abbrev pub served : List (List ℕ)
+served = INITIALIZE.now ∷ THREADS.now ∷ CANCEL.now ∷ DISCONNECT.now ∷ []
+
+-- whether a request of that name is served
+unfoldable pub is_served : List ℕ → Bool
+is_served name = list_any (bytes_eq name) served
+
+a_served_request : is_served (codes "threads") ≡ true
+unfolding is_served
+a_served_request = refl
+
+one_that_is_not_served : is_served (codes "launch") ≡ false
+unfolding is_served
+one_that_is_not_served = refl
+
 -- whether the request is taken in the phase
 abbrev pub is_taken_in : Phase → Command → Bool
 is_taken_in phase (Initialize arguments) = initialize.is_taken_in phase
 is_taken_in phase Threads = threads.is_taken_in phase
 is_taken_in phase (Cancel arguments) = cancel.is_taken_in phase
 is_taken_in phase (Disconnect arguments) = disconnect.is_taken_in phase
+is_taken_in phase not_served = false
 
 -- what comes of the request where it is taken
 abbrev pub success_of : Phase → Command → Success
@@ -23,3 +49,4 @@ success_of phase (Initialize arguments) = initialize.success phase
 success_of phase Threads = threads.success phase
 success_of phase (Cancel arguments) = cancel.success phase
 success_of phase (Disconnect arguments) = disconnect.success phase
+success_of phase not_served = record { body = body.Empty; phase = phase }

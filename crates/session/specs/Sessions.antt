@@ -3,12 +3,11 @@
 -- Nothing that was queued, taken or asked is forgotten here: a session is what it is now, and the histories of all its
 -- connections. A connection has a number, from 1. Its bytes are the frames of the messages that were queued for it, in
 -- order; those that were not taken yet wait, as long as the connection lasts.
-use Rattle.std.specs.Prelude.{ℕ, ◌==◌, Bool, ◌||◌, if◌then◌else◌, List, [], ◌∷◌, ◌++◌, length, take, drop, map, filter}
+use Rattle.std.specs.Prelude.{ℕ, ◌==◌, Bool, if◌then◌else◌, List, [], ◌∷◌, ◌++◌, length, take, drop, map}
 use Rattle.std.specs.Prelude.{Option, Some, None, is_some, Result}
 use Rattle.std.specs.List.{flat_map}
 use Rattle.framing.specs.Reading.{reading_of}
 use Rattle.framing.specs.Reading.Tail.{Partial}
-use Rattle.replies.specs.declared.message.Message.{Message as AMessage}
 use Rattle.session.specs.declared.TheConstants.{BODY_LIMIT}
 use Rattle.session.specs.declared.event.Applied.{Applied}
 use Rattle.session.specs.declared.event.Event.{Event}

@@ -6,7 +6,7 @@ use protocol::{Command, Refusal, Request, Text};
 use std::alloc::{AllocError, Global};
 
 /// What an editor asks.
-#[derive(Debug, Drop)]
+#[derive(Drop)]
 pub enum Ask {
     /// A request that can be looked at further.
     Request(Request),
@@ -35,7 +35,7 @@ pub enum Fate {
 }
 
 /// A request that waits for its answer.
-#[derive(Debug, Drop)]
+#[derive(Drop)]
 pub struct Pending {
     /// What is asked.
     pub ask: Ask,
@@ -54,15 +54,21 @@ impl Ask {
         }
     }
 
-    /// The name of what is asked, copied (`Request.command`).
-    pub(crate) fn name(&self, alloc: Global) -> Result<Text, AllocError>
-        ensures { IfOk result (λ text. text ≡ spec.name_asked self.now) }
+    /// The name of what is asked (`Request.command`).
+    pub(crate) fn name(&self) -> &str
+        ensures { result.now ≡ spec.name_asked self.now }
     {
-        let name = match self {
+        match self {
             Ask::Request(request) => request.command.name(),
             Ask::Bad { command, .. } => command.as_str(),
-        };
-        Ok(Text::from_string(String::from_str(alloc, name)?))
+        }
+    }
+
+    /// The same, copied.
+    pub(crate) fn copy_name(&self, alloc: Global) -> Result<Text, AllocError>
+        ensures { IfOk result (λ text. text ≡ spec.name_asked self.now) }
+    {
+        Ok(Text::from_string(String::from_str(alloc, self.name())?))
     }
 
     /// The number of the request that it cancels, where it is a `cancel` and names one.
@@ -70,7 +76,7 @@ impl Ask {
         ensures { result ≡ spec.cancels self.now }
     {
         match self {
-            Ask::Request(request) => match request.command {
+            Ask::Request(request) => match &request.command {
                 Command::Cancel(arguments) => arguments.request_id,
                 _ => None,
             },

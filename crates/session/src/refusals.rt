@@ -4,13 +4,13 @@ ghost use Rattle.session.specs.Refusals as spec;
 
 use crate::pending::{Ask, Fate, Pending};
 use crate::phase::Phase;
-use crate::requests::{is_taken_in, success_of};
+use crate::requests::{is_served, is_taken_in, success_of};
 use protocol::Refusal;
 use replies::{Outcome, Response};
 use std::alloc::{AllocError, Global};
 
 /// What becomes of a request, and how far the connection has come then.
-#[derive(Debug, Drop)]
+#[derive(Drop)]
 pub struct Answer {
     /// What becomes of the request.
     pub outcome: Outcome,
@@ -46,6 +46,9 @@ fn refusal_of(phase: Phase, pending: &Pending) -> Option<Refusal>
 fn refusal_as_it_stands(phase: Phase, ask: &Ask) -> Option<Refusal>
     ensures { result ≡ spec.first_refusal (spec.as_it_stands phase ask.now) }
 {
+    if !is_served(ask.name()) {
+        return Some(Refusal::UnknownCommand);
+    }
     match ask {
         Ask::Request(request) => {
             if is_taken_in(phase, &request.command) {
@@ -92,7 +95,7 @@ pub(crate) fn response_to(
 {
     Ok(Response {
         request_seq: ask.number(),
-        command: ask.name(alloc)?,
+        command: ask.copy_name(alloc)?,
         outcome,
     })
 }

@@ -1,4 +1,4 @@
-use Rattle.std.proofs.Common.{◌≡◌, ◌<◌, true, false, length, sym, ◌∙◌, arith}
+use Rattle.std.proofs.Common.{◌<◌, true, false, length, sym, ◌∙◌, arith}
 use Rattle.session.proofs.Arriving.{changes_next, fate_next}
 use Rattle.session.proofs.arrivals.cancel.Goals.{then-mark, else-mark}
 use Rattle.session.proofs.arrivals.cancel.Goals as goal
