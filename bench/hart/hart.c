@@ -1,73 +1,8 @@
 /* A plain interpreter of RV32I, beside which bench/hart/run times crates/bench_hart: each step fetches, decodes to a record
    with a tag for the mnemonic, and executes that. Words: the program, its argument. */
-#include <stdint.h>
-#include <stdio.h>
-#include <stdlib.h>
-#include <string.h>
-#include "programs.h"
-
-#define BASE 0x00010000u
-#define SIZE 0x00100000u
-
-enum op { ILLEGAL, LUI, AUIPC, JAL, JALR, BEQ, BNE, BLT, BGE, BLTU, BGEU, LB, LH, LW, LBU, LHU, SB, SH, SW, ADDI, SLTI,
-    SLTIU, XORI, ORI, ANDI, SLLI, SRLI, SRAI, ADD, SUB, SLL, SLT, SLTU, XOR, SRL, SRA, OR, AND, FENCE, ECALL, EBREAK };
-
-struct instr { uint8_t op, rd, rs1, rs2; uint32_t imm; };
+#include "decode.h"
 
 enum stepped { RETIRED, EXIT, STOP };
-
-struct hart { uint32_t pc, x[32]; };
-
-static uint8_t *memory;
-
-__attribute__((noinline)) static struct instr decode(uint32_t w)
-{
-    static const uint8_t branch[8] = { BEQ, BNE, 0, 0, BLT, BGE, BLTU, BGEU };
-    static const uint8_t load[8] = { LB, LH, LW, 0, LBU, LHU, 0, 0 };
-    static const uint8_t store[8] = { SB, SH, SW, 0, 0, 0, 0, 0 };
-    static const uint8_t immediate[8] = { ADDI, 0, SLTI, SLTIU, XORI, 0, ORI, ANDI };
-    static const uint8_t plain[8] = { ADD, SLL, SLT, SLTU, XOR, SRL, OR, AND };
-    uint32_t f3 = w >> 12 & 7, f7 = w >> 25;
-    struct instr i = { ILLEGAL, w >> 7 & 31, w >> 15 & 31, w >> 20 & 31, 0 };
-    uint32_t imm = (uint32_t)((int32_t)w >> 20);
-    switch (w & 0x7f) {
-    case 0x37: i.op = LUI; i.imm = w & 0xfffff000u; break;
-    case 0x17: i.op = AUIPC; i.imm = w & 0xfffff000u; break;
-    case 0x6f:
-        i.op = JAL;
-        i.imm = (uint32_t)((int32_t)(w & 0x80000000u) >> 11) | (w & 0xff000) | (w >> 9 & 0x800) | (w >> 20 & 0x7fe);
-        break;
-    case 0x67: i.op = f3 == 0 ? JALR : ILLEGAL; i.imm = imm; break;
-    case 0x63:
-        i.op = branch[f3];
-        i.imm = (uint32_t)((int32_t)(w & 0x80000000u) >> 19) | (w << 4 & 0x800) | (w >> 20 & 0x7e0) | (w >> 7 & 0x1e);
-        break;
-    case 0x03: i.op = load[f3]; i.imm = imm; break;
-    case 0x23: i.op = store[f3]; i.imm = (imm & ~31u) | (w >> 7 & 31); break;
-    case 0x13:
-        i.op = immediate[f3];
-        i.imm = imm;
-        if (f3 == 1 && f7 == 0) i.op = SLLI;
-        if (f3 == 5 && f7 == 0) i.op = SRLI;
-        if (f3 == 5 && f7 == 32) i.op = SRAI;
-        break;
-    case 0x33:
-        if (f7 == 0) i.op = plain[f3];
-        if (f7 == 32 && f3 == 0) i.op = SUB;
-        if (f7 == 32 && f3 == 5) i.op = SRA;
-        break;
-    case 0x0f: i.op = f3 == 0 ? FENCE : ILLEGAL; break;
-    case 0x73: i.op = w == 0x73 ? ECALL : w == 0x100073 ? EBREAK : ILLEGAL; break;
-    }
-    return i;
-}
-
-static uint8_t *at(uint32_t address, uint32_t count)
-{
-    uint32_t k = address - BASE;
-    if (address % count != 0 || k > SIZE - count) return NULL;
-    return memory + k;
-}
 
 static enum stepped step(struct hart *h)
 {

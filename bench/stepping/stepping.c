@@ -2,27 +2,14 @@
    record and executes that, as bench/hart/hart.c does; notes calls and returns, of which it keeps 256; looks at the breakpoints
    at the new pc, by a bit for each word of memory and a sorted list; and then at the goal. Words: the program, the value of a0 at
    the start, and how it is run: `go COUNT`, `over` or `if CONDITION`, as in crates/bench_stepping/src/way.rt. */
-#include <stdint.h>
-#include <stdio.h>
-#include <stdlib.h>
-#include <string.h>
-#include "../hart/programs.h"
+#include "../hart/decode.h"
 
-#define BASE 0x00010000u
-#define SIZE 0x00100000u
 #define FAR 0x00020000u
 #define KEPT 256
 #define LIMIT 1024
 #define SLICE 100000
 
-enum op { ILLEGAL, LUI, AUIPC, JAL, JALR, BEQ, BNE, BLT, BGE, BLTU, BGEU, LB, LH, LW, LBU, LHU, SB, SH, SW, ADDI, SLTI,
-    SLTIU, XORI, ORI, ANDI, SLLI, SRLI, SRAI, ADD, SUB, SLL, SLT, SLTU, XOR, SRL, SRA, OR, AND, FENCE, ECALL, EBREAK };
-
-struct instr { uint8_t op, rd, rs1, rs2; uint32_t imm; };
-
 enum stepped { RETIRED, PRINTED, BREAK, EXIT, TRAP };
-
-struct hart { uint32_t pc, x[32]; };
 
 /* The calls kept, in a ring, and how many have not returned. */
 struct calls { uint64_t depth; uint32_t newest, kept, at[KEPT]; };
@@ -58,57 +45,6 @@ struct runner {
     struct row rows[64];
     uint32_t lines;
 };
-
-static uint8_t *memory;
-
-__attribute__((noinline)) static struct instr decode(uint32_t w)
-{
-    static const uint8_t branch[8] = { BEQ, BNE, 0, 0, BLT, BGE, BLTU, BGEU };
-    static const uint8_t load[8] = { LB, LH, LW, 0, LBU, LHU, 0, 0 };
-    static const uint8_t store[8] = { SB, SH, SW, 0, 0, 0, 0, 0 };
-    static const uint8_t immediate[8] = { ADDI, 0, SLTI, SLTIU, XORI, 0, ORI, ANDI };
-    static const uint8_t plain[8] = { ADD, SLL, SLT, SLTU, XOR, SRL, OR, AND };
-    uint32_t f3 = w >> 12 & 7, f7 = w >> 25;
-    struct instr i = { ILLEGAL, w >> 7 & 31, w >> 15 & 31, w >> 20 & 31, 0 };
-    uint32_t imm = (uint32_t)((int32_t)w >> 20);
-    switch (w & 0x7f) {
-    case 0x37: i.op = LUI; i.imm = w & 0xfffff000u; break;
-    case 0x17: i.op = AUIPC; i.imm = w & 0xfffff000u; break;
-    case 0x6f:
-        i.op = JAL;
-        i.imm = (uint32_t)((int32_t)(w & 0x80000000u) >> 11) | (w & 0xff000) | (w >> 9 & 0x800) | (w >> 20 & 0x7fe);
-        break;
-    case 0x67: i.op = f3 == 0 ? JALR : ILLEGAL; i.imm = imm; break;
-    case 0x63:
-        i.op = branch[f3];
-        i.imm = (uint32_t)((int32_t)(w & 0x80000000u) >> 19) | (w << 4 & 0x800) | (w >> 20 & 0x7e0) | (w >> 7 & 0x1e);
-        break;
-    case 0x03: i.op = load[f3]; i.imm = imm; break;
-    case 0x23: i.op = store[f3]; i.imm = (imm & ~31u) | (w >> 7 & 31); break;
-    case 0x13:
-        i.op = immediate[f3];
-        i.imm = imm;
-        if (f3 == 1 && f7 == 0) i.op = SLLI;
-        if (f3 == 5 && f7 == 0) i.op = SRLI;
-        if (f3 == 5 && f7 == 32) i.op = SRAI;
-        break;
-    case 0x33:
-        if (f7 == 0) i.op = plain[f3];
-        if (f7 == 32 && f3 == 0) i.op = SUB;
-        if (f7 == 32 && f3 == 5) i.op = SRA;
-        break;
-    case 0x0f: i.op = f3 == 0 ? FENCE : ILLEGAL; break;
-    case 0x73: i.op = w == 0x73 ? ECALL : w == 0x100073 ? EBREAK : ILLEGAL; break;
-    }
-    return i;
-}
-
-static uint8_t *at(uint32_t address, uint32_t count)
-{
-    uint32_t k = address - BASE;
-    if (address % count != 0 || k > SIZE - count) return NULL;
-    return memory + k;
-}
 
 static enum stepped execute(struct hart *h, const struct instr *i)
 {
