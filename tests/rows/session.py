@@ -222,11 +222,28 @@ def full():
 
 FULL_STEPS, FULL_ANSWERS, FULL_COUNT = full()
 NEXT_ANSWER = refused("wrongPhase", 3, "threads", FULL_COUNT + 1, FULL_COUNT + 1)
+
+# Names that are not served, each with arguments: such as the request takes, such as it does not, and any.
+UNSERVED = [("launch", {"program": "a.s", "stopOnEntry": True}), ("setBreakpoints", {"breakpoints": 1}), ("fly", {"to": "the moon"})]
+
+
+def unserved(command, arguments):
+    """A request that is not served, before and after `initialize`, and repeated: it is refused each time, and changes nothing."""
+    first, second = request(1, command, **arguments), request(3, command, **arguments)
+    steps = [CONNECT, recv(first + request(2, "initialize") + second + second + request(4, "threads")), pends(5)]
+    for answer in (refused(*UNKNOWN, command, 1, 1), frame(CAPABILITIES % (2, 2)), refused(*UNKNOWN, command, 3, 3),
+                   refused(*REPEATED, command, 3, 4), frame(THREADS % (4, 5))):
+        steps += [ANSWERED] + takes(answer)
+    return steps + [NOTHING, UNFINISHED, NO_FAULT]
+
+
 GREATEST = 2147483647
 GREATEST_RETIRED = 1 << 62
 TWO_NUMBERS = request(1, "initialize") + request(2, "threads") + request(3, "threads")
 
 ROWS = [Row(name, conversation(*pieces), PROFILE) for name, pieces in CONVERSATIONS] + [
+    Row("a request that is not served is unknown, and changes nothing: " + command, unserved(command, arguments), PROFILE)
+    for command, arguments in UNSERVED] + [
     Row("the texts of a repeat and of a cancel", [
         CONNECT, recv(FIRST + request(5, "threads") * 2 + request(9, "cancel")), ANSWERED, ANSWERED, ANSWERED, ANSWERED, NOTHING,
         waits(FIRST_ANSWER + frame(FIVE_ANSWERED) + frame(REPEAT_REFUSED) + frame(CANCEL_ANSWERED)),

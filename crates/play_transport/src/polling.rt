@@ -69,7 +69,10 @@ fn polled_of(
         Ok(Some(Incoming::Request(request))) => {
             Ok(format!(in alloc; "{}:{}", request.seq, request.command.name())?)
         }
-        Ok(Some(other)) => Ok(format!(in alloc; "{other:?}")?),
+        Ok(Some(Incoming::Bad { seq, refusal, .. })) => {
+            Ok(format!(in alloc; "bad {seq} {refusal:?}")?)
+        }
+        Ok(Some(Incoming::Ignored)) => Ok("ignored".to_string(alloc)?),
         Err(error) => error_of(alloc, error),
     }
 }
