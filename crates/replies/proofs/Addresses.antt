@@ -1,5 +1,5 @@
 -- The text of a word is taken for that word.
-use Rattle.std.proofs.Common.{◌≡◌, ℕ, ◌+◌, ◌*◌, ◌/◌, ◌%◌, ◌^◌, ◌<◌, ◌≤◌, Bool, true, false, cond, nat_lt, ◌==◌, ◌&&◌, List, [], ◌∷◌, Option, Some, None, Result, Ok, Err, IfSome, option_and_then, refl, sym, ap, ◌∙◌, arith, lt-ltb, ltb-true, le-leb}
+use Rattle.std.proofs.Common.{◌≡◌, ℕ, ◌+◌, ◌*◌, ◌/◌, ◌%◌, ◌^◌, ◌<◌, ◌≤◌, Bool, true, false, nat_lt, ◌==◌, ◌&&◌, List, [], ◌∷◌, Option, Some, None, Ok, Err, IfSome, refl, arith, lt-ltb, ltb-true, le-leb}
 use Rattle.std.specs.Prelude.{nat_le, not, if◌then◌else◌, length}
 use Rattle.std.proofs.lemmas.Bool.{and_parts}
 use Rattle.std.specs.Char.{digit_value, is_digit}
@@ -8,11 +8,9 @@ use Rattle.std.specs.Str.Parse.{digits_value}
 use Rattle.std.proofs.lemmas.Bool.Decides.{nat_tests}
 use Rattle.byte_strings.proofs.Below.{all_below, all_below_at}
 use Rattle.json.proofs.Printed.Utf8.{are_ascii, IsUtf8-are_ascii}
-use Rattle.numerals.specs.Numerals.{magnitude, magnitude_by, numeral, prefixed, within}
+use Rattle.numerals.specs.Numerals.{magnitude_by, numeral, prefixed, within}
 use Rattle.numerals.specs.declared.NumeralError.TheVariants.{Malformed, TooLarge}
-use Rattle.serde_json.specs.Data.{Data}
 use Rattle.serde_json.specs.Find.{as_str}
-use Rattle.protocol.specs.Properties.{◌>>=◌}
 use Rattle.replies.specs.Addresses.{address, address_text, hex_digit, word_in, word_of}
 use Rattle.replies.specs.Forms.{is_word}
 use Rattle.replies.proofs.Lawful.{Lawful, then_is}

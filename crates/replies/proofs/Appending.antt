@@ -6,7 +6,7 @@ use Rattle.json.specs.Written.{Written, Writes}
 use Rattle.serde_json.specs.Data.{Data, object, array, Items, no_items, item, Members, no_members, member}
 use Rattle.serde_json.specs.Written.{members_outline, items_outline}
 use Rattle.replies.specs.Forms.{member_if}
-use Rattle.replies.specs.Written.{Appends, tokens_of, members_tokens, items_tokens, IsWritten, AreWritten, ItemsWritten, MembersHaveSmallNumbers, ItemsHaveSmallNumbers}
+use Rattle.replies.specs.Written.{Appends, tokens_of, members_tokens, items_tokens, IsWritten, AreWritten, ItemsWritten, MembersHaveSmallNumbers}
 
 -- ---- tokens
 

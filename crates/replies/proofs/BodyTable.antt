@@ -1,5 +1,5 @@
 -- The table of bodies: each is plain JSON, and a message that has one is taken for it.
-use Rattle.std.proofs.Common.{◌≡◌, ℕ, ◌≤◌, List, [], ◌∷◌, Bool, true, false, ◌||◌, Option, Some, None, IfSome, option_map, option_and_then, codes, bytes_eq, refl, sym, ap, ◌∙◌, arith}
+use Rattle.std.proofs.Common.{◌≡◌, ℕ, ◌≤◌, List, [], ◌∷◌, Bool, true, false, ◌||◌, Option, Some, None, IfSome, option_map, option_and_then, codes, bytes_eq, refl, arith}
 use Rattle.std.specs.Prelude.{if◌then◌else◌}
 use Rattle.std.specs.List.{list_any}
 use Rattle.std.proofs.lemmas.Slice.Eq.{bytes_eq-Decides}
@@ -20,7 +20,7 @@ use Rattle.replies.specs.Variables.{variables}
 use Rattle.replies.specs.SetVariable.{set_variable}
 use Rattle.replies.specs.Evaluate.{evaluate}
 use Rattle.replies.specs.WriteMemory.{write_memory}
-use Rattle.replies.specs.Bodies.{Taken, IsBodyOf, all_taken, body_data, body_in, formed, has_numbers, surely, taken_among, texts_in, without_body}
+use Rattle.replies.specs.Bodies.{Taken, IsBodyOf, all_taken, body_data, body_in, formed, has_numbers, taken_among, texts_in, without_body}
 use Rattle.replies.specs.Laws.{is_ordered}
 use Rattle.replies.specs.Responses.{shared_members}
 use Rattle.replies.proofs.Lawful.{Lawful}

@@ -1,11 +1,8 @@
 -- A value that is a message claims to be that one, and what a value claims to be is in order.
-use Rattle.std.proofs.Common.{◌≡◌, ℕ, ◌^◌, ◌<◌, ◌&&◌, List, Bool, true, false, cond, nat_lt, Option, Some, None, is_some, option_map, option_and_then, IfSome, codes, refl, sym, ap, ◌∙◌, arith, lt-ltb, ltb-true}
+use Rattle.std.proofs.Common.{◌≡◌, ℕ, ◌^◌, ◌<◌, ◌&&◌, List, Bool, true, false, cond, nat_lt, Option, Some, None, is_some, option_map, option_and_then, IfSome, codes, refl, ap, arith, lt-ltb, ltb-true}
 use Rattle.std.proofs.lemmas.Bool.{and_parts}
-use Rattle.std.proofs.lemmas.Slice.Eq.{bytes_eq-Decides}
-use Rattle.std.specs.List.{list_any}
-use Rattle.std.specs.Str.{bytes_eq}
 use Rattle.serde_json.specs.Data.{Data, object}
-use Rattle.protocol.specs.Refusals.{has_text, id_of, refusal_of, the_refusal_of_its_number}
+use Rattle.protocol.specs.Refusals.{has_text, the_refusal_of_its_number}
 use Rattle.protocol.specs.declared.refusal.Refusal.{Refusal}
 use Rattle.replies.specs.declared.message.Message.{Message}
 use Rattle.replies.specs.declared.message.Message.TheVariants.{Response}

@@ -1,5 +1,5 @@
 -- The forms of the bodies are lawful.
-use Rattle.std.proofs.Common.{◌≡◌, ℕ, List, Bool, true, false, ◌⊎◌, inl, inr, IfSome, refl, arith}
+use Rattle.std.proofs.Common.{◌≡◌, ℕ, List, true, ◌⊎◌, inl, inr, IfSome, refl, arith}
 use Rattle.std.specs.Prelude.{Some}
 use Rattle.json.proofs.Printed.Utf8.{IsUtf8-are_ascii}
 use Rattle.replies.specs.Forms.{either}

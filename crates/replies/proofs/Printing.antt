@@ -1,5 +1,5 @@
 -- What a writer hands over at the end of a value, where it was empty at the start.
-use Rattle.std.proofs.Common.{◌≡◌, ℕ, ◌^◌, ◌<◌, List, [], ◌++◌, Some, IsUtf8, sym, ap, ◌∙◌, subst}
+use Rattle.std.proofs.Common.{◌≡◌, ℕ, List, [], ◌++◌, Some, IsUtf8, sym, ap, ◌∙◌, subst}
 use Rattle.json.specs.Lex.{tokens}
 use Rattle.json.specs.Print.{print}
 use Rattle.json.specs.Written.{Written}

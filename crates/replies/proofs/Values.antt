@@ -1,12 +1,10 @@
 -- What holds of the JSON value of each message: it nests little, has no float, its names rise, and it is plain.
-use Rattle.std.proofs.Common.{◌≡◌, ℕ, ◌^◌, ◌<◌, ◌≤◌, List, Bool, true, false, ◌&&◌, nat_lt, Option, Some, None, IfSome, IsUtf8, codes, refl, arith, ltb-true}
-use Rattle.std.proofs.lemmas.Bool.{and_parts}
+use Rattle.std.proofs.Common.{◌≡◌, ℕ, ◌^◌, ◌<◌, ◌≤◌, List, Bool, true, false, Option, Some, None, IfSome, IsUtf8, codes, refl, arith}
 use Rattle.json.proofs.Printed.Utf8.{are_ascii, IsUtf8-are_ascii}
-use Rattle.serde_json.specs.Data.{Num, unsigned, negative, float, Data, null, boolean, number, string, array, object, Items, no_items, item, Members, no_members, member, depth}
+use Rattle.serde_json.specs.Data.{Data, object, depth}
 use Rattle.serde_json.specs.Read.{max_depth}
 use Rattle.serde_json.specs.Written.{has_float}
 use Rattle.protocol.specs.declared.refusal.Refusal.{Refusal}
-use Rattle.protocol.specs.Refusals.{id_of, name_of}
 use Rattle.replies.specs.declared.message.Message.{Message}
 use Rattle.replies.specs.declared.message.Message.TheVariants.{Response}
 use Rattle.replies.specs.declared.response.Outcome.{Outcome}
@@ -19,7 +17,7 @@ use Rattle.replies.specs.Forms.{member_if}
 use Rattle.replies.specs.Responses.{shared_members, format_of, outcome_data, IsOutcomeOf}
 use Rattle.replies.proofs.BodyTable.{IsGood, IsGood-body_data, IsPlain-body_data}
 use Rattle.replies.proofs.Refusals.{text-name_of, small-id_of}
-use Rattle.replies.proofs.Texts.{json_of-compact_text, IsPlain, AreItemsPlain, AreMembersPlain}
+use Rattle.replies.proofs.Texts.{json_of-compact_text, IsPlain, AreMembersPlain}
 
 -- ---- depth and floats
 

@@ -2,7 +2,7 @@
 --
 -- A success of a request has one kind of body, which is that request's, or none (DAP specification, `Response.body`).
 -- How each is written stands in the file of its name.
-use Rattle.std.specs.Prelude.{◌≡◌, ℕ, List, [], ◌∷◌, Bool, true, Option, Some, None, codes, if◌then◌else◌, bytes_eq}
+use Rattle.std.specs.Prelude.{ℕ, List, [], ◌∷◌, Bool, true, Option, Some, None, codes, if◌then◌else◌, bytes_eq}
 use Rattle.std.specs.Prelude.{IsTrue, option_map}
 use Rattle.std.specs.List.{list_any}
 use Rattle.serde_json.specs.Data.{Data}

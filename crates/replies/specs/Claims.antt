@@ -3,10 +3,8 @@
 -- Most of a message is fixed by a few members: its number, the request's number and command, whether the request
 -- succeeded, and the number of the refusal where it did not. These are the ones that are looked at here. What they
 -- claim may be false, as where another member is wrong or missing.
-use Rattle.std.specs.Prelude.{◌==◌, ℕ, ◌^◌, ◌&&◌, List, Bool, true, false, nat_lt, if◌then◌else◌, Option, Some, None}
+use Rattle.std.specs.Prelude.{ℕ, ◌^◌, ◌&&◌, List, Bool, true, false, nat_lt, if◌then◌else◌, Option, Some, None}
 use Rattle.std.specs.Prelude.{option_map, option_and_then, codes}
-use Rattle.std.specs.List.{list_any}
-use Rattle.std.specs.Str.{bytes_eq}
 use Rattle.serde_json.specs.Data.{Data}
 use Rattle.serde_json.specs.Find.{get, as_bool, as_number, as_str, as_u64}
 use Rattle.protocol.specs.Refusals.{has_text, refusal_of}

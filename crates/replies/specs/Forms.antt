@@ -3,15 +3,14 @@
 -- A form is a kind of value in messages: a whole number, an address, a frame, a list of frames. It says as which JSON
 -- value each such value is written, and which one a JSON value is taken for. What is taken for a frame need not be
 -- one: members that a frame does not have are not looked at, and neither is what stands in every frame.
-use Rattle.std.specs.Prelude.{◌≡◌, ℕ, ◌^◌, ◌/◌, ◌%◌, ◌<◌, nat_lt, ℤ, pos, negsuc, ◌&&◌, Bool, true, false, List, [], ◌∷◌}
-use Rattle.std.specs.Prelude.{◌++◌, Option, Some, None, option_map, option_and_then, if◌then◌else◌, IsUtf8, ◌⊎◌}
+use Rattle.std.specs.Prelude.{ℕ, ◌^◌, nat_lt, ◌&&◌, Bool, true, false, List, [], ◌∷◌}
+use Rattle.std.specs.Prelude.{◌++◌, Option, Some, None, option_map, if◌then◌else◌, IsUtf8, ◌⊎◌}
 use mathlib.Core.Logic.{inl, inr}
-use Rattle.std.specs.Option.{ok_or}
 use Rattle.std.specs.List.{list_all}
 use Rattle.serde_json.specs.Data.{Data, boolean, number, unsigned, string, array, object, Items, no_items, item, Members}
 use Rattle.serde_json.specs.Data.{no_members, member}
-use Rattle.serde_json.specs.Find.{get, as_array, as_bool, as_i64, as_number, as_str, as_u64, of_integer}
-use Rattle.protocol.specs.Properties.{◌>>=◌, within_i32}
+use Rattle.serde_json.specs.Find.{get, as_array, as_bool, as_number, as_str, as_u64}
+use Rattle.protocol.specs.Properties.{◌>>=◌}
 
 -- a kind of value in messages
 pub record Form (A : Type 0) : Type 0 where

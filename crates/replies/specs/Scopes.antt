@@ -2,7 +2,7 @@
 --
 -- There are two: the registers of the hart, and the words of the stack. Each has a number by which a request names it.
 -- Neither is expensive to show. An editor may know the registers by their hint (`Scope.presentationHint`).
-use Rattle.std.specs.Prelude.{ℕ, List, Option, Some, Bool, ◌⊎◌, false, codes, bytes_eq, option_map}
+use Rattle.std.specs.Prelude.{ℕ, Option, Some, Bool, ◌⊎◌, false, codes, bytes_eq, option_map}
 use mathlib.Core.Logic.{inl, inr}
 use Rattle.serde_json.specs.Data.{Data, boolean, string}
 use Rattle.serde_json.specs.Find.{get, as_str}

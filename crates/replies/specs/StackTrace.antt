@@ -3,7 +3,7 @@
 -- A frame has a number, a name, the address at which it is, and the line there, with its source (DAP specification,
 -- `StackFrame`). An address that belongs to no line has no source. `totalFrames` counts the frames that there are, of
 -- which the answer may give some (`StackTraceResponse`).
-use Rattle.std.specs.Prelude.{ℕ, List, Option, Some, codes}
+use Rattle.std.specs.Prelude.{Some, codes}
 use Rattle.replies.specs.Forms.{Form, object_of, none, field, optional, made_of, whole, text, list}
 use Rattle.replies.specs.Addresses.{address}
 use Rattle.replies.specs.declared.stack_trace.Source.{Source}

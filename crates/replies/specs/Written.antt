@@ -3,7 +3,7 @@
 -- A JSON text is written one token after another (RFC 8259, section 2): a bracket, the name of a member, or a value
 -- that is neither an array nor an object. The library `json` puts the commas and the colons and escapes the texts, so
 -- what is written for the tokens of a value is the value's compact text.
-use Rattle.std.specs.Prelude.{◌≡◌, ℕ, ◌^◌, ◌<◌, pos, negsuc, List, [], ◌∷◌, ◌++◌, codes, decimal, refl}
+use Rattle.std.specs.Prelude.{◌≡◌, ◌^◌, ◌<◌, pos, negsuc, List, [], ◌∷◌, ◌++◌, codes, decimal, refl}
 use Rattle.json.specs.Token.{Token, begin_object, end_object, begin_array, end_array, key, string as text, number as digits}
 use Rattle.json.specs.Tree.{json_tokens}
 use Rattle.json.specs.Written.{Written}

@@ -1,5 +1,3 @@
-use Rattle.replies.proofs.Lawful.{lawful_whole, lawful_text, lawful_truth}
-use Rattle.replies.proofs.Lawful.{lawful_either}
 use Rattle.replies.proofs.Finding.{IsMessage-one}
 use Rattle.replies.proofs.laws.values_differ.Goals as goal
 
