@@ -22,7 +22,8 @@ use Rattle.replies.specs.Evaluate.{evaluate}
 use Rattle.replies.specs.WriteMemory.{write_memory}
 use Rattle.replies.specs.declared.response.ResponseBody.{ResponseBody}
 use Rattle.replies.specs.declared.response.ResponseBody.TheVariants.{Initialize, Threads, Continue, Empty}
-use Rattle.replies.specs.declared.response.ResponseBody.TheVariants.{SetBreakpoints, SetInstructionBreakpoints, StackTrace, Scopes, Variables}
+use Rattle.replies.specs.declared.response.ResponseBody.TheVariants.{SetBreakpoints, SetInstructionBreakpoints}
+use Rattle.replies.specs.declared.response.ResponseBody.TheVariants.{StackTrace, Scopes, Variables}
 use Rattle.replies.specs.declared.response.ResponseBody.TheVariants.{SetVariable, Evaluate, WriteMemory}
 
 -- a body: the requests whose success has it, its JSON value if it has one, whether its numbers are in their ranges, and

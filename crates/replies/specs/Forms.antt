@@ -7,8 +7,8 @@ use Rattle.std.specs.Prelude.{ℕ, ◌^◌, nat_lt, ◌&&◌, Bool, true, false,
 use Rattle.std.specs.Prelude.{◌++◌, Option, Some, None, option_map, if◌then◌else◌, IsUtf8, ◌⊎◌}
 use mathlib.Core.Logic.{inl, inr}
 use Rattle.std.specs.List.{list_all}
-use Rattle.serde_json.specs.Data.{Data, boolean, number, unsigned, string, array, object, Items, no_items, item, Members}
-use Rattle.serde_json.specs.Data.{no_members, member}
+use Rattle.serde_json.specs.Data.{Data, boolean, number, unsigned, string, array, object, Items, no_items, item}
+use Rattle.serde_json.specs.Data.{Members, no_members, member}
 use Rattle.serde_json.specs.Find.{get, as_array, as_bool, as_number, as_str, as_u64}
 use Rattle.protocol.specs.Properties.{◌>>=◌}
 

@@ -60,7 +60,8 @@ response_data seq response = outcome_data seq response.request_seq response.comm
 
 -- ---- which responses are the adapter's
 
--- the body is of its command and its numbers are in range, and a refusal has a text exactly if it is of the kind that has
+-- the body is of its command and its numbers are in range, and a refusal has a text exactly if it is of the kind
+-- that has
 abbrev pub IsOutcomeOf : List ℕ → Outcome → Type 0
 IsOutcomeOf command (Done body) = IsBodyOf command body × (has_numbers body ≡ true)
 IsOutcomeOf command (Refused refusal text) = is_some text ≡ has_text refusal

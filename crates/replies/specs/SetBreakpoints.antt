@@ -1,5 +1,5 @@
--- The body that answers `setBreakpoints`: what became of each breakpoint, in the order in which they were asked for (DAP
--- specification, `SetBreakpointsResponse`, `Breakpoint`).
+-- The body that answers `setBreakpoints`: what became of each breakpoint, in the order in which they were asked for
+-- (DAP specification, `SetBreakpointsResponse`, `Breakpoint`).
 --
 -- One that is set has a number, by which a stop names it, the address at which it stops, and the line of that address.
 -- One that is not has the line that was asked for, and says for people why.

@@ -1,5 +1,5 @@
--- The body that answers `setInstructionBreakpoints`: what became of each breakpoint, in the order in which they were asked
--- for (DAP specification, `SetInstructionBreakpointsResponse`, `Breakpoint`).
+-- The body that answers `setInstructionBreakpoints`: what became of each breakpoint, in the order in which they were
+-- asked for (DAP specification, `SetInstructionBreakpointsResponse`, `Breakpoint`).
 --
 -- One that is set has a number, by which a stop names it, and its address. One that is not says for people why.
 use Rattle.std.specs.Prelude.{ℕ, List, Option, Some, ◌⊎◌, true, false, codes}

@@ -4,7 +4,8 @@
 -- that is neither an array nor an object. The library `json` puts the commas and the colons and escapes the texts, so
 -- what is written for the tokens of a value is the value's compact text.
 use Rattle.std.specs.Prelude.{◌≡◌, ◌^◌, ◌<◌, pos, negsuc, List, [], ◌∷◌, ◌++◌, codes, decimal, refl}
-use Rattle.json.specs.Token.{Token, begin_object, end_object, begin_array, end_array, key, string as text, number as digits}
+use Rattle.json.specs.Token.{Token, begin_object, end_object, begin_array, end_array, key, string as text}
+use Rattle.json.specs.Token.{number as digits}
 use Rattle.json.specs.Tree.{json_tokens}
 use Rattle.json.specs.Written.{Written}
 use Rattle.serde_json.specs.Data.{Num, unsigned, negative, float, Data, null, boolean, number, string, array, object}

@@ -1,7 +1,7 @@
 -- What a debugged machine keeps of its past.
 --
--- It keeps no instruction that has retired. But the calls that it keeps are those of all the instructions that have retired since
--- the program was loaded, and it has counted them.
+-- It keeps no instruction that has retired. But the calls that it keeps are those of all the instructions that have
+-- retired since the program was loaded, and it has counted them.
 use Rattle.std.specs.Prelude.{◌≡◌, ℕ, ◌⊎◌, List, [], ◌∷◌, ◌++◌, length, Some, Result}
 use Rattle.std.specs.declared.alloc.AllocError.{AllocError}
 use Rattle.breakpoints.specs.Stops.{Lists}
@@ -22,11 +22,13 @@ pub record Remembers (d : Debugged) (retired : List Retired) : Type 0 where
 -- what a tick adds to them: nothing, or the instruction at pc
 abbrev pub IsAdded : Debugged → List Retired → Type 0
 IsAdded before added = (added ≡ []) ⊎ ((instr : Instr) ×
-    (IsFetched (machine_of before.hart before.memory) (Some instr) × (added ≡ record { instr = instr; pc = before.hart.pc } ∷ [])))
+    (IsFetched (machine_of before.hart before.memory) (Some instr)
+    × (added ≡ record { instr = instr; pc = before.hart.pc } ∷ [])))
 
 -- none has retired where a program was just loaded
 abbrev pub LoadedRemembersNone : Type 0
-LoadedRemembersNone = (image : Image) (size : ℕ) (lists : Lists) (d : Debugged) → IsLoaded image size lists d → Remembers d []
+LoadedRemembersNone =
+    (image : Image) (size : ℕ) (lists : Lists) (d : Debugged) → IsLoaded image size lists d → Remembers d []
 
 -- and each tick adds what retires in it
 abbrev pub TicksRemember : Type 0
