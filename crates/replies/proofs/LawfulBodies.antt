@@ -3,6 +3,8 @@ use Rattle.std.proofs.Common.{◌≡◌, ℕ, List, true, ◌⊎◌, inl, inr, I
 use Rattle.std.specs.Prelude.{Some}
 use Rattle.json.proofs.Printed.Utf8.{IsUtf8-are_ascii}
 use Rattle.replies.specs.Forms.{either}
+use Rattle.replies.specs.declared.disassemble.Instruction.{Instruction}
+use Rattle.replies.specs.declared.disassemble.Instruction.TheVariants as an_entry
 use Rattle.replies.specs.declared.scopes.Scope.{Scope}
 use Rattle.replies.specs.declared.set_breakpoints.SourceBreakpoint.{SourceBreakpoint}
 use Rattle.replies.specs.declared.set_instruction_breakpoints.InstructionBreakpoint.{InstructionBreakpoint}
@@ -10,6 +12,7 @@ use Rattle.replies.specs.declared.scopes.Scope.TheVariants as a_scope
 use Rattle.replies.specs.declared.set_breakpoints.SourceBreakpoint.TheVariants as at_line
 use Rattle.replies.specs.declared.set_instruction_breakpoints.InstructionBreakpoint.TheVariants as at_address
 use Rattle.replies.specs.Breakpoints.{is_verified}
+use Rattle.replies.specs.Disassemble as words
 use Rattle.replies.specs.Evaluate.{evaluate}
 use Rattle.replies.specs.Scopes as scopes
 use Rattle.replies.specs.SetBreakpoints as source
@@ -19,6 +22,7 @@ use Rattle.replies.specs.StackTrace as frames
 use Rattle.replies.specs.Variables as variables
 use Rattle.replies.specs.WriteMemory.{write_memory}
 use Rattle.replies.proofs.Addresses.{lawful_address}
+use Rattle.replies.proofs.InstructionBytes.{lawful_instruction_bytes}
 use Rattle.replies.proofs.Lawful.{Lawful, LawfulFields, lawful_whole, lawful_text, lawful_list, lawful_none, lawful_field, lawful_fixed, lawful_optional, lawful_object, lawful_either, lawful_made_of}
 
 -- ---- breakpoints
@@ -105,6 +109,27 @@ lawful_variable = lawful_made_of _ _ (λ x. refl) (λ y h. h) (lawful_object (la
 
 pub lawful_variables : Lawful 3 variables.variables
 lawful_variables = lawful_made_of _ _ (λ x. refl) (λ y h. h) (lawful_object (lawful_field refl refl (lawful_list lawful_variable) lawful_none))
+
+-- ---- instructions
+
+lawful_instruction : Lawful 1 words.instruction
+lawful_instruction = lawful_made_of words.parts words.made again stays (lawful_either words.is_valid (λ x. refl) (λ x. refl) word no_word) where
+  word : LawfulFields 0 words.valid
+  word = lawful_field refl refl lawful_address (lawful_field refl refl lawful_text (lawful_field refl refl lawful_instruction_bytes lawful_none))
+
+  no_word : LawfulFields 0 words.invalid
+  no_word = lawful_field refl refl lawful_address (lawful_fixed refl refl (omega arith) refl refl (IsUtf8-are_ascii _ refl) (lawful_fixed refl refl (omega arith) refl refl (IsUtf8-are_ascii _ refl) lawful_none))
+
+  again : (i : Instruction) → words.made (words.parts i) ≡ Some i
+  again (an_entry.Valid address instruction word) = refl
+  again (an_entry.Invalid address) = refl
+
+  stays : (y : (ℕ × (List ℕ × (ℕ × Unit {0}))) ⊎ (ℕ × Unit {0})) → (either words.is_valid words.valid words.invalid).is_in y ≡ true → IfSome (words.made y) (λ i. (either words.is_valid words.valid words.invalid).is_in (words.parts i) ≡ true)
+  stays (inl p) h = h
+  stays (inr p) h = h
+
+pub lawful_disassemble : Lawful 3 words.disassemble
+lawful_disassemble = lawful_made_of _ _ (λ x. refl) (λ y h. h) (lawful_object (lawful_field refl refl (lawful_list lawful_instruction) lawful_none))
 
 -- ---- single values
 

@@ -10,5 +10,6 @@ pub mod Lawful
 pub mod Refusals
 pub mod Simple
 pub mod Addresses
+pub mod InstructionBytes
 pub mod LawfulBodies
 pub mod BodyTable

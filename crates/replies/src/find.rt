@@ -6,6 +6,7 @@ ghost use Rattle.serde_json.specs.View.{view};
 ghost use Rattle.replies.specs.Addresses as addresses;
 ghost use Rattle.replies.specs.Forms as forms;
 
+use crate::address::word_in;
 use crate::part::Part;
 use protocol::{Text, Unread};
 use serde_json::Value;
@@ -67,8 +68,5 @@ pub(crate) fn address(value: &Value, name: &str) -> Result<u32, Unread>
     ensures { Reads result (option_and_then addresses.address.found (get name.now (view value.now))) }
 {
     let text = value.get(name).and_then(Value::as_str).ok_or(Unread::Bad)?;
-    match numerals::magnitude(text.as_bytes()) {
-        Ok(word) => Ok(word),
-        Err(_) => Err(Unread::Bad),
-    }
+    word_in(text.as_bytes()).ok_or(Unread::Bad)
 }

@@ -7,9 +7,11 @@
 
 mod address;
 mod continue_;
+pub mod disassemble;
 pub mod evaluate;
 mod find;
 mod initialize;
+mod instruction_bytes;
 pub mod laws;
 mod member;
 mod members;
@@ -27,6 +29,7 @@ pub mod variables;
 pub mod write_memory;
 mod writing;
 
+pub use disassemble::{Disassemble, Instruction};
 pub use evaluate::Evaluate;
 pub use message::{Message, read_message, write_message};
 pub use response::{Outcome, Response, ResponseBody};

@@ -59,3 +59,11 @@ pub const VALUE: &str = "value";
 pub const RESULT: &str = "result";
 /// How many bytes were written (`WriteMemoryResponse.body.bytesWritten`).
 pub const BYTES_WRITTEN: &str = "bytesWritten";
+/// An address (`DisassembledInstruction.address`, `ReadMemoryResponse.body.address`).
+pub const ADDRESS: &str = "address";
+/// The text of an instruction (`DisassembledInstruction.instruction`).
+pub const INSTRUCTION: &str = "instruction";
+/// The bytes of an instruction (`DisassembledInstruction.instructionBytes`).
+pub const INSTRUCTION_BYTES: &str = "instructionBytes";
+/// The instructions at an address (`DisassembleResponse.body.instructions`).
+pub const INSTRUCTIONS: &str = "instructions";

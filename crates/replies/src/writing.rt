@@ -129,6 +129,7 @@ fn write_body(out: &mut Writer, body: &ResponseBody) -> Result<(), AllocError>
         ResponseBody::Variables(body) => member::part(out, BODY, body),
         ResponseBody::SetVariable(body) => member::part(out, BODY, body),
         ResponseBody::Evaluate(body) => member::part(out, BODY, body),
+        ResponseBody::Disassemble(body) => member::part(out, BODY, body),
         ResponseBody::WriteMemory(body) => member::part(out, BODY, body),
         ResponseBody::Empty => Ok(()),
     }
