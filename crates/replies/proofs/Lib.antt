@@ -11,5 +11,6 @@ pub mod Refusals
 pub mod Simple
 pub mod Addresses
 pub mod InstructionBytes
+pub mod EncodedBytes
 pub mod LawfulBodies
 pub mod BodyTable

@@ -48,6 +48,16 @@ pub(crate) fn number(value: &Value, name: &str) -> Result<u32, Unread>
     }
 }
 
+/// The member that is a whole number of 32 bits, where it is there.
+pub(crate) fn number_if(value: &Value, name: &str) -> Result<Option<u32>, Unread>
+    ensures { Reads result (forms.found_if forms.whole.found (get name.now (view value.now))) }
+{
+    match value.get(name) {
+        Some(_) => Ok(Some(number(value, name)?)),
+        None => Ok(None),
+    }
+}
+
 /// The member that is a truth value.
 pub(crate) fn truth(value: &Value, name: &str) -> Result<bool, Unread>
     ensures { Reads result (option_and_then forms.truth.found (get name.now (view value.now))) }

@@ -3,7 +3,8 @@
 ghost use Rattle.std.specs.Prelude.{OnOk};
 ghost use Rattle.serde_json.specs.Data.{boolean, member, no_members, number, string, unsigned};
 ghost use Rattle.replies.specs.Addresses as addresses;
-ghost use Rattle.replies.specs.Forms.{member_if};
+ghost use Rattle.replies.specs.Forms.{member_if, whole};
+ghost use Rattle.replies.specs.ReadMemory.{unless_0};
 ghost use Rattle.replies.specs.Written.{AreWritten};
 
 use crate::address;
@@ -47,6 +48,17 @@ pub(crate) fn number(out: &mut Writer, name: &str, value: u32) -> Result<(), All
 {
     out.key(name)?;
     out.u64(u64::from(value))
+}
+
+/// A member that is a whole number, where that is not 0.
+pub(crate) fn number_unless_0(out: &mut Writer, name: &str, value: u32) -> Result<(), AllocError>
+    ensures { OnOk result (AreWritten out.old out.new (member_if name.now whole.value (unless_0 value) no_members)) }
+{
+    if value == 0 {
+        Ok(())
+    } else {
+        number(out, name, value)
+    }
 }
 
 /// A member that is a word as a text.

@@ -67,3 +67,7 @@ pub const INSTRUCTION: &str = "instruction";
 pub const INSTRUCTION_BYTES: &str = "instructionBytes";
 /// The instructions at an address (`DisassembleResponse.body.instructions`).
 pub const INSTRUCTIONS: &str = "instructions";
+/// Bytes of memory (`ReadMemoryResponse.body.data`).
+pub const DATA: &str = "data";
+/// How many bytes of memory cannot be read (`ReadMemoryResponse.body.unreadableBytes`).
+pub const UNREADABLE_BYTES: &str = "unreadableBytes";

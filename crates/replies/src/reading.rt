@@ -13,7 +13,7 @@ ghost use Rattle.replies.specs.Reading.{message_in};
 ghost use Rattle.replies.specs.Same.{is_same};
 
 use crate::members::{BODY, COMMAND, ERROR, FORMAT, ID, REQUEST_SEQ, SEQ, SUCCESS};
-use crate::{Message, Outcome, Response, ResponseBody, find, writing};
+use crate::{Message, Outcome, Response, ResponseBody, find, read_memory, writing};
 use protocol::{
     Refusal, Text, Unread, attach, cancel, configuration_done, continue_, disassemble, disconnect,
     evaluate, initialize, launch, next, pause, restart, scopes, set_breakpoints,
@@ -89,6 +89,9 @@ fn body_in(alloc: Global, command: &str, value: &Value) -> Result<ResponseBody, 
         set_variable::NAME => Ok(ResponseBody::SetVariable(find::part(alloc, value, BODY)?)),
         evaluate::NAME => Ok(ResponseBody::Evaluate(find::part(alloc, value, BODY)?)),
         disassemble::NAME => Ok(ResponseBody::Disassemble(find::part(alloc, value, BODY)?)),
+        protocol::read_memory::NAME => Ok(ResponseBody::ReadMemory(read_memory::find(
+            alloc, value, BODY,
+        )?)),
         write_memory::NAME => Ok(ResponseBody::WriteMemory(find::part(alloc, value, BODY)?)),
         name if is_without_body(name) => Ok(ResponseBody::Empty),
         _ => Err(Unread::Bad),

@@ -19,4 +19,5 @@ returns-in_default-2 c =
     let is9 : bytes_eq c.args.command.now (codes "evaluate") ≡ false = other _ _ c.in_default.not-evaluate in
     let is10 : bytes_eq c.args.command.now (codes "writeMemory") ≡ false = other _ _ c.in_default.not-writeMemory in
     let is11 : bytes_eq c.args.command.now (codes "disassemble") ≡ false = other _ _ c.in_default.not-disassemble in
-    λ _. rw (is0, is1, is2, is3, is4, is5, is6, is7, is8, is9, is11, is10, none) refl
+    let is12 : bytes_eq c.args.command.now (codes "readMemory") ≡ false = other _ _ c.in_default.not-readMemory in
+    λ _. rw (is0, is1, is2, is3, is4, is5, is6, is7, is8, is9, is11, is12, is10, none) refl
