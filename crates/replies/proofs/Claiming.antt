@@ -2,6 +2,8 @@
 use Rattle.std.proofs.Common.{◌≡◌, ℕ, ◌^◌, ◌<◌, ◌&&◌, List, Bool, true, false, cond, nat_lt, Option, Some, None, is_some, option_map, option_and_then, IfSome, codes, refl, ap, arith, lt-ltb, ltb-true}
 use Rattle.std.proofs.lemmas.Bool.{and_parts}
 use Rattle.serde_json.specs.Data.{Data, object}
+use Rattle.serde_json.specs.Find.{get}
+use Rattle.protocol.specs.Properties.{◌>>=◌}
 use Rattle.protocol.specs.Refusals.{has_text, the_refusal_of_its_number}
 use Rattle.protocol.specs.declared.refusal.Refusal.{Refusal}
 use Rattle.replies.specs.declared.message.Message.{Message}
@@ -10,11 +12,12 @@ use Rattle.replies.specs.declared.response.Outcome.{Outcome}
 use Rattle.replies.specs.declared.response.Outcome.TheVariants.{Done, Refused}
 use Rattle.replies.specs.declared.response.ResponseBody.{ResponseBody}
 use Rattle.replies.specs.Messages.{message_data, IsNumber, IsProper}
-use Rattle.replies.specs.Forms.{member_if}
+use Rattle.replies.specs.Forms.{member_if, whole, is_word}
 use Rattle.replies.specs.Bodies.{IsBodyOf, body_data, body_in, has_numbers}
 use Rattle.replies.specs.Responses.{shared_members, outcome_data, IsOutcomeOf, IsProperResponse}
 use Rattle.replies.proofs.BodyTable.{body_in-done, body_in-proper}
-use Rattle.replies.specs.Claims.{kept_if, number_at, text_at, truth_at, seq_in, request_seq_in, own_text, refusal_in, refused_in, error_in, outcome_in, response_in, claim_in}
+use Rattle.replies.proofs.Lawful.{lawful_whole, then_is}
+use Rattle.replies.specs.Claims.{kept_if, number_at, text_at, truth_at, seq_in, own_text, refusal_in, refused_in, error_in, outcome_in, response_in, claim_in}
 
 -- ---- a value that is a message
 
@@ -33,13 +36,13 @@ seq_in-outcome_data : (seq request_seq : ℕ) (command : List ℕ) (outcome : Ou
 seq_in-outcome_data seq request_seq command (Done body) h = seq_in-done seq request_seq command (body_data body) h
 seq_in-outcome_data seq request_seq command (Refused refusal text) h = kept_seq seq h
 
-request_seq_in-done : (seq request_seq : ℕ) (command : List ℕ) (body : Option Data) → request_seq < 2 ^ 32 → request_seq_in (done_data seq request_seq command body) ≡ Some request_seq
-request_seq_in-done seq request_seq command None h = rw (lt-ltb _ _ h) refl
-request_seq_in-done seq request_seq command (Some body) h = rw (lt-ltb _ _ h) refl
+request_seq-done : (seq request_seq : ℕ) (command : List ℕ) (body : Option Data) → request_seq < 2 ^ 32 → (get (codes "request_seq") (done_data seq request_seq command body) >>= whole.found) ≡ Some request_seq
+request_seq-done seq request_seq command None h = rw (lt-ltb _ _ h) refl
+request_seq-done seq request_seq command (Some body) h = rw (lt-ltb _ _ h) refl
 
-request_seq_in-outcome_data : (seq request_seq : ℕ) (command : List ℕ) (outcome : Outcome) → request_seq < 2 ^ 32 → request_seq_in (outcome_data seq request_seq command outcome) ≡ Some request_seq
-request_seq_in-outcome_data seq request_seq command (Done body) h = request_seq_in-done seq request_seq command (body_data body) h
-request_seq_in-outcome_data seq request_seq command (Refused refusal text) h = rw (lt-ltb _ _ h) refl
+request_seq-outcome_data : (seq request_seq : ℕ) (command : List ℕ) (outcome : Outcome) → request_seq < 2 ^ 32 → (get (codes "request_seq") (outcome_data seq request_seq command outcome) >>= whole.found) ≡ Some request_seq
+request_seq-outcome_data seq request_seq command (Done body) h = request_seq-done seq request_seq command (body_data body) h
+request_seq-outcome_data seq request_seq command (Refused refusal text) h = rw (lt-ltb _ _ h) refl
 
 command_in-done : (seq request_seq : ℕ) (command : List ℕ) (body : Option Data) → text_at (codes "command") (done_data seq request_seq command body) ≡ Some command
 command_in-done seq request_seq command None = refl
@@ -78,7 +81,7 @@ pub claim_in-message_data : (seq : ℕ) (message : Message) → IsNumber seq →
 claim_in-message_data seq (Response r) h proper =
     rw (
       seq_in-outcome_data seq r.request_seq r.command r.outcome h,
-      request_seq_in-outcome_data seq r.request_seq r.command r.outcome proper.0,
+      request_seq-outcome_data seq r.request_seq r.command r.outcome proper.0,
       command_in-outcome_data seq r.request_seq r.command r.outcome,
       success_in-outcome_data seq r.request_seq r.command r.outcome,
       outcome_in-outcome_data seq r.request_seq r.command r.outcome proper.1,
@@ -105,8 +108,8 @@ IfSome-kept_if P test (Some a) h = if_keeps (λ o. IfSome o P) (test a) (Some a)
 IsNumber-seq_in : (value : Data) → IfSome (seq_in value) IsNumber
 IsNumber-seq_in value = IfSome-kept_if IsNumber _ (number_at (codes "seq") value) (λ n e. let p = and_parts _ _ e in (ltb-true _ _ p.0, ltb-true _ _ p.1))
 
-small-request_seq_in : (value : Data) → IfSome (request_seq_in value) (λ n. n < 2 ^ 32)
-small-request_seq_in value = IfSome-kept_if (λ n. n < 2 ^ 32) _ (number_at (codes "request_seq") value) (λ n e. ltb-true _ _ e)
+small-request_seq : (value : Data) → IfSome (get (codes "request_seq") value >>= whole.found) (λ n. is_word n ≡ true)
+small-request_seq value = then_is _ (get (codes "request_seq") value) whole.found (lawful_whole {n = 0}).kept
 
 done : (command : List ℕ) (o : Option ResponseBody) → IfSome o (λ body. IsBodyOf command body × (has_numbers body ≡ true)) → IfSome (option_map Done o) (IsOutcomeOf command)
 done command None h = tt
@@ -119,13 +122,13 @@ own true value = some (option_and_then (text_at (codes "format")) (error_in valu
   some (Some s) = refl
 own false value = refl
 
-told : (command : List ℕ) (refusal : Refusal) (o : Option (Option (List ℕ))) → IfSome o (λ text. is_some text ≡ has_text refusal) → IfSome (option_map (λ text. Refused refusal text) o) (IsOutcomeOf command)
-told command refusal None h = tt
-told command refusal (Some text) h = h
+with_text : (command : List ℕ) (refusal : Refusal) (o : Option (Option (List ℕ))) → IfSome o (λ text. is_some text ≡ has_text refusal) → IfSome (option_map (λ text. Refused refusal text) o) (IsOutcomeOf command)
+with_text command refusal None h = tt
+with_text command refusal (Some text) h = h
 
 refused : (command : List ℕ) (value : Data) → IfSome (refused_in value) (IsOutcomeOf command)
 refused command value =
-    IfSome-and_then _ _ _ (refusal_in value) (any _) (λ refusal _. told command refusal (own_text (has_text refusal) value) (own (has_text refusal) value))
+    IfSome-and_then _ _ _ (refusal_in value) (any _) (λ refusal _. with_text command refusal (own_text (has_text refusal) value) (own (has_text refusal) value))
 
 IsOutcomeOf-outcome_in : (command : List ℕ) (value : Data) (success : Bool) → IfSome (outcome_in command value success) (IsOutcomeOf command)
 IsOutcomeOf-outcome_in command value true = done command (body_in command value) (body_in-proper command value)
@@ -133,10 +136,10 @@ IsOutcomeOf-outcome_in command value false = refused command value
 
 IsProperResponse-response_in : (value : Data) → IfSome (response_in value) IsProperResponse
 IsProperResponse-response_in value =
-    IfSome-and_then _ _ _ (request_seq_in value) (small-request_seq_in value) (λ request_seq small.
+    IfSome-and_then _ _ _ (get (codes "request_seq") value >>= whole.found) (small-request_seq value) (λ request_seq small.
     IfSome-and_then _ _ _ (text_at (codes "command") value) (any _) (λ command _.
     IfSome-and_then _ _ _ (truth_at (codes "success") value) (any _) (λ success _.
-    IfSome-and_then _ _ _ (outcome_in command value success) (IsOutcomeOf-outcome_in command value success) (λ outcome fits. (small, fits)))))
+    IfSome-and_then _ _ _ (outcome_in command value success) (IsOutcomeOf-outcome_in command value success) (λ outcome fits. (ltb-true _ _ small, fits)))))
 
 InOrder-claim_in : (value : Data) → IfSome (claim_in value) (λ found. IsNumber found.0 × IsProper found.1)
 InOrder-claim_in value =

@@ -16,6 +16,7 @@ use Rattle.replies.specs.declared.message.Message.{Message}
 use Rattle.replies.specs.declared.message.Message.TheVariants.{Response}
 use Rattle.protocol.specs.Properties.{◌>>=◌}
 use Rattle.replies.specs.Bodies.{body_in}
+use Rattle.replies.specs.Forms.{whole}
 
 -- the value, if it passes the test
 abbrev pub kept_if : {A : Type 0} → (A → Bool) → Option A → Option A
@@ -36,10 +37,6 @@ truth_at name value = option_and_then as_bool (get name value)
 -- the message's number
 abbrev pub seq_in : Data → Option ℕ
 seq_in value = kept_if (λ n. nat_lt 0 n && nat_lt n (2 ^ 31)) (number_at (codes "seq") value)
-
--- the request's number
-abbrev pub request_seq_in : Data → Option ℕ
-request_seq_in value = kept_if (λ n. nat_lt n (2 ^ 32)) (number_at (codes "request_seq") value)
 
 -- what is said of a refusal
 abbrev pub error_in : Data → Option Data
@@ -68,7 +65,7 @@ outcome_in command value false = refused_in value
 -- the response that the value claims to be
 abbrev pub response_in : Data → Option response.Response
 response_in value = do
-  request_seq ← request_seq_in value
+  request_seq ← get (codes "request_seq") value >>= whole.found
   command ← text_at (codes "command") value
   success ← truth_at (codes "success") value
   outcome ← outcome_in command value success

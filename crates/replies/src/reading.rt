@@ -7,7 +7,7 @@ ghost use Rattle.serde_json.specs.Data.{depth};
 ghost use Rattle.serde_json.specs.Read.{max_depth};
 ghost use Rattle.serde_json.specs.View.{view};
 ghost use Rattle.replies.specs.Bodies.{body_in, without_body};
-ghost use Rattle.replies.specs.Claims.{claim_in, error_in, number_at, outcome_in, refusal_in, refused_in, request_seq_in, response_in, seq_in, text_at};
+ghost use Rattle.replies.specs.Claims.{claim_in, error_in, number_at, outcome_in, refusal_in, refused_in, response_in, seq_in, text_at};
 ghost use Rattle.replies.specs.Messages.{message_data};
 ghost use Rattle.replies.specs.Reading.{message_in};
 ghost use Rattle.replies.specs.Same.{is_same};
@@ -40,14 +40,6 @@ fn seq_in(value: &Value) -> Option<u32>
     } else {
         None
     }
-}
-
-/// The request's number.
-fn request_seq_in(value: &Value) -> Option<u32>
-    ensures { result ≡ request_seq_in (view value.now) }
-{
-    let n = number_at(value, REQUEST_SEQ)?;
-    if n < 1 << 32 { Some(n as u32) } else { None }
 }
 
 /// Whether a success of this command has no body.
@@ -144,7 +136,7 @@ fn outcome_in(alloc: Global, command: &str, value: &Value, success: bool) -> Res
 fn response_in(alloc: Global, value: &Value) -> Result<Response, Unread>
     ensures { Reads result (response_in (view value.now)) }
 {
-    let request_seq = request_seq_in(value).ok_or(Unread::Bad)?;
+    let request_seq = find::number(value, REQUEST_SEQ)?;
     let command = value
         .get(COMMAND)
         .and_then(Value::as_str)
