@@ -1,5 +1,5 @@
 -- A value that is a message claims to be that one, and what a value claims to be is in order.
-use Rattle.std.proofs.Common.{◌≡◌, ℕ, ◌^◌, ◌<◌, ◌&&◌, List, Bool, true, false, cond, nat_lt, Option, Some, None, is_some, option_map, option_and_then, IfSome, codes, refl, ap, arith, lt-ltb, ltb-true}
+use Rattle.std.proofs.Common.{◌≡◌, ℕ, ◌^◌, ◌<◌, ◌&&◌, List, Bool, true, false, cond, nat_lt, Option, Some, None, is_some, option_map, option_and_then, IfSome, bytes_eq, codes, refl, ap, arith, lt-ltb, ltb-true}
 use Rattle.std.proofs.lemmas.Bool.{and_parts}
 use Rattle.serde_json.specs.Data.{Data, object}
 use Rattle.serde_json.specs.Find.{get}
@@ -7,7 +7,9 @@ use Rattle.protocol.specs.Properties.{◌>>=◌}
 use Rattle.protocol.specs.Refusals.{has_text, the_refusal_of_its_number}
 use Rattle.protocol.specs.declared.refusal.Refusal.{Refusal}
 use Rattle.replies.specs.declared.message.Message.{Message}
-use Rattle.replies.specs.declared.message.Message.TheVariants.{Response}
+use Rattle.replies.specs.declared.message.Message.TheVariants.{Response, Event}
+use Rattle.replies.specs.declared.event.Event as event
+use Rattle.replies.specs.declared.response.Response as response
 use Rattle.replies.specs.declared.response.Outcome.{Outcome}
 use Rattle.replies.specs.declared.response.Outcome.TheVariants.{Done, Refused}
 use Rattle.replies.specs.declared.response.ResponseBody.{ResponseBody}
@@ -15,9 +17,11 @@ use Rattle.replies.specs.Messages.{message_data, IsNumber, IsProper}
 use Rattle.replies.specs.Forms.{member_if, whole, is_word}
 use Rattle.replies.specs.Bodies.{IsBodyOf, body_data, body_in, has_numbers}
 use Rattle.replies.specs.Responses.{shared_members, outcome_data, IsOutcomeOf, IsProperResponse}
+use Rattle.replies.specs.Events.{IsProperEvent, event_body, event_name}
 use Rattle.replies.proofs.BodyTable.{body_in-done, body_in-proper}
+use Rattle.replies.proofs.EventTable.{event_named-event_data, event_named-proper, with_body}
 use Rattle.replies.proofs.Lawful.{lawful_whole, then_is}
-use Rattle.replies.specs.Claims.{kept_if, number_at, text_at, truth_at, seq_in, own_text, refusal_in, refused_in, error_in, outcome_in, response_in, claim_in}
+use Rattle.replies.specs.Claims.{kept_if, number_at, text_at, truth_at, seq_in, own_text, refusal_in, refused_in, error_in, outcome_in, response_in, event_in, message_of, claim_in}
 
 -- ---- a value that is a message
 
@@ -56,6 +60,14 @@ success_in-done : (seq request_seq : ℕ) (command : List ℕ) (body : Option Da
 success_in-done seq request_seq command None = refl
 success_in-done seq request_seq command (Some body) = refl
 
+type_in-done : (seq request_seq : ℕ) (command : List ℕ) (body : Option Data) → text_at (codes "type") (done_data seq request_seq command body) ≡ Some (codes "response")
+type_in-done seq request_seq command None = refl
+type_in-done seq request_seq command (Some body) = refl
+
+type_in-outcome_data : (seq request_seq : ℕ) (command : List ℕ) (outcome : Outcome) → text_at (codes "type") (outcome_data seq request_seq command outcome) ≡ Some (codes "response")
+type_in-outcome_data seq request_seq command (Done body) = type_in-done seq request_seq command (body_data body)
+type_in-outcome_data seq request_seq command (Refused refusal text) = refl
+
 -- whether a request with this outcome succeeded
 abbrev succeeded : Outcome → Bool
 succeeded (Done body) = true
@@ -76,15 +88,35 @@ outcome_in-outcome_data seq request_seq command (Done body) h = ap (option_map D
 outcome_in-outcome_data seq request_seq command (Refused refusal text) h =
     rw (the_refusal_of_its_number refusal, own_text-error_data seq request_seq command refusal text (has_text refusal) h) refl
 
+seq_in-with_body : (seq : ℕ) (name : List ℕ) (body : Option Data) → IsNumber seq → seq_in (with_body seq name body) ≡ Some seq
+seq_in-with_body seq name None h = kept_seq seq h
+seq_in-with_body seq name (Some body) h = kept_seq seq h
+
+type_in-with_body : (seq : ℕ) (name : List ℕ) (body : Option Data) → text_at (codes "type") (with_body seq name body) ≡ Some (codes "event")
+type_in-with_body seq name None = refl
+type_in-with_body seq name (Some body) = refl
+
+name_in-with_body : (seq : ℕ) (name : List ℕ) (body : Option Data) → text_at (codes "event") (with_body seq name body) ≡ Some name
+name_in-with_body seq name None = refl
+name_in-with_body seq name (Some body) = refl
+
 -- it claims to be that message
 pub claim_in-message_data : (seq : ℕ) (message : Message) → IsNumber seq → IsProper message → claim_in (message_data seq message) ≡ Some (seq, message)
 claim_in-message_data seq (Response r) h proper =
     rw (
       seq_in-outcome_data seq r.request_seq r.command r.outcome h,
+      type_in-outcome_data seq r.request_seq r.command r.outcome,
       request_seq-outcome_data seq r.request_seq r.command r.outcome proper.0,
       command_in-outcome_data seq r.request_seq r.command r.outcome,
       success_in-outcome_data seq r.request_seq r.command r.outcome,
       outcome_in-outcome_data seq r.request_seq r.command r.outcome proper.1,
+    ) refl
+claim_in-message_data seq (Event e) h proper =
+    rw (
+      seq_in-with_body seq (event_name e) (event_body e) h,
+      type_in-with_body seq (event_name e) (event_body e),
+      name_in-with_body seq (event_name e) (event_body e),
+      event_named-event_data seq e proper,
     ) refl
 
 -- ---- what any value claims to be
@@ -141,9 +173,24 @@ IsProperResponse-response_in value =
     IfSome-and_then _ _ _ (truth_at (codes "success") value) (any _) (λ success _.
     IfSome-and_then _ _ _ (outcome_in command value success) (IsOutcomeOf-outcome_in command value success) (λ outcome fits. (ltb-true _ _ small, fits)))))
 
+IsProperEvent-event_in : (value : Data) → IfSome (event_in value) IsProperEvent
+IsProperEvent-event_in value = IfSome-and_then _ _ _ (text_at (codes "event") value) (any _) (λ name _. event_named-proper name value)
+
+IsProper-message_of : (kind : List ℕ) (value : Data) → IfSome (message_of kind value) IsProper
+IsProper-message_of kind value = if_keeps (λ o. IfSome o IsProper) (bytes_eq kind (codes "response")) _ _ (λ _. answer (response_in value) (IsProperResponse-response_in value)) (if_keeps (λ o. IfSome o IsProper) (bytes_eq kind (codes "event")) _ _ (λ _. tell (event_in value) (IsProperEvent-event_in value)) tt) where
+  answer : (o : Option response.Response) → IfSome o IsProperResponse → IfSome (option_map Response o) IsProper
+  answer None h = tt
+  answer (Some r) h = h
+
+  tell : (o : Option event.Event) → IfSome o IsProperEvent → IfSome (option_map Event o) IsProper
+  tell None h = tt
+  tell (Some e) h = h
+
 InOrder-claim_in : (value : Data) → IfSome (claim_in value) (λ found. IsNumber found.0 × IsProper found.1)
 InOrder-claim_in value =
-    IfSome-and_then _ _ _ (seq_in value) (IsNumber-seq_in value) (λ seq number. IfSome-and_then _ _ _ (response_in value) (IsProperResponse-response_in value) (λ response proper. (number, proper)))
+    IfSome-and_then _ _ _ (seq_in value) (IsNumber-seq_in value) (λ seq number.
+    IfSome-and_then _ _ _ (text_at (codes "type") value) (any _) (λ kind _.
+    IfSome-and_then IsProper _ _ (message_of kind value) (IsProper-message_of kind value) (λ message proper. (number, proper))))
 
 -- it is in order
 pub claim_in-proper : (value : Data) (seq : ℕ) (message : Message) → claim_in value ≡ Some (seq, message) → IsNumber seq × IsProper message
