@@ -7,17 +7,15 @@ ghost use Rattle.serde_json.specs.Data.{depth};
 ghost use Rattle.serde_json.specs.Read.{max_depth};
 ghost use Rattle.serde_json.specs.View.{view};
 ghost use Rattle.replies.specs.Bodies.{body_in, without_body};
-ghost use Rattle.replies.specs.Claims.{claim_in, error_in, event_in, message_of, number_at, outcome_in, refusal_in, refused_in, response_in, seq_in, text_at};
-ghost use Rattle.replies.specs.Events.{event_named};
+ghost use Rattle.replies.specs.Claims.{claim_in, error_in, message_of, number_at, outcome_in, refusal_in, refused_in, response_in, seq_in, text_at};
 ghost use Rattle.replies.specs.Messages.{message_data};
 ghost use Rattle.replies.specs.Reading.{message_in};
 ghost use Rattle.replies.specs.Same.{is_same};
 
-use crate::event::{CONTINUED, EXITED, INITIALIZED, OUTPUT, STOPPED, TERMINATED};
 use crate::members::{
-    BODY, COMMAND, ERROR, EVENT, EVENT_NAME, FORMAT, ID, REQUEST_SEQ, RESPONSE, SEQ, SUCCESS, TYPE,
+    BODY, COMMAND, ERROR, EVENT, FORMAT, ID, REQUEST_SEQ, RESPONSE, SEQ, SUCCESS, TYPE,
 };
-use crate::{Event, Message, Outcome, Response, ResponseBody, find, writing};
+use crate::{Message, Outcome, Response, ResponseBody, event, find, writing};
 use protocol::{
     Refusal, Text, Unread, attach, cancel, configuration_done, continue_, disconnect, evaluate,
     initialize, launch, next, pause, restart, scopes, set_breakpoints, set_exception_breakpoints,
@@ -157,39 +155,13 @@ fn response_in(alloc: Global, value: &Value) -> Result<Response, Unread>
     })
 }
 
-/// The event of this name that a value claims to be.
-fn event_named(alloc: Global, name: &str, value: &Value) -> Result<Event, Unread>
-    ensures { Reads result (event_named name.now (view value.now)) }
-{
-    match name {
-        INITIALIZED => Ok(Event::Initialized),
-        STOPPED => Ok(Event::Stopped(find::part(alloc, value, BODY)?)),
-        CONTINUED => Ok(Event::Continued),
-        OUTPUT => Ok(Event::Output(find::part(alloc, value, BODY)?)),
-        EXITED => Ok(Event::Exited(find::part(alloc, value, BODY)?)),
-        TERMINATED => Ok(Event::Terminated),
-        _ => Err(Unread::Bad),
-    }
-}
-
-/// The event that a value claims to be.
-fn event_in(alloc: Global, value: &Value) -> Result<Event, Unread>
-    ensures { Reads result (event_in (view value.now)) }
-{
-    let name = value
-        .get(EVENT_NAME)
-        .and_then(Value::as_str)
-        .ok_or(Unread::Bad)?;
-    event_named(alloc, name, value)
-}
-
 /// The message of this type that a value claims to be.
 fn message_of(alloc: Global, kind: &str, value: &Value) -> Result<Message, Unread>
     ensures { Reads result (message_of kind.now (view value.now)) }
 {
     match kind {
         RESPONSE => Ok(Message::Response(response_in(alloc, value)?)),
-        EVENT => Ok(Message::Event(event_in(alloc, value)?)),
+        EVENT => Ok(Message::Event(event::read(alloc, value)?)),
         _ => Err(Unread::Bad),
     }
 }

@@ -4,18 +4,15 @@ ghost use Rattle.serde_json.specs.Data.{no_members};
 ghost use Rattle.protocol.specs.Json.{json_of};
 ghost use Rattle.replies.specs.Messages.{message_data, text_of};
 ghost use Rattle.replies.specs.Bodies.{body_data};
-ghost use Rattle.replies.specs.Events.{event_body, event_data};
 ghost use Rattle.replies.specs.Forms.{member_if};
 ghost use Rattle.replies.specs.Responses.{response_data, outcome_data, error_data, format_of, last_members};
 ghost use Rattle.replies.specs.Written.{AreWritten, IsWritten};
 
 use crate::members::{
-    BODY, COMMAND, ERROR, EVENT, EVENT_NAME, FORMAT, ID, MESSAGE, REQUEST_SEQ, RESPONSE, SEQ,
-    SUCCESS, TYPE,
+    BODY, COMMAND, ERROR, FORMAT, ID, MESSAGE, REQUEST_SEQ, RESPONSE, SEQ, SUCCESS, TYPE,
 };
 use crate::{
-    Event, Message, Outcome, Response, ResponseBody, continue_, continued, initialize, member,
-    threads,
+    Message, Outcome, Response, ResponseBody, continue_, event, initialize, member, threads,
 };
 use json::Writer;
 use protocol::{Refusal, Text};
@@ -41,7 +38,7 @@ fn write(out: &mut Writer, seq: u32, message: &Message) -> Result<(), AllocError
 {
     match message {
         Message::Response(response) => write_response(out, seq, response),
-        Message::Event(event) => write_event(out, seq, event),
+        Message::Event(event) => event::write(out, seq, event),
     }
 }
 
@@ -160,34 +157,5 @@ fn format_of(refusal: Refusal, text: &Option<Text>) -> &str
     match text {
         Some(text) => text.as_str(),
         None => refusal.name(),
-    }
-}
-
-/// The event with this number.
-fn write_event(out: &mut Writer, seq: u32, event: &Event) -> Result<(), AllocError>
-    ensures { OnOk result (IsWritten out.old out.new (event_data seq event.now)) }
-{
-    out.begin_object()?;
-    write_event_body(out, event)?;
-    member::text(out, EVENT_NAME, event.name())?;
-    member::number(out, SEQ, seq)?;
-    member::text(out, TYPE, EVENT)?;
-    out.end_object()
-}
-
-/// The member that is the body of the event, if there is one.
-fn write_event_body(out: &mut Writer, event: &Event) -> Result<(), AllocError>
-    ensures { OnOk result (AreWritten out.old out.new (member_if (codes "body") (λ d. d) (event_body event.now) no_members)) }
-{
-    match event {
-        Event::Initialized => Ok(()),
-        Event::Stopped(body) => member::part(out, BODY, body),
-        Event::Continued => {
-            out.key(BODY)?;
-            continued::body(out)
-        }
-        Event::Output(body) => member::part(out, BODY, body),
-        Event::Exited(body) => member::part(out, BODY, body),
-        Event::Terminated => Ok(()),
     }
 }
