@@ -7,7 +7,7 @@ ghost use Rattle.replies.specs.Addresses as addresses;
 ghost use Rattle.replies.specs.Forms as forms;
 
 use crate::part::Part;
-use protocol::{Text, Unread};
+use protocol::{Entries, Text, Unread};
 use serde_json::Value;
 use std::alloc::Global;
 
@@ -35,6 +35,20 @@ pub(crate) fn part_if<T: Part>(
     }
 }
 
+/// The member that is a list, which is empty where it is not there.
+pub(crate) fn unless_empty<T: Part>(
+    alloc: Global,
+    value: &Value,
+    name: &str,
+) -> Result<Entries<T>, Unread>
+    ensures { Reads result (forms.found_or_empty (forms.list T.form).found (get name.now (view value.now))) }
+{
+    match value.get(name) {
+        Some(member) => Entries::read(alloc, member),
+        None => Ok(Entries::from_vec(Vec::new(alloc))),
+    }
+}
+
 /// The member that is a whole number of 32 bits.
 pub(crate) fn number(value: &Value, name: &str) -> Result<u32, Unread>
     ensures { Reads result (option_and_then forms.whole.found (get name.now (view value.now))) }
@@ -42,6 +56,18 @@ pub(crate) fn number(value: &Value, name: &str) -> Result<u32, Unread>
     let number = value.get(name).and_then(Value::as_u64).ok_or(Unread::Bad)?;
     if number < 1 << 32 {
         Ok(number as u32)
+    } else {
+        Err(Unread::Bad)
+    }
+}
+
+/// The member that is a whole number of 32 bits, which may be below 0.
+pub(crate) fn signed(value: &Value, name: &str) -> Result<i32, Unread>
+    ensures { Reads result (option_and_then forms.signed.found (get name.now (view value.now))) }
+{
+    let number = value.get(name).and_then(Value::as_i64).ok_or(Unread::Bad)?;
+    if i64::from(i32::MIN) <= number && number <= i64::from(i32::MAX) {
+        Ok(number as i32)
     } else {
         Err(Unread::Bad)
     }
