@@ -3,8 +3,9 @@
 use play::{Fault, hexadecimal};
 use protocol::Text;
 use replies::{
-    InstructionBreakpoint, ResponseBody, Scope, Scopes, SetBreakpoints, SetInstructionBreakpoints,
-    Source, SourceBreakpoint, StackFrame, StackTrace, Variables,
+    Disassemble, Instruction, InstructionBreakpoint, ReadMemory, ResponseBody, Scope, Scopes,
+    SetBreakpoints, SetInstructionBreakpoints, Source, SourceBreakpoint, StackFrame, StackTrace,
+    Variables,
 };
 use std::alloc::Global;
 
@@ -28,6 +29,8 @@ pub(crate) fn shown_body(alloc: Global, body: &ResponseBody) -> Result<String, F
             let result = body.result;
             Ok(format!(in alloc; "Evaluate {result}")?)
         }
+        ResponseBody::Disassemble(body) => disassemble(alloc, body),
+        ResponseBody::ReadMemory(body) => read_memory(alloc, body),
         ResponseBody::WriteMemory(body) => {
             let written = body.bytes_written;
             Ok(format!(in alloc; "WriteMemory {written}")?)
@@ -129,6 +132,32 @@ fn variables(alloc: Global, body: &Variables) -> Result<String, Fault> {
         line.push_str(format!(in alloc; " {name} {value}")?.as_str())?;
     }
     Ok(line)
+}
+
+fn disassemble(alloc: Global, body: &Disassemble) -> Result<String, Fault> {
+    let mut line = String::from_str(alloc, "Disassemble")?;
+    for entry in body.instructions.as_slice() {
+        let shown = match entry {
+            Instruction::Valid {
+                address,
+                instruction,
+                instruction_bytes,
+            } => {
+                let instruction = text(alloc, instruction)?;
+                format!(in alloc; " valid {address} {instruction} {instruction_bytes}")?
+            }
+            Instruction::Invalid { address } => format!(in alloc; " invalid {address}")?,
+        };
+        line.push_str(shown.as_str())?;
+    }
+    Ok(line)
+}
+
+fn read_memory(alloc: Global, body: &ReadMemory) -> Result<String, Fault> {
+    let address = body.address;
+    let bytes = hexadecimal(alloc, body.bytes.as_slice())?;
+    let unreadable = body.unreadable_bytes;
+    Ok(format!(in alloc; "ReadMemory {address} {bytes} {unreadable}")?)
 }
 
 /// The bytes of a text.
