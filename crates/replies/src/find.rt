@@ -54,7 +54,17 @@ pub(crate) fn unless_empty<T: Part>(
 pub(crate) fn number(value: &Value, name: &str) -> Result<u32, Unread>
     ensures { Reads result (option_and_then forms.whole.found (get name.now (view value.now))) }
 {
-    let number = value.get(name).and_then(Value::as_u64).ok_or(Unread::Bad)?;
+    match value.get(name) {
+        Some(member) => whole(member),
+        None => Err(Unread::Bad),
+    }
+}
+
+/// The whole number of 32 bits that a value is.
+pub(crate) fn whole(value: &Value) -> Result<u32, Unread>
+    ensures { Reads result (forms.whole.found (view value.now)) }
+{
+    let number = value.as_u64().ok_or(Unread::Bad)?;
     if number < 1 << 32 {
         Ok(number as u32)
     } else {
@@ -95,7 +105,17 @@ pub(crate) fn truth(value: &Value, name: &str) -> Result<bool, Unread>
 pub(crate) fn text(alloc: Global, value: &Value, name: &str) -> Result<Text, Unread>
     ensures { Reads result (option_and_then forms.text.found (get name.now (view value.now))) }
 {
-    let text = value.get(name).and_then(Value::as_str).ok_or(Unread::Bad)?;
+    match value.get(name) {
+        Some(member) => string(alloc, member),
+        None => Err(Unread::Bad),
+    }
+}
+
+/// The text that a value is.
+pub(crate) fn string(alloc: Global, value: &Value) -> Result<Text, Unread>
+    ensures { Reads result (forms.text.found (view value.now)) }
+{
+    let text = value.as_str().ok_or(Unread::Bad)?;
     Ok(Text::from_string(String::from_str(alloc, text)?))
 }
 

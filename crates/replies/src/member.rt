@@ -64,8 +64,7 @@ pub(crate) fn text(out: &mut Writer, name: &str, value: &str) -> Result<(), Allo
 pub(crate) fn number(out: &mut Writer, name: &str, value: u32) -> Result<(), AllocError>
     ensures { OnOk result (AreWritten out.old out.new (member name.now (number (unsigned value)) no_members)) }
 {
-    out.key(name)?;
-    out.u64(u64::from(value))
+    self::part(out, name, &value)
 }
 
 /// A member that is a whole number, which may be below 0.

@@ -6,6 +6,7 @@ ghost use Rattle.serde_json.specs.View.{view, items_view};
 ghost use Rattle.replies.specs.Forms.{Form, all_found, items_of, whole};
 ghost use Rattle.replies.specs.Written.{IsWritten, ItemsWritten};
 
+use crate::find;
 use json::Writer;
 use protocol::{Entries, Text, Unread};
 use serde_json::Value;
@@ -36,12 +37,7 @@ impl Part for u32 {
     }
 
     fn read(_alloc: Global, value: &Value) -> Result<u32, Unread> {
-        let number = value.as_u64().ok_or(Unread::Bad)?;
-        if number < 1 << 32 {
-            Ok(number as u32)
-        } else {
-            Err(Unread::Bad)
-        }
+        find::whole(value)
     }
 }
 
@@ -63,8 +59,7 @@ impl Part for Text {
     }
 
     fn read(alloc: Global, value: &Value) -> Result<Text, Unread> {
-        let text = value.as_str().ok_or(Unread::Bad)?;
-        Ok(Text::from_string(String::from_str(alloc, text)?))
+        find::string(alloc, value)
     }
 }
 

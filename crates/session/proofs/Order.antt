@@ -1,8 +1,9 @@
 -- Requests are answered in their order, and messages are numbered in theirs.
-use Rattle.std.proofs.Common.{◌≡◌, ℕ, ◌+◌, ◌<◌, false, cond, eqb, List, [], ◌∷◌, ◌++◌, length, map, Option, Some, None, refl, sym, ap, ◌∙◌, subst, arith, append_assoc}
-use Rattle.std.specs.Prelude.{All}
+use Rattle.std.proofs.Common.{◌≡◌, ℕ, ◌+◌, ◌<◌, false, cond, eqb, List, [], ◌∷◌, ◌++◌, length, map, Option, Some, None, refl, sym, ap, ◌∙◌, subst, arith, append-nil, append_assoc}
+use Rattle.std.specs.Prelude.{All, flat_map}
 use Rattle.std.proofs.lemmas.Bool.Decides.{nat_tests}
 use Rattle.std.proofs.lemmas.List.{map-append, length-append}
+use Rattle.std.proofs.lemmas.List.Concat.{flat_map-append}
 use Rattle.std.proofs.lemmas.List.Elements.{All-push, All-nil}
 use Rattle.replies.specs.declared.message.Message.TheVariants.{Response}
 use Rattle.session.specs.declared.limits.Limits.{Limits}
@@ -27,7 +28,7 @@ abbrev Prefix : Life → Type 0
 Prefix life = IsPrefixOf (answered_in life) (asked_in life)
 
 abbrev Rest : List Ask → List Said → List Pending → Type 0
-Rest heard said pending = map asked_as heard ≡ map answered_as said ++ pending_as pending
+Rest heard said pending = map asked_as heard ≡ flat_map answered_as said ++ pending_as pending
 
 -- as long as a number is left
 abbrev RestOn : Option Link → ℕ → List Ask → List Said → List Pending → Type 0
@@ -40,11 +41,11 @@ record Ordered (s : Session) : Type 0 where
   rest : RestOn s.now.link s.now.limits.last_seq s.life.heard s.life.said s.now.arrivals.pending
 
 -- a message is said, and it answers the first that waits
-answered_more : (life : Life) (m : Said) → map answered_as (life.said ++ m ∷ []) ≡ answered_in life ++ answered_as m ∷ []
-answered_more life m = map-append answered_as life.said (m ∷ [])
+answered_more : (life : Life) (m : Said) → flat_map answered_as (life.said ++ m ∷ []) ≡ answered_in life ++ answered_as m
+answered_more life m = flat_map-append answered_as life.said (m ∷ []) ∙ ap (λ x. answered_in life ++ x) (append-nil (answered_as m))
 
-says : (life : Life) (m : Said) (rest : List Pending) → asked_in life ≡ answered_in life ++ answered_as m ∷ pending_as rest → Rest life.heard (life.said ++ m ∷ []) rest
-says life m rest h = h ∙ sym (append_assoc (answered_in life) (answered_as m ∷ []) (pending_as rest)) ∙ ap (λ x. x ++ pending_as rest) (sym (answered_more life m))
+says : (life : Life) (m : Said) (rest : List Pending) → asked_in life ≡ answered_in life ++ (answered_as m ++ pending_as rest) → Rest life.heard (life.said ++ m ∷ []) rest
+says life m rest h = h ∙ sym (append_assoc (answered_in life) (answered_as m) (pending_as rest)) ∙ ap (λ x. x ++ pending_as rest) (sym (answered_more life m))
 
 -- what waits after it, by the test whether its number was the last
 still_wait : (n last : ℕ) (rest : List Pending) → n < last → (let none : List Pending = [] in cond (eqb n last) none rest) ≡ rest

@@ -13,6 +13,7 @@ use Rattle.protocol.specs.declared.request.MessageError.{MessageError}
 use Rattle.protocol.specs.Commands.{name_of}
 use Rattle.protocol.specs.Refusals.{has_text}
 use Rattle.protocol.specs.Reading.{incoming_of}
+use Rattle.replies.specs.Messages.{IsProper}
 use Rattle.replies.specs.Responses.{IsOutcomeOf}
 use Rattle.replies.specs.declared.message.Message.TheVariants.{Response}
 use Rattle.replies.specs.declared.response.Outcome.{Outcome}
@@ -27,7 +28,7 @@ use Rattle.session.specs.declared.phase.Phase.TheVariants.{Initialized, Left}
 use Rattle.session.specs.Acts.{read_on}
 use Rattle.session.specs.Arrivals.{number_of, name_asked, asks_in, asks_of}
 use Rattle.session.specs.Effects.{performed}
-use Rattle.session.specs.Laws.{IsProper, AnswersAreProper}
+use Rattle.session.specs.Laws.{AnswersAreProper}
 use Rattle.session.specs.Outcomes.{answering}
 use Rattle.session.specs.Refusals.{refused, answer_to, response_to}
 use Rattle.session.specs.Requests.{is_taken_in, success_of}
