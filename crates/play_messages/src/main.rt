@@ -4,9 +4,11 @@
 mod arguments;
 mod bodies;
 mod errors;
+mod events;
 mod requests;
 mod responses;
 
+use events::{event_of, shown_event};
 use play::{Fault, Player, bytes_of, called, hexadecimal, parsed, play, shown};
 use protocol::json::json_value;
 use protocol::{MessageError, Text, read_request};
@@ -36,19 +38,23 @@ impl Player for Messages {
             ["error", name] => shown(alloc, errors::error_named(name)?),
             ["write", seq] => self.write(alloc, parsed(seq)?),
             ["read", body] => self.read(alloc, &bytes_of(alloc, body)?),
+            ["event", parts @ ..] => {
+                let event = event_of(alloc, parts)?;
+                self.keep(alloc, Message::Event(event))
+            }
             _ => {
                 let response = response(alloc, arguments)?;
-                self.keep(alloc, response)
+                self.keep(alloc, Message::Response(response))
             }
         }
     }
 }
 
 impl Messages {
-    /// Keeps the response, and says what it is.
-    fn keep(&mut self, alloc: Global, response: Response) -> Result<String, Fault> {
-        let line = shown_response(alloc, &response)?;
-        self.last = Some(Message::Response(response));
+    /// Keeps the message, and says what it is.
+    fn keep(&mut self, alloc: Global, message: Message) -> Result<String, Fault> {
+        let line = shown_message(alloc, &message)?;
+        self.last = Some(message);
         Ok(line)
     }
 
@@ -61,12 +67,19 @@ impl Messages {
 
     fn read(&mut self, alloc: Global, body: &[u8]) -> Result<String, Fault> {
         match read_message(alloc, body) {
-            Ok((seq, Message::Response(response))) => {
-                let line = self.keep(alloc, response)?;
+            Ok((seq, message)) => {
+                let line = self.keep(alloc, message)?;
                 Ok(format!(in alloc; "{seq} {line}")?)
             }
             Err(error) => fault(alloc, error),
         }
+    }
+}
+
+fn shown_message(alloc: Global, message: &Message) -> Result<String, Fault> {
+    match message {
+        Message::Response(response) => shown_response(alloc, response),
+        Message::Event(event) => shown_event(alloc, event),
     }
 }
 

@@ -14,3 +14,5 @@ pub mod InstructionBytes
 pub mod EncodedBytes
 pub mod LawfulBodies
 pub mod BodyTable
+pub mod LawfulEvents
+pub mod EventTable

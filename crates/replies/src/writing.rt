@@ -12,7 +12,7 @@ use crate::members::{
     BODY, COMMAND, ERROR, FORMAT, ID, MESSAGE, REQUEST_SEQ, RESPONSE, SEQ, SUCCESS, TYPE,
 };
 use crate::{
-    Message, Outcome, Response, ResponseBody, continue_, initialize, member, read_memory, threads,
+    Message, Outcome, Response, ResponseBody, continue_, event, initialize, member, read_memory, threads,
 };
 use json::Writer;
 use protocol::{Refusal, Text};
@@ -38,6 +38,7 @@ fn write(alloc: Global, out: &mut Writer, seq: u32, message: &Message) -> Result
 {
     match message {
         Message::Response(response) => write_response(alloc, out, seq, response),
+        Message::Event(event) => event::write(out, seq, event),
     }
 }
 

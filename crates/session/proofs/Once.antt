@@ -1,183 +1,120 @@
--- `initialize` succeeds once at most on a connection, and messages have the numbers 1, 2, 3 and so on.
-use Rattle.std.proofs.Common.{◌≡◌, ℕ, ◌+◌, ◌≤◌, Bool, true, false, eqb, List, [], ◌∷◌, ◌++◌, length, Some, None, ◌⊎◌, inl, inr, refl, sym, ap, ◌∙◌, subst, arith, eqb-true}
+-- `initialize` succeeds once at most on a connection.
+use Rattle.std.proofs.Common.{◌≡◌, ℕ, ◌+◌, ◌≤◌, true, ltb, List, [], ◌∷◌, ◌++◌, Option, Some, None, refl, subst, arith}
 use Rattle.std.specs.Prelude.{All}
-use Rattle.std.proofs.lemmas.List.{length-append}
-use Rattle.std.proofs.lemmas.List.Elements.{All-push, All-weaker, All-nil}
+use Rattle.std.proofs.lemmas.List.Elements.{All-push, All-nil}
 use Rattle.protocol.specs.declared.command.Command.{Command}
 use Rattle.protocol.specs.declared.command.Command.TheVariants.{Initialize, Threads, Cancel, Disconnect}
+use Rattle.replies.specs.declared.message.Message.TheVariants.{Response}
 use Rattle.replies.specs.declared.response.Outcome.{Outcome}
 use Rattle.session.specs.declared.event.Event.{Event}
 use Rattle.session.specs.declared.limits.Limits.{Limits}
 use Rattle.session.specs.declared.link.Link.{Link}
-use Rattle.session.specs.declared.pending.Ask.{Ask}
-use Rattle.session.specs.declared.pending.Fate.{Fate}
 use Rattle.session.specs.declared.pending.Pending.{Pending}
 use Rattle.session.specs.declared.phase.Phase.{Phase}
 use Rattle.session.specs.declared.phase.Phase.TheVariants.{Fresh, Initialized, Left}
-use Rattle.session.specs.declared.refusals.Answer.{Answer}
-use Rattle.session.specs.Refusals.{succeeded, answer_to}
-use Rattle.session.specs.Requests.{is_taken_in}
-use Rattle.session.specs.Arrivals.{first_pending}
 use Rattle.session.specs.Effects.{performed}
-use Rattle.session.specs.Outcomes.{Numbered, Open, Accept, answering}
-use Rattle.session.specs.Sessions.{Session, On, on_connection, performed_on, histories, start, After}
-use Rattle.session.specs.Laws.{AreNumberedFrom, NumbersRise, initializes, initializes_by, times_initialized, InitializesOnce}
+use Rattle.session.specs.Laws.{initializes, initializes_by, times_initialized, InitializesOnce}
+use Rattle.session.specs.Outcomes.{answering}
+use Rattle.session.specs.Refusals.{refused, response_to}
+use Rattle.session.specs.Requests.{is_taken_in, success_of}
+use Rattle.session.specs.Sessions.{Session, Life, Said, said_next, replied_on, hung_on, histories, After}
 use Rattle.session.proofs.Serving.{of_answer, not_taken}
-use Rattle.session.proofs.Standing.{none_later}
-use Rattle.session.proofs.Reaching.{KeptByEvents, reached}
-use Rattle.session.proofs.Answering.{Answered, Replied, NotReplied, reply_to, answered_by}
-use Rattle.session.proofs.Order.{put, more_on, same_on, none_is, some_is, by_now_same, accepting}
+use Rattle.session.proofs.Reaching.{if_keeps, each_life}
+use Rattle.session.proofs.ByForms.{on, on_with}
+use Rattle.session.proofs.Turning.{KeptByEvents, reached_by_events}
 
--- ---- what an answer says of `initialize`
-
--- how often `initialize` can have succeeded by then
+-- how often it can have succeeded by then
 abbrev Suits : Phase → ℕ → Type 0
 Suits Fresh n = n ≡ 0
 Suits Initialized n = n ≤ 1
 Suits Left n = n ≤ 1
 
-at_most_once : (phase : Phase) (n : ℕ) → Suits phase n → n ≤ 1
-at_most_once Fresh n h = omega (arith, h)
-at_most_once Initialized n h = h
-at_most_once Left n h = h
-
-refused_suits : (phase : Phase) (n : ℕ) → Suits phase n → Suits phase (n + 0)
-refused_suits Fresh n h = omega (arith, h)
-refused_suits Initialized n h = omega (arith, h)
-refused_suits Left n h = omega (arith, h)
-
-fewer : (phase : Phase) (n k : ℕ) → Suits phase (n + k) → Suits phase n
+fewer : (phase : Phase) (n k : ℕ) → Suits phase (n + k) → Suits phase (n + 0)
 fewer Fresh n k h = omega (arith, h)
 fewer Initialized n k h = omega (arith, h)
 fewer Left n k h = omega (arith, h)
 
-abbrev SuitsAfter : ℕ → Answer → Type 0
-SuitsAfter n answer = Suits answer.phase (n + initializes answer.outcome)
+abbrev SuitsOn : Option Link → ℕ → Type 0
+SuitsOn None n = Unit {0}
+SuitsOn (Some l) n = Suits l.phase n
 
-taken_suits : (seq : ℕ) (command : Command) (phase : Phase) (n : ℕ) → is_taken_in phase command ≡ true → Suits phase n → SuitsAfter n (succeeded phase (record { seq = seq; command = command }))
-taken_suits seq (Initialize arguments) Fresh n taken h = omega (arith, h)
-taken_suits seq Threads Initialized n taken h = omega (arith, h)
-taken_suits seq (Cancel arguments) Fresh n taken h = omega (arith, h)
-taken_suits seq (Cancel arguments) Initialized n taken h = omega (arith, h)
-taken_suits seq (Disconnect arguments) Fresh n taken h = omega (arith, h)
-taken_suits seq (Disconnect arguments) Initialized n taken h = omega (arith, h)
-taken_suits seq command phase n taken h = absurd (not_taken taken)
+abbrev Once : Life → Type 0
+Once life = times_initialized life.said ≤ 1
 
-suits_by : (phase : Phase) (ask : Ask) (fate : Fate) (n : ℕ) → Suits phase n → SuitsAfter n (answer_to phase (record { ask = ask; fate = fate }))
-suits_by phase ask fate n h =
-    of_answer (λ _. SuitsAfter n) phase ask fate (λ refusal _. refused_suits phase n h) (λ r taken. taken_suits r.seq r.command phase n taken h)
+-- it succeeded once at most, also if it did so many times more
+record OnceWith (k : ℕ) (s : Session) : Type 0 where
+  before : All Once s.before
+  present : times_initialized s.life.said + k ≤ 1
+  suits : SuitsOn s.now.link (times_initialized s.life.said + k)
 
-times-append : (xs : List Numbered) (m : Numbered) → times_initialized (xs ++ m ∷ []) ≡ times_initialized xs + initializes_by m.message
+times-append : (xs : List Said) (m : Said) → times_initialized (xs ++ m ∷ []) ≡ times_initialized xs + initializes_by m.message
 times-append [] m = let e : initializes_by m.message + 0 ≡ 0 + initializes_by m.message = omega arith in e
 times-append (x ∷ xs) m =
     let rest = times-append xs m in
     let e : initializes_by x.message + times_initialized (xs ++ m ∷ []) ≡ initializes_by x.message + times_initialized xs + initializes_by m.message = omega (arith, rest) in e
 
-numbered-append : (n : ℕ) (xs : List Numbered) (m : Numbered) → AreNumberedFrom n xs → m.seq ≡ n + length xs → AreNumberedFrom n (xs ++ m ∷ [])
-numbered-append n [] m h e = (let f : m.seq ≡ n = omega (arith, e) in f, tt)
-numbered-append n (x ∷ xs) m h e = (h.0, numbered-append (n + 1) xs m h.1 (let f : m.seq ≡ n + 1 + length xs = omega (arith, e) in f))
+none_more : (n k : ℕ) → n + k ≤ 1 → n + 0 ≤ 1
+none_more n k h = omega (arith, h)
 
--- ---- every connection
+times_more : (xs : List Said) (m : Said) → times_initialized (xs ++ m ∷ []) + 0 ≡ times_initialized xs + initializes_by m.message
+times_more xs m = let e = times-append xs m in omega (arith, e)
 
-pub record Counted (s : Session) : Type 0 where
-  pub numbers : (c : ℕ) → AreNumberedFrom 1 (on_connection c s.queued)
-  pub times : (c : ℕ) → times_initialized (on_connection c s.queued) ≤ 1
-  pub present : (l : Link) → s.now.link ≡ Some l → (l.seq ≡ length (on_connection s.now.connections s.queued)) × Suits l.phase (times_initialized (on_connection s.now.connections s.queued))
-  pub queued_by_now : All (λ (m : On Numbered). m.connection ≤ s.now.connections) s.queued
+not_said : (l : Option Link) (k : ℕ) (s : Session) → OnceWith k (on l s) → OnceWith 0 (on l s)
+not_said None k s h = record { before = h.before; present = none_more (times_initialized s.life.said) k h.present; suits = tt }
+not_said (Some l) k s h = record { before = h.before; present = none_more (times_initialized s.life.said) k h.present; suits = fewer l.phase (times_initialized s.life.said) k h.suits }
 
-counted_opens : (s : Session) → s.now.link ≡ None → Counted s → Counted (performed_on Open s)
-counted_opens s e h = record {
-  numbers = h.numbers;
-  times = h.times;
-  present = λ l f.
-      let none : on_connection (s.now.connections + 1) s.queued ≡ [] = none_later s.now.connections s.queued h.queued_by_now in
-      let same = some_is (let k : Link = record { seq = 0; phase = Fresh; is_closing = false } in k) l f in
-      subst (λ (k : Link). (k.seq ≡ length (on_connection (s.now.connections + 1) s.queued)) × Suits k.phase (times_initialized (on_connection (s.now.connections + 1) s.queued))) same
-      (sym (ap length none), ap times_initialized none);
-  queued_by_now = All-weaker (λ (m : On Numbered). m.connection ≤ s.now.connections) (λ (m : On Numbered). m.connection ≤ s.now.connections + 1) (λ m b. omega (arith, b)) s.queued h.queued_by_now;
+-- an answer
+replies : (l : Option Link) (pending : List Pending) (outcome : Outcome) (s : Session) → OnceWith (initializes outcome) (on_with l pending s) → OnceWith 0 (replied_on pending outcome (on_with l pending s))
+replies l [] outcome s h = not_said l (initializes outcome) (on_with l [] s) h
+replies None (p ∷ rest) outcome s h = not_said None (initializes outcome) (on_with None (p ∷ rest) s) h
+replies (Some l) (p ∷ rest) outcome s h =
+    let m : Said = said_next l (Response (response_to p.ask outcome)) in
+    if_keeps (OnceWith 0) (ltb l.seq s.now.limits.last_seq) _ _
+    (λ _. record {
+      before = h.before;
+      present = subst (λ n. n ≤ 1) (let e = times_more s.life.said m in cc) h.present;
+      suits = subst (Suits l.phase) (let e = times_more s.life.said m in cc) h.suits;
+    })
+    (λ _. not_said (Some l) (initializes outcome) (on_with (Some l) (p ∷ rest) s) h)
+
+hangs : (l : Option Link) (s : Session) → OnceWith 0 (on l s) → OnceWith 0 (hung_on l (on l s))
+hangs None s h = h
+hangs (Some l) s h = record { before = h.before; present = h.present; suits = h.suits }
+
+-- the connection has come so far
+enters : (l : Link) (phase : Phase) (k : ℕ) (s : Session) → OnceWith 0 (on (Some l) s) → times_initialized s.life.said + k ≤ 1 → Suits phase (times_initialized s.life.said + k) → OnceWith k (on (Some (record l { phase = phase })) s)
+enters l phase k s h few suits = record { before = h.before; present = few; suits = suits }
+
+first_time : (phase : Phase) (n : ℕ) → phase ≡ Fresh → Suits phase (n + 0) → n + 1 ≤ 1
+first_time Fresh n e h = omega (arith, h)
+first_time Initialized n e h = absurd (cc)
+first_time Left n e h = absurd (cc)
+
+taken_keeps : (l : Link) (p : Pending) (rest : List Pending) (s : Session) (command : Command) (phase : Phase) → l.phase ≡ phase → is_taken_in phase command ≡ true → OnceWith 0 (on_with (Some l) (p ∷ rest) s)
+    → OnceWith 0 (performed histories (answering (success_of command)) (on_with (Some l) (p ∷ rest) s))
+taken_keeps l p rest s (Initialize arguments) Fresh e taken h =
+    let few = first_time l.phase (times_initialized s.life.said) e h.suits in
+    replies (Some (record l { phase = Initialized })) (p ∷ rest) (success_of (Initialize arguments)).outcome s (enters l Initialized 1 (on_with (Some l) (p ∷ rest) s) h few few)
+taken_keeps l p rest s Threads phase e taken h = replies (Some l) (p ∷ rest) (success_of Threads).outcome s h
+taken_keeps l p rest s (Cancel arguments) phase e taken h = replies (Some l) (p ∷ rest) (success_of (Cancel arguments)).outcome s h
+taken_keeps l p rest s (Disconnect arguments) phase e taken h =
+    let t = replied_on (p ∷ rest) (success_of (Disconnect arguments)).outcome (on_with (Some (record l { phase = Left })) (p ∷ rest) s) in
+    hangs t.now.link t (replies (Some (record l { phase = Left })) (p ∷ rest) (success_of (Disconnect arguments)).outcome s (enters l Left 0 (on_with (Some l) (p ∷ rest) s) h h.present h.present))
+taken_keeps l p rest s command phase e taken h = absurd (not_taken taken)
+
+once : KeptByEvents (OnceWith 0)
+once = record {
+  opens = λ s h. record { before = All-push Once s.before s.life h.before (let few = h.present in omega (arith, few)); present = omega arith; suits = refl };
+  closes = λ s h. record { before = h.before; present = h.present; suits = tt };
+  accepts = λ l piece s e h. record { before = h.before; present = h.present; suits = h.suits };
+  answers = λ l p rest s h. of_answer (λ ask answer. OnceWith 0 (performed histories (answering answer) (on_with (Some l) (p ∷ rest) s))) l.phase p.ask p.fate
+      (λ refusal _. replies (Some l) (p ∷ rest) (refused refusal).outcome s h)
+      (λ r taken. taken_keeps l p rest s r.command l.phase refl taken h);
+  takes = λ n s h. record { before = h.before; present = h.present; suits = h.suits };
 }
-
-counted_accepts : (s : Session) (l : Link) (piece : List ℕ) → s.now.link ≡ Some l → l.is_closing ≡ false → Counted s → Counted (performed_on (Accept piece) s)
-counted_accepts s l piece e n h = subst (λ x. Counted (accepting s l piece x)) (sym e) (record {
-  numbers = h.numbers;
-  times = h.times;
-  present = λ k f.
-      subst (λ (x : Link). (x.seq ≡ length (on_connection s.now.connections s.queued)) × Suits x.phase (times_initialized (on_connection s.now.connections s.queued))) (some_is _ k f) (h.present l e);
-  queued_by_now = h.queued_by_now;
-})
-
-counted_answers : (s : Session) (l : Link) (p : Pending) → s.now.link ≡ Some l → first_pending s.now.arrivals.pending ≡ Some p → Counted s → Counted (performed histories (answering l p) s)
-counted_answers s l p e f h = by_reply w.replies where
-  t : Session
-  t = performed histories (answering l p) s
-
-  phase : Phase
-  phase = (answer_to l.phase p).phase
-
-  outcome : Outcome
-  outcome = (answer_to l.phase p).outcome
-
-  w : Answered s l p phase outcome t
-  w = answered_by s l p e f
-
-  c : ℕ
-  c = s.now.connections
-
-  suits : Suits phase (times_initialized (on_connection c s.queued) + initializes outcome)
-  suits = suits_by l.phase p.ask p.fate (times_initialized (on_connection c s.queued)) (h.present l e).1
-
-  numbers_by : (d : ℕ) (b : Bool) → eqb c d ≡ b → AreNumberedFrom 1 (on_connection d (s.queued ++ put c (reply_to l p outcome) ∷ []))
-  numbers_by d true i = subst (λ x. AreNumberedFrom 1 (on_connection x (s.queued ++ put c (reply_to l p outcome) ∷ []))) (eqb-true c d i)
-      (subst (AreNumberedFrom 1) (sym (more_on c s.queued (reply_to l p outcome ∷ [])))
-      (numbered-append 1 (on_connection c s.queued) (reply_to l p outcome) (h.numbers c) (let g = (h.present l e).0 in let k : l.seq + 1 ≡ 1 + length (on_connection c s.queued) = omega (arith, g) in k)))
-  numbers_by d false i = subst (AreNumberedFrom 1) (sym (same_on c d s.queued (reply_to l p outcome ∷ []) i)) (h.numbers d)
-
-  more_times : times_initialized (on_connection c (s.queued ++ put c (reply_to l p outcome) ∷ [])) ≡ times_initialized (on_connection c s.queued) + initializes outcome
-  more_times = ap times_initialized (more_on c s.queued (reply_to l p outcome ∷ [])) ∙ times-append (on_connection c s.queued) (reply_to l p outcome)
-
-  times_by : (d : ℕ) (b : Bool) → eqb c d ≡ b → times_initialized (on_connection d (s.queued ++ put c (reply_to l p outcome) ∷ [])) ≤ 1
-  times_by d true i = subst (λ x. times_initialized (on_connection x (s.queued ++ put c (reply_to l p outcome) ∷ [])) ≤ 1) (eqb-true c d i) (subst (λ n. n ≤ 1) (sym more_times) (at_most_once phase _ suits))
-  times_by d false i = subst (λ xs. times_initialized xs ≤ 1) (sym (same_on c d s.queued (reply_to l p outcome ∷ []) i)) (h.times d)
-
-  by_reply : Replied s l p outcome w.link t ⊎ NotReplied s l w.link t → Counted t
-  by_reply (inl r) = record {
-    numbers = λ d. subst (λ q. AreNumberedFrom 1 (on_connection d q)) (sym r.queued) (numbers_by d (eqb c d) refl);
-    times = λ d. subst (λ q. times_initialized (on_connection d q) ≤ 1) (sym r.queued) (times_by d (eqb c d) refl);
-    present = λ k g. at_present k (some_is _ _ (sym w.is ∙ g)) t.now.connections w.connections t.queued r.queued
-        (r.seq ∙ sym (ap length (more_on c s.queued (reply_to l p outcome ∷ [])) ∙ length-append (on_connection c s.queued) (reply_to l p outcome ∷ []) ∙ ap (λ n. n + 1) (sym (h.present l e).0)))
-        (subst (Suits phase) (sym more_times) suits);
-    queued_by_now = by_now_same c t.now.connections (s.queued ++ put c (reply_to l p outcome) ∷ []) t.queued (sym w.connections) (sym r.queued) (All-push (λ (x : On Numbered). x.connection ≤ c) s.queued (put c (reply_to l p outcome)) h.queued_by_now (omega arith));
-  } where
-    at_present : (k : Link) → w.link ≡ k → (d : ℕ) → d ≡ c → (q : List (On Numbered)) → q ≡ s.queued ++ put c (reply_to l p outcome) ∷ [] → w.link.seq ≡ length (on_connection c (s.queued ++ put c (reply_to l p outcome) ∷ []))
-        → Suits phase (times_initialized (on_connection c (s.queued ++ put c (reply_to l p outcome) ∷ []))) → (k.seq ≡ length (on_connection d q)) × Suits k.phase (times_initialized (on_connection d q))
-    at_present k i d j q g a b = subst (λ (x : Link). (x.seq ≡ length (on_connection d q)) × Suits x.phase (times_initialized (on_connection d q))) i
-        (subst (λ y. (w.link.seq ≡ length (on_connection d y)) × Suits w.link.phase (times_initialized (on_connection d y))) (sym g)
-        (subst (λ y. (w.link.seq ≡ length (on_connection y (s.queued ++ put c (reply_to l p outcome) ∷ []))) × Suits w.link.phase (times_initialized (on_connection y (s.queued ++ put c (reply_to l p outcome) ∷ [])))) (sym j)
-        (a, subst (λ ph. Suits ph (times_initialized (on_connection c (s.queued ++ put c (reply_to l p outcome) ∷ [])))) (sym w.phase_is) b)))
-  by_reply (inr n) = record {
-    numbers = λ d. subst (λ q. AreNumberedFrom 1 (on_connection d q)) (sym n.queued) (h.numbers d);
-    times = λ d. subst (λ q. times_initialized (on_connection d q) ≤ 1) (sym n.queued) (h.times d);
-    present = λ k g. subst (λ (x : Link). (x.seq ≡ length (on_connection t.now.connections t.queued)) × Suits x.phase (times_initialized (on_connection t.now.connections t.queued))) (some_is _ _ (sym w.is ∙ g))
-        (subst (λ q. (w.link.seq ≡ length (on_connection t.now.connections q)) × Suits w.link.phase (times_initialized (on_connection t.now.connections q))) (sym n.queued)
-        (subst (λ d. (w.link.seq ≡ length (on_connection d s.queued)) × Suits w.link.phase (times_initialized (on_connection d s.queued))) (sym w.connections)
-        (n.seq ∙ (h.present l e).0, subst (λ ph. Suits ph (times_initialized (on_connection c s.queued))) (sym w.phase_is) (fewer phase _ (initializes outcome) suits))));
-    queued_by_now = by_now_same c t.now.connections s.queued t.queued (sym w.connections) (sym n.queued) h.queued_by_now;
-  }
-
-counted : KeptByEvents Counted
-counted = record {
-  opens = counted_opens;
-  closes = λ s h. record { numbers = h.numbers; times = h.times; present = λ l e. absurd (none_is l e); queued_by_now = h.queued_by_now };
-  accepts = counted_accepts;
-  answers = counted_answers;
-  takes = λ s l n e h. record { numbers = h.numbers; times = h.times; present = h.present; queued_by_now = h.queued_by_now };
-}
-
-counted_start : (limits : Limits) → Counted (start limits)
-counted_start limits = record { numbers = λ c. tt; times = λ c. omega arith; present = λ l e. absurd (none_is l e); queued_by_now = All-nil (λ (m : On Numbered). m.connection ≤ 0) }
-
-pub numbers_rise : (limits : Limits) (events : List Event) → NumbersRise (After limits events)
-numbers_rise limits events = (reached Counted counted limits (counted_start limits) events).numbers
 
 pub initializes_once : (limits : Limits) (events : List Event) → InitializesOnce (After limits events)
-initializes_once limits events = (reached Counted counted limits (counted_start limits) events).times
+initializes_once limits events =
+    let s = After limits events in
+    let h : OnceWith 0 s = reached_by_events (OnceWith 0) once limits (record { before = All-nil Once; present = omega arith; suits = tt }) events in
+    each_life Once s (omega arith) h.before (let few = h.present in omega (arith, few))

@@ -1,6 +1,6 @@
 -- Each answer is proper.
-use Rattle.std.proofs.Common.{◌≡◌, ℕ, ◌<◌, ◌≤◌, Bool, true, false, List, [], ◌∷◌, ◌++◌, map, Some, Result, Ok, Err, ◌⊎◌, inl, inr, refl, sym, ap, ◌∙◌, subst, arith}
-use Rattle.std.specs.Prelude.{All, if◌then◌else◌}
+use Rattle.std.proofs.Common.{◌≡◌, ℕ, ◌<◌, ◌≤◌, true, false, ltb, List, [], ◌∷◌, ◌++◌, map, Option, Some, None, Result, Ok, Err, inl, inr, refl, sym, ap, ◌∙◌, subst, arith}
+use Rattle.std.specs.Prelude.{All}
 use Rattle.std.proofs.lemmas.List.{map-id}
 use Rattle.std.proofs.lemmas.List.Elements.{All-push, All-nil}
 use Rattle.protocol.proofs.Meanings.{IsSound, IsOfNameOrArguments, incoming_of-sound}
@@ -13,8 +13,10 @@ use Rattle.protocol.specs.declared.request.MessageError.{MessageError}
 use Rattle.protocol.specs.Commands.{name_of}
 use Rattle.protocol.specs.Refusals.{has_text}
 use Rattle.protocol.specs.Reading.{incoming_of}
+use Rattle.replies.specs.Messages.{IsProper}
 use Rattle.replies.specs.Responses.{IsOutcomeOf}
-use Rattle.replies.specs.declared.response.Outcome.TheVariants.{Done}
+use Rattle.replies.specs.declared.message.Message.TheVariants.{Response}
+use Rattle.replies.specs.declared.response.Outcome.{Outcome}
 use Rattle.session.specs.declared.event.Event.{Event}
 use Rattle.session.specs.declared.limits.Limits.{Limits}
 use Rattle.session.specs.declared.link.Link.{Link}
@@ -22,16 +24,19 @@ use Rattle.session.specs.declared.pending.Ask.{Ask}
 use Rattle.session.specs.declared.pending.Ask.TheVariants.{Request, Bad}
 use Rattle.session.specs.declared.pending.Pending.{Pending}
 use Rattle.session.specs.declared.phase.Phase.{Phase}
-use Rattle.session.specs.Refusals.{answer_to}
-use Rattle.session.specs.Arrivals.{number_of, name_asked, asks_in, asks_of, first_pending, others_pending}
+use Rattle.session.specs.declared.phase.Phase.TheVariants.{Initialized, Left}
+use Rattle.session.specs.Acts.{read_on}
+use Rattle.session.specs.Arrivals.{number_of, name_asked, asks_in, asks_of}
 use Rattle.session.specs.Effects.{performed}
-use Rattle.session.specs.Outcomes.{Numbered, Accept, answering, read_on}
+use Rattle.session.specs.Laws.{AnswersAreProper}
+use Rattle.session.specs.Outcomes.{answering}
+use Rattle.session.specs.Refusals.{refused, answer_to, response_to}
 use Rattle.session.specs.Requests.{is_taken_in, success_of}
-use Rattle.session.specs.Sessions.{Session, On, performed_on, histories, After}
-use Rattle.session.specs.Laws.{IsProper, AnswersAreProper}
-use Rattle.session.proofs.Reaching.{KeptByEvents, reached}
-use Rattle.session.proofs.Answering.{Answered, Replied, NotReplied, reply_to, answered_by}
-use Rattle.session.proofs.Order.{put, accepting, seen_as, all_joined_as, first_is, none_is, some_is}
+use Rattle.session.specs.Sessions.{Session, Life, Said, said_next, replied_on, hung_on, histories, After}
+use Rattle.session.proofs.Joining.{seen_as, all_joined_as}
+use Rattle.session.proofs.Reaching.{if_keeps, each_life}
+use Rattle.session.proofs.ByForms.{on, on_with}
+use Rattle.session.proofs.Turning.{KeptByEvents, reached_by_events}
 use Rattle.session.proofs.Serving.{IsRefusalOf, of_answer, not_taken}
 
 -- ---- one answer
@@ -40,7 +45,7 @@ within : (n : ℕ) → n ≤ 2147483647 → n < 4294967296
 within n h = omega (arith, h)
 
 -- the body of a success is that of its request
-success_is_proper : (phase : Phase) (command : Command) → is_taken_in phase command ≡ true → IsOutcomeOf (name_of command) (Done (success_of phase command).body)
+success_is_proper : (phase : Phase) (command : Command) → is_taken_in phase command ≡ true → IsOutcomeOf (name_of command) (success_of command).outcome
 success_is_proper phase (Initialize arguments) taken = (refl, refl)
 success_is_proper phase Threads taken = (refl, refl)
 success_is_proper phase (Cancel arguments) taken = (refl, refl)
@@ -59,8 +64,8 @@ number_is (Bad seq command refusal) h = h.0
 
 has_no_text : (ask : Ask) (refusal : Refusal) → IsRead ask → IsRefusalOf ask refusal → has_text refusal ≡ false
 has_no_text ask refusal h (inr e) = e
-has_no_text (Request r) refusal h (inl e) = absurd (none_is refusal e)
-has_no_text (Bad seq command why) refusal h (inl e) = ap has_text (sym (some_is why refusal e)) ∙ h.1
+has_no_text (Request r) refusal h (inl e) = absurd (let none : None ≡ Some refusal = e in cc)
+has_no_text (Bad seq command why) refusal h (inl e) = ap has_text (let same : refusal ≡ why = cc in same) ∙ h.1
 
 outcome_is_proper : (phase : Phase) (p : Pending) → IsRead p.ask → IsOutcomeOf (name_asked p.ask) (answer_to phase p).outcome
 outcome_is_proper phase p h =
@@ -96,54 +101,61 @@ asks_that_wait pending = seen_as (λ ask. ask) pending
 
 -- ---- every session
 
-pub record AllProper (s : Session) : Type 0 where
-  pub queued : AnswersAreProper s
-  pub pending : AreRead (asks_that_wait s.now.arrivals.pending)
+abbrev AllProper : Life → Type 0
+AllProper life = All (λ (m : Said). IsProper m.message) life.said
 
-proper_accepts : (s : Session) (l : Link) (piece : List ℕ) → s.now.link ≡ Some l → l.is_closing ≡ false → AllProper s → AllProper (performed_on (Accept piece) s)
-proper_accepts s l piece e n h =
-    let asks = asks_of (read_on s.now piece).bodies in
-    subst (λ x. AllProper (accepting s l piece x)) (sym e) (record {
-      queued = h.queued;
-      pending = subst AreRead (sym (all_joined_as (λ ask. ask) asks s.now.arrivals ∙ ap (λ l. asks_that_wait s.now.arrivals.pending ++ l) (map-id asks)))
-          (AreRead-append (asks_that_wait s.now.arrivals.pending) asks h.pending (asks_are_read (read_on s.now piece).bodies));
+record Proper (s : Session) : Type 0 where
+  before : All AllProper s.before
+  present : AllProper s.life
+  pending : AreRead (asks_that_wait s.now.arrivals.pending)
+
+-- an answer to the first that waits
+replies : (l : Link) (p : Pending) (rest : List Pending) (outcome : Outcome) (s : Session) → IsOutcomeOf (name_asked p.ask) outcome → Proper (on_with (Some l) (p ∷ rest) s) → Proper (replied_on (p ∷ rest) outcome (on_with (Some l) (p ∷ rest) s))
+replies l p rest outcome s fits h =
+    let m : Said = said_next l (Response (response_to p.ask outcome)) in
+    if_keeps Proper (ltb l.seq s.now.limits.last_seq) _ _
+    (λ _. record {
+      before = h.before;
+      present = All-push (λ (m : Said). IsProper m.message) s.life.said m h.present (within (number_of p.ask) (number_is p.ask h.pending.0), fits);
+      pending = if_keeps (λ (x : List Pending). AreRead (asks_that_wait x)) _ [] rest (λ _. tt) (λ _. h.pending.1);
     })
+    (λ _. h)
 
-proper_answers : (s : Session) (l : Link) (p : Pending) → s.now.link ≡ Some l → first_pending s.now.arrivals.pending ≡ Some p → AllProper s → AllProper (performed histories (answering l p) s)
-proper_answers s l p e f h = by_reply w.replies where
-  t : Session
-  t = performed histories (answering l p) s
+hangs : (l : Option Link) (s : Session) → Proper (on l s) → Proper (hung_on l (on l s))
+hangs None s h = h
+hangs (Some l) s h = record { before = h.before; present = h.present; pending = h.pending }
 
-  w : Answered s l p (answer_to l.phase p).phase (answer_to l.phase p).outcome t
-  w = answered_by s l p e f
+taken_keeps : (l : Link) (p : Pending) (rest : List Pending) (s : Session) (command : Command) (phase : Phase) → is_taken_in phase command ≡ true → IsOutcomeOf (name_asked p.ask) (success_of command).outcome → Proper (on_with (Some l) (p ∷ rest) s)
+    → Proper (performed histories (answering (success_of command)) (on_with (Some l) (p ∷ rest) s))
+taken_keeps l p rest s (Initialize arguments) phase taken fits h = replies (record l { phase = Initialized }) p rest (success_of (Initialize arguments)).outcome s fits (record { before = h.before; present = h.present; pending = h.pending })
+taken_keeps l p rest s Threads phase taken fits h = replies l p rest (success_of Threads).outcome s fits h
+taken_keeps l p rest s (Cancel arguments) phase taken fits h = replies l p rest (success_of (Cancel arguments)).outcome s fits h
+taken_keeps l p rest s (Disconnect arguments) phase taken fits h =
+    let t = replied_on (p ∷ rest) (success_of (Disconnect arguments)).outcome (on_with (Some (record l { phase = Left })) (p ∷ rest) s) in
+    hangs t.now.link t (replies (record l { phase = Left }) p rest (success_of (Disconnect arguments)).outcome s fits (record { before = h.before; present = h.present; pending = h.pending }))
+taken_keeps l p rest s command phase taken fits h = absurd (not_taken taken)
 
-  all : AreRead (asks_that_wait (p ∷ others_pending s.now.arrivals.pending))
-  all = subst (λ x. AreRead (asks_that_wait x)) (first_is s.now.arrivals.pending p f) h.pending
-
-  by_last : (b : Bool) → AreRead (asks_that_wait (let x : List Pending = if b then [] else others_pending s.now.arrivals.pending in x))
-  by_last true = tt
-  by_last false = all.1
-
-  by_reply : Replied s l p (answer_to l.phase p).outcome w.link t ⊎ NotReplied s l w.link t → AllProper t
-  by_reply (inl r) = record {
-    queued = subst (All (λ (m : On Numbered). IsProper m.is.message)) (sym r.queued)
-        (All-push (λ (m : On Numbered). IsProper m.is.message) s.queued (put s.now.connections (reply_to l p (answer_to l.phase p).outcome)) h.queued
-        (within (number_of p.ask) (number_is p.ask all.0), outcome_is_proper l.phase p all.0));
-    pending = subst (λ x. AreRead (asks_that_wait x)) (sym r.pending) (by_last _);
-  }
-  by_reply (inr n) = record {
-    queued = subst (All (λ (m : On Numbered). IsProper m.is.message)) (sym n.queued) h.queued;
-    pending = subst (λ x. AreRead (asks_that_wait x)) (sym n.pending) h.pending;
-  }
-
-proper : KeptByEvents AllProper
+proper : KeptByEvents Proper
 proper = record {
-  opens = λ s e h. record { queued = h.queued; pending = tt };
-  closes = λ s h. record { queued = h.queued; pending = tt };
-  accepts = proper_accepts;
-  answers = proper_answers;
-  takes = λ s l n e h. record { queued = h.queued; pending = h.pending };
+  opens = λ s h. record { before = All-push AllProper s.before s.life h.before h.present; present = All-nil (λ (m : Said). IsProper m.message); pending = tt };
+  closes = λ s h. record { before = h.before; present = h.present; pending = tt };
+  accepts = λ l piece s e h.
+      let asks = asks_of (read_on s.now piece).bodies in
+      record {
+        before = h.before;
+        present = h.present;
+        pending = subst AreRead (sym (all_joined_as (λ ask. ask) asks s.now.arrivals ∙ ap (λ l. asks_that_wait s.now.arrivals.pending ++ l) (map-id asks)))
+            (AreRead-append (asks_that_wait s.now.arrivals.pending) asks h.pending (asks_are_read (read_on s.now piece).bodies));
+      };
+  answers = λ l p rest s h.
+      (of_answer (λ ask answer. IsOutcomeOf (name_asked p.ask) answer.outcome → Proper (performed histories (answering answer) (on_with (Some l) (p ∷ rest) s))) l.phase p.ask p.fate
+      (λ refusal _ fits. replies l p rest (refused refusal).outcome s fits h)
+      (λ r taken fits. taken_keeps l p rest s r.command l.phase taken fits h)) (outcome_is_proper l.phase p h.pending.0);
+  takes = λ n s h. record { before = h.before; present = h.present; pending = h.pending };
 }
 
 pub answers_are_proper : (limits : Limits) (events : List Event) → AnswersAreProper (After limits events)
-answers_are_proper limits events = (reached AllProper proper limits (record { queued = All-nil (λ (m : On Numbered). IsProper m.is.message); pending = tt }) events).queued
+answers_are_proper limits events =
+    let s = After limits events in
+    let h : Proper s = reached_by_events Proper proper limits (record { before = All-nil AllProper; present = All-nil (λ (m : Said). IsProper m.message); pending = tt }) events in
+    each_life AllProper s (All-nil (λ (m : Said). IsProper m.message)) h.before h.present

@@ -15,7 +15,7 @@ use Rattle.session.specs.declared.event.LinkFault.{LinkFault}
 use Rattle.session.specs.declared.event.LinkFault.TheVariants.{Message}
 use Rattle.session.specs.declared.pending.Ask.{Ask}
 use Rattle.session.specs.Arrivals.{asks_in, asks_of, fault_in, message_fault_of}
-use Rattle.session.specs.Outcomes.{fault_or, fault_of_reading}
+use Rattle.session.specs.Acts.{fault_or, fault_of_reading}
 use Rattle.session.specs.Sessions.{is_faulty, up_to_fault}
 
 -- ---- messages after messages

@@ -9,10 +9,10 @@ use Rattle.session.specs.declared.pending.Ask.{Ask}
 use Rattle.session.specs.declared.pending.Ask.TheVariants.{Request, Bad}
 use Rattle.session.specs.declared.pending.Fate.{Fate}
 use Rattle.session.specs.declared.phase.Phase.{Phase}
-use Rattle.session.specs.declared.refusals.Answer.{Answer}
+use Rattle.session.specs.Acts.{Answering}
 use Rattle.session.specs.Arrivals.{is_repeat}
-use Rattle.session.specs.Refusals.{is_cancelled, is_unknown, misread, names_none, where_so, first_refusal, refused, succeeded, answer_by, answer_to}
-use Rattle.session.specs.Requests.{is_taken_in}
+use Rattle.session.specs.Refusals.{is_cancelled, is_unknown, misread, names_none, where_so, first_refusal, refused, answer_by, answer_to}
+use Rattle.session.specs.Requests.{is_taken_in, success_of}
 
 -- what holds where a reason applies, and where the others decide, holds
 by_reason : (P : Option Refusal → Type 0) (reason : Bool) (refusal : Refusal) (rest : List (Option Refusal)) → P (Some refusal) → P (first_refusal rest) → P (first_refusal (where_so reason refusal ∷ rest))
@@ -24,9 +24,9 @@ abbrev pub IsRefusalOf : Ask → Refusal → Type 0
 IsRefusalOf ask refusal = (misread ask ≡ Some refusal) ⊎ (has_text refusal ≡ false)
 
 -- the answer to a request that could be read
-of_request : (P : Answer → Type 0) (phase : Phase) (r : ARequest) (fate : Fate)
-    → ((refusal : Refusal) → IsRefusalOf (Request r) refusal → P (refused phase refusal))
-    → (is_taken_in phase r.command ≡ true → P (succeeded phase r))
+of_request : (P : Answering → Type 0) (phase : Phase) (r : ARequest) (fate : Fate)
+    → ((refusal : Refusal) → IsRefusalOf (Request r) refusal → P (refused refusal))
+    → (is_taken_in phase r.command ≡ true → P (success_of r.command))
     → P (answer_to phase (record { ask = Request r; fate = fate }))
 of_request P phase r fate refuses succeeds =
     by_reason Q (is_repeat fate) RepeatedSequence _ (refuses RepeatedSequence (inr refl))
@@ -34,15 +34,15 @@ of_request P phase r fate refuses succeeds =
     (by_reason Q (is_unknown (Request r)) UnknownCommand _ (refuses UnknownCommand (inr refl))
     (by_phase (is_taken_in phase r.command) refl))) where
       Q : Option Refusal → Type 0
-      Q refusal = P (answer_by refusal phase (Request r))
+      Q refusal = P (answer_by refusal (Request r))
 
       by_phase : (taken : Bool) → is_taken_in phase r.command ≡ taken → Q (first_refusal (where_so (not taken) WrongPhase ∷ where_so (names_none fate) RequestGone ∷ []))
       by_phase true e = by_reason Q (names_none fate) RequestGone [] (refuses RequestGone (inr refl)) (succeeds e)
       by_phase false e = refuses WrongPhase (inr refl)
 
 -- the answer to one that could not
-of_bad : (P : Answer → Type 0) (phase : Phase) (seq : ℕ) (command : List ℕ) (refusal : Refusal) (fate : Fate)
-    → ((why : Refusal) → IsRefusalOf (Bad seq command refusal) why → P (refused phase why))
+of_bad : (P : Answering → Type 0) (phase : Phase) (seq : ℕ) (command : List ℕ) (refusal : Refusal) (fate : Fate)
+    → ((why : Refusal) → IsRefusalOf (Bad seq command refusal) why → P (refused why))
     → P (answer_to phase (record { ask = Bad seq command refusal; fate = fate }))
 of_bad P phase seq command refusal fate refuses =
     by_reason Q (is_repeat fate) RepeatedSequence _ (refuses RepeatedSequence (inr refl))
@@ -50,12 +50,12 @@ of_bad P phase seq command refusal fate refuses =
     (by_reason Q (is_unknown (Bad seq command refusal)) UnknownCommand _ (refuses UnknownCommand (inr refl))
     (refuses refusal (inl refl)))) where
       Q : Option Refusal → Type 0
-      Q why = P (answer_by why phase (Bad seq command refusal))
+      Q why = P (answer_by why (Bad seq command refusal))
 
 -- what holds of each refusal, and of the success of a request that the phase takes, holds of the answer
-pub of_answer : (P : Ask → Answer → Type 0) (phase : Phase) (ask : Ask) (fate : Fate)
-    → ((refusal : Refusal) → IsRefusalOf ask refusal → P ask (refused phase refusal))
-    → ((r : ARequest) → is_taken_in phase r.command ≡ true → P (Request r) (succeeded phase r))
+pub of_answer : (P : Ask → Answering → Type 0) (phase : Phase) (ask : Ask) (fate : Fate)
+    → ((refusal : Refusal) → IsRefusalOf ask refusal → P ask (refused refusal))
+    → ((r : ARequest) → is_taken_in phase r.command ≡ true → P (Request r) (success_of r.command))
     → P ask (answer_to phase (record { ask = ask; fate = fate }))
 of_answer P phase (Request r) fate refuses succeeds = of_request (P (Request r)) phase r fate refuses (succeeds r)
 of_answer P phase (Bad seq command refusal) fate refuses succeeds = of_bad (P (Bad seq command refusal)) phase seq command refusal fate refuses

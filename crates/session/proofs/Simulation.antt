@@ -2,7 +2,8 @@
 use Rattle.std.proofs.Common.{◌≡◌, List, [], ◌∷◌, ap, subst}
 use Rattle.session.specs.declared.event.Event.{Event}
 use Rattle.session.specs.Effects.{World, performed, effect, answer, after_all}
-use Rattle.session.specs.Outcomes.{Act, outcome}
+use Rattle.session.specs.Acts.{Act}
+use Rattle.session.specs.Outcomes.{outcome}
 
 -- What two worlds have to have for a relation to survive every event: the same is seen, and each act keeps it.
 pub record Simulates {S T : Type 0} (v : World S) (w : World T) (R : S → T → Type 0) : Type 0 where

@@ -1,10 +1,11 @@
 -- `cancel`: a request is not to be answered as it stands. It acts when it comes (`Arrivals`); this is its answer (DAP
 -- specification, `CancelRequest`).
-use Rattle.std.specs.Prelude.{Bool, true, false}
+use Rattle.std.specs.Prelude.{Bool, true, false, []}
+use Rattle.replies.specs.declared.response.Outcome.TheVariants.{Done}
 use Rattle.replies.specs.declared.response.ResponseBody.TheVariants as body
 use Rattle.session.specs.declared.phase.Phase.{Phase}
 use Rattle.session.specs.declared.phase.Phase.TheVariants.{Fresh, Initialized, Left}
-use Rattle.session.specs.declared.requests.Success.{Success}
+use Rattle.session.specs.Acts.{Answering}
 
 -- the phases in which it is taken
 abbrev pub is_taken_in : Phase → Bool
@@ -13,5 +14,5 @@ is_taken_in Initialized = true
 is_taken_in Left = false
 
 -- what comes of it
-abbrev pub success : Phase → Success
-success phase = record { body = body.Empty; phase = phase }
+abbrev pub success : Answering
+success = record { change = []; outcome = Done body.Empty; closes = false }

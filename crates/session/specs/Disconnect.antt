@@ -1,9 +1,10 @@
 -- `disconnect`: the end of the session (DAP specification, `DisconnectRequest`).
-use Rattle.std.specs.Prelude.{Bool, true, false}
+use Rattle.std.specs.Prelude.{Bool, true, false, [], ◌∷◌}
+use Rattle.replies.specs.declared.response.Outcome.TheVariants.{Done}
 use Rattle.replies.specs.declared.response.ResponseBody.TheVariants as body
 use Rattle.session.specs.declared.phase.Phase.{Phase}
 use Rattle.session.specs.declared.phase.Phase.TheVariants.{Fresh, Initialized, Left}
-use Rattle.session.specs.declared.requests.Success.{Success}
+use Rattle.session.specs.Acts.{Answering, Enter}
 
 -- the phases in which it is taken
 abbrev pub is_taken_in : Phase → Bool
@@ -12,5 +13,5 @@ is_taken_in Initialized = true
 is_taken_in Left = false
 
 -- what comes of it
-abbrev pub success : Phase → Success
-success phase = record { body = body.Empty; phase = Left }
+abbrev pub success : Answering
+success = record { change = Enter Left ∷ []; outcome = Done body.Empty; closes = true }

@@ -9,7 +9,8 @@ use Rattle.session.specs.declared.event.Event.{Event}
 use Rattle.session.specs.declared.event.EventError.{EventError}
 use Rattle.session.specs.declared.event.EventError.TheVariants.{NotConnected, AlreadyConnected, Busy, SentTooMuch}
 use Rattle.session.specs.declared.event.EventError.TheVariants.{PieceTooLong, Closing, NoMemory, Spent}
-use Rattle.session.specs.Outcomes.{Seen, Act, outcome, needs_memory}
+use Rattle.session.specs.Acts.{Seen, Act}
+use Rattle.session.specs.Outcomes.{outcome, needs_memory}
 
 -- a world of sessions: what is seen of each, and what an act makes of it
 pub record World (S : Type 0) : Type 0 where

@@ -1,38 +1,70 @@
 -- What the code of a session keeps, and which sessions with a past it stands for.
-use Rattle.std.specs.Prelude.{◌≡◌, ℕ, ◌≤◌, List, [], ◌++◌, length, drop, All, Option, Some, None, Result, Ok, Err}
+use Rattle.std.specs.Prelude.{◌≡◌, ℕ, nat_lt, ◌+◌, ◌==◌, if◌then◌else◌, Bool, true, false, List, [], ◌∷◌, ◌++◌}
+use Rattle.std.specs.Prelude.{length, drop, Option, Some, None, Result, Ok, Err}
+use Rattle.replies.specs.declared.message.Message.{Message}
+use Rattle.replies.specs.declared.message.Message.TheVariants.{Response}
+use Rattle.replies.specs.declared.response.Outcome.{Outcome}
 use Rattle.session.specs.declared.event.Applied.{Applied}
 use Rattle.session.specs.declared.event.Event.{Event}
 use Rattle.session.specs.declared.event.EventError.{EventError}
 use Rattle.session.specs.declared.limits.Limits.{Limits}
+use Rattle.session.specs.declared.link.Link.{Link}
+use Rattle.session.specs.declared.pending.Pending.{Pending}
+use Rattle.session.specs.declared.phase.Phase.{Phase}
+use Rattle.session.specs.declared.refusals.Answer.{Answer as AnAnswer}
+use Rattle.session.specs.declared.refusals.Change.{Change}
+use Rattle.session.specs.declared.refusals.Change.TheVariants as change
+use Rattle.session.specs.Acts.{Now, Seen, Act, Answering, Open, Close, Accept, Enter, Reply, HangUp, Take, opened, closed, entered}
+use Rattle.session.specs.Acts.{hung, numbered, accepted, read_on}
 use Rattle.session.specs.Effects.{World, Ends}
 use Rattle.session.specs.Prefixes.{IsPrefixOf}
-use Rattle.session.specs.Outcomes.{Now, Numbered, Seen, Act, Open, Close, Accept, Enter, Reply, HangUp, Take, now_after}
-use Rattle.session.specs.Outcomes.{queued_by}
-use Rattle.session.specs.Sessions.{Session, On, numbered_frame, bytes_of, taken_of, waiting_of, histories, nothing_yet}
+use Rattle.session.specs.Refusals.{response_to}
+use Rattle.session.specs.Sessions.{Session, bytes_of, waiting_of, histories, nothing_yet}
+use Rattle.session.specs.Writing.{frame_of}
 
 -- what the session is now, and the bytes that wait
 pub record Kept : Type 0 where
   pub now : Now
   pub waiting : List ℕ
 
--- the frame of a message, if there is one
-abbrev pub frame_if : Option Numbered → List ℕ
-frame_if None = []
-frame_if (Some m) = numbered_frame m
+-- ---- what an act makes of what is kept
 
--- the bytes that wait after an act
-abbrev pub waiting_after : Act → Kept → List ℕ
-waiting_after Open k = []
-waiting_after Close k = []
-waiting_after (Take n) k = drop n k.waiting
-waiting_after (Reply outcome) k = k.waiting ++ frame_if (queued_by (Reply outcome) k.now)
-waiting_after (Accept piece) k = k.waiting
-waiting_after (Enter phase) k = k.waiting
-waiting_after HangUp k = k.waiting
+abbrev pub kept_opened : Option Link → Kept → Kept
+kept_opened (Some link) k = k
+kept_opened None k = record { now = opened k.now; waiting = [] }
 
--- what an act makes of what is kept
+abbrev pub kept_accepted : Option Link → List ℕ → Kept → Kept
+kept_accepted None piece k = k
+kept_accepted (Some link) piece k =
+    if link.is_closing then k else record k { now = accepted k.now (read_on k.now piece) link }
+
+abbrev pub kept_entered : Option Link → Phase → Kept → Kept
+kept_entered None phase k = k
+kept_entered (Some link) phase k = record k { now = entered k.now link phase }
+
+abbrev pub kept_said : Option Link → Message → List Pending → Kept → Kept
+kept_said None message rest k = k
+kept_said (Some link) message rest k = if nat_lt link.seq k.now.limits.last_seq then record k {
+  now = numbered k.now link rest;
+  waiting = k.waiting ++ frame_of (link.seq + 1) message;
+} else k
+
+abbrev pub kept_replied : List Pending → Outcome → Kept → Kept
+kept_replied [] outcome k = k
+kept_replied (p ∷ rest) outcome k = kept_said k.now.link (Response (response_to p.ask outcome)) rest k
+
+abbrev pub kept_hung : Option Link → Kept → Kept
+kept_hung None k = k
+kept_hung (Some link) k = record k { now = hung k.now link }
+
 abbrev pub kept_performed : Act → Kept → Kept
-kept_performed act k = record { now = now_after act k.now; waiting = waiting_after act k }
+kept_performed Open k = kept_opened k.now.link k
+kept_performed Close k = record { now = closed k.now; waiting = [] }
+kept_performed (Accept piece) k = kept_accepted k.now.link piece k
+kept_performed (Enter phase) k = kept_entered k.now.link phase k
+kept_performed (Reply outcome) k = kept_replied k.now.arrivals.pending outcome k
+kept_performed HangUp k = kept_hung k.now.link k
+kept_performed (Take n) k = record k { waiting = drop n k.waiting }
 
 -- what is kept, as events see it
 abbrev pub keepings : World Kept
@@ -46,15 +78,52 @@ see_kept k = keepings.see k
 abbrev pub nothing_kept : Limits → Kept
 nothing_kept limits = record { now = nothing_yet limits; waiting = [] }
 
+-- ---- for private clauses alone: an answer, and messages that are written before any of them is queued
+
+-- the acts of a change
+abbrev pub acts_of : Change → List Act
+acts_of change.Nothing = []
+acts_of (change.Enter phase) = Enter phase ∷ []
+
+-- the answer that the code's is
+abbrev pub answering_as : AnAnswer → Answering
+answering_as a = record { change = acts_of a.change; outcome = a.outcome; closes = a.closes }
+
+-- their bytes, and the last number given
+pub record Drafted : Type 0 where
+  pub bytes : List ℕ
+  pub seq : ℕ
+
+-- before the first: without a connection no number is left
+abbrev pub draft_on : Limits → Option Link → Drafted
+draft_on limits None = record { bytes = []; seq = limits.last_seq }
+draft_on limits (Some link) = record { bytes = []; seq = link.seq }
+
+-- one message more
+abbrev pub drafted : Limits → Message → Drafted → Drafted
+drafted limits message d = if nat_lt d.seq limits.last_seq
+    then record { bytes = d.bytes ++ frame_of (d.seq + 1) message; seq = d.seq + 1 } else d
+
+-- what a session is after messages up to that number, where these requests wait then
+abbrev pub settled : Option Link → ℕ → List Pending → Now → Now
+settled None seq rest now = now
+settled (Some link) seq rest now = let is_last = seq == now.limits.last_seq in
+    if nat_lt link.seq seq then record now {
+      link = Some (record link { seq = seq; is_closing = if is_last then true else link.is_closing });
+      arrivals = record now.arrivals { pending = if is_last then [] else rest };
+    } else now
+
+-- what is kept after an answer that closes the connection, or does not
+abbrev pub kept_closing : Bool → Kept → Kept
+kept_closing true k = kept_hung k.now.link k
+kept_closing false k = k
+
 -- What is kept stands for a session with all of its past: what it is now is the same, and the bytes that wait are those
--- of the connection that were not taken. What was taken of a connection is a prefix of its bytes, and nothing was
--- queued or taken on a connection that is still to come.
+-- of the connection that were not taken. What was taken of it is a prefix of its bytes.
 pub record Stands (k : Kept) (s : Session) : Type 0 where
   pub now : k.now ≡ s.now
   pub waiting : k.waiting ≡ waiting_of s
-  pub prefixes : (c : ℕ) → IsPrefixOf (taken_of c s.taken) (bytes_of c s.queued)
-  pub queued_by_now : All (λ (m : On Numbered). m.connection ≤ s.now.connections) s.queued
-  pub taken_by_now : All (λ (b : On (List ℕ)). b.connection ≤ s.now.connections) s.taken
+  pub taken : IsPrefixOf s.life.taken (bytes_of s.life)
 
 -- a call's answer among those of all calls
 abbrev pub answered : {X : Type 0} → (X → Applied) → Result X EventError → Result Applied EventError

@@ -1,5 +1,9 @@
 -- What a session is, what events do to it, and what follows for every list of events. First what a request is answered.
 
+-- the requests that wait: which join, which are repeats, what a `cancel` does
+pub mod Arrivals
+-- what a session is now, and the acts that events and answers are made of
+pub mod Acts
 -- `initialize`: its phases, and what comes of it
 pub mod Initialize
 -- `threads`, likewise
@@ -10,8 +14,6 @@ pub mod Cancel
 pub mod Disconnect
 -- the list of the requests
 pub mod Requests
--- the requests that wait: which join, which are repeats, what a `cancel` does
-pub mod Arrivals
 -- the answer to a request: the refusals in their order, or its success
 pub mod Refusals
 -- the frame of a message with its number
@@ -19,11 +21,11 @@ pub mod Writing
 -- ---- events
 -- the last numbers that a session gives
 pub mod Limits
--- what an event answers, and the acts that it comes to; what acts make of what a session is now
+-- what an event answers, and the acts that it comes to
 pub mod Outcomes
 -- what an event leaves and answers, of whatever is seen as a session
 pub mod Effects
--- a session with all of its past, and its bytes
+-- a session with all of its past, act by act, and its bytes
 pub mod Sessions
 -- a whole session, computed: the bytes that it gets and those that it sends
 pub mod Example

@@ -1,8 +1,6 @@
 -- What an event does to a session, and what it answers (base protocol; DAP specification, "Sequence Numbers").
 --
--- An event is one call. It is refused and then changes nothing, or it is done: it answers, and acts. What it answers
--- and how it acts depends on what the session is now, and on nothing that is past. The acts are few, and come one after
--- the other.
+-- An event is one call. It is refused and then changes nothing, or it is done: it answers, and acts.
 --
 -- A connection takes pieces of a stream until it is closing. It is closing once its stream has a fault, once
 -- `disconnect` was answered, and once its last number was given to a message. A fault is a body that is no message, or
@@ -10,16 +8,8 @@
 -- it is still answered. When the last number was given, nothing can be answered any more, and the requests that wait
 -- are dropped.
 use Rattle.std.specs.Prelude.{◌≡◌, refl, ℕ, ◌+◌, ◌==◌, nat_lt, nat_le, Bool, true, false, ◌&&◌, if◌then◌else◌}
-use Rattle.std.specs.Prelude.{List, [], ◌∷◌, length, Option, Some, None, is_some, Result, Ok, Err}
+use Rattle.std.specs.Prelude.{List, [], ◌∷◌, ◌++◌, length, Option, Some, None, Result, Ok, Err}
 use Rattle.std.specs.List.{list_any}
-use Rattle.framing.specs.Reading.{Tail, Reading}
-use Rattle.framing.specs.Reading.Tail.{Partial}
-use Rattle.framing.specs.Streams.{fault_of, reading_after}
-use Rattle.framing.specs.declared.error.FrameError.{FrameError}
-use Rattle.protocol.specs.declared.request.MessageError.{MessageError}
-use Rattle.replies.specs.declared.message.Message.{Message as AMessage}
-use Rattle.replies.specs.declared.message.Message.TheVariants.{Response as IsResponse}
-use Rattle.replies.specs.declared.response.Outcome.{Outcome as AnOutcome}
 use Rattle.session.specs.declared.TheConstants.{BODY_LIMIT}
 use Rattle.session.specs.declared.state.TheConstants.{MOST_PIECE, MOST_PENDING, FULL, LAST_CONNECTION}
 use Rattle.session.specs.declared.event.Applied.{Applied}
@@ -30,17 +20,11 @@ use Rattle.session.specs.declared.event.Event.TheVariants.{Connect, Recv, Turn, 
 use Rattle.session.specs.declared.event.EventError.{EventError}
 use Rattle.session.specs.declared.event.EventError.TheVariants.{NotConnected, AlreadyConnected, Busy, SentTooMuch}
 use Rattle.session.specs.declared.event.EventError.TheVariants.{PieceTooLong, Closing, Spent}
-use Rattle.session.specs.declared.event.LinkFault.{LinkFault}
-use Rattle.session.specs.declared.event.LinkFault.TheVariants.{Frame, Message}
 use Rattle.session.specs.declared.event.Turned.TheVariants.{Answered, Nothing, Full}
-use Rattle.session.specs.declared.limits.Limits.{Limits}
 use Rattle.session.specs.declared.link.Link.{Link}
 use Rattle.session.specs.declared.pending.Pending.{Pending}
-use Rattle.session.specs.declared.phase.Phase.{Phase}
-use Rattle.session.specs.declared.phase.Phase.TheVariants.{Fresh, Initialized, Left}
-use Rattle.session.specs.Refusals.{answer_to, response_to}
-use Rattle.session.specs.Arrivals.{Arrivals, no_arrivals, first_pending, others_pending, all_joined, asks_of}
-use Rattle.session.specs.Arrivals.{message_fault_of}
+use Rattle.session.specs.Acts.{Seen, Act, Answering, Open, Close, Accept, Reply, HangUp, Take, grows}
+use Rattle.session.specs.Refusals.{answer_to}
 
 -- a body has at most 1 MiB, and a piece at most 65,536 bytes
 greatest_body : BODY_LIMIT ≡ 1048576
@@ -60,49 +44,7 @@ full = refl
 last_connection : LAST_CONNECTION ≡ 4294967295
 last_connection = refl
 
--- What a session is now, as far as no past is needed to say it: its limits; how many connections were made; the present
--- one, if there is one; the requests that came on it and wait for their answers; what has come of the next frame; and
--- what closed the present connection or the last one, if something did.
-pub record Now : Type 0 where
-  pub limits : Limits
-  pub connections : ℕ
-  pub link : Option Link
-  pub arrivals : Arrivals
-  pub tail : Tail
-  pub fault : Option LinkFault
-
--- all that an answer depends on: also how many bytes wait to be sent
-pub record Seen : Type 0 where
-  pub now : Now
-  pub waits : ℕ
-
--- what an event does, one thing after the other
-pub data Act : Type 0 where
-  -- a connection is made, and a connection ends
-  Open : Act
-  Close : Act
-  -- a piece is taken: the requests in it join those that wait
-  Accept : List ℕ → Act
-  -- the connection has come so far
-  Enter : Phase → Act
-  -- the first request that waits is answered
-  Reply : AnOutcome → Act
-  -- the connection takes nothing more
-  HangUp : Act
-  -- the first of the waiting bytes were sent
-  Take : ℕ → Act
-
--- whether an act needs memory: taking a piece and queueing an answer do, and nothing else
-abbrev pub grows : Act → Bool
-grows Open = false
-grows Close = false
-grows (Accept piece) = true
-grows (Enter phase) = false
-grows (Reply outcome) = true
-grows HangUp = false
-grows (Take n) = false
-
--- whether one of the acts does
+-- whether one of the acts needs memory
 abbrev pub needs_memory : List Act → Bool
 needs_memory acts = list_any grows acts
 
@@ -119,20 +61,19 @@ refused e = record { answer = Err e; acts = [] }
 abbrev pub done : Applied → List Act → Outcome
 done x acts = record { answer = Ok x; acts = acts }
 
--- once `disconnect` was answered, the connection takes nothing more
-abbrev pub leaving : Phase → List Act
-leaving Fresh = []
-leaving Initialized = []
-leaving Left = HangUp ∷ []
+-- an answer that closes the connection does so at its end
+abbrev pub closing : Bool → List Act
+closing true = HangUp ∷ []
+closing false = []
 
 -- an answer: its change stands before it is queued
-abbrev pub answering : Link → Pending → List Act
-answering link p = let a = answer_to link.phase p in Enter a.phase ∷ Reply a.outcome ∷ leaving a.phase
+abbrev pub answering : Answering → List Act
+answering a = a.change ++ Reply a.outcome ∷ closing a.closes
 
--- what a turn comes to, by the first request that waits, if one does
-abbrev pub next_turn : Link → Option Pending → Outcome
-next_turn link None = done (DidTurn Nothing) []
-next_turn link (Some p) = done (DidTurn Answered) (answering link p)
+-- what a turn comes to, by the requests that wait
+abbrev pub next_turn : Link → List Pending → Outcome
+next_turn link [] = done (DidTurn Nothing) []
+next_turn link (p ∷ rest) = done (DidTurn Answered) (answering (answer_to link.phase p))
 
 -- an event on a connection
 abbrev pub on_link : Seen → Link → Event → Outcome
@@ -143,7 +84,7 @@ on_link seen link (Recv piece) =
     else if nat_le MOST_PENDING (length seen.now.arrivals.pending) then refused Busy
     else done Received (Accept piece ∷ [])
 on_link seen link (Turn file) =
-    if nat_lt FULL seen.waits then done (DidTurn Full) [] else next_turn link (first_pending seen.now.arrivals.pending)
+    if nat_lt FULL seen.waits then done (DidTurn Full) [] else next_turn link seen.now.arrivals.pending
 on_link seen link (Sent n) =
     if nat_lt seen.waits n then refused SentTooMuch else done DidSend (Take n ∷ [])
 on_link seen link DropConnection = done Dropped (Close ∷ [])
@@ -175,112 +116,3 @@ is_finished_on (Some link) pending waits = link.is_closing && (length pending ==
 -- whether all is said, on a connection
 abbrev pub is_finished : Seen → Bool
 is_finished seen = is_finished_on seen.now.link seen.now.arrivals.pending seen.waits
-
--- ---- what an act makes of what a session is now
-
--- the first fault of a stream, by that of a body and that of the tail
-abbrev pub fault_or : Option MessageError → Option FrameError → Option LinkFault
-fault_or (Some fault) frame_fault = Some (Message fault)
-fault_or None (Some fault) = Some (Frame fault)
-fault_or None None = None
-
--- the fault of a stream in this reading: that of its first body that is no message, or else that of its tail
-abbrev pub fault_of_reading : Reading → Option LinkFault
-fault_of_reading r = fault_or (message_fault_of r.bodies) (fault_of r.tail)
-
--- after a fault nothing is kept of the stream
-abbrev pub tail_kept : Option LinkFault → Tail → Tail
-tail_kept None tail = tail
-tail_kept (Some fault) tail = Partial []
-
--- what a piece is read as, after what has come of the next frame
-abbrev pub read_on : Now → List ℕ → Reading
-read_on now piece = reading_after BODY_LIMIT now.tail piece
-
--- the requests of a reading join, and its tail is kept
-abbrev pub taken_in : Now → Reading → Now
-taken_in now r =
-    record now { arrivals = all_joined now.arrivals (asks_of r.bodies); tail = tail_kept (fault_of_reading r) r.tail }
-
--- the requests of a reading join, and its fault closes the connection
-abbrev pub accepted : Now → Reading → Link → Now
-accepted now r link = record (taken_in now r) {
-  link = Some (record link { is_closing = is_some (fault_of_reading r) });
-  fault = fault_of_reading r;
-}
-
--- the connection, after one message more
-abbrev pub numbered : Limits → Link → Link
-numbered limits link = record link {
-  seq = link.seq + 1;
-  is_closing = if link.seq + 1 == limits.last_seq then true else link.is_closing;
-}
-
--- the requests that wait, after the first was answered with that number
-abbrev pub left_to_answer : Limits → ℕ → Arrivals → Arrivals
-left_to_answer limits seq came =
-    record came { pending = if seq == limits.last_seq then [] else others_pending came.pending }
-
--- what is there after the first request that waits was answered, if there is a number left for that
-abbrev pub replied : Now → Link → Option Pending → Now
-replied now link None = now
-replied now link (Some p) = if nat_lt link.seq now.limits.last_seq then record now {
-  link = Some (numbered now.limits link);
-  arrivals = left_to_answer now.limits (link.seq + 1) now.arrivals;
-} else now
-
--- what is there when a connection is made
-abbrev pub opened : Now → Now
-opened now = record now {
-  connections = now.connections + 1;
-  link = Some (record { seq = 0; phase = Fresh; is_closing = false });
-  arrivals = no_arrivals;
-  tail = Partial [];
-  fault = None;
-}
-
--- what is there when it has ended
-abbrev pub closed : Now → Now
-closed now = record now { link = None; arrivals = no_arrivals; tail = Partial [] }
-
--- something done to the connection, if there is one
-abbrev pub to_link : (Link → Now) → Option Link → Now → Now
-to_link f None now = now
-to_link f (Some link) now = f link
-
--- what is there after an act
-abbrev pub now_after : Act → Now → Now
-now_after Open now = opened now
-now_after Close now = closed now
-now_after (Accept piece) now = to_link (accepted now (read_on now piece)) now.link now
-now_after (Enter phase) now = to_link (λ link. record now { link = Some (record link { phase = phase }) }) now.link now
-now_after (Reply outcome) now = to_link (λ link. replied now link (first_pending now.arrivals.pending)) now.link now
-now_after HangUp now = to_link (λ link. record now { link = Some (record link { is_closing = true }) }) now.link now
-now_after (Take n) now = now
-
--- a message with its number
-pub record Numbered : Type 0 where
-  pub seq : ℕ
-  pub message : AMessage
-
--- the message by which a request is answered, if there is a number left for it
-abbrev pub reply_on : Limits → AnOutcome → Link → Option Pending → Option Numbered
-reply_on limits outcome link None = None
-reply_on limits outcome link (Some p) =
-    if nat_lt link.seq limits.last_seq
-    then Some (record { seq = link.seq + 1; message = IsResponse (response_to p.ask outcome) }) else None
-
--- the message by which the first request that waits is answered
-abbrev pub reply_at : Now → AnOutcome → Option Link → Option Numbered
-reply_at now outcome None = None
-reply_at now outcome (Some link) = reply_on now.limits outcome link (first_pending now.arrivals.pending)
-
--- the message that an act queues, if it does
-abbrev pub queued_by : Act → Now → Option Numbered
-queued_by (Reply outcome) now = reply_at now outcome now.link
-queued_by Open now = None
-queued_by Close now = None
-queued_by (Accept piece) now = None
-queued_by (Enter phase) now = None
-queued_by HangUp now = None
-queued_by (Take n) now = None

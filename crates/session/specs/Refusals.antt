@@ -1,23 +1,22 @@
 -- What is answered to a request (DAP specification, `Request`, `Response`, `ErrorResponse`).
 --
 -- Each request has one answer. It is refused for the first reason of a list that applies, and then only its answer is
--- sent: a refused request changes nothing. One that no reason applies to succeeds: its answer has the body of that
--- request, and the connection goes on in the phase that the request leads to.
+-- sent: a refused request changes nothing. One that no reason applies to succeeds: what it changes stands before its
+-- answer, which has the body of that request.
 use Rattle.std.specs.Prelude.{Bool, true, false, not, List, [], ◌∷◌, Option, Some, None, if◌then◌else◌}
 use Rattle.protocol.specs.declared.refusal.Refusal.{Refusal}
 use Rattle.protocol.specs.declared.refusal.Refusal.TheVariants.{RepeatedSequence, Cancelled as IsCancelled, WrongPhase}
 use Rattle.protocol.specs.declared.refusal.Refusal.TheVariants.{UnknownCommand, RequestGone}
-use Rattle.protocol.specs.declared.request.Request.{Request as ARequest}
-use Rattle.replies.specs.declared.response.Outcome.TheVariants.{Done, Refused}
+use Rattle.replies.specs.declared.response.Outcome.TheVariants.{Refused}
 use Rattle.replies.specs.declared.response.Outcome.{Outcome}
 use Rattle.replies.specs.declared.response.Response.{Response}
-use Rattle.session.specs.declared.refusals.Answer.{Answer}
 use Rattle.session.specs.declared.phase.Phase.{Phase}
 use Rattle.session.specs.declared.pending.Ask.{Ask}
 use Rattle.session.specs.declared.pending.Ask.TheVariants.{Request, Bad}
 use Rattle.session.specs.declared.pending.Fate.{Fate}
 use Rattle.session.specs.declared.pending.Fate.TheVariants.{Waits, Repeated, Cancelled, NamesNone}
 use Rattle.session.specs.declared.pending.Pending.{Pending}
+use Rattle.session.specs.Acts.{Answering}
 use Rattle.session.specs.Arrivals.{number_of, name_asked, is_repeat}
 use Rattle.session.specs.Requests.{is_served, is_taken_in, success_of}
 
@@ -78,23 +77,18 @@ first_refusal (None ∷ rest) = first_refusal rest
 first_refusal (Some refusal ∷ rest) = Some refusal
 
 -- A refused request changes nothing.
-abbrev pub refused : Phase → Refusal → Answer
-refused phase refusal = record { outcome = Refused refusal None; phase = phase }
-
--- A success has the body of its request, and leads to a phase.
-abbrev pub succeeded : Phase → ARequest → Answer
-succeeded phase r =
-    record { outcome = Done (success_of phase r.command).body; phase = (success_of phase r.command).phase }
+abbrev pub refused : Refusal → Answering
+refused refusal = record { change = []; outcome = Refused refusal None; closes = false }
 
 -- the answer, by the refusal that applies, if one does
-abbrev pub answer_by : Option Refusal → Phase → Ask → Answer
-answer_by (Some refusal) phase ask = refused phase refusal
-answer_by None phase (Request r) = succeeded phase r
-answer_by None phase (Bad seq command refusal) = refused phase refusal
+abbrev pub answer_by : Option Refusal → Ask → Answering
+answer_by (Some refusal) ask = refused refusal
+answer_by None (Request r) = success_of r.command
+answer_by None (Bad seq command refusal) = refused refusal
 
--- what becomes of a request, and how far the connection has come then
-abbrev pub answer_to : Phase → Pending → Answer
-answer_to phase p = answer_by (first_refusal (refusals phase p)) phase p.ask
+-- what a request is answered in this phase
+abbrev pub answer_to : Phase → Pending → Answering
+answer_to phase p = answer_by (first_refusal (refusals phase p)) p.ask
 
 -- the response that says so: it names the request by its number and its name
 abbrev pub response_to : Ask → Outcome → Response

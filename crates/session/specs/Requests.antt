@@ -9,11 +9,12 @@ use Rattle.protocol.specs.declared.initialize.TheConstants.{NAME as INITIALIZE}
 use Rattle.protocol.specs.declared.threads.TheConstants.{NAME as THREADS}
 use Rattle.protocol.specs.declared.cancel.TheConstants.{NAME as CANCEL}
 use Rattle.protocol.specs.declared.disconnect.TheConstants.{NAME as DISCONNECT}
-use Rattle.replies.specs.declared.response.ResponseBody.TheVariants as body
+use Rattle.replies.specs.declared.response.Outcome.TheVariants.{Done}
+use Rattle.replies.specs.declared.response.ResponseBody.TheVariants.{Empty}
 use Rattle.protocol.specs.declared.command.Command.{Command}
 use Rattle.protocol.specs.declared.command.Command.TheVariants.{Initialize, Threads, Cancel, Disconnect}
 use Rattle.session.specs.declared.phase.Phase.{Phase}
-use Rattle.session.specs.declared.requests.Success.{Success}
+use Rattle.session.specs.Acts.{Answering}
 use Rattle.session.specs.Initialize as initialize
 use Rattle.session.specs.Threads as threads
 use Rattle.session.specs.Cancel as cancel
@@ -44,9 +45,9 @@ is_taken_in phase (Disconnect arguments) = disconnect.is_taken_in phase
 is_taken_in phase not_served = false
 
 -- what comes of the request where it is taken
-abbrev pub success_of : Phase → Command → Success
-success_of phase (Initialize arguments) = initialize.success phase
-success_of phase Threads = threads.success phase
-success_of phase (Cancel arguments) = cancel.success phase
-success_of phase (Disconnect arguments) = disconnect.success phase
-success_of phase not_served = record { body = body.Empty; phase = phase }
+abbrev pub success_of : Command → Answering
+success_of (Initialize arguments) = initialize.success
+success_of Threads = threads.success
+success_of (Cancel arguments) = cancel.success
+success_of (Disconnect arguments) = disconnect.success
+success_of not_served = record { change = []; outcome = Done Empty; closes = false }

@@ -1,13 +1,16 @@
 -- A session with all of its past, and what events make of it.
 --
--- Nothing that was queued, taken or asked is forgotten here: a session is what it is now, and the histories of all its
+-- Nothing that was queued, taken or asked is forgotten here: a session is what it is now, and the lives of all its
 -- connections. A connection has a number, from 1. Its bytes are the frames of the messages that were queued for it, in
 -- order; those that were not taken yet wait, as long as the connection lasts.
-use Rattle.std.specs.Prelude.{ℕ, ◌==◌, Bool, if◌then◌else◌, List, [], ◌∷◌, ◌++◌, length, take, drop, map}
+use Rattle.std.specs.Prelude.{ℕ, ◌+◌, nat_lt, Bool, if◌then◌else◌, List, [], ◌∷◌, ◌++◌, length, take, drop, get_or}
 use Rattle.std.specs.Prelude.{Option, Some, None, is_some, Result}
 use Rattle.std.specs.List.{flat_map}
 use Rattle.framing.specs.Reading.{reading_of}
 use Rattle.framing.specs.Reading.Tail.{Partial}
+use Rattle.replies.specs.declared.message.Message.{Message}
+use Rattle.replies.specs.declared.message.Message.TheVariants.{Response}
+use Rattle.replies.specs.declared.response.Outcome.{Outcome}
 use Rattle.session.specs.declared.TheConstants.{BODY_LIMIT}
 use Rattle.session.specs.declared.event.Applied.{Applied}
 use Rattle.session.specs.declared.event.Event.{Event}
@@ -15,42 +18,54 @@ use Rattle.session.specs.declared.event.EventError.{EventError}
 use Rattle.session.specs.declared.limits.Limits.{Limits}
 use Rattle.session.specs.declared.link.Link.{Link}
 use Rattle.session.specs.declared.pending.Ask.{Ask}
+use Rattle.session.specs.declared.pending.Pending.{Pending}
+use Rattle.session.specs.declared.phase.Phase.{Phase}
+use Rattle.session.specs.Acts.{Now, Act, Open, Close, Accept, Enter, Reply, HangUp, Take, opened, closed, entered, hung}
+use Rattle.session.specs.Acts.{numbered, accepted, read_on, fault_of_reading}
 use Rattle.session.specs.Arrivals.{no_arrivals, asks_of}
 use Rattle.session.specs.Effects.{World, effect, answer, after_all}
+use Rattle.session.specs.Refusals.{response_to}
 use Rattle.session.specs.Writing.{frame_of}
-use Rattle.session.specs.Outcomes.{Now, Numbered, Act, Open, Close, Accept, Enter, Reply, HangUp, Take, now_after}
-use Rattle.session.specs.Outcomes.{queued_by, read_on, fault_of_reading}
 
--- something on a connection, which has a number
-pub record On (X : Type 0) : Type 0 where
-  pub connection : ℕ
-  pub is : X
+-- a message as it was queued, with its number
+pub record Said : Type 0 where
+  pub seq : ℕ
+  pub message : Message
 
--- what was on a connection, in order
-abbrev pub on_connection : {X : Type 0} → ℕ → List (On X) → List X
-on_connection c [] = []
-on_connection c (x ∷ xs) = if x.connection == c then x.is ∷ on_connection c xs else on_connection c xs
+-- All of one connection: the bytes that were accepted, up to where a fault is decided, and the requests in them; the
+-- messages that were queued; and the bytes of these that were taken.
+pub record Life : Type 0 where
+  pub accepted : List ℕ
+  pub heard : List Ask
+  pub said : List Said
+  pub taken : List ℕ
 
--- A session: what it is now; the messages that were queued, the bytes that were taken and the requests that came, each
--- on its connection; and the bytes that were accepted on the present connection, up to where a fault is decided.
+-- nothing happened yet
+abbrev pub no_life : Life
+no_life = record { accepted = []; heard = []; said = []; taken = [] }
+
+-- A session: what it is now, the life of the last connection that was made, and the lives before it. A life stays when
+-- its connection ends. The first is that of no connection: nothing happened in it.
 pub record Session : Type 0 where
   pub now : Now
-  pub queued : List (On Numbered)
-  pub taken : List (On (List ℕ))
-  pub asked : List (On Ask)
-  pub accepted : List ℕ
+  pub before : List Life
+  pub life : Life
+
+-- the lives, each at the place that is its connection's number
+abbrev pub lives : Session → List Life
+lives s = s.before ++ s.life ∷ []
+
+-- the life of a connection; of one that was never made, none
+abbrev pub life_of : ℕ → Session → Life
+life_of c s = get_or (lives s) c no_life
 
 -- the frame of a message with its number
-abbrev pub numbered_frame : Numbered → List ℕ
-numbered_frame m = frame_of m.seq m.message
+abbrev pub frame_said : Said → List ℕ
+frame_said m = frame_of m.seq m.message
 
 -- all bytes of a connection
-abbrev pub bytes_of : ℕ → List (On Numbered) → List ℕ
-bytes_of c queued = flat_map numbered_frame (on_connection c queued)
-
--- those of them that were taken
-abbrev pub taken_of : ℕ → List (On (List ℕ)) → List ℕ
-taken_of c taken = flat_map (λ bytes. bytes) (on_connection c taken)
+abbrev pub bytes_of : Life → List ℕ
+bytes_of life = flat_map frame_said life.said
 
 -- the bytes that wait on the present connection, by all its bytes and those that were taken
 abbrev pub not_taken : Option Link → List ℕ → List ℕ → List ℕ
@@ -59,7 +74,7 @@ not_taken (Some link) bytes taken = drop (length taken) bytes
 
 -- the bytes that wait
 abbrev pub waiting_of : Session → List ℕ
-waiting_of s = not_taken s.now.link (bytes_of s.now.connections s.queued) (taken_of s.now.connections s.taken)
+waiting_of s = not_taken s.now.link (bytes_of s.life) s.life.taken
 
 -- whether a stream has a fault: of one of its bodies, or where it goes on as no frame can
 abbrev pub is_faulty : List ℕ → Bool
@@ -70,61 +85,72 @@ abbrev pub up_to_fault : List ℕ → List ℕ → List ℕ
 up_to_fault stream [] = stream
 up_to_fault stream (byte ∷ piece) = if is_faulty stream then stream else up_to_fault (stream ++ byte ∷ []) piece
 
--- ---- what an act adds to the past
+-- ---- acts
 
--- something on the present connection
-abbrev pub on_now : {X : Type 0} → Now → X → On X
-on_now now x = record { connection = now.connections; is = x }
+-- a connection is made, if there is none
+abbrev pub opened_on : Option Link → Session → Session
+opened_on (Some link) s = s
+opened_on None s = record { now = opened s.now; before = lives s; life = no_life }
 
--- the messages that were queued, after another was, if it was
-abbrev pub with_message : Now → Option Numbered → List (On Numbered) → List (On Numbered)
-with_message now None queued = queued
-with_message now (Some m) queued = queued ++ on_now now m ∷ []
+-- a life in which a piece more came, after what had come of the next frame
+abbrev pub with_piece : Life → Now → List ℕ → Life
+with_piece life now piece = record life {
+  accepted = up_to_fault life.accepted piece;
+  heard = life.heard ++ asks_of (read_on now piece).bodies;
+}
 
--- the bytes that were taken, after an act
-abbrev pub taken_after : Act → Session → List (On (List ℕ))
-taken_after (Take n) s = s.taken ++ on_now s.now (take n (waiting_of s)) ∷ []
-taken_after Open s = s.taken
-taken_after Close s = s.taken
-taken_after (Accept piece) s = s.taken
-taken_after (Enter phase) s = s.taken
-taken_after (Reply outcome) s = s.taken
-taken_after HangUp s = s.taken
+-- a piece is taken, if there is a connection that takes one
+abbrev pub accepted_on : Option Link → List ℕ → Session → Session
+accepted_on None piece s = s
+accepted_on (Some link) piece s = if link.is_closing then s else record s {
+  now = accepted s.now (read_on s.now piece) link;
+  life = with_piece s.life s.now piece;
+}
 
--- the requests that came, after those in a piece did
-abbrev pub with_asks : Option Link → Now → List ℕ → List (On Ask) → List (On Ask)
-with_asks None now piece asked = asked
-with_asks (Some link) now piece asked = asked ++ map (on_now now) (asks_of (read_on now piece).bodies)
+-- the connection has come so far, if there is one
+abbrev pub entered_on : Option Link → Phase → Session → Session
+entered_on None phase s = s
+entered_on (Some link) phase s = record s { now = entered s.now link phase }
 
--- the requests that came, after an act
-abbrev pub asked_after : Act → Now → List (On Ask) → List (On Ask)
-asked_after (Accept piece) now asked = with_asks now.link now piece asked
-asked_after Open now asked = asked
-asked_after Close now asked = asked
-asked_after (Enter phase) now asked = asked
-asked_after (Reply outcome) now asked = asked
-asked_after HangUp now asked = asked
-asked_after (Take n) now asked = asked
+-- the message that is said next
+abbrev pub said_next : Link → Message → Said
+said_next link message = record { seq = link.seq + 1; message = message }
 
--- the bytes that were accepted, after an act
-abbrev pub accepted_after : Act → List ℕ → List ℕ
-accepted_after Open stream = []
-accepted_after Close stream = []
-accepted_after (Accept piece) stream = up_to_fault stream piece
-accepted_after (Enter phase) stream = stream
-accepted_after (Reply outcome) stream = stream
-accepted_after HangUp stream = stream
-accepted_after (Take n) stream = stream
+-- a life in which a message more was queued
+abbrev pub with_said : Life → Said → Life
+with_said life m = record life { said = life.said ++ m ∷ [] }
+
+-- a message is queued, if there is a connection and a number for it; these requests wait then
+abbrev pub said_on : Option Link → Message → List Pending → Session → Session
+said_on None message rest s = s
+said_on (Some link) message rest s = if nat_lt link.seq s.now.limits.last_seq then record s {
+  now = numbered s.now link rest;
+  life = with_said s.life (said_next link message);
+} else s
+
+-- the first of the requests that wait is answered
+abbrev pub replied_on : List Pending → Outcome → Session → Session
+replied_on [] outcome s = s
+replied_on (p ∷ rest) outcome s = said_on s.now.link (Response (response_to p.ask outcome)) rest s
+
+-- the connection takes nothing more, if there is one
+abbrev pub hung_on : Option Link → Session → Session
+hung_on None s = s
+hung_on (Some link) s = record s { now = hung s.now link }
+
+-- a life of which so many bytes more were taken
+abbrev pub with_taken : Life → List ℕ → Life
+with_taken life bytes = record life { taken = life.taken ++ bytes }
 
 -- a session with its past, after an act
 abbrev pub performed_on : Act → Session → Session
-performed_on act s = record {
-  now = now_after act s.now;
-  queued = with_message s.now (queued_by act s.now) s.queued;
-  taken = taken_after act s;
-  asked = asked_after act s.now s.asked;
-  accepted = accepted_after act s.accepted;
-}
+performed_on Open s = opened_on s.now.link s
+performed_on Close s = record s { now = closed s.now }
+performed_on (Accept piece) s = accepted_on s.now.link piece s
+performed_on (Enter phase) s = entered_on s.now.link phase s
+performed_on (Reply outcome) s = replied_on s.now.arrivals.pending outcome s
+performed_on HangUp s = hung_on s.now.link s
+performed_on (Take n) s = record s { life = with_taken s.life (take n (waiting_of s)) }
 
 -- sessions with their past, as events see them
 abbrev pub histories : World Session
@@ -145,7 +171,7 @@ nothing_yet limits =
 
 -- a session to which nothing happened
 abbrev pub start : Limits → Session
-start limits = record { now = nothing_yet limits; queued = []; taken = []; asked = []; accepted = [] }
+start limits = record { now = nothing_yet limits; before = []; life = no_life }
 
 -- what a list of events leaves
 abbrev pub After : Limits → List Event → Session

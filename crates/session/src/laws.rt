@@ -6,6 +6,11 @@ ghost use Rattle.session.specs.declared.limits.Limits.{Limits as TheLimits};
 ghost use Rattle.session.specs.Sessions.{After, Session as ASession};
 ghost use Rattle.session.specs.Laws as law;
 
+/// Whatever happens, the life of the last connection that was made is at the place that is its number.
+pub fn lives_are_numbered()
+    ensures { (limits : TheLimits) (events : List AnEvent) → law.LivesAreNumbered (After limits events) }
+{}
+
 /// Whatever happens, the bytes that were taken of a connection are a prefix of its bytes, and on the
 /// present connection the bytes that wait are the rest: none is lost, doubled or changed.
 pub fn every_byte_is_taken_or_waits()
@@ -23,13 +28,13 @@ pub fn answers_in_order()
     ensures { (limits : TheLimits) (events : List AnEvent) → law.AnswersInOrder (After limits events) }
 {}
 
-/// Whatever happens, the requests that came on the present connection are those of the bytes that
-/// were accepted on it.
+/// Whatever happens, the requests that came on a connection are those of the bytes that were
+/// accepted on it.
 pub fn requests_are_read()
     ensures { (limits : TheLimits) (events : List AnEvent) → law.RequestsAreRead (After limits events) }
 {}
 
-/// Whatever happens, what closed the present connection is the fault of the bytes that were accepted on
+/// Whatever happens, what closed the last connection is the fault of the bytes that were accepted on
 /// it, if they have one.
 pub fn fault_is_of_the_bytes()
     ensures { (limits : TheLimits) (events : List AnEvent) → law.FaultIsOfTheBytes (After limits events) }

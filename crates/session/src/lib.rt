@@ -3,6 +3,7 @@
 
 mod arrivals;
 mod buffer;
+mod draft;
 mod event;
 mod feeding;
 pub mod laws;

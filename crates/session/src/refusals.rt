@@ -1,5 +1,6 @@
 //! What is answered to a request.
 ghost use Rattle.std.specs.Prelude.{◌≡◌, None, IfOk};
+ghost use Rattle.session.specs.Kept.{answering_as};
 ghost use Rattle.session.specs.Refusals as spec;
 
 use crate::pending::{Ask, Fate, Pending};
@@ -9,22 +10,33 @@ use protocol::Refusal;
 use replies::{Outcome, Response};
 use std::alloc::{AllocError, Global};
 
-/// What becomes of a request, and how far the connection has come then.
-#[derive(Drop)]
-pub struct Answer {
-    /// What becomes of the request.
-    pub outcome: Outcome,
-    /// How far the connection has come.
-    pub phase: Phase,
+/// What an answer changes.
+#[derive(Clone, Copy, Debug, PartialEq, Eq)]
+pub enum Change {
+    /// Nothing.
+    Nothing,
+    /// The connection has come so far.
+    Enter(Phase),
 }
 
-/// What becomes of a request in a phase.
+/// What a request is answered.
+#[derive(Drop)]
+pub struct Answer {
+    /// What it changes, before it is queued.
+    pub change: Change,
+    /// What becomes of the request.
+    pub outcome: Outcome,
+    /// Whether the connection takes nothing more then.
+    pub closes: bool,
+}
+
+/// What a request is answered in a phase.
 pub(crate) fn answer_to(phase: Phase, pending: &Pending) -> Answer
-    ensures { result ≡ spec.answer_to phase pending.now }
+    ensures { answering_as result ≡ spec.answer_to phase pending.now }
 {
     match refusal_of(phase, pending) {
-        Some(refusal) => refused(phase, refusal),
-        None => taken(phase, &pending.ask),
+        Some(refusal) => refused(refusal),
+        None => taken(&pending.ask),
     }
 }
 
@@ -61,27 +73,22 @@ fn refusal_as_it_stands(phase: Phase, ask: &Ask) -> Option<Refusal>
     }
 }
 
-fn taken(phase: Phase, ask: &Ask) -> Answer
-    ensures { result ≡ spec.answer_by None phase ask.now }
+fn taken(ask: &Ask) -> Answer
+    ensures { answering_as result ≡ spec.answer_by None ask.now }
 {
     match ask {
-        Ask::Request(request) => {
-            let success = success_of(phase, &request.command);
-            Answer {
-                outcome: Outcome::Done(success.body),
-                phase: success.phase,
-            }
-        }
-        Ask::Bad { refusal, .. } => refused(phase, *refusal),
+        Ask::Request(request) => success_of(&request.command),
+        Ask::Bad { refusal, .. } => refused(*refusal),
     }
 }
 
-fn refused(phase: Phase, refusal: Refusal) -> Answer
-    ensures { result ≡ spec.refused phase refusal }
+fn refused(refusal: Refusal) -> Answer
+    ensures { answering_as result ≡ spec.refused refusal }
 {
     Answer {
+        change: Change::Nothing,
         outcome: Outcome::Refused(refusal, None),
-        phase,
+        closes: false,
     }
 }
 

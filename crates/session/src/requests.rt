@@ -1,5 +1,6 @@
 //! The requests, each in a module of its own. This is the list of them.
-ghost use Rattle.std.specs.Prelude.{◌≡◌};
+ghost use Rattle.std.specs.Prelude.{◌≡◌, false};
+ghost use Rattle.session.specs.Kept.{acts_of, answering_as};
 ghost use Rattle.session.specs.Requests.{is_served, is_taken_in, success_of};
 
 mod cancel;
@@ -8,17 +9,9 @@ mod initialize;
 mod threads;
 
 use crate::phase::Phase;
+use crate::refusals::{Answer, Change};
 use protocol::Command;
-use replies::ResponseBody;
-
-/// What comes of a request that is taken.
-#[derive(Drop)]
-pub struct Success {
-    /// What is answered.
-    pub body: ResponseBody,
-    /// How far the connection has come then.
-    pub phase: Phase,
-}
+use replies::{Outcome, ResponseBody};
 
 /// Whether a request of that name is served (`Request.command`).
 #[tactic(auto, unfolding(crate::specs::Requests::is_served))]
@@ -48,17 +41,25 @@ pub(crate) fn is_taken_in(phase: Phase, command: &Command) -> bool
 }
 
 /// What comes of the request where it is taken: of one that is not served, nothing.
-pub(crate) fn success_of(phase: Phase, command: &Command) -> Success
-    ensures { result ≡ success_of phase command.now }
+pub(crate) fn success_of(command: &Command) -> Answer
+    ensures { answering_as result ≡ success_of command.now }
 {
     match command {
-        Command::Initialize(_) => initialize::success(phase),
-        Command::Threads => threads::success(phase),
-        Command::Cancel(_) => cancel::success(phase),
-        Command::Disconnect(_) => disconnect::success(phase),
-        _ => Success {
-            body: ResponseBody::Empty,
-            phase,
-        },
+        Command::Initialize(_) => initialize::success(),
+        Command::Threads => threads::success(),
+        Command::Cancel(_) => cancel::success(),
+        Command::Disconnect(_) => disconnect::success(),
+        _ => succeeds(Change::Nothing, ResponseBody::Empty),
+    }
+}
+
+/// A success that the connection outlasts.
+fn succeeds(change: Change, body: ResponseBody) -> Answer
+    ensures { answering_as result ≡ record { change = acts_of change; outcome = Outcome.Done body; closes = false } }
+{
+    Answer {
+        change,
+        outcome: Outcome::Done(body),
+        closes: false,
     }
 }

@@ -3,22 +3,25 @@ ghost use Rattle.std.specs.Prelude.{◌≡◌, true, [], Option, Some, Ok, Err, 
 ghost use Rattle.std.specs.Option.{option_map};
 ghost use Rattle.session.specs.declared.event.Event.TheVariants as event;
 ghost use Rattle.session.specs.declared.event.Applied.TheVariants as applied;
-ghost use Rattle.session.specs.Kept.{Goes, answered, nothing_kept, keepings, frame_if, see_kept};
-ghost use Rattle.session.specs.Arrivals.{no_arrivals, first_pending};
+ghost use Rattle.session.specs.Kept.{Goes, acts_of, answered, draft_on, drafted, kept_closing, kept_entered, nothing_kept, keepings, see_kept, settled};
+ghost use Rattle.session.specs.Acts as acts;
+ghost use Rattle.session.specs.Arrivals.{no_arrivals, others_pending};
 ghost use Rattle.framing.specs.Reading.Tail.{Partial};
 ghost use Rattle.session.specs.Outcomes as spec;
+ghost use Rattle.session.specs.Refusals.{response_to};
 ghost use Rattle.session.specs.Effects.{performed};
 
 use crate::BODY_LIMIT;
 use crate::arrivals::Arrivals;
 use crate::buffer::Buffer;
+use crate::draft::Draft;
 use crate::event::{EventError, LinkFault, Turned};
 use crate::feeding::feed;
 use crate::limits::Limits;
 use crate::link::Link;
+use crate::pending::Pending;
 use crate::phase::Phase;
-use crate::refusals::{answer_to, response_to};
-use crate::writing::framed;
+use crate::refusals::{Change, answer_to, response_to};
 use framing::{FrameError, Unframer};
 use protocol::MessageError;
 use replies::{Message, Outcome};
@@ -170,63 +173,74 @@ impl State {
         }
     }
 
-    // Answers the first request that waits on the connection.
+    // Answers the first request that waits on the connection: all growth comes first, then the change,
+    // and then the numbers are given.
+    #[tactic(auto, using(crate::proofs::Drafting::first_answers))]
     fn answer_first(&mut self, link: Link) -> Result<Turned, AllocError>
         requires { self.old.now.link ≡ Some link }
-        ensures answer { IfOk result (λ turned. (spec.next_turn link (first_pending self.old.now.arrivals.pending)).answer
+        ensures answer { IfOk result (λ turned. (spec.next_turn link self.old.now.arrivals.pending).answer
             ≡ Ok (applied.Turn turned)) }
         ensures ok { OnOk result (self.new
-            ≡ performed keepings (spec.next_turn link (first_pending self.old.now.arrivals.pending)).acts self.old) }
+            ≡ performed keepings (spec.next_turn link self.old.now.arrivals.pending).acts self.old) }
         ensures err { OnErr result (self.new ≡ self.old) }
-        ensures needs { OnErr result (spec.needs_memory (spec.next_turn link (first_pending self.old.now.arrivals.pending)).acts ≡ true) }
+        ensures needs { OnErr result (spec.needs_memory (spec.next_turn link self.old.now.arrivals.pending).acts ≡ true) }
     {
         let Some(first) = self.arrivals.first() else {
             return Ok(Turned::Nothing);
         };
         let answer = answer_to(link.phase, first);
-        let entered = Link {
-            phase: answer.phase,
-            ..link
-        };
-        self.write(entered, answer.outcome)?;
-        self.settle(entered);
-        if matches!(entered.phase, Phase::Left) {
-            self.hang_up();
-        }
+        let change = answer.change;
+        let closes = answer.closes;
+        let draft = self.draft_answer(first, answer.outcome)?;
+        self.buffer.push(draft.bytes())?;
+        self.change(change);
+        self.settle(draft.seq());
+        self.hang_up(closes);
         Ok(Turned::Answered)
     }
 
-    // Puts the answer to the first request after the waiting bytes, if a number is left for it.
-    fn write(&mut self, link: Link, outcome: Outcome) -> Result<(), AllocError>
-        ensures ok { OnOk result (self.new ≡ record self.old {
-          waiting = self.old.waiting
-              ++ frame_if (spec.reply_on self.old.now.limits outcome link (first_pending self.old.now.arrivals.pending));
-        }) }
-        ensures err { OnErr result (self.new ≡ self.old) }
+    // The answer to a request, written.
+    fn draft_answer(&self, pending: &Pending, outcome: Outcome) -> Result<Draft, AllocError>
+        ensures { IfOk result (λ d. d ≡ drafted self.now.now.limits (Message.Response (response_to pending.now.ask outcome))
+            (draft_on self.now.now.limits self.now.now.link)) }
     {
-        if link.seq >= self.limits.last_seq {
-            return Ok(());
-        }
-        let Some(first) = self.arrivals.first() else {
-            return Ok(());
-        };
-        let response = response_to(self.alloc, &first.ask, outcome)?;
-        let frame = framed(self.alloc, link.seq + 1, &Message::Response(response))?;
-        self.buffer.push(&frame)
+        let mut draft = Draft::new(self.alloc, self.limits, self.link);
+        let response = response_to(self.alloc, &pending.ask, outcome)?;
+        draft.add(self.limits, &Message::Response(response))?;
+        Ok(draft)
     }
 
-    // The first request was answered.
-    fn settle(&mut self, link: Link)
-        requires { IsSome (first_pending self.old.now.arrivals.pending) }
+    // What an answer changes.
+    fn change(&mut self, change: Change)
+        ensures { self.new ≡ performed keepings (acts_of change) self.old }
+    {
+        match change {
+            Change::Nothing => {}
+            Change::Enter(phase) => self.enter(phase),
+        }
+    }
+
+    // The connection has come so far.
+    fn enter(&mut self, phase: Phase)
+        ensures { self.new ≡ kept_entered self.old.now.link phase self.old }
+    {
+        if let Some(link) = self.link {
+            self.link = Some(Link { phase, ..link });
+        }
+    }
+
+    // Messages up to this number were queued, the first of them the answer to the first request.
+    fn settle(&mut self, seq: u32)
         ensures { self.new ≡ record self.old {
-          now = spec.replied (record self.old.now { link = Some link }) link (first_pending self.old.now.arrivals.pending);
+          now = settled self.old.now.link seq (others_pending self.old.now.arrivals.pending) self.old.now;
         } }
     {
-        if link.seq >= self.limits.last_seq {
-            self.link = Some(link);
+        let Some(link) = self.link else {
+            return;
+        };
+        if link.seq >= seq {
             return;
         }
-        let seq = link.seq + 1;
         let is_last = seq == self.limits.last_seq;
         if is_last {
             self.arrivals.drop_all();
@@ -240,10 +254,13 @@ impl State {
         });
     }
 
-    // The connection takes nothing more.
-    fn hang_up(&mut self)
-        ensures { self.new ≡ performed keepings (spec.Act.HangUp ∷ []) self.old }
+    // The connection takes nothing more, where it closes.
+    fn hang_up(&mut self, closes: bool)
+        ensures { self.new ≡ kept_closing closes self.old }
     {
+        if !closes {
+            return;
+        }
         if let Some(link) = self.link {
             self.link = Some(Link {
                 is_closing: true,
@@ -279,7 +296,7 @@ impl State {
     // The requests in a piece join those that wait, and its fault closes the connection.
     fn accept(&mut self, link: Link, piece: &[u8]) -> Result<(), AllocError>
         ensures ok { OnOk result (self.new ≡ record self.old {
-          now = spec.accepted self.old.now (spec.read_on self.old.now piece.now) link;
+          now = acts.accepted self.old.now (acts.read_on self.old.now piece.now) link;
         }) }
         ensures err { OnErr result (self.new ≡ self.old) }
     {
@@ -296,9 +313,9 @@ impl State {
     // after which nothing of the stream is kept.
     fn take_in(&mut self, piece: &[u8]) -> Result<Option<LinkFault>, AllocError>
         ensures ok { OnOk result (self.new ≡ record self.old {
-          now = spec.taken_in self.old.now (spec.read_on self.old.now piece.now);
+          now = acts.taken_in self.old.now (acts.read_on self.old.now piece.now);
         }) }
-        ensures fault { IfOk result (λ fault. fault ≡ spec.fault_of_reading (spec.read_on self.old.now piece.now)) }
+        ensures fault { IfOk result (λ fault. fault ≡ acts.fault_of_reading (acts.read_on self.old.now piece.now)) }
         ensures err { OnErr result (self.new ≡ self.old) }
     {
         let frame_fault = feed(&mut self.unframer, piece)?;
@@ -352,7 +369,7 @@ impl State {
 
 // What closes a connection: the fault of a body comes before that of the stream after it.
 fn first_fault(message: Option<MessageError>, frame: Option<FrameError>) -> Option<LinkFault>
-    ensures { result ≡ spec.fault_or message frame }
+    ensures { result ≡ acts.fault_or message frame }
 {
     match message {
         Some(fault) => Some(LinkFault::Message(fault)),

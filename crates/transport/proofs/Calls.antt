@@ -1,5 +1,5 @@
 -- Call after call of a server.
-use Rattle.std.proofs.Common.{◌≡◌, ℕ, ◌+◌, zero, suc, List, [], ◌∷◌, ◌++◌, length, Option, Some, None, IfSome, Result, Ok, Err, ◌⊎◌, inl, inr, refl, sym, ap, ◌∙◌, subst, arith, append-nil, append_assoc}
+use Rattle.std.proofs.Common.{◌≡◌, ℕ, ◌+◌, suc, List, [], ◌∷◌, ◌++◌, length, Option, Some, None, IfSome, Result, Ok, Err, inl, inr, refl, sym, ap, ◌∙◌, subst, arith, append_assoc}
 use Rattle.std.specs.Io.KnownBytes.{Appends}
 use Rattle.std.proofs.KnownBytes.{Appends-nil, Appends-trans}
 use Rattle.protocol.specs.declared.request.Incoming.{Incoming}
@@ -7,10 +7,10 @@ use Rattle.replies.specs.declared.response.Response.{Response}
 use Rattle.replies.specs.declared.message.Message.TheVariants.{Response as IsResponse}
 use Rattle.session.specs.Writing.{frame_of}
 use Rattle.transport.specs.Outbox.{Queued}
-use Rattle.transport.specs.Servers.{Responds, lasting}
+use Rattle.transport.specs.Servers.{Responds}
 use Rattle.transport.specs.declared.server.ServerError.{ServerError}
 use Rattle.transport.specs.declared.server.ServerError.TheVariants.{Frame, Message, Read, Write, TooManyReads, NoMemory, SeqSpent}
-use Rattle.transport.specs.Laws.{Served, Call, Poll, Respond, Polled, Responded, Did, DidAll, written, frames_from, IsPartOfNext, Wrote, ResponsesAreFramedInOrder}
+use Rattle.transport.specs.Laws.{Served, Call, Poll, Respond, Polled, Responded, DidAll, written, frames_from, IsPartOfNext, Wrote, ResponsesAreFramedInOrder}
 
 -- ---- after a lasting error
 

@@ -13,12 +13,11 @@ use Rattle.session.specs.declared.event.Event.{Event}
 use Rattle.session.specs.declared.event.Event.TheVariants.{Recv, Turn, Sent, DropConnection}
 use Rattle.session.specs.declared.event.EventError.{EventError}
 use Rattle.session.specs.declared.event.EventError.TheVariants.{NotConnected, AlreadyConnected, Busy, SentTooMuch, PieceTooLong, Closing, NoMemory, Spent}
-use Rattle.session.specs.Effects.{Ends, effect, answer}
 use Rattle.session.specs.Sessions.{Session, Effect, histories, waiting_of}
 use Rattle.session.specs.Kept.{Kept, Stands, Happens, answered, see_kept}
 use Rattle.transport.specs.Ends.{is_interrupted, end_of_error, end_of_read, end_of_write}
 use Rattle.transport.proofs.Taking.{takes_sent, takes_turn, takes_received}
-use Rattle.transport.specs.Rounds.{UsesStream, Took, Went, Due, Send, Leave, Answer, Receive, due, due_in, Round, Did, Interrupted, DoesWhatIsDue, IsRound, AreRounds, after_round, after_rounds, received_in, received, sent_in, sent, EndsAs, Served, GoesOn, Stops, Serving}
+use Rattle.transport.specs.Rounds.{UsesStream, Took, Went, Due, Send, Answer, Receive, due, due_in, Round, Did, Interrupted, DoesWhatIsDue, AreRounds, after_round, after_rounds, received_in, received, sent_in, sent, EndsAs, Served, GoesOn, Stops, Serving}
 use Rattle.session.proofs.Standing.{standing}
 
 -- an event that found memory happened, or was refused

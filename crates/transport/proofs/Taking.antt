@@ -1,5 +1,5 @@
 -- What is due is taken.
-use Rattle.std.proofs.Common.{◌≡◌, ℕ, ◌≤◌, ◌<◌, Bool, true, false, cond, ◌&&◌, eqb, leb, ltb, List, [], ◌∷◌, length, Option, Some, None, Result, Ok, Err, refl, sym, arith, inl, inr}
+use Rattle.std.proofs.Common.{◌≡◌, ℕ, ◌≤◌, Bool, true, false, cond, ◌&&◌, eqb, leb, ltb, List, [], ◌∷◌, length, Option, Some, None, refl, sym, arith, inl, inr}
 use Rattle.std.specs.Prelude.{IsOk, ◌⊎◌}
 use Rattle.std.proofs.lemmas.Bool.Decides.{nat_tests}
 use Rattle.session.specs.declared.event.Applied.TheVariants.{Turn as DidTurn}
@@ -7,9 +7,9 @@ use Rattle.session.specs.declared.event.Turned.TheVariants.{Full}
 use Rattle.session.specs.declared.event.Event.TheVariants.{Recv, Turn, Sent}
 use Rattle.session.specs.declared.link.Link.{Link}
 use Rattle.session.specs.declared.pending.Pending.{Pending}
-use Rattle.session.specs.Arrivals.{first_pending}
-use Rattle.session.specs.Outcomes.{Seen, done, is_finished, is_finished_on, next_turn, outcome, outcome_at}
-use Rattle.transport.specs.Rounds.{Due, Send, Leave, Answer, Receive, due}
+use Rattle.session.specs.Acts.{Seen}
+use Rattle.session.specs.Outcomes.{done, is_finished, is_finished_on, next_turn, outcome, outcome_at}
+use Rattle.transport.specs.Rounds.{Send, Leave, Answer, Receive, due}
 
 -- what the tests say of which something is due
 send_test : (a b c : Bool) → cond a Send (cond b Leave (cond c Answer Receive)) ≡ Send → a ≡ true
@@ -41,16 +41,16 @@ takes_sent seen n few =
     ]
 
 -- a request that waits is answered
-turns : (link : Link) (first : Option Pending) → IsOk (next_turn link first).answer
-turns link None = refl
-turns link (Some p) = refl
+turns : (link : Link) (pending : List Pending) → IsOk (next_turn link pending).answer
+turns link [] = refl
+turns link (p ∷ rest) = refl
 
 answered : (seen : Seen) (link : Link) → IsOk (outcome_at seen (Some link) (Turn None)).answer
 answered seen link =
-    let P : Bool → Type 0 = λ t. IsOk (cond t (done (DidTurn Full) []) (next_turn link (first_pending seen.now.arrivals.pending))).answer in
+    let P : Bool → Type 0 = λ t. IsOk (cond t (done (DidTurn Full) []) (next_turn link seen.now.arrivals.pending)).answer in
     elim (ltb 65536 seen.waits) as P [
       | true ↦ refl
-      | false ↦ turns link (first_pending seen.now.arrivals.pending)
+      | false ↦ turns link seen.now.arrivals.pending
     ]
 
 pub takes_turn : (seen : Seen) → (seen.now.link ≡ None) ⊎ IsOk (outcome seen (Turn None)).answer

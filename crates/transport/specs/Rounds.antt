@@ -7,15 +7,16 @@
 --
 -- A reader may say which bytes it has left, and a writer which bytes it holds (`Rattle.std.specs.Io.KnownBytes`); what
 -- is said here of bytes read and written is held against both.
-use Rattle.std.specs.Prelude.{◌≡◌, ℕ, ◌<◌, ◌≤◌, nat_lt, if◌then◌else◌, List, [], ◌∷◌, ◌++◌, length, take, Option, Some}
+use Rattle.std.specs.Prelude.{◌≡◌, ℕ, ◌≤◌, nat_lt, if◌then◌else◌, List, [], ◌∷◌, ◌++◌, length, take, Option, Some}
 use Rattle.std.specs.Prelude.{None, IsOk, ◌⊎◌}
 use Rattle.std.specs.Io.KnownBytes.{Consumes, Appends, IsAtEnd}
 use Rattle.transport.specs.declared.end.StreamEnd.{StreamEnd}
 use Rattle.transport.specs.declared.end.StreamEnd.TheVariants.{Closed, Fault, Turns, NoMemory}
 use Rattle.session.specs.declared.event.Event.{Event}
 use Rattle.session.specs.declared.event.Event.TheVariants.{Connect, Recv, Turn, Sent, DropConnection}
+use Rattle.session.specs.Acts.{Seen}
 use Rattle.session.specs.Kept.{Kept, Stands}
-use Rattle.session.specs.Outcomes.{Seen, is_finished}
+use Rattle.session.specs.Outcomes.{is_finished}
 use Rattle.session.specs.Sessions.{Session, Effect, Answer as answer_of, histories, waiting_of}
 
 -- what is to be done next

@@ -1,9 +1,11 @@
 //! `cancel`: a request is not to be answered as it stands. It acts when it comes; this is its answer.
 ghost use Rattle.std.specs.Prelude.{◌≡◌};
+ghost use Rattle.session.specs.Kept.{answering_as};
 ghost use Rattle.session.specs.Cancel as spec;
 
-use super::Success;
+use super::succeeds;
 use crate::phase::Phase;
+use crate::refusals::{Answer, Change};
 use replies::ResponseBody;
 
 /// Whether the request is taken in the phase.
@@ -18,11 +20,8 @@ pub(crate) fn is_taken_in(phase: Phase) -> bool
 }
 
 /// What comes of it.
-pub(crate) fn success(phase: Phase) -> Success
-    ensures { result ≡ spec.success phase }
+pub(crate) fn success() -> Answer
+    ensures { answering_as result ≡ spec.success }
 {
-    Success {
-        body: ResponseBody::Empty,
-        phase,
-    }
+    succeeds(Change::Nothing, ResponseBody::Empty)
 }

@@ -1,10 +1,11 @@
 //! `disconnect`: the end of the session, in every phase but after itself.
 ghost use Rattle.std.specs.Prelude.{◌≡◌};
+ghost use Rattle.session.specs.Kept.{answering_as};
 ghost use Rattle.session.specs.Disconnect as spec;
 
-use super::Success;
 use crate::phase::Phase;
-use replies::ResponseBody;
+use crate::refusals::{Answer, Change};
+use replies::{Outcome, ResponseBody};
 
 /// Whether the request is taken in the phase.
 pub(crate) fn is_taken_in(phase: Phase) -> bool
@@ -18,11 +19,12 @@ pub(crate) fn is_taken_in(phase: Phase) -> bool
 }
 
 /// What comes of it.
-pub(crate) fn success(_phase: Phase) -> Success
-    ensures { result ≡ spec.success _phase }
+pub(crate) fn success() -> Answer
+    ensures { answering_as result ≡ spec.success }
 {
-    Success {
-        body: ResponseBody::Empty,
-        phase: Phase::Left,
+    Answer {
+        change: Change::Enter(Phase::Left),
+        outcome: Outcome::Done(ResponseBody::Empty),
+        closes: true,
     }
 }

@@ -1,9 +1,11 @@
 //! `initialize`: taken until one was answered with success, and not again.
 ghost use Rattle.std.specs.Prelude.{◌≡◌};
+ghost use Rattle.session.specs.Kept.{answering_as};
 ghost use Rattle.session.specs.Initialize as spec;
 
-use super::Success;
+use super::succeeds;
 use crate::phase::Phase;
+use crate::refusals::{Answer, Change};
 use replies::ResponseBody;
 
 /// Whether the request is taken in the phase.
@@ -18,11 +20,8 @@ pub(crate) fn is_taken_in(phase: Phase) -> bool
 }
 
 /// What comes of it.
-pub(crate) fn success(_phase: Phase) -> Success
-    ensures { result ≡ spec.success _phase }
+pub(crate) fn success() -> Answer
+    ensures { answering_as result ≡ spec.success }
 {
-    Success {
-        body: ResponseBody::Initialize,
-        phase: Phase::Initialized,
-    }
+    succeeds(Change::Enter(Phase::Initialized), ResponseBody::Initialize)
 }

@@ -1,8 +1,11 @@
 use Rattle.std.proofs.Common.{◌≤◌, length, Ok, None, IfOk, ap, sym, subst, ◌∙◌, ◌≡◌}
 use Rattle.std.specs.Io.KnownBytes.{WriteAppends}
 use Rattle.transport.specs.Ends.{end_of_write}
-use Rattle.transport.proofs.Serving.{found, sends, write_some}
+use Rattle.transport.proofs.Serving.{found, sends, write_ends, write_some}
 use Rattle.transport.proofs.serve.wrote.Goals as goal
+
+pub returns-in-Some-clause-went : goal.returns-in-Some-clause-went
+returns-in-Some-clause-went c left held held' h = rw c.leave.ensures.end (write_ends left held held' c.args.session.now c.leave.new.session c.args.answer c.in-Some.end (sym c.end_of_write.ensures ∙ c.in-Some.is) c.requires.due h c.leave.ensures.dropped)
 
 pub returns-in-Ok-clause-went : goal.returns-in-Ok-clause-went
 returns-in-Ok-clause-went c left held held' h =

@@ -1,0 +1,69 @@
+//! Messages that are written before any of them is queued.
+ghost use Rattle.std.specs.Prelude.{◌≡◌, OnOk};
+ghost use Rattle.session.specs.Kept.{draft_on, drafted};
+
+use crate::limits::Limits;
+use crate::link::Link;
+use crate::writing::framed;
+use replies::Message;
+use std::alloc::{AllocError, Global};
+use std::marker::Model;
+
+/// Messages that are written before any of them is queued, so that all of them are or none. A
+/// contract sees their bytes, and the number of the last.
+#[derive(Drop)]
+pub struct Draft {
+    alloc: Global,
+    bytes: Vec<u8>,
+    seq: u32,
+}
+
+impl Model for Draft {
+    ghost use Rattle.session.specs.Kept.{Drafted};
+
+    ghost Value = { Drafted };
+
+    ghost view = { λ d. record { bytes = d.bytes.items; seq = d.seq } };
+}
+
+impl Draft {
+    /// No message yet. Without a connection no number is left for one.
+    pub(crate) fn new(alloc: Global, limits: Limits, link: Option<Link>) -> Draft
+        ensures { result ≡ draft_on limits link }
+    {
+        Draft {
+            alloc,
+            bytes: Vec::new(alloc),
+            seq: match link {
+                Some(link) => link.seq,
+                None => limits.last_seq,
+            },
+        }
+    }
+
+    /// One message more, if a number is left for it.
+    pub(crate) fn add(&mut self, limits: Limits, message: &Message) -> Result<(), AllocError>
+        ensures { OnOk result (self.new ≡ drafted limits message.now self.old) }
+    {
+        if self.seq < limits.last_seq {
+            let frame = framed(self.alloc, self.seq + 1, message)?;
+            self.bytes.extend_from_slice(frame.as_slice())?;
+            self.seq += 1;
+        }
+        Ok(())
+    }
+
+    /// Their frames.
+    pub(crate) fn bytes(&self) -> &[u8]
+        ensures { result.now ≡ self.now.bytes }
+    {
+        self.bytes.as_slice()
+    }
+
+    /// The number of the last, or of the last that was queued.
+    pub(crate) fn seq(&self) -> u32
+        ensures { result ≡ self.now.seq }
+    {
+        self.seq
+    }
+}
