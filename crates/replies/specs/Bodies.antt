@@ -26,7 +26,8 @@ use Rattle.replies.specs.declared.response.ResponseBody.{ResponseBody}
 use Rattle.replies.specs.declared.response.ResponseBody.TheVariants.{Initialize, Threads, Continue, Empty}
 use Rattle.replies.specs.declared.response.ResponseBody.TheVariants.{SetBreakpoints, SetInstructionBreakpoints}
 use Rattle.replies.specs.declared.response.ResponseBody.TheVariants.{StackTrace, Scopes, Variables}
-use Rattle.replies.specs.declared.response.ResponseBody.TheVariants.{SetVariable, Evaluate, Disassemble, ReadMemory, WriteMemory}
+use Rattle.replies.specs.declared.response.ResponseBody.TheVariants.{SetVariable, Evaluate}
+use Rattle.replies.specs.declared.response.ResponseBody.TheVariants.{Disassemble, ReadMemory, WriteMemory}
 
 -- a body: the requests whose success has it, its JSON value if it has one, whether its numbers are in their ranges, and
 -- its texts

@@ -21,7 +21,7 @@ bytes_text n =
 low_byte_first : bytes_text 5244179 ≡ codes "13 05 50 00"
 low_byte_first = refl
 
--- what a text is taken for: the word of the same digits, high byte first
+-- what a text is taken for: the word of these digits, high byte first. What stands between them is not looked at
 unfoldable pub word_of_bytes : List ℕ → Option ℕ
 word_of_bytes (a ∷ b ∷ _ ∷ c ∷ d ∷ _ ∷ e ∷ f ∷ _ ∷ g ∷ h ∷ []) =
     word_in (48 ∷ 120 ∷ g ∷ h ∷ e ∷ f ∷ c ∷ d ∷ a ∷ b ∷ [])

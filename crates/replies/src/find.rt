@@ -88,10 +88,10 @@ pub(crate) fn signed(value: &Value, name: &str) -> Result<i32, Unread>
 pub(crate) fn number_if(value: &Value, name: &str) -> Result<Option<u32>, Unread>
     ensures { Reads result (forms.found_if forms.whole.found (get name.now (view value.now))) }
 {
-    match value.get(name) {
-        Some(_) => Ok(Some(number(value, name)?)),
-        None => Ok(None),
+    if value.get(name).is_none() {
+        return Ok(None);
     }
+    Ok(Some(number(value, name)?))
 }
 
 /// The member that is a truth value.

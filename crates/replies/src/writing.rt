@@ -12,7 +12,8 @@ use crate::members::{
     BODY, COMMAND, ERROR, FORMAT, ID, MESSAGE, REQUEST_SEQ, RESPONSE, SEQ, SUCCESS, TYPE,
 };
 use crate::{
-    Message, Outcome, Response, ResponseBody, continue_, event, initialize, member, read_memory, threads,
+    Message, Outcome, Response, ResponseBody, continue_, event, initialize, member, read_memory,
+    threads,
 };
 use json::Writer;
 use protocol::{Refusal, Text};
