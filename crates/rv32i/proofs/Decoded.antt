@@ -1,10 +1,10 @@
 -- What a word decodes to as a function, for the proofs alone: the instruction that it encodes, if there is one, is the
 -- one that this function finds. So there is at most one, and a word at which it finds none is illegal.
-use Rattle.std.proofs.Common.{◌≡◌, ℕ, ◌+◌, ◌-◌, ◌*◌, ◌/◌, ◌%◌, ◌^◌, cond, eqb, Option, Some, None, refl, ap, lit<}
+use Rattle.std.proofs.Common.{◌≡◌, ℕ, ◌+◌, ◌-◌, ◌*◌, ◌/◌, ◌%◌, ◌^◌, ◌<◌, Bool, true, false, cond, eqb, Option, Some, None, refl, ap, subst, lit<, eqb-true}
 use Rattle.rv32i.specs.Encoding.{Encodes, IsIllegal}
 use Rattle.rv32i.specs.declared.instr.Instr.{Instr}
 use Rattle.rv32i.specs.declared.instr.Instr.TheVariants.{Lui, Auipc, Jal, Jalr, Beq, Bne, Blt, Bge, Bltu, Bgeu, Lb, Lh, Lw, Lbu, Lhu, Sb, Sh, Sw, Addi, Slti, Sltiu, Xori, Ori, Andi, Slli, Srli, Srai, Add, Sub, Sll, Slt, Sltu, Xor, Srl, Sra, Or, And, Fence, Ecall, Ebreak}
-use Rattle.rv32i.proofs.Words.{r_parts, i_parts, s_parts, b_parts, u_parts, j_parts, fence_parts}
+use Rattle.rv32i.proofs.Words.{r_type, i_type, s_type, b_type, u_type, j_type, fence_type, r_parts, i_parts, s_parts, b_parts, u_parts, j_parts, fence_parts}
 
 -- The cases of each opcode, by funct3 and then by funct7.
 
@@ -91,3 +91,49 @@ finds Ebreak word e = ap decoded e
 -- A word at which nothing is found encodes nothing.
 pub illegal : (word : ℕ) → decoded word ≡ None → IsIllegal word
 illegal word none i e = let found = finds i word e in cc
+
+-- ---- the other way: what is found is encoded, where the word has 32 bits
+
+-- what is found, if something is, encodes the word
+abbrev pub Sound : ℕ → Option Instr → Type 0
+Sound word found = (i : Instr) → found ≡ Some i → Encodes i word
+
+by_test : (word n k : ℕ) (x y : Option Instr) → (n ≡ k → Sound word x) → Sound word y → Sound word (cond (eqb n k) x y)
+by_test word n k x y is isnt = by_case (eqb n k) refl where
+  by_case : (b : Bool) → eqb n k ≡ b → Sound word (cond b x y)
+  by_case true e = is (eqb-true n k e)
+  by_case false e = isnt
+
+this : (word : ℕ) (j : Instr) → Encodes j word → Sound word (Some j)
+this word j h i e = subst (λ k. Encodes k word) (let same : j ≡ i = cc in same) h
+
+nothing : (word : ℕ) → Sound word None
+nothing word i e = absurd (cc)
+
+module _ (word : ℕ) (h : word < 2 ^ 32) where
+  branches : word % 2 ^ 7 ≡ 99 → Sound word (branch_by (word / 2 ^ 12 % 2 ^ 3) (word / 2 ^ 15 % 2 ^ 5) (word / 2 ^ 20 % 2 ^ 5) (word / 2 ^ 31 * (2 ^ 32 - 2 ^ 12) + word / 2 ^ 7 % 2 * 2 ^ 11 + word / 2 ^ 25 % 2 ^ 6 * 2 ^ 5 + word / 2 ^ 8 % 2 ^ 4 * 2))
+  branches o = by_test word (word / 2 ^ 12 % 2 ^ 3) 0 _ _ (λ f. this word _ (b_type 99 0 _ _ _ word h o f refl refl refl)) (by_test word (word / 2 ^ 12 % 2 ^ 3) 1 _ _ (λ f. this word _ (b_type 99 1 _ _ _ word h o f refl refl refl)) (by_test word (word / 2 ^ 12 % 2 ^ 3) 4 _ _ (λ f. this word _ (b_type 99 4 _ _ _ word h o f refl refl refl)) (by_test word (word / 2 ^ 12 % 2 ^ 3) 5 _ _ (λ f. this word _ (b_type 99 5 _ _ _ word h o f refl refl refl)) (by_test word (word / 2 ^ 12 % 2 ^ 3) 6 _ _ (λ f. this word _ (b_type 99 6 _ _ _ word h o f refl refl refl)) (by_test word (word / 2 ^ 12 % 2 ^ 3) 7 _ _ (λ f. this word _ (b_type 99 7 _ _ _ word h o f refl refl refl)) (nothing word))))))
+
+  loads : word % 2 ^ 7 ≡ 3 → Sound word (load_by (word / 2 ^ 12 % 2 ^ 3) (word / 2 ^ 7 % 2 ^ 5) (word / 2 ^ 15 % 2 ^ 5) (word / 2 ^ 31 * (2 ^ 32 - 2 ^ 11) + word / 2 ^ 20 % 2 ^ 11))
+  loads o = by_test word (word / 2 ^ 12 % 2 ^ 3) 0 _ _ (λ f. this word _ (i_type 3 0 _ _ _ word h o f refl refl refl)) (by_test word (word / 2 ^ 12 % 2 ^ 3) 1 _ _ (λ f. this word _ (i_type 3 1 _ _ _ word h o f refl refl refl)) (by_test word (word / 2 ^ 12 % 2 ^ 3) 2 _ _ (λ f. this word _ (i_type 3 2 _ _ _ word h o f refl refl refl)) (by_test word (word / 2 ^ 12 % 2 ^ 3) 4 _ _ (λ f. this word _ (i_type 3 4 _ _ _ word h o f refl refl refl)) (by_test word (word / 2 ^ 12 % 2 ^ 3) 5 _ _ (λ f. this word _ (i_type 3 5 _ _ _ word h o f refl refl refl)) (nothing word)))))
+
+  stores : word % 2 ^ 7 ≡ 35 → Sound word (store_by (word / 2 ^ 12 % 2 ^ 3) (word / 2 ^ 15 % 2 ^ 5) (word / 2 ^ 20 % 2 ^ 5) (word / 2 ^ 31 * (2 ^ 32 - 2 ^ 11) + word / 2 ^ 25 % 2 ^ 6 * 2 ^ 5 + word / 2 ^ 7 % 2 ^ 5))
+  stores o = by_test word (word / 2 ^ 12 % 2 ^ 3) 0 _ _ (λ f. this word _ (s_type 35 0 _ _ _ word h o f refl refl refl)) (by_test word (word / 2 ^ 12 % 2 ^ 3) 1 _ _ (λ f. this word _ (s_type 35 1 _ _ _ word h o f refl refl refl)) (by_test word (word / 2 ^ 12 % 2 ^ 3) 2 _ _ (λ f. this word _ (s_type 35 2 _ _ _ word h o f refl refl refl)) (nothing word)))
+
+  jumps : word % 2 ^ 7 ≡ 103 → Sound word (jalr_by (word / 2 ^ 12 % 2 ^ 3) (word / 2 ^ 7 % 2 ^ 5) (word / 2 ^ 15 % 2 ^ 5) (word / 2 ^ 31 * (2 ^ 32 - 2 ^ 11) + word / 2 ^ 20 % 2 ^ 11))
+  jumps o = by_test word (word / 2 ^ 12 % 2 ^ 3) 0 _ _ (λ f. this word _ (i_type 103 0 _ _ _ word h o f refl refl refl)) (nothing word)
+
+  immediates : word % 2 ^ 7 ≡ 19 → Sound word (immediate_by (word / 2 ^ 12 % 2 ^ 3) (word / 2 ^ 25) (word / 2 ^ 7 % 2 ^ 5) (word / 2 ^ 15 % 2 ^ 5) (word / 2 ^ 31 * (2 ^ 32 - 2 ^ 11) + word / 2 ^ 20 % 2 ^ 11) (word / 2 ^ 20 % 2 ^ 5))
+  immediates o = by_test word (word / 2 ^ 12 % 2 ^ 3) 0 _ _ (λ f. this word _ (i_type 19 0 _ _ _ word h o f refl refl refl)) (by_test word (word / 2 ^ 12 % 2 ^ 3) 2 _ _ (λ f. this word _ (i_type 19 2 _ _ _ word h o f refl refl refl)) (by_test word (word / 2 ^ 12 % 2 ^ 3) 3 _ _ (λ f. this word _ (i_type 19 3 _ _ _ word h o f refl refl refl)) (by_test word (word / 2 ^ 12 % 2 ^ 3) 4 _ _ (λ f. this word _ (i_type 19 4 _ _ _ word h o f refl refl refl)) (by_test word (word / 2 ^ 12 % 2 ^ 3) 6 _ _ (λ f. this word _ (i_type 19 6 _ _ _ word h o f refl refl refl)) (by_test word (word / 2 ^ 12 % 2 ^ 3) 7 _ _ (λ f. this word _ (i_type 19 7 _ _ _ word h o f refl refl refl)) (by_test word (word / 2 ^ 12 % 2 ^ 3) 1 _ _ (λ f. by_test word (word / 2 ^ 25) 0 _ _ (λ g. this word _ (r_type 19 1 0 _ _ _ word o f g refl refl refl)) (nothing word)) (by_test word (word / 2 ^ 12 % 2 ^ 3) 5 _ _ (λ f. by_test word (word / 2 ^ 25) 0 _ _ (λ g. this word _ (r_type 19 5 0 _ _ _ word o f g refl refl refl)) (by_test word (word / 2 ^ 25) 32 _ _ (λ g. this word _ (r_type 19 5 32 _ _ _ word o f g refl refl refl)) (nothing word))) (nothing word))))))))
+
+  registers : word % 2 ^ 7 ≡ 51 → Sound word (register_by (word / 2 ^ 12 % 2 ^ 3) (word / 2 ^ 25) (word / 2 ^ 7 % 2 ^ 5) (word / 2 ^ 15 % 2 ^ 5) (word / 2 ^ 20 % 2 ^ 5))
+  registers o = by_test word (word / 2 ^ 25) 0 _ _ (λ g. by_test word (word / 2 ^ 12 % 2 ^ 3) 0 _ _ (λ f. this word _ (r_type 51 0 0 _ _ _ word o f g refl refl refl)) (by_test word (word / 2 ^ 12 % 2 ^ 3) 1 _ _ (λ f. this word _ (r_type 51 1 0 _ _ _ word o f g refl refl refl)) (by_test word (word / 2 ^ 12 % 2 ^ 3) 2 _ _ (λ f. this word _ (r_type 51 2 0 _ _ _ word o f g refl refl refl)) (by_test word (word / 2 ^ 12 % 2 ^ 3) 3 _ _ (λ f. this word _ (r_type 51 3 0 _ _ _ word o f g refl refl refl)) (by_test word (word / 2 ^ 12 % 2 ^ 3) 4 _ _ (λ f. this word _ (r_type 51 4 0 _ _ _ word o f g refl refl refl)) (by_test word (word / 2 ^ 12 % 2 ^ 3) 5 _ _ (λ f. this word _ (r_type 51 5 0 _ _ _ word o f g refl refl refl)) (by_test word (word / 2 ^ 12 % 2 ^ 3) 6 _ _ (λ f. this word _ (r_type 51 6 0 _ _ _ word o f g refl refl refl)) (by_test word (word / 2 ^ 12 % 2 ^ 3) 7 _ _ (λ f. this word _ (r_type 51 7 0 _ _ _ word o f g refl refl refl)) (nothing word))))))))) (by_test word (word / 2 ^ 25) 32 _ _ (λ g. by_test word (word / 2 ^ 12 % 2 ^ 3) 0 _ _ (λ f. this word _ (r_type 51 0 32 _ _ _ word o f g refl refl refl)) (by_test word (word / 2 ^ 12 % 2 ^ 3) 5 _ _ (λ f. this word _ (r_type 51 5 32 _ _ _ word o f g refl refl refl)) (nothing word))) (nothing word))
+
+  fences : word % 2 ^ 7 ≡ 15 → Sound word (fence_by (word / 2 ^ 12 % 2 ^ 3) (word / 2 ^ 28) (word / 2 ^ 24 % 2 ^ 4) (word / 2 ^ 20 % 2 ^ 4) (word / 2 ^ 7 % 2 ^ 5) (word / 2 ^ 15 % 2 ^ 5))
+  fences o = by_test word (word / 2 ^ 12 % 2 ^ 3) 0 _ _ (λ f. this word _ (fence_type 15 0 _ _ _ _ _ word h o f refl refl refl refl refl)) (nothing word)
+
+  systems : Sound word (system_by word)
+  systems = by_test word word 0x73 _ _ (λ e. this word Ecall e) (by_test word word 0x100073 _ _ (λ e. this word Ebreak e) (nothing word))
+
+  pub sound : Sound word (decoded word)
+  sound = by_test word (word % 2 ^ 7) 55 _ _ (λ o. this word _ (u_type 55 _ _ word h o refl refl)) (by_test word (word % 2 ^ 7) 23 _ _ (λ o. this word _ (u_type 23 _ _ word h o refl refl)) (by_test word (word % 2 ^ 7) 111 _ _ (λ o. this word _ (j_type 111 _ _ word h o refl refl)) (by_test word (word % 2 ^ 7) 103 _ _ (λ o. jumps o) (by_test word (word % 2 ^ 7) 99 _ _ (λ o. branches o) (by_test word (word % 2 ^ 7) 3 _ _ (λ o. loads o) (by_test word (word % 2 ^ 7) 35 _ _ (λ o. stores o) (by_test word (word % 2 ^ 7) 19 _ _ (λ o. immediates o) (by_test word (word % 2 ^ 7) 51 _ _ (λ o. registers o) (by_test word (word % 2 ^ 7) 15 _ _ (λ o. fences o) (by_test word (word % 2 ^ 7) 115 _ _ (λ o. systems) (nothing word)))))))))))

@@ -9,3 +9,4 @@ pub mod Texts
 pub mod Keeps
 pub mod OneMove
 pub mod Candidates
+pub mod Moving

@@ -1,7 +1,7 @@
 -- What holds of every word and of every machine. Each of these statements is the contract of a function of the
 -- module `laws`.
-use Rattle.std.specs.Prelude.{◌≡◌, ℕ, List}
-use Rattle.rv32i.specs.Encoding.{Encodes}
+use Rattle.std.specs.Prelude.{◌≡◌, ℕ, List, Option, slice_index}
+use Rattle.rv32i.specs.Encoding.{Encodes, IsDecoding}
 use Rattle.rv32i.specs.Machine.{Machine, Effect, IsMove}
 use Rattle.rv32i.specs.Texts.{IsTextOf}
 use Rattle.rv32i.specs.declared.instr.Instr.{Instr}
@@ -22,3 +22,22 @@ MoveIsDeterministic = (before : Machine) (effect other : Effect) → IsMove befo
 -- A word at an address has at most one disassembly.
 abbrev pub TextIsUnique : Type 0
 TextIsUnique = (word pc : ℕ) (text other : List ℕ) → IsTextOf word pc text → IsTextOf word pc other → text ≡ other
+
+-- A word has a decoding.
+pub record HasDecoding (word : ℕ) : Type 0 where
+  pub instr : Option Instr
+  pub is : IsDecoding word instr
+
+-- Each word has one.
+abbrev pub EachWordIsDecoded : Type 0
+EachWordIsDecoded = (word : ℕ) → HasDecoding word
+
+-- A machine has a move: what a step of it answers and leaves. The move keeps x0 at 0.
+pub record HasMove (m : Machine) : Type 0 where
+  pub effect : Effect
+  pub is : IsMove m effect
+  pub zero : slice_index m.x 0 ≡ 0 → slice_index effect.machine.x 0 ≡ 0
+
+-- Each machine has one.
+abbrev pub EachMachineMoves : Type 0
+EachMachineMoves = (m : Machine) → HasMove m

@@ -1,7 +1,7 @@
 //! What holds of every word and of every move: each law is the contract of a function that does
 //! nothing.
 
-ghost use Rattle.rv32i.specs.Laws.{EncodingIsUnique, InstructionIsUnique, MoveIsDeterministic, TextIsUnique};
+ghost use Rattle.rv32i.specs.Laws.{EachMachineMoves, EachWordIsDecoded, EncodingIsUnique, InstructionIsUnique, MoveIsDeterministic, TextIsUnique};
 
 /// A word encodes at most one instruction.
 pub fn instruction_is_unique()
@@ -18,6 +18,16 @@ pub fn encoding_is_unique()
 /// leaves.
 pub fn move_is_deterministic()
     ensures { MoveIsDeterministic }
+{}
+
+/// Each word has a decoding: an instruction, or none.
+pub fn each_word_is_decoded()
+    ensures { EachWordIsDecoded }
+{}
+
+/// Each machine has a move, and the move keeps x0 at 0.
+pub fn each_machine_moves()
+    ensures { EachMachineMoves }
 {}
 
 /// A word at an address has at most one disassembly.

@@ -11,3 +11,4 @@ pub mod Reasons
 pub mod Stopping
 pub mod Ticking
 pub mod Quiet
+pub mod Existing

@@ -45,6 +45,16 @@ TickIsDeterministic = (before after other : Debugged) (answer another : Result T
 abbrev pub EachTickAnswers : Type 0
 EachTickAnswers = (before after : Debugged) (answer : Result Tick AllocError) → IsTick before answer after → IsOk answer
 
+-- A machine has a tick: what it answers, and what it leaves.
+pub record HasTick (d : Debugged) : Type 0 where
+  pub tick : Tick
+  pub after : Debugged
+  pub is : IsTick d (Ok tick) after
+
+-- Each machine has one.
+abbrev pub EachMachineTicks : Type 0
+EachMachineTicks = (d : Debugged) → HasTick d
+
 -- a tick answers with this outcome, whatever was printed
 abbrev pub AnswersWith : Outcome → Result Tick AllocError → Type 0
 AnswersWith outcome answer = (printed : Option ℤ) × (answer ≡ Ok (record { printed = printed; outcome = outcome }))

@@ -2,7 +2,7 @@
 
 ghost use Rattle.stepping.specs.Laws.{ReturnsKeepCalls, ReturnsKeepDepth};
 ghost use Rattle.stepping.specs.Past.{LoadedRemembersNone, TicksRemember};
-ghost use Rattle.stepping.specs.RunLaws.{CountsAnew, EachTickAnswers, MovesEnd, RunsSayWhere, RunsStopThere, StopIsUnique, TickIsDeterministic, TicksSayWhere};
+ghost use Rattle.stepping.specs.RunLaws.{CountsAnew, EachMachineTicks, EachTickAnswers, MovesEnd, RunsSayWhere, RunsStopThere, StopIsUnique, TickIsDeterministic, TicksSayWhere};
 
 /// Calls that returned leave the depth as it was. Of the calls of before they leave those that were
 /// never forgotten meanwhile, and no other comes back.
@@ -24,6 +24,11 @@ pub fn run_stops_at_one_number()
     ensures unique { StopIsUnique }
     ensures end { MovesEnd }
     ensures anew { CountsAnew }
+{}
+
+/// Each machine has a tick.
+pub fn each_machine_ticks()
+    ensures { EachMachineTicks }
 {}
 
 /// A machine has one tick: it settles what the tick answers, and what it leaves.

@@ -1,0 +1,85 @@
+-- Each machine has a tick.
+use Rattle.std.proofs.Common.{◌≡◌, ℕ, Bool, true, false, Option, None, Result, Ok, Err, MatchBool, refl, sym, ap, ◌∙◌, subst}
+use Rattle.std.specs.Prelude.{is_ok}
+use Rattle.std.specs.declared.alloc.AllocError.{AllocError}
+use Rattle.image.specs.Memory.{word_at}
+use Rattle.image.specs.declared.fault.MemFault.{MemFault}
+use Rattle.rv32i.specs.Laws.{HasMove}
+use Rattle.rv32i.specs.Machine.{Effect, IsMove, Machine, machine_of}
+use Rattle.rv32i.specs.declared.hart.Hart.{Hart}
+use Rattle.rv32i.specs.declared.instr.Instr.{Instr}
+use Rattle.rv32i.specs.declared.stepped.Stepped.{Stepped}
+use Rattle.rv32i.specs.declared.stepped.Stepped.TheVariants.{Retired, Printed, Break, Exit, Trap}
+use Rattle.rv32i.proofs.Moving.{the_decoding, the_move}
+use Rattle.stepping.specs.RunLaws.{HasTick}
+use Rattle.stepping.specs.Ticks.{Debugged, IsFetched, IsTick, Moves, entry_checked, entry_tick, moved_as, settled, tick_of}
+use Rattle.stepping.specs.declared.tick.Tick.{Tick}
+use Rattle.stepping.proofs.Advancing.{move_answers}
+
+-- what it fetches
+record Fetches (m : Machine) : Type 0 where
+  instr : Option Instr
+  is : IsFetched m instr
+
+fetches : (m : Machine) → Fetches m
+fetches m = by_word (word_at m.memory m.pc) refl where
+  by_word : (word : Result ℕ MemFault) → word_at m.memory m.pc ≡ word → Fetches m
+  by_word (Ok word) e = let d = the_decoding word in record { instr = d.instr; is = rw e d.is }
+  by_word (Err fault) e = record { instr = None; is = rw e refl }
+
+-- what settles changes neither hart nor memory
+same_machine : (stepped : Stepped) (instr : Option Instr) (before middle : Debugged) (pc : ℕ) → moved_as before middle ≡ middle → moved_as before (settled stepped instr pc middle) ≡ middle
+same_machine Retired instr before middle pc e = e
+same_machine (Printed number) instr before middle pc e = e
+same_machine Break instr before middle pc e = e
+same_machine (Exit code) instr before middle pc e = e
+same_machine (Trap cause) instr before middle pc e = e
+
+abbrev effect_with : Result Stepped AllocError → Machine → Effect
+effect_with answer machine = record { answer = answer; machine = machine }
+
+-- the machine after the hart has moved
+abbrev moved_to : Debugged → Machine → Hart → Debugged
+moved_to d m hart = record d { hart = hart; memory = m.memory }
+
+not_due : (d : Debugged) (answer : Result Tick AllocError) (after : Debugged) → d.check_due ≡ false → Moves d answer after → IsTick d answer after
+not_due d answer after due h = subst (λ (b : Bool). MatchBool b ((answer ≡ Ok (entry_tick d)) × (after ≡ entry_checked d)) (Moves d answer after)) (sym due) h
+
+is_due : (d : Debugged) (answer : Result Tick AllocError) (after : Debugged) → d.check_due ≡ true → (answer ≡ Ok (entry_tick d)) × (after ≡ entry_checked d) → IsTick d answer after
+is_due d answer after due h = subst (λ (b : Bool). MatchBool b ((answer ≡ Ok (entry_tick d)) × (after ≡ entry_checked d)) (Moves d answer after)) (sym due) h
+
+moves : (d : Debugged) → d.check_due ≡ false → HasMove (machine_of d.hart d.memory) → HasTick d
+moves d due move = by_answer move.effect.answer refl (move_answers (machine_of d.hart d.memory) move.effect move.is) where
+  m : Machine
+  m = move.effect.machine
+
+  hart : Hart
+  hart = record { pc = m.pc; x = m.x; zero = move.zero d.hart.zero }
+
+  f : Fetches (machine_of d.hart d.memory)
+  f = fetches (machine_of d.hart d.memory)
+
+  by_answer : (answer : Result Stepped AllocError) → move.effect.answer ≡ answer → is_ok move.effect.answer ≡ true → HasTick d
+  by_answer (Err error) e h = absurd (cc)
+  by_answer (Ok stepped) e h =
+      let middle = moved_to d m hart in
+      let after = settled stepped f.instr d.hart.pc middle in
+      let same : moved_as d after ≡ middle = same_machine stepped f.instr d middle d.hart.pc refl in
+      record {
+        tick = tick_of stepped f.instr d.hart.pc middle;
+        after = after;
+        is = not_due d (Ok (tick_of stepped f.instr d.hart.pc middle)) after due (record {
+          instr = f.instr;
+          stepped = Ok stepped;
+          fetched = f.is;
+          moved = subst (IsMove (machine_of d.hart d.memory)) (ap (λ (a : Result Stepped AllocError). effect_with a m) e ∙ ap (λ (x : Debugged). effect_with (Ok stepped) (machine_of x.hart x.memory)) (sym same)) move.is;
+          settles = (ap (λ x. Ok (tick_of stepped f.instr d.hart.pc x)) (sym same), ap (settled stepped f.instr d.hart.pc) (sym same));
+        });
+      }
+
+by_check : (d : Debugged) (due : Bool) → d.check_due ≡ due → HasTick d
+by_check d true due = record { tick = entry_tick d; after = entry_checked d; is = is_due d (Ok (entry_tick d)) (entry_checked d) due (refl, refl) }
+by_check d false due = moves d due (the_move (machine_of d.hart d.memory))
+
+pub the_tick : (d : Debugged) → HasTick d
+the_tick d = by_check d d.check_due refl
