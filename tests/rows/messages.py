@@ -300,9 +300,9 @@ RESPONSES = [
     Row("bodies that are no message", [no_message(body) for body in (
         'null',
         '{}',
-        # a request, an event
+        # a request, and a response of another type
         '{"command":"threads","seq":1,"type":"request"}',
-        '{"event":"initialized","seq":1,"type":"event"}',
+        '{"command":"disconnect","request_seq":3,"seq":3,"success":true,"type":"request"}',
         # a body of another command, none where one belongs, one where none belongs
         response(3, "initialize", 3, THREADS_BODY),
         response(3, "threads", 3),

@@ -1,13 +1,15 @@
-//! Plays `protocol` and `replies`: bodies that are read as requests, and responses that are made, written and read.
+//! Plays `protocol` and `replies`: bodies that are read as requests, and responses and events that are made, written and read.
 #![tactic(auto)]
 
 mod arguments;
 mod bodies;
 mod errors;
+mod events;
 mod requests;
 mod responses;
 
 use errors::{error_named, refusal_named, show_error, show_refusal};
+use events::{event_of, show_event};
 use play::{Fault, Line, Player, bytes_of, called, parsed, play};
 use protocol::json::json_value;
 use protocol::{Incoming, MessageError, Text, read_request};
@@ -42,6 +44,7 @@ impl Messages {
         match arguments {
             ["write", seq] => self.write(alloc, seq, line),
             ["read", body] => self.read(alloc, body, line),
+            ["event", parts @ ..] => self.tell(alloc, parts, line),
             [command, argument] => show_call(alloc, command, argument, line),
             _ => self.make(alloc, arguments, line),
         }
@@ -50,13 +53,19 @@ impl Messages {
     /// Makes the response, and keeps it.
     fn make(&mut self, alloc: Global, arguments: &[&str], line: &mut Line) -> Result<(), Fault> {
         let response = response(alloc, arguments)?;
-        self.keep(response, line)
+        self.keep(Message::Response(response), line)
     }
 
-    /// Keeps the response, and says what it is.
-    fn keep(&mut self, response: Response, line: &mut Line) -> Result<(), Fault> {
-        let shown = show_response(line, &response);
-        self.last = Some(Message::Response(response));
+    /// Makes the event, and keeps it.
+    fn tell(&mut self, alloc: Global, parts: &[&str], line: &mut Line) -> Result<(), Fault> {
+        let event = event_of(alloc, parts)?;
+        self.keep(Message::Event(event), line)
+    }
+
+    /// Keeps the message, and says what it is.
+    fn keep(&mut self, message: Message, line: &mut Line) -> Result<(), Fault> {
+        let shown = show_message(line, &message);
+        self.last = Some(message);
         shown
     }
 
@@ -70,12 +79,19 @@ impl Messages {
     fn read(&mut self, alloc: Global, body: &str, line: &mut Line) -> Result<(), Fault> {
         let body = bytes_of(alloc, body)?;
         match read_message(alloc, &body) {
-            Ok((seq, Message::Response(response))) => {
+            Ok((seq, message)) => {
                 line.value(seq)?;
-                self.keep(response, line)
+                self.keep(message, line)
             }
             Err(error) => show_error(line, error),
         }
+    }
+}
+
+fn show_message(line: &mut Line, message: &Message) -> Result<(), Fault> {
+    match message {
+        Message::Response(response) => show_response(line, response),
+        Message::Event(event) => show_event(line, event),
     }
 }
 

@@ -106,7 +106,7 @@ pub(crate) fn text_of(alloc: Global, argument: &str) -> Result<Text, Fault> {
 }
 
 /// The text whose bytes an argument gives, or none.
-fn optional_text_of(alloc: Global, argument: &str) -> Result<Option<Text>, Fault> {
+pub(crate) fn optional_text_of(alloc: Global, argument: &str) -> Result<Option<Text>, Fault> {
     match argument {
         "none" => Ok(None),
         argument => Ok(Some(text_of(alloc, argument)?)),

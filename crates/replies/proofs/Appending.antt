@@ -1,9 +1,14 @@
 -- What was written, piece by piece.
-use Rattle.std.proofs.Common.{◌≡◌, ℕ, List, [], ◌∷◌, ◌++◌, Option, Some, None, Result, Ok, Err, OnOk, refl, sym, ap, ◌∙◌, subst, append_assoc, append-nil}
-use Rattle.json.specs.Token.{Token, begin_object, end_object, begin_array, end_array, key}
+use Rattle.std.proofs.Common.{◌≡◌, ℕ, ℤ, pos, negsuc, ◌<◌, ◌^◌, List, [], ◌∷◌, ◌++◌, Option, Some, None, Result, Ok, Err, OnOk, refl, sym, ap, ◌∙◌, subst, append_assoc, append-nil, arith}
+use Rattle.std.proofs.lemmas.Int.{ints}
+use Rattle.std.specs.Fmt.{signed_decimal}
+use mir.Syntax.{w32}
+use mir.Val.{SFits}
+use Rattle.json.specs.Token.{Token, begin_object, end_object, begin_array, end_array, key, number as digits}
 use Rattle.json.specs.Tree as tree
 use Rattle.json.specs.Written.{Written, Writes}
-use Rattle.serde_json.specs.Data.{Data, object, array, Items, no_items, item, Members, no_members, member}
+use Rattle.serde_json.specs.Data.{Data, number, unsigned, negative, object, array, Items, no_items, item, Members, no_members, member}
+use Rattle.serde_json.specs.Find.{of_integer}
 use Rattle.serde_json.specs.Written.{members_outline, items_outline}
 use Rattle.replies.specs.Forms.{member_if}
 use Rattle.replies.specs.Written.{Appends, tokens_of, members_tokens, items_tokens, IsWritten, AreWritten, ItemsWritten, MembersHaveSmallNumbers}
@@ -26,6 +31,11 @@ pub IsWritten-token : {E : Type 0} {old new : Written} {token : Token} (value : 
 IsWritten-token {E} {old} {new} {token} value is small (Ok x) h =
     record { appends = subst (Appends old new) (sym is) (record { before = h.room.0; tokens = h.ok }); small = small.0 }
 IsWritten-token value is small (Err e) h = tt
+
+-- a number, which may be below 0
+pub IsWritten-signed : {E : Type 0} {old new : Written} (z : ℤ) → SFits w32 z → (r : Result (Unit {0}) E) → Writes r old new (digits (signed_decimal z)) → OnOk r (IsWritten old new (number (of_integer z)))
+IsWritten-signed (pos n) fits r h = let small : n < 2 ^ 64 = omega (arith, ints, fits) in IsWritten-token (number (unsigned n)) refl (small, tt) r h
+IsWritten-signed (negsuc n) fits r h = let small : n < 2 ^ 63 = omega (arith, ints, fits) in IsWritten-token (number (negative (negsuc n))) refl (small, tt) r h
 
 -- ---- members
 

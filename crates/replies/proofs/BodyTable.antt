@@ -34,7 +34,7 @@ pub record IsGood (d : Data) : Type 0 where
   pub no_float : has_float d ≡ false
   pub ordered : is_ordered d ≡ true
 
-good : {n : ℕ} {A : Type 0} (form : Form A) → Lawful n form → n ≤ 100 → (x : A) → IsGood (form.value x)
+pub good : {n : ℕ} {A : Type 0} (form : Form A) → Lawful n form → n ≤ 100 → (x : A) → IsGood (form.value x)
 good {n} form h small x = let most : depth (form.value x) ≤ n = h.shallow x in record { shallow = omega (arith, most, small); no_float = h.no_float x; ordered = h.ordered x }
 
 pub IsGood-body_data : (body : ResponseBody) → IfSome (body_data body) IsGood

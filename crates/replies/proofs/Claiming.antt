@@ -1,20 +1,27 @@
 -- A value that is a message claims to be that one, and what a value claims to be is in order.
-use Rattle.std.proofs.Common.{◌≡◌, ℕ, ◌^◌, ◌<◌, ◌&&◌, List, Bool, true, false, cond, nat_lt, Option, Some, None, is_some, option_map, option_and_then, IfSome, codes, refl, ap, arith, lt-ltb, ltb-true}
+use Rattle.std.proofs.Common.{◌≡◌, ℕ, ◌^◌, ◌<◌, ◌&&◌, List, Bool, true, false, cond, nat_lt, Option, Some, None, is_some, option_map, option_and_then, IfSome, bytes_eq, codes, refl, ap, arith, lt-ltb, ltb-true}
 use Rattle.std.proofs.lemmas.Bool.{and_parts}
 use Rattle.serde_json.specs.Data.{Data, object}
+use Rattle.serde_json.specs.Find.{get}
+use Rattle.protocol.specs.Properties.{◌>>=◌}
 use Rattle.protocol.specs.Refusals.{has_text, the_refusal_of_its_number}
 use Rattle.protocol.specs.declared.refusal.Refusal.{Refusal}
 use Rattle.replies.specs.declared.message.Message.{Message}
-use Rattle.replies.specs.declared.message.Message.TheVariants.{Response}
+use Rattle.replies.specs.declared.message.Message.TheVariants.{Response, Event}
+use Rattle.replies.specs.declared.event.Event as event
+use Rattle.replies.specs.declared.response.Response as response
 use Rattle.replies.specs.declared.response.Outcome.{Outcome}
 use Rattle.replies.specs.declared.response.Outcome.TheVariants.{Done, Refused}
 use Rattle.replies.specs.declared.response.ResponseBody.{ResponseBody}
 use Rattle.replies.specs.Messages.{message_data, IsNumber, IsProper}
-use Rattle.replies.specs.Forms.{member_if}
+use Rattle.replies.specs.Forms.{member_if, whole, is_word}
 use Rattle.replies.specs.Bodies.{IsBodyOf, body_data, body_in, has_numbers}
 use Rattle.replies.specs.Responses.{shared_members, outcome_data, IsOutcomeOf, IsProperResponse}
+use Rattle.replies.specs.Events.{IsProperEvent, event_body, event_name}
 use Rattle.replies.proofs.BodyTable.{body_in-done, body_in-proper}
-use Rattle.replies.specs.Claims.{kept_if, number_at, text_at, truth_at, seq_in, request_seq_in, own_text, refusal_in, refused_in, error_in, outcome_in, response_in, claim_in}
+use Rattle.replies.proofs.EventTable.{event_named-event_data, event_named-proper, with_body}
+use Rattle.replies.proofs.Lawful.{lawful_whole, then_is}
+use Rattle.replies.specs.Claims.{kept_if, number_at, text_at, truth_at, seq_in, own_text, refusal_in, refused_in, error_in, outcome_in, response_in, event_in, message_of, claim_in}
 
 -- ---- a value that is a message
 
@@ -33,13 +40,13 @@ seq_in-outcome_data : (seq request_seq : ℕ) (command : List ℕ) (outcome : Ou
 seq_in-outcome_data seq request_seq command (Done body) h = seq_in-done seq request_seq command (body_data body) h
 seq_in-outcome_data seq request_seq command (Refused refusal text) h = kept_seq seq h
 
-request_seq_in-done : (seq request_seq : ℕ) (command : List ℕ) (body : Option Data) → request_seq < 2 ^ 32 → request_seq_in (done_data seq request_seq command body) ≡ Some request_seq
-request_seq_in-done seq request_seq command None h = rw (lt-ltb _ _ h) refl
-request_seq_in-done seq request_seq command (Some body) h = rw (lt-ltb _ _ h) refl
+request_seq-done : (seq request_seq : ℕ) (command : List ℕ) (body : Option Data) → request_seq < 2 ^ 32 → (get (codes "request_seq") (done_data seq request_seq command body) >>= whole.found) ≡ Some request_seq
+request_seq-done seq request_seq command None h = rw (lt-ltb _ _ h) refl
+request_seq-done seq request_seq command (Some body) h = rw (lt-ltb _ _ h) refl
 
-request_seq_in-outcome_data : (seq request_seq : ℕ) (command : List ℕ) (outcome : Outcome) → request_seq < 2 ^ 32 → request_seq_in (outcome_data seq request_seq command outcome) ≡ Some request_seq
-request_seq_in-outcome_data seq request_seq command (Done body) h = request_seq_in-done seq request_seq command (body_data body) h
-request_seq_in-outcome_data seq request_seq command (Refused refusal text) h = rw (lt-ltb _ _ h) refl
+request_seq-outcome_data : (seq request_seq : ℕ) (command : List ℕ) (outcome : Outcome) → request_seq < 2 ^ 32 → (get (codes "request_seq") (outcome_data seq request_seq command outcome) >>= whole.found) ≡ Some request_seq
+request_seq-outcome_data seq request_seq command (Done body) h = request_seq-done seq request_seq command (body_data body) h
+request_seq-outcome_data seq request_seq command (Refused refusal text) h = rw (lt-ltb _ _ h) refl
 
 command_in-done : (seq request_seq : ℕ) (command : List ℕ) (body : Option Data) → text_at (codes "command") (done_data seq request_seq command body) ≡ Some command
 command_in-done seq request_seq command None = refl
@@ -52,6 +59,14 @@ command_in-outcome_data seq request_seq command (Refused refusal text) = refl
 success_in-done : (seq request_seq : ℕ) (command : List ℕ) (body : Option Data) → truth_at (codes "success") (done_data seq request_seq command body) ≡ Some true
 success_in-done seq request_seq command None = refl
 success_in-done seq request_seq command (Some body) = refl
+
+type_in-done : (seq request_seq : ℕ) (command : List ℕ) (body : Option Data) → text_at (codes "type") (done_data seq request_seq command body) ≡ Some (codes "response")
+type_in-done seq request_seq command None = refl
+type_in-done seq request_seq command (Some body) = refl
+
+type_in-outcome_data : (seq request_seq : ℕ) (command : List ℕ) (outcome : Outcome) → text_at (codes "type") (outcome_data seq request_seq command outcome) ≡ Some (codes "response")
+type_in-outcome_data seq request_seq command (Done body) = type_in-done seq request_seq command (body_data body)
+type_in-outcome_data seq request_seq command (Refused refusal text) = refl
 
 -- whether a request with this outcome succeeded
 abbrev succeeded : Outcome → Bool
@@ -73,15 +88,35 @@ outcome_in-outcome_data seq request_seq command (Done body) h = ap (option_map D
 outcome_in-outcome_data seq request_seq command (Refused refusal text) h =
     rw (the_refusal_of_its_number refusal, own_text-error_data seq request_seq command refusal text (has_text refusal) h) refl
 
+seq_in-with_body : (seq : ℕ) (name : List ℕ) (body : Option Data) → IsNumber seq → seq_in (with_body seq name body) ≡ Some seq
+seq_in-with_body seq name None h = kept_seq seq h
+seq_in-with_body seq name (Some body) h = kept_seq seq h
+
+type_in-with_body : (seq : ℕ) (name : List ℕ) (body : Option Data) → text_at (codes "type") (with_body seq name body) ≡ Some (codes "event")
+type_in-with_body seq name None = refl
+type_in-with_body seq name (Some body) = refl
+
+name_in-with_body : (seq : ℕ) (name : List ℕ) (body : Option Data) → text_at (codes "event") (with_body seq name body) ≡ Some name
+name_in-with_body seq name None = refl
+name_in-with_body seq name (Some body) = refl
+
 -- it claims to be that message
 pub claim_in-message_data : (seq : ℕ) (message : Message) → IsNumber seq → IsProper message → claim_in (message_data seq message) ≡ Some (seq, message)
 claim_in-message_data seq (Response r) h proper =
     rw (
       seq_in-outcome_data seq r.request_seq r.command r.outcome h,
-      request_seq_in-outcome_data seq r.request_seq r.command r.outcome proper.0,
+      type_in-outcome_data seq r.request_seq r.command r.outcome,
+      request_seq-outcome_data seq r.request_seq r.command r.outcome proper.0,
       command_in-outcome_data seq r.request_seq r.command r.outcome,
       success_in-outcome_data seq r.request_seq r.command r.outcome,
       outcome_in-outcome_data seq r.request_seq r.command r.outcome proper.1,
+    ) refl
+claim_in-message_data seq (Event e) h proper =
+    rw (
+      seq_in-with_body seq (event_name e) (event_body e) h,
+      type_in-with_body seq (event_name e) (event_body e),
+      name_in-with_body seq (event_name e) (event_body e),
+      event_named-event_data seq e proper,
     ) refl
 
 -- ---- what any value claims to be
@@ -105,8 +140,8 @@ IfSome-kept_if P test (Some a) h = if_keeps (λ o. IfSome o P) (test a) (Some a)
 IsNumber-seq_in : (value : Data) → IfSome (seq_in value) IsNumber
 IsNumber-seq_in value = IfSome-kept_if IsNumber _ (number_at (codes "seq") value) (λ n e. let p = and_parts _ _ e in (ltb-true _ _ p.0, ltb-true _ _ p.1))
 
-small-request_seq_in : (value : Data) → IfSome (request_seq_in value) (λ n. n < 2 ^ 32)
-small-request_seq_in value = IfSome-kept_if (λ n. n < 2 ^ 32) _ (number_at (codes "request_seq") value) (λ n e. ltb-true _ _ e)
+small-request_seq : (value : Data) → IfSome (get (codes "request_seq") value >>= whole.found) (λ n. is_word n ≡ true)
+small-request_seq value = then_is _ (get (codes "request_seq") value) whole.found (lawful_whole {n = 0}).kept
 
 done : (command : List ℕ) (o : Option ResponseBody) → IfSome o (λ body. IsBodyOf command body × (has_numbers body ≡ true)) → IfSome (option_map Done o) (IsOutcomeOf command)
 done command None h = tt
@@ -119,13 +154,13 @@ own true value = some (option_and_then (text_at (codes "format")) (error_in valu
   some (Some s) = refl
 own false value = refl
 
-told : (command : List ℕ) (refusal : Refusal) (o : Option (Option (List ℕ))) → IfSome o (λ text. is_some text ≡ has_text refusal) → IfSome (option_map (λ text. Refused refusal text) o) (IsOutcomeOf command)
-told command refusal None h = tt
-told command refusal (Some text) h = h
+with_text : (command : List ℕ) (refusal : Refusal) (o : Option (Option (List ℕ))) → IfSome o (λ text. is_some text ≡ has_text refusal) → IfSome (option_map (λ text. Refused refusal text) o) (IsOutcomeOf command)
+with_text command refusal None h = tt
+with_text command refusal (Some text) h = h
 
 refused : (command : List ℕ) (value : Data) → IfSome (refused_in value) (IsOutcomeOf command)
 refused command value =
-    IfSome-and_then _ _ _ (refusal_in value) (any _) (λ refusal _. told command refusal (own_text (has_text refusal) value) (own (has_text refusal) value))
+    IfSome-and_then _ _ _ (refusal_in value) (any _) (λ refusal _. with_text command refusal (own_text (has_text refusal) value) (own (has_text refusal) value))
 
 IsOutcomeOf-outcome_in : (command : List ℕ) (value : Data) (success : Bool) → IfSome (outcome_in command value success) (IsOutcomeOf command)
 IsOutcomeOf-outcome_in command value true = done command (body_in command value) (body_in-proper command value)
@@ -133,14 +168,29 @@ IsOutcomeOf-outcome_in command value false = refused command value
 
 IsProperResponse-response_in : (value : Data) → IfSome (response_in value) IsProperResponse
 IsProperResponse-response_in value =
-    IfSome-and_then _ _ _ (request_seq_in value) (small-request_seq_in value) (λ request_seq small.
+    IfSome-and_then _ _ _ (get (codes "request_seq") value >>= whole.found) (small-request_seq value) (λ request_seq small.
     IfSome-and_then _ _ _ (text_at (codes "command") value) (any _) (λ command _.
     IfSome-and_then _ _ _ (truth_at (codes "success") value) (any _) (λ success _.
-    IfSome-and_then _ _ _ (outcome_in command value success) (IsOutcomeOf-outcome_in command value success) (λ outcome fits. (small, fits)))))
+    IfSome-and_then _ _ _ (outcome_in command value success) (IsOutcomeOf-outcome_in command value success) (λ outcome fits. (ltb-true _ _ small, fits)))))
+
+IsProperEvent-event_in : (value : Data) → IfSome (event_in value) IsProperEvent
+IsProperEvent-event_in value = IfSome-and_then _ _ _ (text_at (codes "event") value) (any _) (λ name _. event_named-proper name value)
+
+IsProper-message_of : (kind : List ℕ) (value : Data) → IfSome (message_of kind value) IsProper
+IsProper-message_of kind value = if_keeps (λ o. IfSome o IsProper) (bytes_eq kind (codes "response")) _ _ (λ _. answer (response_in value) (IsProperResponse-response_in value)) (if_keeps (λ o. IfSome o IsProper) (bytes_eq kind (codes "event")) _ _ (λ _. tell (event_in value) (IsProperEvent-event_in value)) tt) where
+  answer : (o : Option response.Response) → IfSome o IsProperResponse → IfSome (option_map Response o) IsProper
+  answer None h = tt
+  answer (Some r) h = h
+
+  tell : (o : Option event.Event) → IfSome o IsProperEvent → IfSome (option_map Event o) IsProper
+  tell None h = tt
+  tell (Some e) h = h
 
 InOrder-claim_in : (value : Data) → IfSome (claim_in value) (λ found. IsNumber found.0 × IsProper found.1)
 InOrder-claim_in value =
-    IfSome-and_then _ _ _ (seq_in value) (IsNumber-seq_in value) (λ seq number. IfSome-and_then _ _ _ (response_in value) (IsProperResponse-response_in value) (λ response proper. (number, proper)))
+    IfSome-and_then _ _ _ (seq_in value) (IsNumber-seq_in value) (λ seq number.
+    IfSome-and_then _ _ _ (text_at (codes "type") value) (any _) (λ kind _.
+    IfSome-and_then IsProper _ _ (message_of kind value) (IsProper-message_of kind value) (λ message proper. (number, proper))))
 
 -- it is in order
 pub claim_in-proper : (value : Data) (seq : ℕ) (message : Message) → claim_in value ≡ Some (seq, message) → IsNumber seq × IsProper message

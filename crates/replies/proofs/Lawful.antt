@@ -1,17 +1,18 @@
 -- What is written in a form is taken for what it was, and is plain JSON.
-use Rattle.std.proofs.Common.{◌≡◌, ℕ, ◌^◌, ◌<◌, ◌≤◌, ◌&&◌, suc, List, [], ◌∷◌, ◌++◌, Bool, true, false, Option, Some, None, IfSome, ◌⊎◌, inl, inr, option_and_then, option_map, Ordering, Less, Equal, Greater, refl, sym, ap, ◌∙◌, arith, ltb-true}
+use Rattle.std.proofs.Common.{◌≡◌, ℕ, ℤ, pos, negsuc, neg_ℤ, int_le, ◌^◌, ◌<◌, ◌≤◌, ◌&&◌, suc, nat_lt, List, [], ◌∷◌, ◌++◌, Bool, true, false, Option, Some, None, IfSome, ◌⊎◌, inl, inr, option_and_then, option_map, Ordering, Less, Equal, Greater, refl, sym, ap, ◌∙◌, arith, lt-ltb, ltb-true}
 use Rattle.std.specs.Prelude.{if◌then◌else◌}
 use Rattle.std.proofs.lemmas.Bool.{and_parts}
+use Rattle.std.proofs.lemmas.Bool.Decides.{nat_tests}
 use Rattle.std.specs.List.{list_all}
 use Rattle.std.specs.Cmp.Lexicographic.{slice_cmp}
 use Rattle.std.specs.Ordering.{nat_cmp, is_lt, match_ordering, ordering_reverse}
 use Rattle.std.proofs.lemmas.Cmp.{nat_list_cmp_total}
 use Rattle.json.proofs.Printed.Utf8.{are_ascii, IsUtf8-are_ascii}
-use Rattle.serde_json.specs.Data.{Data, object, Items, no_items, item, Members, no_members, member, depth, items_depth, members_depth}
-use Rattle.serde_json.specs.Find.{get, get_member, as_array, as_number, as_u64}
-use Rattle.protocol.specs.Properties.{◌>>=◌}
+use Rattle.serde_json.specs.Data.{Data, number, object, Items, no_items, item, Members, no_members, member, depth, items_depth, members_depth}
+use Rattle.serde_json.specs.Find.{get, get_member, as_array, as_number, as_i64, as_u64, of_integer}
+use Rattle.protocol.specs.Properties.{◌>>=◌, integer, within_i32}
 use Rattle.serde_json.specs.Written.{has_float, items_have_float, members_have_float}
-use Rattle.replies.specs.Forms.{Form, Fields, whole, truth, text, list, none, field, fixed, optional, object_of, either, left_or_right, members_either, is_in_either, texts_either, made_of, all_found, items_of, texts_of, member_if, found_if, is_in_if, texts_if, AreTexts, is_word, within_word}
+use Rattle.replies.specs.Forms.{Form, Fields, whole, signed, is_signed_word, truth, text, first_named, one_of, list, none, field, fixed, optional, unless_empty, if_any, found_or_empty, object_of, either, left_or_right, members_either, is_in_either, texts_either, made_of, all_found, items_of, texts_of, member_if, found_if, is_in_if, texts_if, AreTexts, is_word, within_word}
 use Rattle.replies.specs.Laws.{begins_above, is_ordered, are_items_ordered, are_members_ordered}
 use Rattle.replies.proofs.Texts.{IsPlain, AreItemsPlain, AreMembersPlain}
 
@@ -49,6 +50,34 @@ lawful_whole {n} = record {
   plain = λ x h _. let small : x < 2 ^ 32 = ltb-true _ _ h in omega (arith, small);
 }
 
+small_signed : (n : ℕ) → is_signed_word (pos n) ≡ true → n < 2 ^ 31
+small_signed n h = let p = and_parts (int_le (neg_ℤ (pos 2147483648)) (pos n)) _ h in grind (arith, nat_tests)
+
+small_negative : (n : ℕ) → is_signed_word (negsuc n) ≡ true → n < 2 ^ 31
+small_negative n h = let p = and_parts (int_le (neg_ℤ (pos 2147483648)) (negsuc n)) _ h in grind (arith, nat_tests)
+
+back_signed : (z : ℤ) → is_signed_word z ≡ true → integer (number (of_integer z)) ≡ Some z
+back_signed (pos n) h = let small = small_signed n h in let less : nat_lt n (2 ^ 63) ≡ true = lt-ltb _ _ (omega (arith, small)) in rw (less, h) refl
+back_signed (negsuc n) h = rw h refl
+
+no_float_signed : (z : ℤ) → has_float (number (of_integer z)) ≡ false
+no_float_signed (pos n) = refl
+no_float_signed (negsuc n) = refl
+
+plain_signed : (z : ℤ) → is_signed_word z ≡ true → IsPlain (number (of_integer z))
+plain_signed (pos n) h = let small = small_signed n h in omega (arith, small)
+plain_signed (negsuc n) h = let small = small_negative n h in omega (arith, small)
+
+pub lawful_signed : {n : ℕ} → Lawful n signed
+lawful_signed {n} = record {
+  back = back_signed;
+  kept = λ d. then_is _ (as_number d >>= as_i64) within_i32 (λ z. if_is (is_signed_word z) z _ (λ h. h));
+  shallow = λ z. omega arith;
+  no_float = no_float_signed;
+  ordered = λ z. refl;
+  plain = λ z h _. plain_signed z h;
+}
+
 pub lawful_truth : {n : ℕ} → Lawful n truth
 lawful_truth {n} = record {
   back = λ x h. refl;
@@ -67,6 +96,16 @@ lawful_text {n} = record {
   no_float = λ x. refl;
   ordered = λ x. refl;
   plain = λ x h t. t.0;
+}
+
+pub lawful_one_of : {n : ℕ} {A : Type 0} (name_of : A → List ℕ) (xs : List A) → ((x : A) → first_named name_of xs (name_of x) ≡ Some x) → ((x : A) → are_ascii (name_of x) ≡ true) → Lawful n (one_of name_of xs)
+lawful_one_of {n} name_of xs again ascii = record {
+  back = λ x h. again x;
+  kept = λ d. any ((one_of name_of xs).found d);
+  shallow = λ x. omega arith;
+  no_float = λ x. refl;
+  ordered = λ x. refl;
+  plain = λ x h t. IsUtf8-are_ascii (name_of x) (ascii x);
 }
 
 -- ---- lists
@@ -325,6 +364,45 @@ lawful_optional {n} {A} {B} {form} {rest} {name} first ascii h k = record {
       let p = and_parts (is_in_if form.is_in x.0) (rest.is_in x.1) e in
       let q = texts_parts (texts_if form.texts x.0) (rest.texts x.1) t in
       plain_if form name ascii h x.0 (rest.members x.1) p.0 q.0 (k.plain x.1 p.1 q.1);
+}
+
+-- a member that is a list, and absent where that is empty, and then others
+back_unless_empty : {n : ℕ} {A B : Type 0} (form : Form A) (rest : Fields B) (name : List ℕ) → is_first name rest.names ≡ true → Lawful n (list form) → LawfulFields n rest → (xs : List A) (ys : B) (before : Members) → (unless_empty name form rest).is_in (xs, ys) ≡ true
+    → AreNew (name ∷ rest.names) before → (unless_empty name form rest).found (object (joined before ((unless_empty name form rest).members (xs, ys)))) ≡ Some (xs, ys)
+back_unless_empty form rest name first h k [] ys before e new =
+    let gone : get_member name (joined before (rest.members ys)) ≡ None = get-joined name before (rest.members ys) new.0 ∙ k.absent name ys first in
+    rw (gone, k.back ys before e new.1) refl
+back_unless_empty form rest name first h k (x ∷ xs) ys before e new =
+    let p = and_parts ((list form).is_in (x ∷ xs)) (rest.is_in ys) e in
+    let value = (list form).value (x ∷ xs) in
+    let here : get_member name (joined before (member name value (rest.members ys))) ≡ Some value = get-joined name before _ new.0 ∙ get_itself name value (rest.members ys) in
+    let later : rest.found (object (joined before (member name value (rest.members ys)))) ≡ Some ys =
+    ap (λ ms. rest.found (object ms)) (sym (joined-joined before name value (rest.members ys)))
+    ∙ k.back ys (joined before (member name value no_members)) p.1 (AreNew-joined name value rest.names before first new.1) in
+    rw (here, h.back (x ∷ xs) p.0, later) refl
+
+kept_or_empty : {n : ℕ} {A : Type 0} (form : Form A) → Lawful n (list form) → (o : Option Data) → IfSome (found_or_empty (list form).found o) (λ xs. (list form).is_in xs ≡ true)
+kept_or_empty form h None = refl
+kept_or_empty form h (Some d) = h.kept d
+
+plain_unless_empty : {n : ℕ} {A : Type 0} (form : Form A) (name : List ℕ) → are_ascii name ≡ true → Lawful n (list form) → (xs : List A) (ms : Members) → (list form).is_in xs ≡ true → AreTexts ((list form).texts xs) → AreMembersPlain ms
+    → AreMembersPlain (member_if name (list form).value (if_any xs) ms)
+plain_unless_empty form name ascii h [] ms e t k = k
+plain_unless_empty form name ascii h (x ∷ xs) ms e t k = (IsUtf8-are_ascii name ascii, h.plain (x ∷ xs) e t, k)
+
+pub lawful_unless_empty : {n : ℕ} {A B : Type 0} (form : Form A) {rest : Fields B} {name : List ℕ} → is_first name rest.names ≡ true → are_ascii name ≡ true → Lawful n (list form) → LawfulFields n rest → LawfulFields n (unless_empty name form rest)
+lawful_unless_empty {n} {A} {B} form {rest} {name} first ascii h k = record {
+  back = λ x before e new. back_unless_empty form rest name first h k x.0 x.1 before e new;
+  absent = λ l x e. let f = first_parts l name rest.names e in absent_if l name (list form).value (if_any x.0) (rest.members x.1) f.next ∙ k.absent l x.1 f.rest;
+  kept = λ d. both (list form).is_in rest.is_in (found_or_empty (list form).found (get name d)) (rest.found d) (kept_or_empty form h (get name d)) (k.kept d);
+  shallow = λ x. shallow_if (list form) name h (if_any x.0) (rest.members x.1) (k.shallow x.1);
+  no_float = λ x. no_float_if (list form) name h (if_any x.0) (rest.members x.1) (k.no_float x.1);
+  above = λ l x e. let f = first_parts l name rest.names e in above_if l name (list form).value (if_any x.0) (rest.members x.1) f.less (k.above l x.1 f.rest);
+  ordered = λ x. ordered_if (list form) name h (if_any x.0) (rest.members x.1) (k.above name x.1 first) (k.ordered x.1);
+  plain = λ x e t.
+      let p = and_parts ((list form).is_in x.0) (rest.is_in x.1) e in
+      let q = texts_parts ((list form).texts x.0) (rest.texts x.1) t in
+      plain_unless_empty form name ascii h x.0 (rest.members x.1) p.0 q.0 (k.plain x.1 p.1 q.1);
 }
 
 -- the object of these members

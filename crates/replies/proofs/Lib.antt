@@ -12,3 +12,5 @@ pub mod Simple
 pub mod Addresses
 pub mod LawfulBodies
 pub mod BodyTable
+pub mod LawfulEvents
+pub mod EventTable

@@ -6,7 +6,7 @@ use Rattle.serde_json.specs.Read.{max_depth}
 use Rattle.serde_json.specs.Written.{has_float}
 use Rattle.protocol.specs.declared.refusal.Refusal.{Refusal}
 use Rattle.replies.specs.declared.message.Message.{Message}
-use Rattle.replies.specs.declared.message.Message.TheVariants.{Response}
+use Rattle.replies.specs.declared.message.Message.TheVariants.{Response, Event}
 use Rattle.replies.specs.declared.response.Outcome.{Outcome}
 use Rattle.replies.specs.declared.response.Outcome.TheVariants.{Done, Refused}
 use Rattle.replies.specs.Laws.{is_ordered, HasOutcomeTexts, HasTexts}
@@ -15,7 +15,9 @@ use Rattle.replies.specs.Messages.{message_data, text_of, IsNumber, IsProper}
 use Rattle.replies.specs.Bodies.{body_data}
 use Rattle.replies.specs.Forms.{member_if}
 use Rattle.replies.specs.Responses.{shared_members, format_of, outcome_data, IsOutcomeOf}
+use Rattle.replies.specs.Events.{event_body, event_members, event_name}
 use Rattle.replies.proofs.BodyTable.{IsGood, IsGood-body_data, IsPlain-body_data}
+use Rattle.replies.proofs.EventTable.{IsGood-event_body, IsPlain-event_body, text-event_name, with_body}
 use Rattle.replies.proofs.Refusals.{text-name_of, small-id_of}
 use Rattle.replies.proofs.Texts.{json_of-compact_text, IsPlain, AreMembersPlain}
 
@@ -33,9 +35,14 @@ depth-outcome_data : (seq request_seq : ℕ) (command : List ℕ) (outcome : Out
 depth-outcome_data seq request_seq command (Done body) = depth-done seq request_seq command (body_data body) (IsGood-body_data body)
 depth-outcome_data seq request_seq command (Refused refusal text) = omega arith
 
+depth-with_body : (seq : ℕ) (name : List ℕ) (body : Option Data) → IfSome body IsGood → depth (with_body seq name body) ≤ max_depth
+depth-with_body seq name None good = omega arith
+depth-with_body seq name (Some body) good = omega (arith, good.shallow)
+
 -- it nests no deeper than is read
 pub depth-message_data : (seq : ℕ) (message : Message) → depth (message_data seq message) ≤ max_depth
 depth-message_data seq (Response r) = depth-outcome_data seq r.request_seq r.command r.outcome
+depth-message_data seq (Event e) = depth-with_body seq (event_name e) (event_body e) (IsGood-event_body e)
 
 has_float-done : (seq request_seq : ℕ) (command : List ℕ) (body : Option Data) → IfSome body IsGood → has_float (done_data seq request_seq command body) ≡ false
 has_float-done seq request_seq command None good = refl
@@ -45,9 +52,14 @@ has_float-outcome_data : (seq request_seq : ℕ) (command : List ℕ) (outcome :
 has_float-outcome_data seq request_seq command (Done body) = has_float-done seq request_seq command (body_data body) (IsGood-body_data body)
 has_float-outcome_data seq request_seq command (Refused refusal text) = refl
 
+has_float-with_body : (seq : ℕ) (name : List ℕ) (body : Option Data) → IfSome body IsGood → has_float (with_body seq name body) ≡ false
+has_float-with_body seq name None good = refl
+has_float-with_body seq name (Some body) good = rw good.no_float refl
+
 -- it has no float
 pub has_float-message_data : (seq : ℕ) (message : Message) → has_float (message_data seq message) ≡ false
 has_float-message_data seq (Response r) = has_float-outcome_data seq r.request_seq r.command r.outcome
+has_float-message_data seq (Event e) = has_float-with_body seq (event_name e) (event_body e) (IsGood-event_body e)
 
 -- ---- order
 
@@ -59,9 +71,14 @@ is_ordered-outcome_data : (seq request_seq : ℕ) (command : List ℕ) (outcome 
 is_ordered-outcome_data seq request_seq command (Done body) = is_ordered-done seq request_seq command (body_data body) (IsGood-body_data body)
 is_ordered-outcome_data seq request_seq command (Refused refusal text) = refl
 
+is_ordered-with_body : (seq : ℕ) (name : List ℕ) (body : Option Data) → IfSome body IsGood → is_ordered (with_body seq name body) ≡ true
+is_ordered-with_body seq name None good = refl
+is_ordered-with_body seq name (Some body) good = rw good.ordered refl
+
 -- its names rise
 pub is_ordered-message_data : (seq : ℕ) (message : Message) → is_ordered (message_data seq message) ≡ true
 is_ordered-message_data seq (Response r) = is_ordered-outcome_data seq r.request_seq r.command r.outcome
+is_ordered-message_data seq (Event e) = is_ordered-with_body seq (event_name e) (event_body e) (IsGood-event_body e)
 
 -- ---- texts and numbers
 
@@ -91,9 +108,19 @@ plain_outcome seq request_seq command (Refused refusal format) proper small requ
       (rest.0, rest.1, (name (codes "message") refl, text-name_of refusal, rest.2)),
     )
 
+members_plain : (seq : ℕ) (name : List ℕ) → seq < 2 ^ 31 → IsUtf8 name → AreMembersPlain (event_members seq name)
+members_plain seq name small text =
+    let known = λ (s : List ℕ) (e : are_ascii s ≡ true). IsUtf8-are_ascii s e in
+    (known (codes "event") refl, text, (known (codes "seq") refl, omega arith, (known (codes "type") refl, known (codes "event") refl, tt)))
+
+plain_with_body : (seq : ℕ) (name : List ℕ) (body : Option Data) → IfSome body IsPlain → seq < 2 ^ 31 → IsUtf8 name → IsPlain (with_body seq name body)
+plain_with_body seq name None plain small text = members_plain seq name small text
+plain_with_body seq name (Some body) plain small text = (IsUtf8-are_ascii (codes "body") refl, plain, members_plain seq name small text)
+
 -- it is plain
 pub IsPlain-message_data : (seq : ℕ) (message : Message) → IsNumber seq → IsProper message → HasTexts message → IsPlain (message_data seq message)
 IsPlain-message_data seq (Response r) in_range proper texts = plain_outcome seq r.request_seq r.command r.outcome proper.1 in_range.1 proper.0 texts.0 texts.1
+IsPlain-message_data seq (Event e) in_range proper texts = plain_with_body seq (event_name e) (event_body e) (IsPlain-event_body e proper texts) in_range.1 (text-event_name e)
 
 -- its text has this value
 pub json_of-text_of : (seq : ℕ) (message : Message) → IsNumber seq → IsProper message → HasTexts message → json_of (text_of seq message) ≡ Some (message_data seq message)

@@ -1,10 +1,11 @@
 -- For `exact` of `read_message` and private clauses: which message a JSON value claims to be.
 --
--- Most of a message is fixed by a few members: its number, the request's number and command, whether the request
--- succeeded, and the number of the refusal where it did not. These are the ones that are looked at here. What they
--- claim may be false, as where another member is wrong or missing.
+-- Most of a message is fixed by a few members: its number and its type; of a response the request's number and
+-- command, whether the request succeeded, and the number of the refusal where it did not; of an event its name. These,
+-- and the body, are the ones that are looked at here. What they claim may be false, as where another member is wrong or
+-- missing.
 use Rattle.std.specs.Prelude.{ℕ, ◌^◌, ◌&&◌, List, Bool, true, false, nat_lt, if◌then◌else◌, Option, Some, None}
-use Rattle.std.specs.Prelude.{option_map, option_and_then, codes}
+use Rattle.std.specs.Prelude.{option_map, option_and_then, codes, bytes_eq}
 use Rattle.serde_json.specs.Data.{Data}
 use Rattle.serde_json.specs.Find.{get, as_bool, as_number, as_str, as_u64}
 use Rattle.protocol.specs.Refusals.{has_text, refusal_of}
@@ -13,9 +14,12 @@ use Rattle.replies.specs.declared.response.Response as response
 use Rattle.replies.specs.declared.response.Outcome.{Outcome}
 use Rattle.replies.specs.declared.response.Outcome.TheVariants.{Done, Refused}
 use Rattle.replies.specs.declared.message.Message.{Message}
-use Rattle.replies.specs.declared.message.Message.TheVariants.{Response}
+use Rattle.replies.specs.declared.message.Message.TheVariants.{Response, Event}
+use Rattle.replies.specs.declared.event.Event as event
 use Rattle.protocol.specs.Properties.{◌>>=◌}
 use Rattle.replies.specs.Bodies.{body_in}
+use Rattle.replies.specs.Events.{event_named}
+use Rattle.replies.specs.Forms.{whole}
 
 -- the value, if it passes the test
 abbrev pub kept_if : {A : Type 0} → (A → Bool) → Option A → Option A
@@ -36,10 +40,6 @@ truth_at name value = option_and_then as_bool (get name value)
 -- the message's number
 abbrev pub seq_in : Data → Option ℕ
 seq_in value = kept_if (λ n. nat_lt 0 n && nat_lt n (2 ^ 31)) (number_at (codes "seq") value)
-
--- the request's number
-abbrev pub request_seq_in : Data → Option ℕ
-request_seq_in value = kept_if (λ n. nat_lt n (2 ^ 32)) (number_at (codes "request_seq") value)
 
 -- what is said of a refusal
 abbrev pub error_in : Data → Option Data
@@ -68,15 +68,29 @@ outcome_in command value false = refused_in value
 -- the response that the value claims to be
 abbrev pub response_in : Data → Option response.Response
 response_in value = do
-  request_seq ← request_seq_in value
+  request_seq ← get (codes "request_seq") value >>= whole.found
   command ← text_at (codes "command") value
   success ← truth_at (codes "success") value
   outcome ← outcome_in command value success
   Some (record { request_seq = request_seq; command = command; outcome = outcome })
 
+-- the event that the value claims to be
+abbrev pub event_in : Data → Option event.Event
+event_in value = do
+  name ← text_at (codes "event") value
+  event_named name value
+
+-- the message of this type that the value claims to be
+abbrev pub message_of : List ℕ → Data → Option Message
+message_of kind value =
+    if bytes_eq kind (codes "response") then option_map Response (response_in value)
+    else if bytes_eq kind (codes "event") then option_map Event (event_in value)
+    else None
+
 -- the number and the message that the value claims to be
 abbrev pub claim_in : Data → Option (ℕ × Message)
 claim_in value = do
   seq ← seq_in value
-  response ← response_in value
-  Some (seq, Response response)
+  kind ← text_at (codes "type") value
+  message ← message_of kind value
+  Some (seq, message)

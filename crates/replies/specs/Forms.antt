@@ -3,14 +3,14 @@
 -- A form is a kind of value in messages: a whole number, an address, a frame, a list of frames. It says as which JSON
 -- value each such value is written, and which one a JSON value is taken for. What is taken for a frame need not be
 -- one: members that a frame does not have are not looked at, and neither is what stands in every frame.
-use Rattle.std.specs.Prelude.{ℕ, ◌^◌, nat_lt, ◌&&◌, Bool, true, false, List, [], ◌∷◌}
-use Rattle.std.specs.Prelude.{◌++◌, Option, Some, None, option_map, if◌then◌else◌, IsUtf8, ◌⊎◌}
+use Rattle.std.specs.Prelude.{ℕ, ℤ, pos, neg_ℤ, int_le, ◌^◌, nat_lt, ◌&&◌, Bool, true, false, List, [], ◌∷◌}
+use Rattle.std.specs.Prelude.{◌++◌, Option, Some, None, option_map, if◌then◌else◌, IsUtf8, ◌⊎◌, bytes_eq}
 use mathlib.Core.Logic.{inl, inr}
 use Rattle.std.specs.List.{list_all}
 use Rattle.serde_json.specs.Data.{Data, boolean, number, unsigned, string, array, object, Items, no_items, item}
 use Rattle.serde_json.specs.Data.{Members, no_members, member}
-use Rattle.serde_json.specs.Find.{get, as_array, as_bool, as_number, as_str, as_u64}
-use Rattle.protocol.specs.Properties.{◌>>=◌}
+use Rattle.serde_json.specs.Find.{get, as_array, as_bool, as_number, as_str, as_u64, of_integer}
+use Rattle.protocol.specs.Properties.{◌>>=◌, integer}
 
 -- a kind of value in messages
 pub record Form (A : Type 0) : Type 0 where
@@ -47,6 +47,19 @@ whole = record {
   texts = λ n. [];
 }
 
+-- whether 32 bits hold the number, one of them for its sign
+abbrev pub is_signed_word : ℤ → Bool
+is_signed_word z = int_le (neg_ℤ (pos 2147483648)) z && int_le z (pos 2147483647)
+
+-- a whole number of 32 bits, which may be below 0
+abbrev pub signed : Form ℤ
+signed = record {
+  value = λ z. number (of_integer z);
+  found = integer;
+  is_in = is_signed_word;
+  texts = λ z. [];
+}
+
 -- true or false
 abbrev pub truth : Form Bool
 truth = record {
@@ -63,6 +76,20 @@ text = record {
   found = as_str;
   is_in = λ s. true;
   texts = λ s. s ∷ [];
+}
+
+-- the first of these values that has this name
+abbrev pub first_named : {A : Type 0} → (A → List ℕ) → List A → List ℕ → Option A
+first_named name_of [] name = None
+first_named name_of (x ∷ xs) name = if bytes_eq name (name_of x) then Some x else first_named name_of xs name
+
+-- one of these values, as its name
+abbrev pub one_of : {A : Type 0} → (A → List ℕ) → List A → Form A
+one_of name_of xs = record {
+  value = λ x. string (name_of x);
+  found = λ d. as_str d >>= first_named name_of xs;
+  is_in = λ x. true;
+  texts = λ x. [];
 }
 
 -- ---- lists
@@ -161,6 +188,29 @@ optional name form rest = record {
     Some (x, xs);
   is_in = λ p. is_in_if form.is_in p.0 && rest.is_in p.1;
   texts = λ p. texts_if form.texts p.0 ++ rest.texts p.1;
+}
+
+-- a list, unless it is empty
+abbrev pub if_any : {A : Type 0} → List A → Option (List A)
+if_any [] = None
+if_any (x ∷ xs) = Some (x ∷ xs)
+
+-- what the member that is such a list is taken for
+abbrev pub found_or_empty : {A : Type 0} → (Data → Option (List A)) → Option Data → Option (List A)
+found_or_empty found None = Some []
+found_or_empty found (Some d) = found d
+
+-- a member that is a list, and absent where that is empty, before others
+abbrev pub unless_empty : {A B : Type 0} → List ℕ → Form A → Fields B → Fields (List A × B)
+unless_empty name form rest = record {
+  names = name ∷ rest.names;
+  members = λ p. member_if name (list form).value (if_any p.0) (rest.members p.1);
+  found = λ d. do
+    xs ← found_or_empty (list form).found (get name d)
+    ys ← rest.found d
+    Some (xs, ys);
+  is_in = λ p. (list form).is_in p.0 && rest.is_in p.1;
+  texts = λ p. (list form).texts p.0 ++ rest.texts p.1;
 }
 
 -- the object of these members

@@ -8,11 +8,12 @@ use Rattle.std.specs.Ordering.{nat_cmp, is_lt}
 use Rattle.serde_json.specs.Data.{Data, null, boolean, number, string, array, object, Items, no_items, item, Members}
 use Rattle.serde_json.specs.Data.{no_members, member}
 use Rattle.replies.specs.declared.message.Message.{Message}
-use Rattle.replies.specs.declared.message.Message.TheVariants.{Response}
+use Rattle.replies.specs.declared.message.Message.TheVariants.{Response, Event}
 use Rattle.replies.specs.declared.response.Outcome.{Outcome}
 use Rattle.replies.specs.declared.response.Outcome.TheVariants.{Done, Refused}
 use Rattle.protocol.specs.Json.{json_of}
 use Rattle.replies.specs.Bodies.{texts_in}
+use Rattle.replies.specs.Events.{event_texts}
 use Rattle.replies.specs.Forms.{AreTexts}
 use Rattle.replies.specs.Messages.{message_data, text_of, IsProper, IsNumber}
 use Rattle.replies.specs.Reading.{IsMessage, ReadsAs, reading_of}
@@ -27,6 +28,7 @@ HasOutcomeTexts (Refused refusal text) = IfSome text IsUtf8
 -- the texts of a message are UTF-8, as they are in each that a program holds
 abbrev pub HasTexts : Message → Type 0
 HasTexts (Response response) = IsUtf8 response.command × HasOutcomeTexts response.outcome
+HasTexts (Event event) = AreTexts (event_texts event)
 
 -- the text of a message has the JSON value of the message
 abbrev pub TextHasValue : Type 0

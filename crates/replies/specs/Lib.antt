@@ -1,10 +1,10 @@
--- What the adapter answers, as JSON and as bytes. First the two bodies that are fixed.
+-- What the adapter sends, as JSON and as bytes: responses to requests, and events.
 
 -- how the values of a message stand in JSON
 pub mod Forms
 -- addresses and values of words, as texts
 pub mod Addresses
--- ---- the bodies
+-- ---- the bodies of responses
 -- the body that answers `initialize`: the capabilities
 pub mod Initialize
 -- the body that answers `threads`: the one hart
@@ -31,6 +31,17 @@ pub mod Evaluate
 pub mod WriteMemory
 -- the table of the bodies
 pub mod Bodies
+-- ---- the bodies of events
+-- the body of `stopped`: why the machine stopped
+pub mod Stopped
+-- the body of `continued`
+pub mod Continued
+-- the body of `output`: what the program printed
+pub mod Output
+-- the body of `exited`: the program's exit code
+pub mod Exited
+-- the table of the events
+pub mod Events
 -- ---- the whole
 -- a response as a JSON value, and which responses are the adapter's
 pub mod Responses

@@ -1,8 +1,8 @@
 -- How a message of the adapter is found again in a body.
 --
--- A body is a message exactly where it has the JSON value of one, whose numbers are in their ranges and whose body is
--- of its command: spaces and the order of members do not matter, and a member more, a member less or another value
--- makes it none. No two messages have one JSON value, so there is at most one answer.
+-- A body is a message exactly where it has the JSON value of one, whose numbers are in their ranges and where a
+-- response has a body of its command: spaces and the order of members do not matter, and a member more, a member less
+-- or another value makes it none. No two messages have one JSON value, so there is at most one answer.
 --
 -- It can be found: what a value claims to be is one certain message, and the value is a message exactly where it is the
 -- value of that one.

@@ -7,7 +7,7 @@ ghost use Rattle.replies.specs.Addresses as addresses;
 ghost use Rattle.replies.specs.Forms as forms;
 
 use crate::part::Part;
-use protocol::{Text, Unread};
+use protocol::{Entries, Text, Unread};
 use serde_json::Value;
 use std::alloc::Global;
 
@@ -35,13 +35,49 @@ pub(crate) fn part_if<T: Part>(
     }
 }
 
+/// The member that is a list, which is empty where it is not there.
+pub(crate) fn unless_empty<T: Part>(
+    alloc: Global,
+    value: &Value,
+    name: &str,
+) -> Result<Entries<T>, Unread>
+    ensures { Reads result (forms.found_or_empty (forms.list T.form).found (get name.now (view value.now))) }
+{
+    match value.get(name) {
+        Some(member) => Entries::read(alloc, member),
+        None => Ok(Entries::from_vec(Vec::new(alloc))),
+    }
+}
+
 /// The member that is a whole number of 32 bits.
 pub(crate) fn number(value: &Value, name: &str) -> Result<u32, Unread>
     ensures { Reads result (option_and_then forms.whole.found (get name.now (view value.now))) }
 {
-    let number = value.get(name).and_then(Value::as_u64).ok_or(Unread::Bad)?;
+    match value.get(name) {
+        Some(member) => whole(member),
+        None => Err(Unread::Bad),
+    }
+}
+
+/// The whole number of 32 bits that a value is.
+pub(crate) fn whole(value: &Value) -> Result<u32, Unread>
+    ensures { Reads result (forms.whole.found (view value.now)) }
+{
+    let number = value.as_u64().ok_or(Unread::Bad)?;
     if number < 1 << 32 {
         Ok(number as u32)
+    } else {
+        Err(Unread::Bad)
+    }
+}
+
+/// The member that is a whole number of 32 bits, which may be below 0.
+pub(crate) fn signed(value: &Value, name: &str) -> Result<i32, Unread>
+    ensures { Reads result (option_and_then forms.signed.found (get name.now (view value.now))) }
+{
+    let number = value.get(name).and_then(Value::as_i64).ok_or(Unread::Bad)?;
+    if i64::from(i32::MIN) <= number && number <= i64::from(i32::MAX) {
+        Ok(number as i32)
     } else {
         Err(Unread::Bad)
     }
@@ -58,7 +94,17 @@ pub(crate) fn truth(value: &Value, name: &str) -> Result<bool, Unread>
 pub(crate) fn text(alloc: Global, value: &Value, name: &str) -> Result<Text, Unread>
     ensures { Reads result (option_and_then forms.text.found (get name.now (view value.now))) }
 {
-    let text = value.get(name).and_then(Value::as_str).ok_or(Unread::Bad)?;
+    match value.get(name) {
+        Some(member) => string(alloc, member),
+        None => Err(Unread::Bad),
+    }
+}
+
+/// The text that a value is.
+pub(crate) fn string(alloc: Global, value: &Value) -> Result<Text, Unread>
+    ensures { Reads result (forms.text.found (view value.now)) }
+{
+    let text = value.as_str().ok_or(Unread::Bad)?;
     Ok(Text::from_string(String::from_str(alloc, text)?))
 }
 

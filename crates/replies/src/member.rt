@@ -2,13 +2,15 @@
 //! of no more use.
 ghost use Rattle.std.specs.Prelude.{OnOk};
 ghost use Rattle.serde_json.specs.Data.{boolean, member, no_members, number, string, unsigned};
+ghost use Rattle.replies.specs.Forms as forms;
 ghost use Rattle.replies.specs.Addresses as addresses;
-ghost use Rattle.replies.specs.Forms.{member_if};
+ghost use Rattle.replies.specs.Forms.{member_if, if_any, list};
 ghost use Rattle.replies.specs.Written.{AreWritten};
 
 use crate::address;
 use crate::part::Part;
 use json::Writer;
+use protocol::Entries;
 use std::alloc::AllocError;
 
 /// A member that is a part.
@@ -33,6 +35,22 @@ pub(crate) fn part_if<T: Part>(
     }
 }
 
+/// A member that is a list, where it is not empty.
+pub(crate) fn unless_empty<T: Part>(
+    out: &mut Writer,
+    name: &str,
+    entries: &Entries<T>,
+) -> Result<(), AllocError>
+    ensures { OnOk result (AreWritten out.old out.new
+        (member_if name.now (list T.form).value (if_any entries.now) no_members)) }
+{
+    if entries.as_slice().is_empty() {
+        Ok(())
+    } else {
+        self::part(out, name, entries)
+    }
+}
+
 /// A member that is a text.
 pub(crate) fn text(out: &mut Writer, name: &str, value: &str) -> Result<(), AllocError>
     ensures { OnOk result (AreWritten out.old out.new (member name.now (string value.now) no_members)) }
@@ -45,8 +63,15 @@ pub(crate) fn text(out: &mut Writer, name: &str, value: &str) -> Result<(), Allo
 pub(crate) fn number(out: &mut Writer, name: &str, value: u32) -> Result<(), AllocError>
     ensures { OnOk result (AreWritten out.old out.new (member name.now (number (unsigned value)) no_members)) }
 {
+    self::part(out, name, &value)
+}
+
+/// A member that is a whole number, which may be below 0.
+pub(crate) fn signed(out: &mut Writer, name: &str, value: i32) -> Result<(), AllocError>
+    ensures { OnOk result (AreWritten out.old out.new (member name.now (forms.signed.value value) no_members)) }
+{
     out.key(name)?;
-    out.u64(u64::from(value))
+    out.i64(i64::from(value))
 }
 
 /// A member that is a word as a text.

@@ -1,7 +1,7 @@
-//! The names of the members of a response, each of them once. Those that requests have too are
+//! The names of the members of responses and events, each of them once. Those that requests have too are
 //! `protocol`'s.
 
-pub use protocol::members::{COMMAND, RESPONSE, SEQ, TYPE};
+pub use protocol::members::{COMMAND, EVENT, RESPONSE, SEQ, THREAD_ID, TYPE};
 
 /// The number of the request that is answered (`Response.request_seq`).
 pub const REQUEST_SEQ: &str = "request_seq";
@@ -9,7 +9,7 @@ pub const REQUEST_SEQ: &str = "request_seq";
 pub const SUCCESS: &str = "success";
 /// The name of the refusal (`Response.message`), why a breakpoint is not set (`Breakpoint.message`).
 pub const MESSAGE: &str = "message";
-/// What the answer is made of (`Response.body`).
+/// What the answer or the event is made of (`Response.body`, `Event.body`).
 pub const BODY: &str = "body";
 /// What is said of a refusal (`ErrorResponse.body.error`).
 pub const ERROR: &str = "error";
@@ -35,7 +35,7 @@ pub const SOURCE: &str = "source";
 pub const STACK_FRAMES: &str = "stackFrames";
 /// How many frames there are (`StackTraceResponse.body.totalFrames`).
 pub const TOTAL_FRAMES: &str = "totalFrames";
-/// Whether every thread goes on (`ContinueResponse.body.allThreadsContinued`).
+/// Whether every thread goes on (`ContinueResponse.body.allThreadsContinued`, `ContinuedEvent`).
 pub const ALL_THREADS_CONTINUED: &str = "allThreadsContinued";
 /// What became of breakpoints (`SetBreakpointsResponse.body.breakpoints`).
 pub const BREAKPOINTS: &str = "breakpoints";
@@ -59,3 +59,19 @@ pub const VALUE: &str = "value";
 pub const RESULT: &str = "result";
 /// How many bytes were written (`WriteMemoryResponse.body.bytesWritten`).
 pub const BYTES_WRITTEN: &str = "bytesWritten";
+/// The name of an event (`Event.event`).
+pub const EVENT_NAME: &str = "event";
+/// Whether every thread stopped (`StoppedEvent.body.allThreadsStopped`).
+pub const ALL_THREADS_STOPPED: &str = "allThreadsStopped";
+/// The breakpoints that stopped the program (`StoppedEvent.body.hitBreakpointIds`).
+pub const HIT_BREAKPOINT_IDS: &str = "hitBreakpointIds";
+/// Why the program stopped (`StoppedEvent.body.reason`).
+pub const REASON: &str = "reason";
+/// What more is to say of the reason (`StoppedEvent.body.text`).
+pub const TEXT: &str = "text";
+/// Whose output it is (`OutputEvent.body.category`).
+pub const CATEGORY: &str = "category";
+/// What was printed (`OutputEvent.body.output`).
+pub const OUTPUT: &str = "output";
+/// The program's exit code (`ExitedEvent.body.exitCode`).
+pub const EXIT_CODE: &str = "exitCode";

@@ -6,6 +6,7 @@ ghost use Rattle.protocol.specs.Json.{json_of};
 ghost use Rattle.replies.specs.Messages.{message_data, text_of, IsNumber, IsProper};
 ghost use Rattle.replies.specs.Reading.{ReadsAs, reading_of};
 
+use crate::event::Event;
 use crate::response::Response;
 use crate::{reading, writing};
 use protocol::json::json_value;
@@ -15,8 +16,10 @@ use std::alloc::{AllocError, Global};
 /// What the adapter sends (`ProtocolMessage`).
 #[derive(Drop)]
 pub enum Message {
-    /// An answer to a request.
+    /// An answer to a request (`Response`).
     Response(Response),
+    /// What no request asked for (`Event`).
+    Event(Event),
 }
 
 /// The message with this number as compact JSON in UTF-8, with no header (DAP base protocol,

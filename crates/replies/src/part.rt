@@ -3,11 +3,12 @@ ghost use Rattle.std.specs.Prelude.{OnOk};
 ghost use Rattle.protocol.specs.Arguments.{Reads};
 ghost use Rattle.serde_json.specs.Data.{array};
 ghost use Rattle.serde_json.specs.View.{view, items_view};
-ghost use Rattle.replies.specs.Forms.{Form, all_found, items_of};
+ghost use Rattle.replies.specs.Forms.{Form, all_found, items_of, whole};
 ghost use Rattle.replies.specs.Written.{IsWritten, ItemsWritten};
 
+use crate::find;
 use json::Writer;
-use protocol::{Entries, Unread};
+use protocol::{Entries, Text, Unread};
 use serde_json::Value;
 use std::alloc::{AllocError, Global};
 
@@ -23,6 +24,43 @@ pub(crate) trait Part: Drop {
     /// What the JSON value is taken for; `Bad` where it is taken for none.
     fn read(alloc: Global, value: &Value) -> Result<Self, Unread>
         ensures { Reads result (form.found (view value.now)) };
+}
+
+/// A whole number of 32 bits.
+impl Part for u32 {
+    ghost use Rattle.replies.specs.Forms.{whole};
+
+    ghost form = { whole };
+
+    fn write(&self, out: &mut Writer) -> Result<(), AllocError> {
+        number(out, *self)
+    }
+
+    fn read(_alloc: Global, value: &Value) -> Result<u32, Unread> {
+        find::whole(value)
+    }
+}
+
+/// A whole number of 32 bits, written.
+fn number(out: &mut Writer, number: u32) -> Result<(), AllocError>
+    ensures { OnOk result (IsWritten out.old out.new (whole.value number)) }
+{
+    out.u64(u64::from(number))
+}
+
+/// A text.
+impl Part for Text {
+    ghost use Rattle.replies.specs.Forms.{text};
+
+    ghost form = { text };
+
+    fn write(&self, out: &mut Writer) -> Result<(), AllocError> {
+        out.string(self.as_str())
+    }
+
+    fn read(alloc: Global, value: &Value) -> Result<Text, Unread> {
+        find::string(alloc, value)
+    }
 }
 
 /// A list of such values.

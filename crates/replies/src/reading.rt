@@ -7,13 +7,15 @@ ghost use Rattle.serde_json.specs.Data.{depth};
 ghost use Rattle.serde_json.specs.Read.{max_depth};
 ghost use Rattle.serde_json.specs.View.{view};
 ghost use Rattle.replies.specs.Bodies.{body_in, without_body};
-ghost use Rattle.replies.specs.Claims.{claim_in, error_in, number_at, outcome_in, refusal_in, refused_in, request_seq_in, response_in, seq_in, text_at};
+ghost use Rattle.replies.specs.Claims.{claim_in, error_in, message_of, number_at, outcome_in, refusal_in, refused_in, response_in, seq_in, text_at};
 ghost use Rattle.replies.specs.Messages.{message_data};
 ghost use Rattle.replies.specs.Reading.{message_in};
 ghost use Rattle.replies.specs.Same.{is_same};
 
-use crate::members::{BODY, COMMAND, ERROR, FORMAT, ID, REQUEST_SEQ, SEQ, SUCCESS};
-use crate::{Message, Outcome, Response, ResponseBody, find, writing};
+use crate::members::{
+    BODY, COMMAND, ERROR, EVENT, FORMAT, ID, REQUEST_SEQ, RESPONSE, SEQ, SUCCESS, TYPE,
+};
+use crate::{Message, Outcome, Response, ResponseBody, event, find, writing};
 use protocol::{
     Refusal, Text, Unread, attach, cancel, configuration_done, continue_, disconnect, evaluate,
     initialize, launch, next, pause, restart, scopes, set_breakpoints, set_exception_breakpoints,
@@ -40,14 +42,6 @@ fn seq_in(value: &Value) -> Option<u32>
     } else {
         None
     }
-}
-
-/// The request's number.
-fn request_seq_in(value: &Value) -> Option<u32>
-    ensures { result ≡ request_seq_in (view value.now) }
-{
-    let n = number_at(value, REQUEST_SEQ)?;
-    if n < 1 << 32 { Some(n as u32) } else { None }
 }
 
 /// Whether a success of this command has no body.
@@ -144,7 +138,7 @@ fn outcome_in(alloc: Global, command: &str, value: &Value, success: bool) -> Res
 fn response_in(alloc: Global, value: &Value) -> Result<Response, Unread>
     ensures { Reads result (response_in (view value.now)) }
 {
-    let request_seq = request_seq_in(value).ok_or(Unread::Bad)?;
+    let request_seq = find::number(value, REQUEST_SEQ)?;
     let command = value
         .get(COMMAND)
         .and_then(Value::as_str)
@@ -161,13 +155,25 @@ fn response_in(alloc: Global, value: &Value) -> Result<Response, Unread>
     })
 }
 
+/// The message of this type that a value claims to be.
+fn message_of(alloc: Global, kind: &str, value: &Value) -> Result<Message, Unread>
+    ensures { Reads result (message_of kind.now (view value.now)) }
+{
+    match kind {
+        RESPONSE => Ok(Message::Response(response_in(alloc, value)?)),
+        EVENT => Ok(Message::Event(event::read(alloc, value)?)),
+        _ => Err(Unread::Bad),
+    }
+}
+
 /// The number and the message that a value claims to be.
 fn claim_in(alloc: Global, value: &Value) -> Result<(u32, Message), Unread>
     ensures { Reads result (claim_in (view value.now)) }
 {
     let seq = seq_in(value).ok_or(Unread::Bad)?;
-    let response = response_in(alloc, value)?;
-    Ok((seq, Message::Response(response)))
+    let kind = value.get(TYPE).and_then(Value::as_str).ok_or(Unread::Bad)?;
+    let message = message_of(alloc, kind, value)?;
+    Ok((seq, message))
 }
 
 /// Whether the value is that of the message with this number. It is exactly where their compact

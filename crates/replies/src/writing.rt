@@ -11,7 +11,9 @@ ghost use Rattle.replies.specs.Written.{AreWritten, IsWritten};
 use crate::members::{
     BODY, COMMAND, ERROR, FORMAT, ID, MESSAGE, REQUEST_SEQ, RESPONSE, SEQ, SUCCESS, TYPE,
 };
-use crate::{Message, Outcome, Response, ResponseBody, continue_, initialize, member, threads};
+use crate::{
+    Message, Outcome, Response, ResponseBody, continue_, event, initialize, member, threads,
+};
 use json::Writer;
 use protocol::{Refusal, Text};
 use std::alloc::{AllocError, Global};
@@ -36,6 +38,7 @@ fn write(out: &mut Writer, seq: u32, message: &Message) -> Result<(), AllocError
 {
     match message {
         Message::Response(response) => write_response(out, seq, response),
+        Message::Event(event) => event::write(out, seq, event),
     }
 }
 

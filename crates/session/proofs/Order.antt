@@ -1,6 +1,7 @@
 -- Requests are answered in their order, and messages are numbered in theirs.
 use Rattle.std.proofs.Common.{◌≡◌, ℕ, ◌+◌, ◌<◌, ◌≤◌, ℤ, Bool, true, false, cond, eqb, List, [], ◌∷◌, ◌++◌, map, Option, Some, None, ◌⊎◌, inl, inr, refl, sym, ap, ◌∙◌, subst, arith, append-nil, append_assoc, eqb-true, eq-eqb, is_some}
-use Rattle.std.specs.Prelude.{All, if◌then◌else◌}
+use Rattle.std.specs.Prelude.{All, flat_map, if◌then◌else◌}
+use Rattle.std.proofs.lemmas.Grind.{flat_map-append}
 use Rattle.std.proofs.lemmas.List.{map-append}
 use Rattle.std.proofs.lemmas.List.Elements.{All-push, All-weaker, All-nil}
 use Rattle.replies.specs.declared.response.Outcome.{Outcome}
@@ -81,10 +82,10 @@ same_on c d xs more e = on_connection-append d xs (map (put c) more) ∙ ap (λ 
 -- ---- answers in order
 
 abbrev Rest : ℕ → List (On Numbered) → List (On Ask) → List Pending → Type 0
-Rest c queued asked pending = map asked_as (on_connection c asked) ≡ map answered_as (on_connection c queued) ++ pending_as pending
+Rest c queued asked pending = map asked_as (on_connection c asked) ≡ flat_map answered_as (on_connection c queued) ++ pending_as pending
 
 abbrev AnswersPrefix : ℕ → List (On Numbered) → List (On Ask) → Type 0
-AnswersPrefix c queued asked = IsPrefixOf (map answered_as (on_connection c queued)) (map asked_as (on_connection c asked))
+AnswersPrefix c queued asked = IsPrefixOf (flat_map answered_as (on_connection c queued)) (map asked_as (on_connection c asked))
 
 pub record Ordered (s : Session) : Type 0 where
   pub prefixes : (c : ℕ) → AnswersPrefix c s.queued s.asked
@@ -103,7 +104,7 @@ ordered_opens s e h = record {
   prefixes = h.prefixes;
   rest = λ link f g.
       ap (map asked_as) (none_later s.now.connections s.asked h.asked_by_now)
-      ∙ sym (ap (λ l. map answered_as l ++ []) (none_later s.now.connections s.queued h.queued_by_now));
+      ∙ sym (ap (λ l. flat_map answered_as l ++ []) (none_later s.now.connections s.queued h.queued_by_now));
   queued_by_now = All-weaker (λ (m : On Numbered). m.connection ≤ s.now.connections) (λ (m : On Numbered). m.connection ≤ s.now.connections + 1) (λ m b. omega (arith, b)) s.queued h.queued_by_now;
   asked_by_now = All-weaker (λ (a : On Ask). a.connection ≤ s.now.connections) (λ (a : On Ask). a.connection ≤ s.now.connections + 1) (λ a b. omega (arith, b)) s.asked h.asked_by_now;
 }
@@ -178,7 +179,7 @@ ordered_answers s l p e f h = by_reply w.replies where
 
   prefix_by : (d : ℕ) (b : Bool) → eqb s.now.connections d ≡ b → AnswersPrefix s.now.connections (s.queued ++ put s.now.connections (reply_to l p outcome) ∷ []) s.asked → AnswersPrefix d (s.queued ++ put s.now.connections (reply_to l p outcome) ∷ []) s.asked
   prefix_by d true i g = subst (λ x. AnswersPrefix x (s.queued ++ put s.now.connections (reply_to l p outcome) ∷ []) s.asked) (eqb-true s.now.connections d i) g
-  prefix_by d false i g = subst (λ x. IsPrefixOf (map answered_as x) (asked_on d s)) (sym (same_on s.now.connections d s.queued (reply_to l p outcome ∷ []) i)) (h.prefixes d)
+  prefix_by d false i g = subst (λ x. IsPrefixOf (flat_map answered_as x) (asked_on d s)) (sym (same_on s.now.connections d s.queued (reply_to l p outcome ∷ []) i)) (h.prefixes d)
 
   by_reply : Replied s l p outcome w.link t ⊎ NotReplied s l w.link t → Ordered t
   by_reply (inl r) =
@@ -186,8 +187,8 @@ ordered_answers s l p e f h = by_reply w.replies where
       let m = reply_to l p outcome in
       let queued = s.queued ++ put c m ∷ [] in
       let before : asked_on c s ≡ answered_on c s ++ asked_as p.ask ∷ pending_as others = h.rest l e r.number ∙ ap (λ x. answered_on c s ++ pending_as x) (first_is s.now.arrivals.pending p f) in
-      let more : map answered_as (on_connection c queued) ≡ answered_on c s ++ asked_as p.ask ∷ [] = ap (map answered_as) (more_on c s.queued (m ∷ [])) ∙ map-append answered_as (on_connection c s.queued) (m ∷ []) in
-      let now : asked_on c s ≡ map answered_as (on_connection c queued) ++ pending_as others =
+      let more : flat_map answered_as (on_connection c queued) ≡ answered_on c s ++ asked_as p.ask ∷ [] = ap (flat_map answered_as) (more_on c s.queued (m ∷ [])) ∙ flat_map-append answered_as (on_connection c s.queued) (m ∷ []) in
+      let now : asked_on c s ≡ flat_map answered_as (on_connection c queued) ++ pending_as others =
       before ∙ sym (append_assoc (answered_on c s) (asked_as p.ask ∷ []) (pending_as others)) ∙ sym (ap (λ x. x ++ pending_as others) more) in
       record {
         prefixes = λ d. prefix_same d queued t.queued s.asked t.asked (sym r.queued) (sym w.asked) (prefix_by d (eqb c d) refl (pending_as others, now));

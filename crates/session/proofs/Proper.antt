@@ -28,7 +28,8 @@ use Rattle.session.specs.Effects.{performed}
 use Rattle.session.specs.Outcomes.{Numbered, Accept, answering, read_on}
 use Rattle.session.specs.Requests.{is_taken_in, success_of}
 use Rattle.session.specs.Sessions.{Session, On, performed_on, histories, After}
-use Rattle.session.specs.Laws.{IsProper, AnswersAreProper}
+use Rattle.replies.specs.Messages.{IsProper}
+use Rattle.session.specs.Laws.{AnswersAreProper}
 use Rattle.session.proofs.Reaching.{KeptByEvents, reached}
 use Rattle.session.proofs.Answering.{Answered, Replied, NotReplied, reply_to, answered_by}
 use Rattle.session.proofs.Order.{put, accepting, seen_as, all_joined_as, first_is, none_is, some_is}

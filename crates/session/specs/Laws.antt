@@ -2,15 +2,15 @@
 --
 -- A list of events is any: requests cut anywhere, repeated or cancelled, turns and bytes taken in between, connections
 -- that end and others that follow, and events that are refused.
-use Rattle.std.specs.Prelude.{◌≡◌, ℕ, ◌+◌, ◌<◌, ◌≤◌, List, [], ◌∷◌, ◌++◌, map, All, Some, Ok, Err}
+use Rattle.std.specs.Prelude.{◌≡◌, ℕ, ◌+◌, ◌<◌, ◌≤◌, List, [], ◌∷◌, ◌++◌, map, flat_map, All, Some, Ok, Err}
 use Rattle.std.specs.Prelude.{◌⊎◌}
 use Rattle.framing.specs.Reading.{reading_of}
 use Rattle.replies.specs.declared.message.Message.{Message}
-use Rattle.replies.specs.declared.message.Message.TheVariants.{Response as IsResponse}
+use Rattle.replies.specs.declared.message.Message.TheVariants.{Response as IsResponse, Event as IsEvent}
 use Rattle.replies.specs.declared.response.Outcome.{Outcome}
 use Rattle.replies.specs.declared.response.Outcome.TheVariants.{Done}
 use Rattle.replies.specs.declared.response.ResponseBody.TheVariants.{Initialize}
-use Rattle.replies.specs.Responses.{IsProperResponse}
+use Rattle.replies.specs.Messages.{IsProper}
 use Rattle.session.specs.declared.TheConstants.{BODY_LIMIT}
 use Rattle.session.specs.declared.event.Applied.TheVariants.{Recv as Received}
 use Rattle.session.specs.declared.event.Event.{Event}
@@ -53,12 +53,13 @@ pub record Named : Type 0 where
 abbrev pub asked_as : Ask → Named
 asked_as ask = record { number = number_of ask; name = name_asked ask }
 
--- the request that a message answers
-abbrev pub names : Message → Named
-names (IsResponse r) = record { number = r.request_seq; name = r.command }
+-- the request that a message answers, which an event does not
+abbrev pub names : Message → List Named
+names (IsResponse r) = record { number = r.request_seq; name = r.command } ∷ []
+names (IsEvent e) = []
 
--- the request that a numbered message answers
-abbrev pub answered_as : Numbered → Named
+-- the request that a numbered message answers, if it answers one
+abbrev pub answered_as : Numbered → List Named
 answered_as m = names m.message
 
 -- the requests that came on a connection
@@ -67,7 +68,7 @@ asked_on c s = map asked_as (on_connection c s.asked)
 
 -- the requests that were answered on a connection
 abbrev pub answered_on : ℕ → Session → List Named
-answered_on c s = map answered_as (on_connection c s.queued)
+answered_on c s = flat_map answered_as (on_connection c s.queued)
 
 -- the requests that wait
 abbrev pub pending_as : List Pending → List Named
@@ -107,12 +108,8 @@ CutsDoNotMatter s = (prefix after : List ℕ) → IsTaken s prefix → IsTaken s
 abbrev pub RefusedChangesNothing : Session → Type 0
 RefusedChangesNothing s = (e : Event) (error : EventError) → Answer s e ≡ Err error → Effect s e ≡ s
 
--- a message is one that an adapter may send: a success has the body of its request, and a refusal a text exactly if it
--- is of the kind that has one
-abbrev pub IsProper : Message → Type 0
-IsProper (IsResponse r) = IsProperResponse r
-
--- Each answer is such a message.
+-- Each message is one that an adapter may send: a success has the body of its request, a refusal a text exactly if it
+-- is of the kind that has one, and numbers are values of their types.
 abbrev pub AnswersAreProper : Session → Type 0
 AnswersAreProper s = All (λ (m : On Numbered). IsProper m.is.message) s.queued
 
@@ -124,6 +121,7 @@ initializes outcome = 0
 -- the same of a message
 abbrev pub initializes_by : Message → ℕ
 initializes_by (IsResponse r) = initializes r.outcome
+initializes_by (IsEvent e) = 0
 
 -- how often `initialize` succeeded
 abbrev pub times_initialized : List Numbered → ℕ

@@ -1,0 +1,51 @@
+-- The forms of the events' bodies are lawful.
+use Rattle.std.proofs.Common.{◌≡◌, ℕ, List, Option, true, codes, refl, arith}
+use Rattle.std.specs.Prelude.{Some}
+use Rattle.json.proofs.Printed.Utf8.{are_ascii, IsUtf8-are_ascii}
+use Rattle.serde_json.specs.Data.{number, unsigned}
+use Rattle.replies.specs.Forms.{Fields, field, fixed, first_named, none, optional, text, unless_empty, whole}
+use Rattle.replies.specs.Stopped.{reason, reason_name, reasons, stopped}
+use Rattle.replies.specs.Output.{output}
+use Rattle.replies.specs.Exited.{exited}
+use Rattle.replies.specs.declared.stopped.Reason.{Reason}
+use Rattle.replies.specs.declared.stopped.Reason.TheVariants.{Entry, Step, Breakpoint, InstructionBreakpoint, Exception, Pause}
+use Rattle.replies.proofs.Lawful.{Lawful, LawfulFields, lawful_whole, lawful_signed, lawful_text, lawful_one_of, lawful_list, lawful_none, lawful_field, lawful_fixed, lawful_optional, lawful_unless_empty, lawful_object, lawful_made_of}
+
+-- the reason of a reason's name is that reason
+again : (r : Reason) → first_named reason_name reasons (reason_name r) ≡ Some r
+again Entry = refl
+again Step = refl
+again Breakpoint = refl
+again InstructionBreakpoint = refl
+again Exception = refl
+again Pause = refl
+
+ascii : (r : Reason) → are_ascii (reason_name r) ≡ true
+ascii Entry = refl
+ascii Step = refl
+ascii Breakpoint = refl
+ascii InstructionBreakpoint = refl
+ascii Exception = refl
+ascii Pause = refl
+
+lawful_reason : Lawful 1 reason
+lawful_reason = lawful_one_of reason_name reasons again ascii
+
+-- the members after the list
+abbrev after_list : Fields (Reason × (Option (List ℕ) × Unit {0}))
+after_list = field (codes "reason") reason (optional (codes "text") text (fixed (codes "threadId") (number (unsigned 1)) none))
+
+lawful_after_list : LawfulFields 1 after_list
+lawful_after_list = lawful_field refl refl lawful_reason (lawful_optional refl refl lawful_text (lawful_fixed refl refl (omega arith) refl refl (omega arith) lawful_none))
+
+lawful_list_and_others : LawfulFields 1 (unless_empty (codes "hitBreakpointIds") whole after_list)
+lawful_list_and_others = lawful_unless_empty whole refl refl (lawful_list {form = whole} lawful_whole) lawful_after_list
+
+pub lawful_stopped : Lawful 2 stopped
+lawful_stopped = lawful_made_of _ _ (λ x. refl) (λ y h. h) (lawful_object (lawful_fixed refl refl (omega arith) refl refl tt lawful_list_and_others))
+
+pub lawful_output : Lawful 1 output
+lawful_output = lawful_made_of _ _ (λ x. refl) (λ y h. h) (lawful_object (lawful_fixed refl refl (omega arith) refl refl (IsUtf8-are_ascii _ refl) (lawful_field refl refl lawful_text lawful_none)))
+
+pub lawful_exited : Lawful 1 exited
+lawful_exited = lawful_made_of _ _ (λ x. refl) (λ y h. h) (lawful_object (lawful_field refl refl lawful_signed lawful_none))
