@@ -1,10 +1,13 @@
 """Bodies of responses: the texts of the messages, read into their parts and written again."""
+from base64 import b64encode
+
 from rows.messages import is_done, no_message, read, spelled, write
 from playing import Row
 
 PLAYER = "play_messages"
 
 PROFILE = "docs/PROTOCOL.md, with the types of the published schema"
+ENCODING = "RFC 4648, section 10"
 
 
 def text_of(command, body):
@@ -153,6 +156,64 @@ VALUES = [
     ], PROFILE),
 ]
 
+INSTRUCTION = '{"instructions":[{"address":"0x00010000","instruction":"addi a0, zero, 5","instructionBytes":"13 05 50 00"}]}'
+NO_INSTRUCTION = '{"instructions":[{"address":"0x0000fffc","instruction":"(invalid)","presentationHint":"invalid"}]}'
+END_OF_MEMORY = '{"address":"0x0010fffc","data":"AAAAAA==","unreadableBytes":4}'
+# What the four bytes of an instruction may not be, and bytes in base64: padding left out, spare bits, other digits, blanks.
+NO_FOUR_BYTES = ('"13055000"', '"13 05 50"', '"13 05 50 0"', '"13 05 50 00 "', '" 13 05 50 00"', '"13 05 50 00 00"', '"13-05-50-00"',
+                 '"13,05,50,00"', '"130 5 50 00"', '"13 05 50 0g"', '"13 05 5A 00"', '"0x 13 05 50"', '"0x00500513"', '""', "5244179", "null", "[19,5,80,0]")
+NO_BASE64 = ('"AAAAAA"', '"AAAAAA="', '"AAAAAA==="', '"AAAAAB=="', '"_-8="', '"AAAA AA=="', '"AAAAAA==\\n"', '"A"', '"="', "0", "null", "[]")
+VECTORS = ("", ""), ("f", "Zg=="), ("fo", "Zm8="), ("foo", "Zm9v"), ("foob", "Zm9vYg=="), ("fooba", "Zm9vYmE="), ("foobar", "Zm9vYmFy")
+
+MEMORY = [
+    Row("instructions", [
+        *both_ways("disassemble", '{"instructions":[]}', "Disassemble"),
+        *both_ways("disassemble", INSTRUCTION, "Disassemble valid 65536 %s 5244179" % spelled("addi a0, zero, 5")),
+        *both_ways("disassemble", NO_INSTRUCTION, "Disassemble invalid 65532"),
+        *both_ways("disassemble", '{"instructions":[{"address":"0xffffffff","instruction":"(invalid)","presentationHint":"invalid"},'
+                   '{"address":"0x00010004","instruction":".word 0xfedcba98","instructionBytes":"98 ba dc fe"},'
+                   '{"address":"0x00010008","instruction":"(invalid)","instructionBytes":"00 00 00 00"}]}',
+                   "Disassemble invalid 4294967295 valid 65540 %s 4275878552 valid 65544 %s 0" % (spelled(".word 0xfedcba98"), spelled("(invalid)"))),
+    ], PROFILE),
+    Row("no bodies of disassemble", none_of("disassemble", (
+        "{}", "[]", '{"instructions":{}}', '{"instructions":null}', '{"instructions":[1]}', '{"instructions":[{}]}',
+        # no bytes; members of the other kind; another text or hint where there is no word
+        '{"instructions":[{"address":"0x00010000","instruction":"addi a0, zero, 5"}]}',
+        '{"instructions":[{"address":"0x00010000","instruction":"addi a0, zero, 5","instructionBytes":"13 05 50 00","presentationHint":"normal"}]}',
+        '{"instructions":[{"address":"0x0000fffc","instruction":"(invalid)"}]}',
+        '{"instructions":[{"address":"0x0000fffc","instruction":"(invalid)","instructionBytes":"00 00 00 00","presentationHint":"invalid"}]}',
+        '{"instructions":[{"address":"0x0000fffc","instruction":"","presentationHint":"invalid"}]}',
+        '{"instructions":[{"address":"0x0000fffc","instruction":"(invalid)","presentationHint":"normal"}]}',
+        '{"instructions":[{"address":"0x0000fffc","instruction":"(invalid)","presentationHint":null}]}',
+        '{"instructions":[{"address":"0x0000fffc","presentationHint":"invalid"}]}',
+        # members out of order, or further ones
+        '{"instructions":[{"instruction":"addi a0, zero, 5","address":"0x00010000","line":1,"instructionBytes":"13 05 50 00"}]}',
+        '{"instructions":[],"more":1}',
+        *odd('{"instructions":[{"address":%(address)s,"instruction":%(text)s,"instructionBytes":%(bytes)s}]}',
+             address=('"0x00010000"', NO_WORDS), text=('"addi a0, zero, 5"', NO_TEXTS), bytes=('"13 05 50 00"', NO_FOUR_BYTES)),
+        *odd('{"instructions":[{"address":%(address)s,"instruction":"(invalid)","presentationHint":"invalid"}]}', address=("", NO_WORDS)),
+    )), PROFILE),
+    Row("bytes of memory", [
+        *both_ways("readMemory", END_OF_MEMORY, "ReadMemory 1114108 00000000 4"),
+        *both_ways("readMemory", '{"address":"0x00010000","data":"EwVQAA=="}', "ReadMemory 65536 13055000 0"),
+        *both_ways("readMemory", '{"address":"0x00000000","data":"","unreadableBytes":4294967295}', "ReadMemory 0  4294967295"),
+        *both_ways("readMemory", '{"address":"0xffffffff","data":""}', "ReadMemory 4294967295  0"),
+        *both_ways("readMemory", '{"address":"0x00010000","data":"+/8=","unreadableBytes":1}', "ReadMemory 65536 fbff 1"),
+    ], PROFILE),
+    Row("bytes in base64", [
+        step for text, encoded in VECTORS
+        for step in both_ways("readMemory", '{"address":"0x00010000","data":"%s"}' % encoded, "ReadMemory 65536 %s 0" % spelled(text))
+    ], ENCODING),
+    Row("no bodies of readMemory", none_of("readMemory", (
+        "{}", "[]", '{"address":"0x00010000"}', '{"data":"AAAAAA=="}', '{"address":"0x00010000","unreadableBytes":4}',
+        # that all can be read is not said
+        '{"address":"0x00010000","data":"AAAAAA==","unreadableBytes":0}',
+        '{"address":"0x00010000","bytes":"AAAAAA=="}', '{"address":"0x00010000","count":4,"data":"AAAAAA=="}',
+        *odd('{"address":%(address)s,"data":%(bytes)s,"unreadableBytes":%(unreadable)s}',
+             address=('"0x0010fffc"', NO_WORDS), bytes=('"AAAAAA=="', NO_BASE64), unreadable=("4", NO_NUMBERS)),
+    )), PROFILE),
+]
+
 REFUSED = [
     Row("a body that found no memory can be read and written again", [
         *both_ways("stackTrace", FRAME % {name: right for name, (right, _) in FRAME_KINDS.items()},
@@ -160,11 +221,15 @@ REFUSED = [
         *both_ways("setBreakpoints", UNSET, "SetBreakpoints unset 7 " + spelled("unknown source")),
         *both_ways("scopes", '{"scopes":[{"expensive":false,"name":"Stack","variablesReference":3}]}', "Scopes stack 3"),
         *both_ways("variables", '{"variables":[{"name":"a0","value":"0x00000007","variablesReference":0}]}', "Variables %s 7" % spelled("a0")),
+        *both_ways("disassemble", INSTRUCTION, "Disassemble valid 65536 %s 5244179" % spelled("addi a0, zero, 5")),
+        *both_ways("readMemory", END_OF_MEMORY, "ReadMemory 1114108 00000000 4"),
     ], PROFILE, refused=True),
 ]
 
-# The greatest stack trace, list of variables and list of breakpoints that the adapter sends.
+# The greatest stack trace, list of variables, list of breakpoints, disassembly and piece of memory that the adapter sends.
 LINES = range(1, 1025)
+WORDS = [(65536 + 4 * i, ".word 0x%08x" % (i * 0x000f4243), i * 0x000f4243) for i in range(4096)]
+PIECE = bytes(i * i // 256 % 256 for i in range(65536))
 GREATEST_SIZES = [
     Row("257 frames", both_ways(
         "stackTrace", '{"stackFrames":[%s],"totalFrames":257}' % ",".join(
@@ -179,6 +244,13 @@ GREATEST_SIZES = [
     Row("33 registers", both_ways(
         "variables", '{"variables":[%s]}' % ",".join('{"name":"x%d","value":"0x%08x","variablesReference":0}' % (i, i * 0x01010101) for i in range(33)),
         "Variables " + " ".join("%s %d" % (spelled("x%d" % i), i * 0x01010101) for i in range(33))), PROFILE),
+    Row("4,096 instructions", both_ways(
+        "disassemble", '{"instructions":[%s]}' % ",".join(
+            '{"address":"0x%08x","instruction":"%s","instructionBytes":"%s"}' % (address, text, word.to_bytes(4, "little").hex(" "))
+            for address, text, word in WORDS),
+        "Disassemble " + " ".join("valid %d %s %d" % (address, spelled(text), word) for address, text, word in WORDS)), PROFILE),
+    Row("65,536 bytes of memory", both_ways(
+        "readMemory", '{"address":"0x00010000","data":"%s"}' % b64encode(PIECE).decode(), "ReadMemory 65536 %s 0" % spelled(PIECE)), PROFILE),
 ]
 
-ROWS = BREAKPOINTS + FRAMES_AND_VARIABLES + VALUES + REFUSED + GREATEST_SIZES
+ROWS = BREAKPOINTS + FRAMES_AND_VARIABLES + VALUES + MEMORY + REFUSED + GREATEST_SIZES

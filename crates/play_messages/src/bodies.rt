@@ -3,8 +3,9 @@
 use play::{Fault, Line};
 use protocol::Text;
 use replies::{
-    InstructionBreakpoint, ResponseBody, Scope, Scopes, SetBreakpoints, SetInstructionBreakpoints,
-    Source, SourceBreakpoint, StackFrame, StackTrace, Variables,
+    Disassemble, Instruction, InstructionBreakpoint, ReadMemory, ResponseBody, Scope, Scopes,
+    SetBreakpoints, SetInstructionBreakpoints, Source, SourceBreakpoint, StackFrame, StackTrace,
+    Variables,
 };
 
 /// The name of a body, and its parts.
@@ -21,6 +22,8 @@ pub(crate) fn show_body(line: &mut Line, body: &ResponseBody) -> Result<(), Faul
         ResponseBody::Variables(body) => variables(line, body),
         ResponseBody::SetVariable(body) => named(line, "SetVariable", body.value),
         ResponseBody::Evaluate(body) => named(line, "Evaluate", body.result),
+        ResponseBody::Disassemble(body) => disassemble(line, body),
+        ResponseBody::ReadMemory(body) => read_memory(line, body),
         ResponseBody::WriteMemory(body) => named(line, "WriteMemory", body.bytes_written),
     }
 }
@@ -137,6 +140,35 @@ fn variables(line: &mut Line, body: &Variables) -> Result<(), Fault> {
         line.value(variable.value)?;
     }
     Ok(())
+}
+
+fn disassemble(line: &mut Line, body: &Disassemble) -> Result<(), Fault> {
+    line.word("Disassemble")?;
+    for instruction in body.instructions.as_slice() {
+        show_instruction(line, instruction)?;
+    }
+    Ok(())
+}
+
+fn show_instruction(line: &mut Line, entry: &Instruction) -> Result<(), Fault> {
+    match entry {
+        Instruction::Valid {
+            address,
+            instruction,
+            instruction_bytes,
+        } => {
+            named(line, "valid", *address)?;
+            text(line, instruction)?;
+            line.value(*instruction_bytes)
+        }
+        Instruction::Invalid { address } => named(line, "invalid", *address),
+    }
+}
+
+fn read_memory(line: &mut Line, body: &ReadMemory) -> Result<(), Fault> {
+    named(line, "ReadMemory", body.address)?;
+    line.bytes(body.bytes.as_slice())?;
+    line.value(body.unreadable_bytes)
 }
 
 /// The bytes of a text.

@@ -25,15 +25,15 @@ all_fine : all_below 16 is_fine ≡ true
 unfolding all_below is_fine
 all_fine = refl
 
-record Fine (d : ℕ) : Type 0 where
-  value : digit_value (hex_digit d) ≡ d
-  ascii : nat_lt (hex_digit d) 128 ≡ true
+pub record Fine (d : ℕ) : Type 0 where
+  pub value : digit_value (hex_digit d) ≡ d
+  pub ascii : nat_lt (hex_digit d) 128 ≡ true
 
-fine : (d : ℕ) → d < 16 → Fine d
+pub fine : (d : ℕ) → d < 16 → Fine d
 unfolding is_fine
 fine d l = let t : is_fine d ≡ true = all_below_at is_fine 16 d all_fine l in let p = and_parts (digit_value (hex_digit d) == d) _ t in record { value = grind (arith, nat_tests); ascii = p.1 }
 
-sixteen : (n : ℕ) → n % 16 < 16
+pub sixteen : (n : ℕ) → n % 16 < 16
 sixteen n = omega arith
 
 -- ---- eight digits
@@ -81,7 +81,8 @@ kept_numeral radix digits = by_test (not (length digits == 0) && list_all (λ c.
   by_test true = kept_within (digits_value radix digits)
   by_test false = tt
 
-kept_word : (text : List ℕ) → IfSome (word_in text) (λ m. is_word m ≡ true)
+-- what a text is taken for is a word
+pub kept_word : (text : List ℕ) → IfSome (word_in text) (λ m. is_word m ≡ true)
 kept_word text = by_prefix (prefixed text) where
   by_prefix : (o : Option (List ℕ)) → IfSome (word_of (magnitude_by text o)) (λ m. is_word m ≡ true)
   by_prefix None = kept_numeral 10 text

@@ -7,7 +7,7 @@ use Rattle.serde_json.specs.Data.{Data, object, depth}
 use Rattle.serde_json.specs.Find.{get}
 use Rattle.serde_json.specs.Written.{has_float}
 use Rattle.replies.specs.declared.response.ResponseBody.{ResponseBody}
-use Rattle.replies.specs.declared.response.ResponseBody.TheVariants.{Initialize, Threads, Continue, Empty, SetBreakpoints, SetInstructionBreakpoints, StackTrace, Scopes, Variables, SetVariable, Evaluate, WriteMemory}
+use Rattle.replies.specs.declared.response.ResponseBody.TheVariants.{Initialize, Threads, Continue, Empty, SetBreakpoints, SetInstructionBreakpoints, StackTrace, Scopes, Variables, SetVariable, Evaluate, Disassemble, ReadMemory, WriteMemory}
 use Rattle.replies.specs.Forms.{Form, AreTexts, member_if}
 use Rattle.replies.specs.Initialize.{initialize_body}
 use Rattle.replies.specs.Threads.{threads_body}
@@ -19,12 +19,14 @@ use Rattle.replies.specs.Scopes.{scopes}
 use Rattle.replies.specs.Variables.{variables}
 use Rattle.replies.specs.SetVariable.{set_variable}
 use Rattle.replies.specs.Evaluate.{evaluate}
+use Rattle.replies.specs.Disassemble.{disassemble}
+use Rattle.replies.specs.ReadMemory.{read_memory}
 use Rattle.replies.specs.WriteMemory.{write_memory}
-use Rattle.replies.specs.Bodies.{Taken, IsBodyOf, all_taken, body_data, body_in, formed, has_numbers, taken_among, texts_in, without_body}
+use Rattle.replies.specs.Bodies.{Taken, IsBodyOf, all_taken, body_data, body_in, formed, has_numbers, row, surely, taken_among, texts_in, without_body}
 use Rattle.replies.specs.Laws.{is_ordered}
 use Rattle.replies.specs.Responses.{shared_members}
 use Rattle.replies.proofs.Lawful.{Lawful}
-use Rattle.replies.proofs.LawfulBodies.{lawful_set_breakpoints, lawful_set_instruction_breakpoints, lawful_stack_trace, lawful_scopes, lawful_variables, lawful_set_variable, lawful_evaluate, lawful_write_memory}
+use Rattle.replies.proofs.LawfulBodies.{lawful_set_breakpoints, lawful_set_instruction_breakpoints, lawful_stack_trace, lawful_scopes, lawful_variables, lawful_set_variable, lawful_evaluate, lawful_disassemble, lawful_read_memory, lawful_write_memory}
 use Rattle.replies.proofs.Simple.{IsPlain-is_simple}
 use Rattle.replies.proofs.Texts.{IsPlain}
 
@@ -48,6 +50,8 @@ IsGood-body_data (Scopes b) = good scopes lawful_scopes (omega arith) b
 IsGood-body_data (Variables b) = good variables lawful_variables (omega arith) b
 IsGood-body_data (SetVariable b) = good set_variable lawful_set_variable (omega arith) b
 IsGood-body_data (Evaluate b) = good evaluate lawful_evaluate (omega arith) b
+IsGood-body_data (Disassemble b) = good disassemble lawful_disassemble (omega arith) b
+IsGood-body_data (ReadMemory b) = good read_memory lawful_read_memory (omega arith) b
 IsGood-body_data (WriteMemory b) = good write_memory lawful_write_memory (omega arith) b
 IsGood-body_data Empty = tt
 
@@ -62,6 +66,8 @@ IsPlain-body_data (Scopes b) h texts = lawful_scopes.plain b h texts
 IsPlain-body_data (Variables b) h texts = lawful_variables.plain b h texts
 IsPlain-body_data (SetVariable b) h texts = lawful_set_variable.plain b h texts
 IsPlain-body_data (Evaluate b) h texts = lawful_evaluate.plain b h texts
+IsPlain-body_data (Disassemble b) h texts = lawful_disassemble.plain b h texts
+IsPlain-body_data (ReadMemory b) h texts = lawful_read_memory.plain b h texts
 IsPlain-body_data (WriteMemory b) h texts = lawful_write_memory.plain b h texts
 IsPlain-body_data Empty h texts = tt
 
@@ -105,7 +111,7 @@ empty_among [] all command h message = rw h refl
 empty_among (t ∷ ts) all command h message = rw (no_other t all.0 command h) (empty_among ts all.1 command h message)
 
 all_have_bodies : AllHaveBodies all_taken
-all_have_bodies = (refl, (refl, (refl, (refl, (refl, (refl, (refl, (refl, (refl, (refl, (refl, tt)))))))))))
+all_have_bodies = (refl, (refl, (refl, (refl, (refl, (refl, (refl, (refl, (refl, (refl, (refl, (refl, (refl, tt)))))))))))))
 
 pub body_in-done : (seq request_seq : ℕ) (command : List ℕ) (body : ResponseBody) → IsBodyOf command body → has_numbers body ≡ true → body_in command (with_body seq request_seq command (body_data body)) ≡ Some body
 body_in-done seq request_seq command Initialize h e = rw (one_of command (codes "initialize") h) refl
@@ -118,6 +124,8 @@ body_in-done seq request_seq command (Scopes b) h e = rw (one_of command (codes 
 body_in-done seq request_seq command (Variables b) h e = rw (one_of command (codes "variables") h) (formed_back (codes "variables") (codes "variables") variables (λ x. Variables x) lawful_variables seq request_seq b e)
 body_in-done seq request_seq command (SetVariable b) h e = rw (one_of command (codes "setVariable") h) (formed_back (codes "setVariable") (codes "setVariable") set_variable (λ x. SetVariable x) lawful_set_variable seq request_seq b e)
 body_in-done seq request_seq command (Evaluate b) h e = rw (one_of command (codes "evaluate") h) (formed_back (codes "evaluate") (codes "evaluate") evaluate (λ x. Evaluate x) lawful_evaluate seq request_seq b e)
+body_in-done seq request_seq command (Disassemble b) h e = rw (one_of command (codes "disassemble") h) (formed_back (codes "disassemble") (codes "disassemble") disassemble (λ x. Disassemble x) lawful_disassemble seq request_seq b e)
+body_in-done seq request_seq command (ReadMemory b) h e = rw (one_of command (codes "readMemory") h) (formed_back (codes "readMemory") (codes "readMemory") read_memory (λ x. ReadMemory x) lawful_read_memory seq request_seq b e)
 body_in-done seq request_seq command (WriteMemory b) h e = rw (one_of command (codes "writeMemory") h) (formed_back (codes "writeMemory") (codes "writeMemory") write_memory (λ x. WriteMemory x) lawful_write_memory seq request_seq b e)
 body_in-done seq request_seq command Empty h e = empty_among all_taken all_have_bodies command h (with_body seq request_seq command None)
 
@@ -141,41 +149,22 @@ formed_proper {n} {A} command form make h proper message = there (get (codes "bo
   there None = tt
   there (Some d) = made (form.found d) (h.kept d)
 
+surely_proper : (body : ResponseBody) (command : List ℕ) → list_any (bytes_eq command) (row body).commands ≡ true → has_numbers body ≡ true → AreProper (surely body command)
+surely_proper body command is small message = (is, small)
+
 all_proper : AllProper all_taken
-all_proper = (
-  λ message. (refl, refl),
-  (
-    λ message. (refl, refl),
-    (
-      λ message. (refl, refl),
-      (
-        formed_proper (codes "setBreakpoints") set_breakpoints (λ x. SetBreakpoints x) lawful_set_breakpoints (λ x h. (refl, h)),
-        (
-          formed_proper (codes "setInstructionBreakpoints") set_instruction_breakpoints (λ x. SetInstructionBreakpoints x) lawful_set_instruction_breakpoints (λ x h. (refl, h)),
-          (
-            formed_proper (codes "stackTrace") stack_trace (λ x. StackTrace x) lawful_stack_trace (λ x h. (refl, h)),
-            (
-              formed_proper (codes "scopes") scopes (λ x. Scopes x) lawful_scopes (λ x h. (refl, h)),
-              (
-                formed_proper (codes "variables") variables (λ x. Variables x) lawful_variables (λ x h. (refl, h)),
-                (
-                  formed_proper (codes "setVariable") set_variable (λ x. SetVariable x) lawful_set_variable (λ x h. (refl, h)),
-                  (
-                    formed_proper (codes "evaluate") evaluate (λ x. Evaluate x) lawful_evaluate (λ x h. (refl, h)),
-                    (
-                      formed_proper (codes "writeMemory") write_memory (λ x. WriteMemory x) lawful_write_memory (λ x h. (refl, h)),
-                      tt,
-                    ),
-                  ),
-                ),
-              ),
-            ),
-          ),
-        ),
-      ),
-    ),
-  ),
-)
+all_proper =
+    let set_breakpoints_is : AreProper (formed (codes "setBreakpoints") set_breakpoints (λ b. SetBreakpoints b)) = formed_proper (codes "setBreakpoints") set_breakpoints (λ x. SetBreakpoints x) lawful_set_breakpoints (λ x h. (refl, h)) in
+    let set_instruction_breakpoints_is : AreProper (formed (codes "setInstructionBreakpoints") set_instruction_breakpoints (λ b. SetInstructionBreakpoints b)) = formed_proper (codes "setInstructionBreakpoints") set_instruction_breakpoints (λ x. SetInstructionBreakpoints x) lawful_set_instruction_breakpoints (λ x h. (refl, h)) in
+    let stack_trace_is : AreProper (formed (codes "stackTrace") stack_trace (λ b. StackTrace b)) = formed_proper (codes "stackTrace") stack_trace (λ x. StackTrace x) lawful_stack_trace (λ x h. (refl, h)) in
+    let scopes_is : AreProper (formed (codes "scopes") scopes (λ b. Scopes b)) = formed_proper (codes "scopes") scopes (λ x. Scopes x) lawful_scopes (λ x h. (refl, h)) in
+    let variables_is : AreProper (formed (codes "variables") variables (λ b. Variables b)) = formed_proper (codes "variables") variables (λ x. Variables x) lawful_variables (λ x h. (refl, h)) in
+    let set_variable_is : AreProper (formed (codes "setVariable") set_variable (λ b. SetVariable b)) = formed_proper (codes "setVariable") set_variable (λ x. SetVariable x) lawful_set_variable (λ x h. (refl, h)) in
+    let evaluate_is : AreProper (formed (codes "evaluate") evaluate (λ b. Evaluate b)) = formed_proper (codes "evaluate") evaluate (λ x. Evaluate x) lawful_evaluate (λ x h. (refl, h)) in
+    let disassemble_is : AreProper (formed (codes "disassemble") disassemble (λ b. Disassemble b)) = formed_proper (codes "disassemble") disassemble (λ x. Disassemble x) lawful_disassemble (λ x h. (refl, h)) in
+    let read_memory_is : AreProper (formed (codes "readMemory") read_memory (λ b. ReadMemory b)) = formed_proper (codes "readMemory") read_memory (λ x. ReadMemory x) lawful_read_memory (λ x h. (refl, h)) in
+    let write_memory_is : AreProper (formed (codes "writeMemory") write_memory (λ b. WriteMemory b)) = formed_proper (codes "writeMemory") write_memory (λ x. WriteMemory x) lawful_write_memory (λ x h. (refl, h)) in
+    (surely_proper Initialize (codes "initialize") refl refl, (surely_proper Threads (codes "threads") refl refl, (surely_proper Continue (codes "continue") refl refl, (set_breakpoints_is, (set_instruction_breakpoints_is, (stack_trace_is, (scopes_is, (variables_is, (set_variable_is, (evaluate_is, (disassemble_is, (read_memory_is, (write_memory_is, tt)))))))))))))
 
 taken_proper : (ts : List Taken) → AllProper ts → (command : List ℕ) (message : Data) → IfSome (taken_among ts command message) (λ body. IsBodyOf command body × (has_numbers body ≡ true))
 taken_proper [] h command message = no_body (list_any (bytes_eq command) without_body) refl where

@@ -10,6 +10,8 @@ pub mod Lawful
 pub mod Refusals
 pub mod Simple
 pub mod Addresses
+pub mod InstructionBytes
+pub mod EncodedBytes
 pub mod LawfulBodies
 pub mod BodyTable
 pub mod LawfulEvents

@@ -19,12 +19,15 @@ use Rattle.replies.specs.Scopes.{scopes}
 use Rattle.replies.specs.Variables.{variables}
 use Rattle.replies.specs.SetVariable.{set_variable}
 use Rattle.replies.specs.Evaluate.{evaluate}
+use Rattle.replies.specs.Disassemble.{disassemble}
+use Rattle.replies.specs.ReadMemory.{read_memory}
 use Rattle.replies.specs.WriteMemory.{write_memory}
 use Rattle.replies.specs.declared.response.ResponseBody.{ResponseBody}
 use Rattle.replies.specs.declared.response.ResponseBody.TheVariants.{Initialize, Threads, Continue, Empty}
 use Rattle.replies.specs.declared.response.ResponseBody.TheVariants.{SetBreakpoints, SetInstructionBreakpoints}
 use Rattle.replies.specs.declared.response.ResponseBody.TheVariants.{StackTrace, Scopes, Variables}
-use Rattle.replies.specs.declared.response.ResponseBody.TheVariants.{SetVariable, Evaluate, WriteMemory}
+use Rattle.replies.specs.declared.response.ResponseBody.TheVariants.{SetVariable, Evaluate}
+use Rattle.replies.specs.declared.response.ResponseBody.TheVariants.{Disassemble, ReadMemory, WriteMemory}
 
 -- a body: the requests whose success has it, its JSON value if it has one, whether its numbers are in their ranges, and
 -- its texts
@@ -66,6 +69,8 @@ row (Scopes b) = in_form (codes "scopes") scopes b
 row (Variables b) = in_form (codes "variables") variables b
 row (SetVariable b) = in_form (codes "setVariable") set_variable b
 row (Evaluate b) = in_form (codes "evaluate") evaluate b
+row (Disassemble b) = in_form (codes "disassemble") disassemble b
+row (ReadMemory b) = in_form (codes "readMemory") read_memory b
 row (WriteMemory b) = in_form (codes "writeMemory") write_memory b
 row Empty = none_after without_body
 
@@ -113,6 +118,8 @@ all_taken =
     ∷ formed (codes "variables") variables (λ b. Variables b)
     ∷ formed (codes "setVariable") set_variable (λ b. SetVariable b)
     ∷ formed (codes "evaluate") evaluate (λ b. Evaluate b)
+    ∷ formed (codes "disassemble") disassemble (λ b. Disassemble b)
+    ∷ formed (codes "readMemory") read_memory (λ b. ReadMemory b)
     ∷ formed (codes "writeMemory") write_memory (λ b. WriteMemory b)
     ∷ []
 

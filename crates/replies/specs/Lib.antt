@@ -27,6 +27,14 @@ pub mod Variables
 pub mod SetVariable
 -- the body that answers `evaluate`: the value
 pub mod Evaluate
+-- the bytes of an instruction, as text
+pub mod InstructionBytes
+-- the body that answers `disassemble`: the instructions at an address
+pub mod Disassemble
+-- bytes in base64
+pub mod EncodedBytes
+-- the body that answers `readMemory`: bytes of memory
+pub mod ReadMemory
 -- the body that answers `writeMemory`: how much was written
 pub mod WriteMemory
 -- the table of the bodies

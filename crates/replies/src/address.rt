@@ -1,7 +1,7 @@
 //! Words as texts: `0x` and eight hexadecimal digits.
 ghost use Rattle.std.specs.Prelude.{◌≡◌, ◌<◌, OnOk};
 ghost use Rattle.serde_json.specs.Data.{string};
-ghost use Rattle.replies.specs.Addresses.{address_text, hex_digit};
+ghost use Rattle.replies.specs.Addresses.{address_text, hex_digit, word_in};
 ghost use Rattle.replies.specs.Written.{IsWritten};
 
 use json::Writer;
@@ -35,7 +35,8 @@ fn text_of(word: u32) -> [u8; 10]
     ]
 }
 
-fn hex_digit(digit: u32) -> u8
+/// A hexadecimal digit, in small letters.
+pub(crate) fn hex_digit(digit: u32) -> u8
     requires { digit < 16 }
     ensures { result ≡ hex_digit digit }
 {
@@ -43,5 +44,16 @@ fn hex_digit(digit: u32) -> u8
         digit as u8 + b'0'
     } else {
         digit as u8 + (b'a' - 10)
+    }
+}
+
+/// The word that a text is taken for: a whole number, decimal or `0x` and hexadecimal digits, that
+/// 32 bits hold.
+pub(crate) fn word_in(text: &[u8]) -> Option<u32>
+    ensures { result ≡ word_in text.now }
+{
+    match numerals::magnitude(text) {
+        Ok(word) => Some(word),
+        Err(_) => None,
     }
 }

@@ -6,6 +6,7 @@ ghost use Rattle.serde_json.specs.View.{view};
 ghost use Rattle.replies.specs.Addresses as addresses;
 ghost use Rattle.replies.specs.Forms as forms;
 
+use crate::address::word_in;
 use crate::part::Part;
 use protocol::{Entries, Text, Unread};
 use serde_json::Value;
@@ -83,6 +84,16 @@ pub(crate) fn signed(value: &Value, name: &str) -> Result<i32, Unread>
     }
 }
 
+/// The member that is a whole number of 32 bits, where it is there.
+pub(crate) fn number_if(value: &Value, name: &str) -> Result<Option<u32>, Unread>
+    ensures { Reads result (forms.found_if forms.whole.found (get name.now (view value.now))) }
+{
+    if value.get(name).is_none() {
+        return Ok(None);
+    }
+    Ok(Some(number(value, name)?))
+}
+
 /// The member that is a truth value.
 pub(crate) fn truth(value: &Value, name: &str) -> Result<bool, Unread>
     ensures { Reads result (option_and_then forms.truth.found (get name.now (view value.now))) }
@@ -113,8 +124,5 @@ pub(crate) fn address(value: &Value, name: &str) -> Result<u32, Unread>
     ensures { Reads result (option_and_then addresses.address.found (get name.now (view value.now))) }
 {
     let text = value.get(name).and_then(Value::as_str).ok_or(Unread::Bad)?;
-    match numerals::magnitude(text.as_bytes()) {
-        Ok(word) => Ok(word),
-        Err(_) => Err(Unread::Bad),
-    }
+    word_in(text.as_bytes()).ok_or(Unread::Bad)
 }

@@ -4,7 +4,8 @@ ghost use Rattle.std.specs.Prelude.{OnOk};
 ghost use Rattle.serde_json.specs.Data.{boolean, member, no_members, number, string, unsigned};
 ghost use Rattle.replies.specs.Forms as forms;
 ghost use Rattle.replies.specs.Addresses as addresses;
-ghost use Rattle.replies.specs.Forms.{member_if, if_any, list};
+ghost use Rattle.replies.specs.Forms.{member_if, if_any, list, whole};
+ghost use Rattle.replies.specs.ReadMemory.{unless_0};
 ghost use Rattle.replies.specs.Written.{AreWritten};
 
 use crate::address;
@@ -72,6 +73,17 @@ pub(crate) fn signed(out: &mut Writer, name: &str, value: i32) -> Result<(), All
 {
     out.key(name)?;
     out.i64(i64::from(value))
+}
+
+/// A member that is a whole number, where that is not 0.
+pub(crate) fn number_unless_0(out: &mut Writer, name: &str, value: u32) -> Result<(), AllocError>
+    ensures { OnOk result (AreWritten out.old out.new (member_if name.now whole.value (unless_0 value) no_members)) }
+{
+    if value == 0 {
+        Ok(())
+    } else {
+        number(out, name, value)
+    }
 }
 
 /// A member that is a word as a text.

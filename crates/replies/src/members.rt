@@ -75,3 +75,15 @@ pub const CATEGORY: &str = "category";
 pub const OUTPUT: &str = "output";
 /// The program's exit code (`ExitedEvent.body.exitCode`).
 pub const EXIT_CODE: &str = "exitCode";
+/// An address (`DisassembledInstruction.address`, `ReadMemoryResponse.body.address`).
+pub const ADDRESS: &str = "address";
+/// The text of an instruction (`DisassembledInstruction.instruction`).
+pub const INSTRUCTION: &str = "instruction";
+/// The bytes of an instruction (`DisassembledInstruction.instructionBytes`).
+pub const INSTRUCTION_BYTES: &str = "instructionBytes";
+/// The instructions at an address (`DisassembleResponse.body.instructions`).
+pub const INSTRUCTIONS: &str = "instructions";
+/// Bytes of memory (`ReadMemoryResponse.body.data`).
+pub const DATA: &str = "data";
+/// How many bytes of memory cannot be read (`ReadMemoryResponse.body.unreadableBytes`).
+pub const UNREADABLE_BYTES: &str = "unreadableBytes";

@@ -15,12 +15,12 @@ ghost use Rattle.replies.specs.Same.{is_same};
 use crate::members::{
     BODY, COMMAND, ERROR, EVENT, FORMAT, ID, REQUEST_SEQ, RESPONSE, SEQ, SUCCESS, TYPE,
 };
-use crate::{Message, Outcome, Response, ResponseBody, event, find, writing};
+use crate::{Message, Outcome, Response, ResponseBody, event, find, read_memory, writing};
 use protocol::{
-    Refusal, Text, Unread, attach, cancel, configuration_done, continue_, disconnect, evaluate,
-    initialize, launch, next, pause, restart, scopes, set_breakpoints, set_exception_breakpoints,
-    set_instruction_breakpoints, set_variable, stack_trace, step_in, step_out, terminate, threads,
-    variables, write_memory,
+    Refusal, Text, Unread, attach, cancel, configuration_done, continue_, disassemble, disconnect,
+    evaluate, initialize, launch, next, pause, restart, scopes, set_breakpoints,
+    set_exception_breakpoints, set_instruction_breakpoints, set_variable, stack_trace, step_in,
+    step_out, terminate, threads, variables, write_memory,
 };
 use serde_json::Value;
 use std::alloc::{AllocError, Global};
@@ -82,6 +82,10 @@ fn body_in(alloc: Global, command: &str, value: &Value) -> Result<ResponseBody, 
         variables::NAME => Ok(ResponseBody::Variables(find::part(alloc, value, BODY)?)),
         set_variable::NAME => Ok(ResponseBody::SetVariable(find::part(alloc, value, BODY)?)),
         evaluate::NAME => Ok(ResponseBody::Evaluate(find::part(alloc, value, BODY)?)),
+        disassemble::NAME => Ok(ResponseBody::Disassemble(find::part(alloc, value, BODY)?)),
+        protocol::read_memory::NAME => Ok(ResponseBody::ReadMemory(read_memory::find(
+            alloc, value, BODY,
+        )?)),
         write_memory::NAME => Ok(ResponseBody::WriteMemory(find::part(alloc, value, BODY)?)),
         name if is_without_body(name) => Ok(ResponseBody::Empty),
         _ => Err(Unread::Bad),

@@ -4,8 +4,8 @@ ghost use Rattle.protocol.specs.Commands.{name_of};
 ghost use Rattle.replies.specs.declared.response.Response as declared;
 
 use crate::{
-    Evaluate, Scopes, SetBreakpoints, SetInstructionBreakpoints, SetVariable, StackTrace,
-    Variables, WriteMemory,
+    Disassemble, Evaluate, ReadMemory, Scopes, SetBreakpoints, SetInstructionBreakpoints,
+    SetVariable, StackTrace, Variables, WriteMemory,
 };
 use protocol::{Refusal, Request, Text};
 use std::alloc::{AllocError, Global};
@@ -34,6 +34,10 @@ pub enum ResponseBody {
     SetVariable(SetVariable),
     /// The value of an expression (`EvaluateResponse`).
     Evaluate(Evaluate),
+    /// The instructions at an address (`DisassembleResponse`).
+    Disassemble(Disassemble),
+    /// Bytes of memory (`ReadMemoryResponse`).
+    ReadMemory(ReadMemory),
     /// How much was written to memory (`WriteMemoryResponse`).
     WriteMemory(WriteMemory),
     /// No body: an acknowledgement.

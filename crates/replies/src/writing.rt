@@ -12,7 +12,8 @@ use crate::members::{
     BODY, COMMAND, ERROR, FORMAT, ID, MESSAGE, REQUEST_SEQ, RESPONSE, SEQ, SUCCESS, TYPE,
 };
 use crate::{
-    Message, Outcome, Response, ResponseBody, continue_, event, initialize, member, threads,
+    Message, Outcome, Response, ResponseBody, continue_, event, initialize, member, read_memory,
+    threads,
 };
 use json::Writer;
 use protocol::{Refusal, Text};
@@ -27,29 +28,34 @@ pub(crate) fn message(alloc: Global, seq: u32, message: &Message) -> Result<Vec<
     ensures value { IfOk result (λ b. json_of b.items ≡ Some (message_data seq message.now)) }
 {
     let mut out = Writer::new(Vec::with_capacity(alloc, USUAL_LEN)?);
-    write(&mut out, seq, message)?;
+    write(alloc, &mut out, seq, message)?;
     Ok(out.into_inner())
 }
 
 /// The message with this number, written. As each function below, it fails where no memory is
 /// left, and then the writer is of no more use.
-fn write(out: &mut Writer, seq: u32, message: &Message) -> Result<(), AllocError>
+fn write(alloc: Global, out: &mut Writer, seq: u32, message: &Message) -> Result<(), AllocError>
     ensures { OnOk result (IsWritten out.old out.new (message_data seq message.now)) }
 {
     match message {
-        Message::Response(response) => write_response(out, seq, response),
+        Message::Response(response) => write_response(alloc, out, seq, response),
         Message::Event(event) => event::write(out, seq, event),
     }
 }
 
 /// The response with this number.
-fn write_response(out: &mut Writer, seq: u32, response: &Response) -> Result<(), AllocError>
+fn write_response(
+    alloc: Global,
+    out: &mut Writer,
+    seq: u32,
+    response: &Response,
+) -> Result<(), AllocError>
     ensures { OnOk result (IsWritten out.old out.new (response_data seq response.now)) }
 {
     let request_seq = response.request_seq;
     let command = response.command.as_str();
     match &response.outcome {
-        Outcome::Done(body) => success(out, seq, request_seq, command, body),
+        Outcome::Done(body) => success(alloc, out, seq, request_seq, command, body),
         Outcome::Refused(refusal, text) => {
             refused(out, seq, request_seq, command, *refusal, text)
         }
@@ -58,6 +64,7 @@ fn write_response(out: &mut Writer, seq: u32, response: &Response) -> Result<(),
 
 /// The response with this number to the request of this number and command, which succeeded.
 fn success(
+    alloc: Global,
     out: &mut Writer,
     seq: u32,
     request_seq: u32,
@@ -67,7 +74,7 @@ fn success(
     ensures { OnOk result (IsWritten out.old out.new (outcome_data seq request_seq command.now (Outcome.Done body.now))) }
 {
     out.begin_object()?;
-    write_body(out, body)?;
+    write_body(alloc, out, body)?;
     member::text(out, COMMAND, command)?;
     last_members(out, seq, request_seq, true)?;
     out.end_object()
@@ -109,7 +116,7 @@ fn last_members(
 }
 
 /// The member that is the body, if there is one.
-fn write_body(out: &mut Writer, body: &ResponseBody) -> Result<(), AllocError>
+fn write_body(alloc: Global, out: &mut Writer, body: &ResponseBody) -> Result<(), AllocError>
     ensures { OnOk result (AreWritten out.old out.new (member_if (codes "body") (λ d. d) (body_data body.now) no_members)) }
 {
     match body {
@@ -132,6 +139,11 @@ fn write_body(out: &mut Writer, body: &ResponseBody) -> Result<(), AllocError>
         ResponseBody::Variables(body) => member::part(out, BODY, body),
         ResponseBody::SetVariable(body) => member::part(out, BODY, body),
         ResponseBody::Evaluate(body) => member::part(out, BODY, body),
+        ResponseBody::Disassemble(body) => member::part(out, BODY, body),
+        ResponseBody::ReadMemory(body) => {
+            out.key(BODY)?;
+            read_memory::body(alloc, out, body)
+        }
         ResponseBody::WriteMemory(body) => member::part(out, BODY, body),
         ResponseBody::Empty => Ok(()),
     }

@@ -18,4 +18,6 @@ returns-in_default-2 c =
     let is8 : bytes_eq c.args.command.now (codes "setVariable") ≡ false = other _ _ c.in_default.not-setVariable in
     let is9 : bytes_eq c.args.command.now (codes "evaluate") ≡ false = other _ _ c.in_default.not-evaluate in
     let is10 : bytes_eq c.args.command.now (codes "writeMemory") ≡ false = other _ _ c.in_default.not-writeMemory in
-    λ _. rw (is0, is1, is2, is3, is4, is5, is6, is7, is8, is9, is10, none) refl
+    let is11 : bytes_eq c.args.command.now (codes "disassemble") ≡ false = other _ _ c.in_default.not-disassemble in
+    let is12 : bytes_eq c.args.command.now (codes "readMemory") ≡ false = other _ _ c.in_default.not-readMemory in
+    λ _. rw (is0, is1, is2, is3, is4, is5, is6, is7, is8, is9, is11, is12, is10, none) refl

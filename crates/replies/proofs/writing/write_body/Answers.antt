@@ -15,3 +15,6 @@ returns-in-SetVariable c = rw c.in-SetVariable.is c.part-in-SetVariable.ensures
 
 pub returns-in-Evaluate : goal.returns-in-Evaluate
 returns-in-Evaluate c = rw c.in-Evaluate.is c.part-in-Evaluate.ensures
+
+pub returns-in_ok-key-in-ReadMemory : goal.returns-in_ok-key-in-ReadMemory
+returns-in_ok-key-in-ReadMemory c = rw c.in-ReadMemory.is (member_if_written _ _ c.body-in-ReadMemory.result c.in_ok-key-in-ReadMemory.ensures c.body-in-ReadMemory.ensures)
