@@ -27,9 +27,47 @@ static void stack_trace(uint32_t count)
     PUT("],\"totalFrames\":%u}", count);
 }
 
+static void disassemble(uint32_t count)
+{
+    PUT("{\"instructions\":[");
+    for (uint32_t i = 0; i < count; i++) {
+        uint32_t word = (i & 0xfff) << 20 | 0x00050513;
+        PUT("%s{\"address\":\"0x%08x\",\"instruction\":\"addi a0, a0, %d\",\"instructionBytes\":\"%02x %02x %02x %02x\"}", i ? "," : "", 65536 + 4 * i,
+            (int32_t)word >> 20, word & 255, word >> 8 & 255, word >> 16 & 255, word >> 24);
+    }
+    PUT("]}");
+}
+
+/* Bytes in base64, with no snprintf. */
+static void read_memory(uint32_t count)
+{
+    static const char symbols[] = "ABCDEFGHIJKLMNOPQRSTUVWXYZabcdefghijklmnopqrstuvwxyz0123456789+/";
+    static uint8_t memory[1 << 16];
+    if (memory[1] == 0)
+        for (uint32_t i = 0; i < sizeof memory; i++)
+            memory[i] = (uint8_t)(i * i % 251);
+    PUT("{\"address\":\"0x%08x\",\"data\":\"", 65536u);
+    for (uint32_t i = 0; i < count; i += 3) {
+        uint32_t left = count - i, group = (uint32_t)memory[i] << 16;
+        if (left > 1)
+            group |= (uint32_t)memory[i + 1] << 8;
+        if (left > 2)
+            group |= memory[i + 2];
+        char *at = buffer + length;
+        at[0] = symbols[group >> 18];
+        at[1] = symbols[group >> 12 & 63];
+        at[2] = left > 1 ? symbols[group >> 6 & 63] : '=';
+        at[3] = left > 2 ? symbols[group & 63] : '=';
+        length += 4;
+    }
+    PUT("\"}");
+}
+
 static const struct { const char *name; void (*body)(uint32_t); } commands[] = {
     { "variables", variables },
     { "stackTrace", stack_trace },
+    { "disassemble", disassemble },
+    { "readMemory", read_memory },
 };
 
 static int is_written(const char *command, uint32_t count)
