@@ -160,7 +160,7 @@ def a_listing_ends_well_without_memory():
         got = listed(INCREMENT, environment=environment)
         expect(got in ((INCREMENT_LISTING, b"", 0), (b"", b"rvdap: no memory\n", 1)), True, "a listing, or no memory: %r" % (got,))
 
-    expect(each_refusal(once) > 20, True, "some allocations were refused")
+    expect(len(each_refusal(once)) > 20, True, "some allocations were refused")
 
 
 def checks():

@@ -22,13 +22,13 @@ NO_MEMORY = "NoMemory"
 class Row:
     """Commands and their answers, from a fresh start of the layer.
 
-    steps: pairs of a command and the answer that is expected. source: where the expected answers come from. refused: whether the
-    row is also played with each allocation refused in turn. otherwise: the answers that may come then in place of those of the
-    steps, where a command that is not made again found no memory."""
+    steps: pairs of a command and the answer that is expected. source: where the expected answers come from. refused: where the row is
+    also played without memory, one allocation of how many is refused in turn: True, which is 1, is each. otherwise: the answers that
+    may come then in place of those of the steps, where a command that is not made again found no memory."""
     name: str
     steps: list
     source: str
-    refused: bool = False
+    refused: int = False
     otherwise: list = None
 
 
@@ -71,18 +71,21 @@ def without_the_line(lines):
 
 
 def is_played_without_memory(player, row):
-    """Each allocation refused in turn: the answers are the same, with a line where a call found no memory. Where the player itself
-    found none, it ends with status 3, and the answers so far are the first ones."""
-    runs = []
-    each_refusal(lambda environment: runs.append(play(player, [command for command, _ in row.steps], environment)))
-    for number, (lines, status) in enumerate(runs, 1):
-        which = "%s, allocation %d refused" % (row.name, number)
+    """Allocations refused in turn: the answers are the same, with a line where a call found no memory. Where the player itself found
+    none, it ends with status 3, and the answers so far are the first ones."""
+    def once(environment):
+        lines, status = play(player, [command for command, _ in row.steps], environment)
+        which = "%s, allocation %s refused" % (row.name, environment["REFUSE_ALLOC"])
         expect(status in (0, 3), True, "%s: the status %d is right" % (which, status))
-        if not row.otherwise or lines != first_of(row.otherwise, lines, status):
-            lines = without_the_line(lines)
-            expect_answers(lines, Row(which, first_of(row.steps, lines, status), row.source))
-    expect(any(NO_MEMORY in lines and status == 0 for lines, status in runs), True, "%s: a call found no memory" % row.name)
-    expect(not row.otherwise or (row.otherwise, 0) in runs, True, "%s: the other answers came" % row.name)
+        is_otherwise = bool(row.otherwise) and lines == first_of(row.otherwise, lines, status)
+        if not is_otherwise:
+            rest = without_the_line(lines)
+            expect_answers(rest, Row(which, first_of(row.steps, rest, status), row.source))
+        return NO_MEMORY in lines and status == 0, is_otherwise and status == 0
+
+    runs = each_refusal(once, int(row.refused))
+    expect(any(found_none for found_none, _ in runs), True, "%s: a call found no memory" % row.name)
+    expect(not row.otherwise or any(is_otherwise for _, is_otherwise in runs), True, "%s: the other answers came" % row.name)
 
 
 def first_of(wanted, lines, status):
@@ -115,5 +118,6 @@ def checks():
         for row in module.ROWS:
             found.append(("%s: %s" % (table, row.name), partial(is_played, module.PLAYER, row)))
             if row.refused:
-                found.append(("%s: %s, each allocation refused" % (table, row.name), partial(is_played_without_memory, module.PLAYER, row)))
+                which = "each allocation" if row.refused == 1 else "one allocation of %d" % row.refused
+                found.append(("%s: %s, %s refused" % (table, row.name, which), partial(is_played_without_memory, module.PLAYER, row)))
     return found

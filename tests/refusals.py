@@ -3,6 +3,7 @@ import os
 import shutil
 import subprocess
 import tempfile
+from concurrent.futures import ThreadPoolExecutor
 
 from program import PROGRAM, TOP, expect, run
 from texts import ANSWERS, SESSION
@@ -19,16 +20,23 @@ def preload(folder):
     return library
 
 
-def each_refusal(once):
-    """Calls once(environment) with the first, the second, .. allocation refused, until a run asks for fewer."""
-    with tempfile.TemporaryDirectory() as folder:
-        library, report = preload(folder), os.path.join(folder, "refused")
-        for n in range(1, MOST):
-            if os.path.exists(report):
-                os.remove(report)
-            once(dict(os.environ, LD_PRELOAD=library, REFUSE_ALLOC=str(n), REFUSE_REPORT=report))
-            if not os.path.exists(report):
-                return n - 1
+def each_refusal(once, step=1):
+    """What once(environment) gives with the first allocation refused, with the one so many after it, .., until a run asks for fewer. As many
+    runs as there are processors go side by side."""
+    with tempfile.TemporaryDirectory() as folder, ThreadPoolExecutor(os.cpu_count()) as pool:
+        library = preload(folder)
+
+        def refused(n):
+            report = os.path.join(folder, "refused-%d" % n)
+            gave = once(dict(os.environ, LD_PRELOAD=library, REFUSE_ALLOC=str(n), REFUSE_REPORT=report))
+            return gave, os.path.exists(report)
+
+        given = []
+        for first in range(1, MOST, step * os.cpu_count()):
+            for gave, was_refused in pool.map(refused, range(first, first + step * os.cpu_count(), step)):
+                if not was_refused:
+                    return given
+                given.append(gave)
     raise AssertionError("the process asks for memory without end")
 
 
@@ -41,7 +49,7 @@ def the_program_ends_well_without_memory():
             expect((err, status), (b"rvdap: no memory\n", 1), "out of memory")
             expect(out, ANSWERS[:len(out)], "the answers before it")
 
-    expect(each_refusal(once) > 5, True, "some allocations were refused")
+    expect(len(each_refusal(once)) > 5, True, "some allocations were refused")
 
 
 def checks():

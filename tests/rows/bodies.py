@@ -236,21 +236,21 @@ GREATEST_SIZES = [
             '{"column":1,"id":%d,"instructionPointerReference":"0x%08x","line":%d,"name":"f+%d","source":{"name":"p.s","path":"/w/p.s"}}'
             % (i, 65536 + 4 * i, i, 4 * i) for i in range(257)),
         "StackTrace 257 " + " ".join("%d %s %d %d 1 %s %s" % (i, spelled("f+%d" % (4 * i)), 65536 + 4 * i, i, spelled("p.s"), spelled("/w/p.s"))
-                                     for i in range(257))), PROFILE),
+                                     for i in range(257))), PROFILE, refused=7),
     Row("1,024 breakpoints", both_ways(
         "setBreakpoints", '{"breakpoints":[%s]}' % ",".join(
             '{"id":%d,"instructionReference":"0x%08x","line":%d,"verified":true}' % (i, 65536 + 4 * i, i) for i in LINES),
-        "SetBreakpoints " + " ".join("set %d %d %d" % (i, 65536 + 4 * i, i) for i in LINES)), PROFILE),
+        "SetBreakpoints " + " ".join("set %d %d %d" % (i, 65536 + 4 * i, i) for i in LINES)), PROFILE, refused=13),
     Row("33 registers", both_ways(
         "variables", '{"variables":[%s]}' % ",".join('{"name":"x%d","value":"0x%08x","variablesReference":0}' % (i, i * 0x01010101) for i in range(33)),
-        "Variables " + " ".join("%s %d" % (spelled("x%d" % i), i * 0x01010101) for i in range(33))), PROFILE),
+        "Variables " + " ".join("%s %d" % (spelled("x%d" % i), i * 0x01010101) for i in range(33))), PROFILE, refused=True),
     Row("4,096 instructions", both_ways(
         "disassemble", '{"instructions":[%s]}' % ",".join(
             '{"address":"0x%08x","instruction":"%s","instructionBytes":"%s"}' % (address, text, word.to_bytes(4, "little").hex(" "))
             for address, text, word in WORDS),
-        "Disassemble " + " ".join("valid %d %s %d" % (address, spelled(text), word) for address, text, word in WORDS)), PROFILE),
+        "Disassemble " + " ".join("valid %d %s %d" % (address, spelled(text), word) for address, text, word in WORDS)), PROFILE, refused=101),
     Row("65,536 bytes of memory", both_ways(
-        "readMemory", '{"address":"0x00010000","data":"%s"}' % b64encode(PIECE).decode(), "ReadMemory 65536 %s 0" % spelled(PIECE)), PROFILE),
+        "readMemory", '{"address":"0x00010000","data":"%s"}' % b64encode(PIECE).decode(), "ReadMemory 65536 %s 0" % spelled(PIECE)), PROFILE, refused=True),
 ]
 
 ROWS = BREAKPOINTS + FRAMES_AND_VARIABLES + VALUES + MEMORY + REFUSED + GREATEST_SIZES

@@ -2,6 +2,7 @@
 from json import dumps
 
 from playing import Row
+from rows.requests import NAMES as REQUESTS
 from sessions import CANCELLED, CAPABILITIES, DISCONNECTED, REFUSED, THREADS
 from sessions import INITIALIZE as FIRST
 
@@ -335,7 +336,7 @@ RESPONSES = [
         read(refusal(20, "requestGone", "requestGone", "cancel"), 1, is_refused(1, "cancel", "RequestGone")),
     ], PROFILE),
     Row("bodies that are no JSON", [no_message(body, "NotJson") for body in (b'', b'{', b'{"seq":01}', b'"\xff"')], JSON),
-    Row("answers name their request", [step for name in ("initialize", "threads", "cancel", "disconnect") for step in (
+    Row("answers name their request", [step for name in REQUESTS for step in (
         success(7, name, "Threads"), refuse(7, name, "BadArguments"), ack(7, name))], PROFILE),
     Row("the text of a program's error is read and written", [
         *written(3, refused(2, "launch", "AssemblyFailed", spelled("line 1: Undefined")),

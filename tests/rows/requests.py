@@ -247,7 +247,8 @@ DATA = [
         *(bytes_are("AA%s=" % symbol, bytes([0, value])) for symbol, value in zip("AEIMQUYcgkosw048", range(16))),
         *(refused("writeMemory", write("AA%s=" % symbol)) for symbol in "BCDFZah9+/"),
     ], BASE64),
-    Row("65,536 bytes", [bytes_are(b64encode(MANY_BYTES).decode(), MANY_BYTES), refused("writeMemory", write("A" * 87380 + "AB=="))], BASE64),
+    Row("65,536 bytes", [bytes_are(b64encode(MANY_BYTES).decode(), MANY_BYTES), refused("writeMemory", write("A" * 87380 + "AB=="))], BASE64,
+        refused=True),
 ]
 
 
@@ -272,7 +273,7 @@ GREATEST = [
         refused("setBreakpoints", many(1023, '{"line":1}')[:-2] + ',{"line":-1}]}'),
         read("setInstructionBreakpoints", many(1024, '{"instructionReference":"0","offset":4,"hitCondition":"1"}'), *["30 4 none 31"] * 1024),
         refused("setInstructionBreakpoints", many(1023, '{"instructionReference":"0"}')[:-2] + ',{}]}'),
-    ], SCHEMA),
+    ], SCHEMA, refused=31),
     Row("lists as long as a body lets them be", [
         step(LINES, " ".join(("7 setBreakpoints none",) + breakpoints(9) * HOW_MANY_LINES)),
         step(OBJECTS, " ".join(("7 setInstructionBreakpoints",) + ("30 0 none none",) * HOW_MANY_OBJECTS)),
@@ -282,7 +283,7 @@ GREATEST = [
     Row("a text as long as a body lets it be", [
         read("evaluate", '{"expression":"%s"}' % ("y" * 1048000), spelled("y" * 1048000), "none"),
         bytes_are("A" * 1048000, b"\0" * 786000),
-    ], SCHEMA),
+    ], SCHEMA, refused=True),
     Row("a request that found no memory for its arguments can be read again", [
         is_read(whole(form)) for form in FORMS] + [
         read("setBreakpoints", '{"source":{"path":"a.s"},"breakpoints":[{"line":1,"condition":"x"},{"line":2}]}', "612e73 1 78 none 2 none none"),

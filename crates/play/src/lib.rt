@@ -5,8 +5,10 @@
 
 mod arguments;
 mod fault;
+mod line;
 mod playing;
 
 pub use arguments::{bytes_of, called, hexadecimal, parsed, shown};
 pub use fault::Fault;
+pub use line::Line;
 pub use playing::{Player, play};

@@ -1,164 +1,133 @@
-//! The arguments of requests as they are shown, each with a space before it.
+//! The arguments of requests as they are shown.
 
-use play::{Fault, hexadecimal};
+use play::{Fault, Line};
 use protocol::{
     CancelArguments, DisassembleArguments, DisconnectArguments, EvaluateArguments, Granularity,
     InitializeArguments, InstructionBreakpoint, LaunchArguments, ReadMemoryArguments,
-    ScopesArguments, SetBreakpointsArguments, SetInstructionBreakpointsArguments,
-    SetVariableArguments, SourceBreakpoint, StackTraceArguments, Text, VariablesArguments,
-    WriteMemoryArguments,
+    SetBreakpointsArguments, SetInstructionBreakpointsArguments, SetVariableArguments,
+    SourceBreakpoint, StackTraceArguments, Text, VariablesArguments, WriteMemoryArguments,
 };
-use std::alloc::Global;
-use std::fmt::Display;
+use std::fmt::Debug;
 
-pub(crate) fn initialize(alloc: Global, given: &InitializeArguments) -> Result<String, Fault> {
-    let lines = given.lines_start_at1;
-    let columns = given.columns_start_at1;
-    Ok(format!(in alloc; " {lines} {columns}")?)
+pub(crate) fn initialize(line: &mut Line, given: &InitializeArguments) -> Result<(), Fault> {
+    line.value(given.lines_start_at1)?;
+    line.value(given.columns_start_at1)
 }
 
-pub(crate) fn launch(alloc: Global, given: &LaunchArguments) -> Result<String, Fault> {
-    let program = text(alloc, &given.program)?;
-    let stops = given.stop_on_entry;
-    Ok(format!(in alloc; "{program} {stops}")?)
+pub(crate) fn launch(line: &mut Line, given: &LaunchArguments) -> Result<(), Fault> {
+    text(line, &given.program)?;
+    line.value(given.stop_on_entry)
 }
 
-pub(crate) fn cancel(alloc: Global, given: &CancelArguments) -> Result<String, Fault> {
-    optional(alloc, given.request_id)
+pub(crate) fn cancel(line: &mut Line, given: &CancelArguments) -> Result<(), Fault> {
+    line.optional(given.request_id)
 }
 
-pub(crate) fn disconnect(alloc: Global, given: &DisconnectArguments) -> Result<String, Fault> {
-    let terminate = optional(alloc, given.terminate_debuggee)?;
-    let suspend = optional(alloc, given.suspend_debuggee)?;
-    Ok(format!(in alloc; "{terminate}{suspend}")?)
+pub(crate) fn disconnect(line: &mut Line, given: &DisconnectArguments) -> Result<(), Fault> {
+    line.optional(given.terminate_debuggee)?;
+    line.optional(given.suspend_debuggee)
 }
 
 pub(crate) fn set_breakpoints(
-    alloc: Global,
+    line: &mut Line,
     given: &SetBreakpointsArguments,
-) -> Result<String, Fault> {
-    let mut line = optional_text(alloc, &given.source.path)?;
+) -> Result<(), Fault> {
+    optional_text(line, &given.source.path)?;
     for breakpoint in given.breakpoints.as_slice() {
-        line.push_str(source_breakpoint(alloc, breakpoint)?.as_str())?;
+        source_breakpoint(line, breakpoint)?;
     }
-    Ok(line)
+    Ok(())
 }
 
-fn source_breakpoint(alloc: Global, given: &SourceBreakpoint) -> Result<String, Fault> {
-    let line = given.line;
-    let condition = optional_text(alloc, &given.condition)?;
-    let hits = optional_text(alloc, &given.hit_condition)?;
-    Ok(format!(in alloc; " {line}{condition}{hits}")?)
+fn source_breakpoint(line: &mut Line, given: &SourceBreakpoint) -> Result<(), Fault> {
+    line.value(given.line)?;
+    optional_text(line, &given.condition)?;
+    optional_text(line, &given.hit_condition)
 }
 
 pub(crate) fn set_instruction_breakpoints(
-    alloc: Global,
+    line: &mut Line,
     given: &SetInstructionBreakpointsArguments,
-) -> Result<String, Fault> {
-    let mut line = String::new(alloc);
+) -> Result<(), Fault> {
     for breakpoint in given.breakpoints.as_slice() {
-        line.push_str(instruction_breakpoint(alloc, breakpoint)?.as_str())?;
+        instruction_breakpoint(line, breakpoint)?;
     }
-    Ok(line)
+    Ok(())
 }
 
-fn instruction_breakpoint(alloc: Global, given: &InstructionBreakpoint) -> Result<String, Fault> {
-    let reference = text(alloc, &given.instruction_reference)?;
-    let offset = given.offset;
-    let condition = optional_text(alloc, &given.condition)?;
-    let hits = optional_text(alloc, &given.hit_condition)?;
-    Ok(format!(in alloc; "{reference} {offset}{condition}{hits}")?)
+fn instruction_breakpoint(line: &mut Line, given: &InstructionBreakpoint) -> Result<(), Fault> {
+    text(line, &given.instruction_reference)?;
+    line.value(given.offset)?;
+    optional_text(line, &given.condition)?;
+    optional_text(line, &given.hit_condition)
 }
 
-pub(crate) fn thread(alloc: Global, thread_id: i32) -> Result<String, Fault> {
-    Ok(format!(in alloc; " {thread_id}")?)
+pub(crate) fn step(line: &mut Line, thread_id: i32, granularity: Granularity) -> Result<(), Fault> {
+    line.value(thread_id)?;
+    line.name(granularity)
 }
 
-pub(crate) fn step(
-    alloc: Global,
-    thread_id: i32,
-    granularity: Granularity,
-) -> Result<String, Fault> {
-    Ok(format!(in alloc; " {thread_id} {granularity:?}")?)
+pub(crate) fn stack_trace(line: &mut Line, given: &StackTraceArguments) -> Result<(), Fault> {
+    line.value(given.thread_id)?;
+    line.value(given.start_frame)?;
+    line.optional(given.levels)
 }
 
-pub(crate) fn stack_trace(alloc: Global, given: &StackTraceArguments) -> Result<String, Fault> {
-    let thread = given.thread_id;
-    let start = given.start_frame;
-    let levels = optional(alloc, given.levels)?;
-    Ok(format!(in alloc; " {thread} {start}{levels}")?)
+pub(crate) fn variables(line: &mut Line, given: &VariablesArguments) -> Result<(), Fault> {
+    line.value(given.variables_reference)?;
+    optional_name(line, given.filter)?;
+    line.value(given.start)?;
+    line.optional(given.count)
 }
 
-pub(crate) fn scopes(alloc: Global, given: &ScopesArguments) -> Result<String, Fault> {
-    let frame = given.frame_id;
-    Ok(format!(in alloc; " {frame}")?)
+pub(crate) fn set_variable(line: &mut Line, given: &SetVariableArguments) -> Result<(), Fault> {
+    line.value(given.variables_reference)?;
+    text(line, &given.name)?;
+    text(line, &given.value)
 }
 
-pub(crate) fn variables(alloc: Global, given: &VariablesArguments) -> Result<String, Fault> {
-    let reference = given.variables_reference;
-    let filter = match given.filter {
-        Some(filter) => format!(in alloc; "{filter:?}")?,
-        None => String::from_str(alloc, "none")?,
-    };
-    let start = given.start;
-    let count = optional(alloc, given.count)?;
-    Ok(format!(in alloc; " {reference} {filter} {start}{count}")?)
+pub(crate) fn evaluate(line: &mut Line, given: &EvaluateArguments) -> Result<(), Fault> {
+    text(line, &given.expression)?;
+    line.optional(given.frame_id)
 }
 
-pub(crate) fn set_variable(alloc: Global, given: &SetVariableArguments) -> Result<String, Fault> {
-    let reference = given.variables_reference;
-    let name = text(alloc, &given.name)?;
-    let value = text(alloc, &given.value)?;
-    Ok(format!(in alloc; " {reference}{name}{value}")?)
+pub(crate) fn disassemble(line: &mut Line, given: &DisassembleArguments) -> Result<(), Fault> {
+    text(line, &given.memory_reference)?;
+    line.value(given.offset)?;
+    line.value(given.instruction_offset)?;
+    line.value(given.instruction_count)
 }
 
-pub(crate) fn evaluate(alloc: Global, given: &EvaluateArguments) -> Result<String, Fault> {
-    let expression = text(alloc, &given.expression)?;
-    let frame = optional(alloc, given.frame_id)?;
-    Ok(format!(in alloc; "{expression}{frame}")?)
+pub(crate) fn read_memory(line: &mut Line, given: &ReadMemoryArguments) -> Result<(), Fault> {
+    text(line, &given.memory_reference)?;
+    line.value(given.offset)?;
+    line.value(given.count)
 }
 
-pub(crate) fn disassemble(alloc: Global, given: &DisassembleArguments) -> Result<String, Fault> {
-    let reference = text(alloc, &given.memory_reference)?;
-    let offset = given.offset;
-    let instructions = given.instruction_offset;
-    let count = given.instruction_count;
-    Ok(format!(in alloc; "{reference} {offset} {instructions} {count}")?)
+pub(crate) fn write_memory(line: &mut Line, given: &WriteMemoryArguments) -> Result<(), Fault> {
+    text(line, &given.memory_reference)?;
+    line.value(given.offset)?;
+    line.bytes(given.bytes.as_slice())?;
+    line.value(given.allow_partial)
 }
 
-pub(crate) fn read_memory(alloc: Global, given: &ReadMemoryArguments) -> Result<String, Fault> {
-    let reference = text(alloc, &given.memory_reference)?;
-    let offset = given.offset;
-    let count = given.count;
-    Ok(format!(in alloc; "{reference} {offset} {count}")?)
+/// A text in hexadecimal digits.
+fn text(line: &mut Line, text: &Text) -> Result<(), Fault> {
+    line.bytes(text.as_str().as_bytes())
 }
 
-pub(crate) fn write_memory(alloc: Global, given: &WriteMemoryArguments) -> Result<String, Fault> {
-    let reference = text(alloc, &given.memory_reference)?;
-    let offset = given.offset;
-    let bytes = hexadecimal(alloc, given.bytes.as_slice())?;
-    let partial = given.allow_partial;
-    Ok(format!(in alloc; "{reference} {offset} {bytes} {partial}")?)
-}
-
-/// A text in hexadecimal digits, with a space before it.
-fn text(alloc: Global, text: &Text) -> Result<String, Fault> {
-    let digits = hexadecimal(alloc, text.as_str().as_bytes())?;
-    Ok(format!(in alloc; " {digits}")?)
-}
-
-/// A text or `none`, with a space before it.
-fn optional_text(alloc: Global, value: &Option<Text>) -> Result<String, Fault> {
+/// A text in hexadecimal digits, or `none`.
+fn optional_text(line: &mut Line, value: &Option<Text>) -> Result<(), Fault> {
     match value {
-        Some(value) => text(alloc, value),
-        None => Ok(String::from_str(alloc, " none")?),
+        Some(value) => text(line, value),
+        None => line.word("none"),
     }
 }
 
-/// A value or `none`, with a space before it.
-fn optional<D: Display + Drop>(alloc: Global, value: Option<D>) -> Result<String, Fault> {
+/// The name of a variant, or `none`.
+fn optional_name<D: Debug + Drop>(line: &mut Line, value: Option<D>) -> Result<(), Fault> {
     match value {
-        Some(value) => Ok(format!(in alloc; " {value}")?),
-        None => Ok(String::from_str(alloc, " none")?),
+        Some(value) => line.name(value),
+        None => line.word("none"),
     }
 }

@@ -1,166 +1,177 @@
 //! The bodies of responses as they are shown.
 
-use play::{Fault, hexadecimal};
+use play::{Fault, Line};
 use protocol::Text;
 use replies::{
     Disassemble, Instruction, InstructionBreakpoint, ReadMemory, ResponseBody, Scope, Scopes,
     SetBreakpoints, SetInstructionBreakpoints, Source, SourceBreakpoint, StackFrame, StackTrace,
     Variables,
 };
-use std::alloc::Global;
 
 /// The name of a body, and its parts.
-pub(crate) fn shown_body(alloc: Global, body: &ResponseBody) -> Result<String, Fault> {
+pub(crate) fn show_body(line: &mut Line, body: &ResponseBody) -> Result<(), Fault> {
     match body {
-        ResponseBody::Initialize => Ok(String::from_str(alloc, "Initialize")?),
-        ResponseBody::Threads => Ok(String::from_str(alloc, "Threads")?),
-        ResponseBody::Continue => Ok(String::from_str(alloc, "Continue")?),
-        ResponseBody::Empty => Ok(String::from_str(alloc, "Empty")?),
-        ResponseBody::SetBreakpoints(body) => source_breakpoints(alloc, body),
-        ResponseBody::SetInstructionBreakpoints(body) => instruction_breakpoints(alloc, body),
-        ResponseBody::StackTrace(body) => stack_trace(alloc, body),
-        ResponseBody::Scopes(body) => scopes(alloc, body),
-        ResponseBody::Variables(body) => variables(alloc, body),
-        ResponseBody::SetVariable(body) => {
-            let value = body.value;
-            Ok(format!(in alloc; "SetVariable {value}")?)
-        }
-        ResponseBody::Evaluate(body) => {
-            let result = body.result;
-            Ok(format!(in alloc; "Evaluate {result}")?)
-        }
-        ResponseBody::Disassemble(body) => disassemble(alloc, body),
-        ResponseBody::ReadMemory(body) => read_memory(alloc, body),
-        ResponseBody::WriteMemory(body) => {
-            let written = body.bytes_written;
-            Ok(format!(in alloc; "WriteMemory {written}")?)
-        }
+        ResponseBody::Initialize => line.word("Initialize"),
+        ResponseBody::Threads => line.word("Threads"),
+        ResponseBody::Continue => line.word("Continue"),
+        ResponseBody::Empty => line.word("Empty"),
+        ResponseBody::SetBreakpoints(body) => source_breakpoints(line, body),
+        ResponseBody::SetInstructionBreakpoints(body) => instruction_breakpoints(line, body),
+        ResponseBody::StackTrace(body) => stack_trace(line, body),
+        ResponseBody::Scopes(body) => scopes(line, body),
+        ResponseBody::Variables(body) => variables(line, body),
+        ResponseBody::SetVariable(body) => named(line, "SetVariable", body.value),
+        ResponseBody::Evaluate(body) => named(line, "Evaluate", body.result),
+        ResponseBody::Disassemble(body) => disassemble(line, body),
+        ResponseBody::ReadMemory(body) => read_memory(line, body),
+        ResponseBody::WriteMemory(body) => named(line, "WriteMemory", body.bytes_written),
     }
 }
 
-fn source_breakpoints(alloc: Global, body: &SetBreakpoints) -> Result<String, Fault> {
-    let mut line = String::from_str(alloc, "SetBreakpoints")?;
+/// A name and a number.
+fn named(line: &mut Line, name: &str, number: u32) -> Result<(), Fault> {
+    line.word(name)?;
+    line.value(number)
+}
+
+fn source_breakpoints(line: &mut Line, body: &SetBreakpoints) -> Result<(), Fault> {
+    line.word("SetBreakpoints")?;
     for breakpoint in body.breakpoints.as_slice() {
-        let shown = match breakpoint {
-            SourceBreakpoint::Verified {
-                id,
-                instruction_reference,
-                line,
-            } => format!(in alloc; " set {id} {instruction_reference} {line}")?,
-            SourceBreakpoint::Unverified { line, message } => {
-                let message = text(alloc, message)?;
-                format!(in alloc; " unset {line} {message}")?
-            }
-        };
-        line.push_str(shown.as_str())?;
+        source_breakpoint(line, breakpoint)?;
     }
-    Ok(line)
+    Ok(())
 }
 
-fn instruction_breakpoints(
-    alloc: Global,
-    body: &SetInstructionBreakpoints,
-) -> Result<String, Fault> {
-    let mut line = String::from_str(alloc, "SetInstructionBreakpoints")?;
+fn source_breakpoint(line: &mut Line, breakpoint: &SourceBreakpoint) -> Result<(), Fault> {
+    match breakpoint {
+        SourceBreakpoint::Verified {
+            id,
+            instruction_reference,
+            line: at,
+        } => {
+            named(line, "set", *id)?;
+            line.value(*instruction_reference)?;
+            line.value(*at)
+        }
+        SourceBreakpoint::Unverified { line: at, message } => {
+            named(line, "unset", *at)?;
+            text(line, message)
+        }
+    }
+}
+
+fn instruction_breakpoints(line: &mut Line, body: &SetInstructionBreakpoints) -> Result<(), Fault> {
+    line.word("SetInstructionBreakpoints")?;
     for breakpoint in body.breakpoints.as_slice() {
-        let shown = match breakpoint {
-            InstructionBreakpoint::Verified {
-                id,
-                instruction_reference,
-            } => format!(in alloc; " set {id} {instruction_reference}")?,
-            InstructionBreakpoint::Unverified { message } => {
-                let message = text(alloc, message)?;
-                format!(in alloc; " unset {message}")?
-            }
-        };
-        line.push_str(shown.as_str())?;
+        instruction_breakpoint(line, breakpoint)?;
     }
-    Ok(line)
+    Ok(())
 }
 
-fn stack_trace(alloc: Global, body: &StackTrace) -> Result<String, Fault> {
-    let total = body.total_frames;
-    let mut line = format!(in alloc; "StackTrace {total}")?;
+fn instruction_breakpoint(
+    line: &mut Line,
+    breakpoint: &InstructionBreakpoint,
+) -> Result<(), Fault> {
+    match breakpoint {
+        InstructionBreakpoint::Verified {
+            id,
+            instruction_reference,
+        } => {
+            named(line, "set", *id)?;
+            line.value(*instruction_reference)
+        }
+        InstructionBreakpoint::Unverified { message } => {
+            line.word("unset")?;
+            text(line, message)
+        }
+    }
+}
+
+fn stack_trace(line: &mut Line, body: &StackTrace) -> Result<(), Fault> {
+    named(line, "StackTrace", body.total_frames)?;
     for frame in body.stack_frames.as_slice() {
-        line.push_str(stack_frame(alloc, frame)?.as_str())?;
+        stack_frame(line, frame)?;
     }
-    Ok(line)
+    Ok(())
 }
 
-fn stack_frame(alloc: Global, frame: &StackFrame) -> Result<String, Fault> {
-    let id = frame.id;
-    let address = frame.instruction_pointer_reference;
-    let line = frame.line;
-    let column = frame.column;
-    let name = text(alloc, &frame.name)?;
-    let source = source(alloc, &frame.source)?;
-    Ok(format!(in alloc; " {id} {name} {address} {line} {column} {source}")?)
+fn stack_frame(line: &mut Line, frame: &StackFrame) -> Result<(), Fault> {
+    line.value(frame.id)?;
+    text(line, &frame.name)?;
+    line.value(frame.instruction_pointer_reference)?;
+    line.value(frame.line)?;
+    line.value(frame.column)?;
+    source(line, &frame.source)
 }
 
-fn source(alloc: Global, source: &Option<Source>) -> Result<String, Fault> {
+fn source(line: &mut Line, source: &Option<Source>) -> Result<(), Fault> {
     match source {
         Some(source) => {
-            let name = text(alloc, &source.name)?;
-            let path = text(alloc, &source.path)?;
-            Ok(format!(in alloc; "{name} {path}")?)
+            text(line, &source.name)?;
+            text(line, &source.path)
         }
-        None => Ok(String::from_str(alloc, "none")?),
+        None => line.word("none"),
     }
 }
 
-fn scopes(alloc: Global, body: &Scopes) -> Result<String, Fault> {
-    let mut line = String::from_str(alloc, "Scopes")?;
+fn scopes(line: &mut Line, body: &Scopes) -> Result<(), Fault> {
+    line.word("Scopes")?;
     for scope in body.scopes.as_slice() {
-        let shown = match scope {
-            Scope::Registers {
-                variables_reference,
-            } => format!(in alloc; " registers {variables_reference}")?,
-            Scope::Stack {
-                variables_reference,
-            } => format!(in alloc; " stack {variables_reference}")?,
-        };
-        line.push_str(shown.as_str())?;
+        show_scope(line, scope)?;
     }
-    Ok(line)
+    Ok(())
 }
 
-fn variables(alloc: Global, body: &Variables) -> Result<String, Fault> {
-    let mut line = String::from_str(alloc, "Variables")?;
+fn show_scope(line: &mut Line, scope: &Scope) -> Result<(), Fault> {
+    match scope {
+        Scope::Registers {
+            variables_reference,
+        } => named(line, "registers", *variables_reference),
+        Scope::Stack {
+            variables_reference,
+        } => named(line, "stack", *variables_reference),
+    }
+}
+
+fn variables(line: &mut Line, body: &Variables) -> Result<(), Fault> {
+    line.word("Variables")?;
     for variable in body.variables.as_slice() {
-        let name = text(alloc, &variable.name)?;
-        let value = variable.value;
-        line.push_str(format!(in alloc; " {name} {value}")?.as_str())?;
+        text(line, &variable.name)?;
+        line.value(variable.value)?;
     }
-    Ok(line)
+    Ok(())
 }
 
-fn disassemble(alloc: Global, body: &Disassemble) -> Result<String, Fault> {
-    let mut line = String::from_str(alloc, "Disassemble")?;
-    for entry in body.instructions.as_slice() {
-        let shown = match entry {
-            Instruction::Valid {
-                address,
-                instruction,
-                instruction_bytes,
-            } => {
-                let instruction = text(alloc, instruction)?;
-                format!(in alloc; " valid {address} {instruction} {instruction_bytes}")?
-            }
-            Instruction::Invalid { address } => format!(in alloc; " invalid {address}")?,
-        };
-        line.push_str(shown.as_str())?;
+fn disassemble(line: &mut Line, body: &Disassemble) -> Result<(), Fault> {
+    line.word("Disassemble")?;
+    for instruction in body.instructions.as_slice() {
+        show_instruction(line, instruction)?;
     }
-    Ok(line)
+    Ok(())
 }
 
-fn read_memory(alloc: Global, body: &ReadMemory) -> Result<String, Fault> {
-    let address = body.address;
-    let bytes = hexadecimal(alloc, body.bytes.as_slice())?;
-    let unreadable = body.unreadable_bytes;
-    Ok(format!(in alloc; "ReadMemory {address} {bytes} {unreadable}")?)
+fn show_instruction(line: &mut Line, entry: &Instruction) -> Result<(), Fault> {
+    match entry {
+        Instruction::Valid {
+            address,
+            instruction,
+            instruction_bytes,
+        } => {
+            named(line, "valid", *address)?;
+            text(line, instruction)?;
+            line.value(*instruction_bytes)
+        }
+        Instruction::Invalid { address } => named(line, "invalid", *address),
+    }
+}
+
+fn read_memory(line: &mut Line, body: &ReadMemory) -> Result<(), Fault> {
+    named(line, "ReadMemory", body.address)?;
+    line.bytes(body.bytes.as_slice())?;
+    line.value(body.unreadable_bytes)
 }
 
 /// The bytes of a text.
-fn text(alloc: Global, text: &Text) -> Result<String, Fault> {
-    hexadecimal(alloc, text.as_str().as_bytes())
+fn text(line: &mut Line, text: &Text) -> Result<(), Fault> {
+    line.bytes(text.as_str().as_bytes())
 }

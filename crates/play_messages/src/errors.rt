@@ -1,8 +1,7 @@
 //! Refusals and errors by their names.
 
-use play::Fault;
+use play::{Fault, Line};
 use protocol::{MessageError, Refusal};
-use std::alloc::Global;
 
 /// The refusal of this name.
 pub(crate) fn refusal_named(name: &str) -> Result<Refusal, Fault> {
@@ -17,6 +16,13 @@ pub(crate) fn refusal_named(name: &str) -> Result<Refusal, Fault> {
         "NoThread" => Ok(Refusal::NoThread),
         "NotStopped" => Ok(Refusal::NotStopped),
         "UnknownReference" => Ok(Refusal::UnknownReference),
+        _ => refusal_of_arguments(name),
+    }
+}
+
+/// The same, of those that come after a reference that no lifetime has.
+fn refusal_of_arguments(name: &str) -> Result<Refusal, Fault> {
+    match name {
         "StaleReference" => Ok(Refusal::StaleReference),
         "BadMemoryReference" => Ok(Refusal::BadMemoryReference),
         "TooMuch" => Ok(Refusal::TooMuch),
@@ -34,10 +40,9 @@ pub(crate) fn refusal_named(name: &str) -> Result<Refusal, Fault> {
 }
 
 /// The number and the name that a response gives for a refusal.
-pub(crate) fn shown_refusal(alloc: Global, refusal: Refusal) -> Result<String, Fault> {
-    let id = refusal.id();
-    let name = refusal.name();
-    Ok(format!(in alloc; "{id} {name}")?)
+pub(crate) fn show_refusal(line: &mut Line, refusal: Refusal) -> Result<(), Fault> {
+    line.value(refusal.id())?;
+    line.word(refusal.name())
 }
 
 /// The error of this name.
@@ -48,5 +53,13 @@ pub(crate) fn error_named(name: &str) -> Result<MessageError, Fault> {
         "BadSeq" => Ok(MessageError::BadSeq),
         "NoMemory" => Ok(MessageError::NoMemory),
         _ => Err(Fault::NoCommand),
+    }
+}
+
+/// What a call answered that a body is no message to.
+pub(crate) fn show_error(line: &mut Line, error: MessageError) -> Result<(), Fault> {
+    match error {
+        MessageError::NoMemory => Err(Fault::NoMemoryInCall),
+        error => line.name(error),
     }
 }

@@ -1,8 +1,8 @@
 //! Events as they are made and shown.
 
-use crate::responses::text_of;
-use play::{Fault, hexadecimal, parsed};
-use protocol::{Entries, Text};
+use crate::responses::{optional_text_of, text_of};
+use play::{Fault, Line, parsed};
+use protocol::Entries;
 use replies::{Event, Exited, Output, Reason, Stopped};
 use std::alloc::{AllocError, Global};
 
@@ -12,14 +12,8 @@ pub(crate) fn event_of(alloc: Global, words: &[&str]) -> Result<Event, Fault> {
         ["Initialized"] => Ok(Event::Initialized),
         ["Stopped", reason, text, ids @ ..] => stopped(alloc, reason, text, ids),
         ["Continued"] => Ok(Event::Continued),
-        ["Output", text] => {
-            let output = text_of(alloc, text)?;
-            Ok(Event::Output(Output { output }))
-        }
-        ["Exited", code] => {
-            let exit_code = parsed(code)?;
-            Ok(Event::Exited(Exited { exit_code }))
-        }
+        ["Output", text] => output(alloc, text),
+        ["Exited", code] => exited(code),
         ["Terminated"] => Ok(Event::Terminated),
         _ => Err(Fault::NoCommand),
     }
@@ -27,19 +21,29 @@ pub(crate) fn event_of(alloc: Global, words: &[&str]) -> Result<Event, Fault> {
 
 /// A stop for this reason, with this text or `none`, and the numbers of its breakpoints.
 fn stopped(alloc: Global, reason: &str, text: &str, ids: &[&str]) -> Result<Event, Fault> {
-    let text = match text {
-        "none" => None,
-        text => Some(text_of(alloc, text)?),
-    };
-    let mut numbers = Vec::new(alloc);
-    for id in ids {
-        numbers.push(parsed(id)?).map_err(AllocError::from)?;
-    }
     Ok(Event::Stopped(Stopped {
-        hit_breakpoint_ids: Entries::from_vec(numbers),
         reason: reason_named(reason)?,
-        text,
+        text: optional_text_of(alloc, text)?,
+        hit_breakpoint_ids: numbers(alloc, ids)?,
     }))
+}
+
+fn output(alloc: Global, text: &str) -> Result<Event, Fault> {
+    let output = text_of(alloc, text)?;
+    Ok(Event::Output(Output { output }))
+}
+
+fn exited(code: &str) -> Result<Event, Fault> {
+    let exit_code = parsed(code)?;
+    Ok(Event::Exited(Exited { exit_code }))
+}
+
+fn numbers(alloc: Global, words: &[&str]) -> Result<Entries<u32>, Fault> {
+    let mut numbers = Vec::new(alloc);
+    for word in words {
+        numbers.push(parsed(word)?).map_err(AllocError::from)?;
+    }
+    Ok(Entries::from_vec(numbers))
 }
 
 fn reason_named(name: &str) -> Result<Reason, Fault> {
@@ -55,37 +59,37 @@ fn reason_named(name: &str) -> Result<Reason, Fault> {
 }
 
 /// The name of an event, and its parts.
-pub(crate) fn shown_event(alloc: Global, event: &Event) -> Result<String, Fault> {
+pub(crate) fn show_event(line: &mut Line, event: &Event) -> Result<(), Fault> {
+    line.word("event")?;
     match event {
-        Event::Initialized => Ok(String::from_str(alloc, "event Initialized")?),
-        Event::Stopped(body) => shown_stop(alloc, body),
-        Event::Continued => Ok(String::from_str(alloc, "event Continued")?),
-        Event::Output(body) => {
-            let output = shown_text(alloc, &body.output)?;
-            Ok(format!(in alloc; "event Output {output}")?)
-        }
-        Event::Exited(body) => {
-            let code = body.exit_code;
-            Ok(format!(in alloc; "event Exited {code}")?)
-        }
-        Event::Terminated => Ok(String::from_str(alloc, "event Terminated")?),
+        Event::Initialized => line.word("Initialized"),
+        Event::Stopped(body) => show_stop(line, body),
+        Event::Continued => line.word("Continued"),
+        Event::Output(body) => show_output(line, body),
+        Event::Exited(body) => show_exit(line, body),
+        Event::Terminated => line.word("Terminated"),
     }
 }
 
-fn shown_stop(alloc: Global, body: &Stopped) -> Result<String, Fault> {
-    let reason = body.reason;
-    let text = match &body.text {
-        Some(text) => shown_text(alloc, text)?,
-        None => String::from_str(alloc, "none")?,
-    };
-    let mut line = format!(in alloc; "event Stopped {reason:?} {text}")?;
+fn show_stop(line: &mut Line, body: &Stopped) -> Result<(), Fault> {
+    line.word("Stopped")?;
+    line.name(body.reason)?;
+    match &body.text {
+        Some(text) => line.bytes(text.as_str().as_bytes())?,
+        None => line.word("none")?,
+    }
     for id in body.hit_breakpoint_ids.as_slice() {
-        line.push_str(format!(in alloc; " {id}")?.as_str())?;
+        line.value(*id)?;
     }
-    Ok(line)
+    Ok(())
 }
 
-/// The bytes of a text.
-fn shown_text(alloc: Global, text: &Text) -> Result<String, Fault> {
-    hexadecimal(alloc, text.as_str().as_bytes())
+fn show_output(line: &mut Line, body: &Output) -> Result<(), Fault> {
+    line.word("Output")?;
+    line.bytes(body.output.as_str().as_bytes())
+}
+
+fn show_exit(line: &mut Line, body: &Exited) -> Result<(), Fault> {
+    line.word("Exited")?;
+    line.value(body.exit_code)
 }

@@ -1,4 +1,4 @@
-//! Plays `protocol` and `replies`: bodies that are read as requests, and responses that are made, written and read.
+//! Plays `protocol` and `replies`: bodies that are read as requests, and responses and events that are made, written and read.
 #![tactic(auto)]
 
 mod arguments;
@@ -8,13 +8,14 @@ mod events;
 mod requests;
 mod responses;
 
-use events::{event_of, shown_event};
-use play::{Fault, Player, bytes_of, called, hexadecimal, parsed, play, shown};
+use errors::{error_named, refusal_named, show_error, show_refusal};
+use events::{event_of, show_event};
+use play::{Fault, Line, Player, bytes_of, called, parsed, play};
 use protocol::json::json_value;
-use protocol::{MessageError, Text, read_request};
+use protocol::{Incoming, MessageError, Text, read_request};
 use replies::{Message, Response, read_message, write_message};
-use requests::{request_named, shown_incoming};
-use responses::{body_named, done, refused, shown_response};
+use requests::show_incoming;
+use responses::{ack, done, refuse, refused, show_response, success, text_of};
 use std::alloc::Global;
 use std::process::ExitCode;
 
@@ -30,101 +31,113 @@ fn main(rt: HostRuntime) -> ExitCode {
 
 impl Player for Messages {
     fn answer(&mut self, alloc: Global, arguments: &[&str]) -> Result<String, Fault> {
-        match arguments {
-            ["request", body] => request(alloc, &bytes_of(alloc, body)?),
-            ["json", body] => json(alloc, &bytes_of(alloc, body)?),
-            ["text", bytes] => text(alloc, responses::text_of(alloc, bytes)?),
-            ["refusal", name] => errors::shown_refusal(alloc, errors::refusal_named(name)?),
-            ["error", name] => shown(alloc, errors::error_named(name)?),
-            ["write", seq] => self.write(alloc, parsed(seq)?),
-            ["read", body] => self.read(alloc, &bytes_of(alloc, body)?),
-            ["event", parts @ ..] => {
-                let event = event_of(alloc, parts)?;
-                self.keep(alloc, Message::Event(event))
-            }
-            _ => {
-                let response = response(alloc, arguments)?;
-                self.keep(alloc, Message::Response(response))
-            }
-        }
+        let mut line = Line::new(alloc);
+        self.show(alloc, arguments, &mut line)?;
+        Ok(line.into_string())
     }
 }
 
 impl Messages {
+    /// Makes the call, and shows what it answered. Each command is one call, since a way out of one of
+    /// many is proved beside all others.
+    fn show(&mut self, alloc: Global, arguments: &[&str], line: &mut Line) -> Result<(), Fault> {
+        match arguments {
+            ["write", seq] => self.write(alloc, seq, line),
+            ["read", body] => self.read(alloc, body, line),
+            ["event", parts @ ..] => self.tell(alloc, parts, line),
+            [command, argument] => show_call(alloc, command, argument, line),
+            _ => self.make(alloc, arguments, line),
+        }
+    }
+
+    /// Makes the response, and keeps it.
+    fn make(&mut self, alloc: Global, arguments: &[&str], line: &mut Line) -> Result<(), Fault> {
+        let response = response(alloc, arguments)?;
+        self.keep(Message::Response(response), line)
+    }
+
+    /// Makes the event, and keeps it.
+    fn tell(&mut self, alloc: Global, parts: &[&str], line: &mut Line) -> Result<(), Fault> {
+        let event = event_of(alloc, parts)?;
+        self.keep(Message::Event(event), line)
+    }
+
     /// Keeps the message, and says what it is.
-    fn keep(&mut self, alloc: Global, message: Message) -> Result<String, Fault> {
-        let line = shown_message(alloc, &message)?;
+    fn keep(&mut self, message: Message, line: &mut Line) -> Result<(), Fault> {
+        let shown = show_message(line, &message);
         self.last = Some(message);
-        Ok(line)
+        shown
     }
 
-    fn write(&self, alloc: Global, seq: u32) -> Result<String, Fault> {
-        let Some(message) = &self.last else {
-            return Err(Fault::NoCommand);
-        };
-        hexadecimal(alloc, &called(write_message(alloc, seq, message))?)
+    fn write(&self, alloc: Global, seq: &str, line: &mut Line) -> Result<(), Fault> {
+        match &self.last {
+            Some(message) => write(alloc, parsed(seq)?, message, line),
+            None => Err(Fault::NoCommand),
+        }
     }
 
-    fn read(&mut self, alloc: Global, body: &[u8]) -> Result<String, Fault> {
-        match read_message(alloc, body) {
+    fn read(&mut self, alloc: Global, body: &str, line: &mut Line) -> Result<(), Fault> {
+        let body = bytes_of(alloc, body)?;
+        match read_message(alloc, &body) {
             Ok((seq, message)) => {
-                let line = self.keep(alloc, message)?;
-                Ok(format!(in alloc; "{seq} {line}")?)
+                line.value(seq)?;
+                self.keep(message, line)
             }
-            Err(error) => fault(alloc, error),
+            Err(error) => show_error(line, error),
         }
     }
 }
 
-fn shown_message(alloc: Global, message: &Message) -> Result<String, Fault> {
+fn show_message(line: &mut Line, message: &Message) -> Result<(), Fault> {
     match message {
-        Message::Response(response) => shown_response(alloc, response),
-        Message::Event(event) => shown_event(alloc, event),
+        Message::Response(response) => show_response(line, response),
+        Message::Event(event) => show_event(line, event),
     }
 }
 
-fn request(alloc: Global, body: &[u8]) -> Result<String, Fault> {
-    match read_request(alloc, body) {
-        Ok(incoming) => shown_incoming(alloc, incoming),
-        Err(error) => fault(alloc, error),
+fn write(alloc: Global, seq: u32, message: &Message, line: &mut Line) -> Result<(), Fault> {
+    line.bytes(&called(write_message(alloc, seq, message))?)
+}
+
+/// Makes a call that keeps nothing, and shows what it answered.
+fn show_call(alloc: Global, command: &str, argument: &str, line: &mut Line) -> Result<(), Fault> {
+    match command {
+        "request" => request(line, read_request(alloc, &bytes_of(alloc, argument)?)),
+        "json" => json(alloc, argument, line),
+        "text" => text(text_of(alloc, argument)?, line),
+        "refusal" => show_refusal(line, refusal_named(argument)?),
+        "error" => line.value(error_named(argument)?),
+        _ => Err(Fault::NoCommand),
+    }
+}
+
+fn request(line: &mut Line, read: Result<Incoming, MessageError>) -> Result<(), Fault> {
+    match read {
+        Ok(incoming) => show_incoming(line, &incoming),
+        Err(error) => show_error(line, error),
     }
 }
 
 /// The JSON value of a body, as its compact text.
-fn json(alloc: Global, body: &[u8]) -> Result<String, Fault> {
-    match json_value(alloc, body) {
-        Ok(value) => hexadecimal(alloc, &value.to_vec(alloc)?),
-        Err(error) => fault(alloc, error),
+fn json(alloc: Global, body: &str, line: &mut Line) -> Result<(), Fault> {
+    match json_value(alloc, &bytes_of(alloc, body)?) {
+        Ok(value) => line.bytes(&value.to_vec(alloc)?),
+        Err(error) => show_error(line, error),
     }
 }
 
 /// A text as it is lent, and as the `String` that it holds.
-fn text(alloc: Global, text: Text) -> Result<String, Fault> {
-    let lent = hexadecimal(alloc, text.as_str().as_bytes())?;
-    let held = hexadecimal(alloc, text.into_string().as_bytes())?;
-    Ok(format!(in alloc; "{lent} {held}")?)
-}
-
-/// What a call answered that a body is no message to.
-fn fault(alloc: Global, error: MessageError) -> Result<String, Fault> {
-    match error {
-        MessageError::NoMemory => Err(Fault::NoMemoryInCall),
-        error => Ok(format!(in alloc; "{error:?}")?),
-    }
+fn text(text: Text, line: &mut Line) -> Result<(), Fault> {
+    line.bytes(text.as_str().as_bytes())?;
+    line.bytes(text.into_string().as_bytes())
 }
 
 /// The response that a command makes: to a request, or of its parts.
 fn response(alloc: Global, arguments: &[&str]) -> Result<Response, Fault> {
     match arguments {
-        ["success", seq, name, body] => {
-            let request = request_named(seq, name)?;
-            called(Response::success(alloc, &request, body_named(body)?))
-        }
-        ["refuse", seq, name, refusal] => {
-            let request = request_named(seq, name)?;
-            called(Response::error(alloc, &request, errors::refusal_named(refusal)?))
-        }
-        ["ack", seq, name] => called(Response::ack(alloc, &request_named(seq, name)?)),
+        ["success", seq, name, body] => success(alloc, seq, name, body),
+        ["refuse", seq, name, refusal] => refuse(alloc, seq, name, refusal),
+        ["ack", seq, name] => ack(alloc, seq, name),
         ["done", seq, name, body] => done(alloc, seq, name, body),
         ["refused", seq, name, refusal, text] => refused(alloc, seq, name, refusal, text),
         _ => Err(Fault::NoCommand),

@@ -1,83 +1,96 @@
 //! Requests as they are shown.
 
 use crate::arguments as of;
-use play::{Fault, hexadecimal, parsed, shown};
-use protocol::{
-    CancelArguments, Command, DisconnectArguments, Incoming, InitializeArguments, Request,
-};
+use play::{Fault, Line, parsed};
+use protocol::{Command, Incoming, MessageError, Request, read_request};
 use std::alloc::Global;
 
 /// What a body is to the adapter.
-pub(crate) fn shown_incoming(alloc: Global, incoming: Incoming) -> Result<String, Fault> {
+pub(crate) fn show_incoming(line: &mut Line, incoming: &Incoming) -> Result<(), Fault> {
     match incoming {
         Incoming::Request(Request { seq, command }) => {
-            let name = command.name();
-            let arguments = shown_arguments(alloc, &command)?;
-            Ok(format!(in alloc; "{seq} {name}{arguments}")?)
+            line.value(*seq)?;
+            line.word(command.name())?;
+            show_arguments(line, command)
         }
         Incoming::Bad {
             seq,
             command,
             refusal,
         } => {
-            let name = hexadecimal(alloc, command.as_str().as_bytes())?;
-            Ok(format!(in alloc; "bad {seq} {name} {refusal:?}")?)
+            line.word("bad")?;
+            line.value(*seq)?;
+            line.bytes(command.as_str().as_bytes())?;
+            line.name(*refusal)
         }
-        Incoming::Ignored => shown(alloc, "ignored"),
+        Incoming::Ignored => line.word("ignored"),
     }
 }
 
-/// The arguments, each with a space before it: a number, a switch or a name as it is written, a text or
-/// bytes in hexadecimal digits, `none` for what is absent. A list has its entries one after the other.
-fn shown_arguments(alloc: Global, command: &Command) -> Result<String, Fault> {
+/// The arguments: a number, a switch or a name as it is written, a text or bytes in hexadecimal digits,
+/// `none` for what is absent. A list has its entries one after the other.
+fn show_arguments(line: &mut Line, command: &Command) -> Result<(), Fault> {
     match command {
-        Command::Initialize(arguments) => of::initialize(alloc, arguments),
-        Command::Launch(arguments) => of::launch(alloc, arguments),
-        Command::Cancel(arguments) => of::cancel(alloc, arguments),
-        Command::Disconnect(arguments) => of::disconnect(alloc, arguments),
-        Command::SetBreakpoints(arguments) => of::set_breakpoints(alloc, arguments),
+        Command::Initialize(arguments) => of::initialize(line, arguments),
+        Command::Launch(arguments) => of::launch(line, arguments),
+        Command::Cancel(arguments) => of::cancel(line, arguments),
+        Command::Disconnect(arguments) => of::disconnect(line, arguments),
+        Command::SetBreakpoints(arguments) => of::set_breakpoints(line, arguments),
         Command::SetInstructionBreakpoints(arguments) => {
-            of::set_instruction_breakpoints(alloc, arguments)
+            of::set_instruction_breakpoints(line, arguments)
         }
-        Command::Continue(arguments) => of::thread(alloc, arguments.thread_id),
-        Command::Next(arguments) => of::step(alloc, arguments.thread_id, arguments.granularity),
-        Command::StepIn(arguments) => of::step(alloc, arguments.thread_id, arguments.granularity),
-        Command::StepOut(arguments) => of::step(alloc, arguments.thread_id, arguments.granularity),
-        Command::Pause(arguments) => of::thread(alloc, arguments.thread_id),
-        Command::StackTrace(arguments) => of::stack_trace(alloc, arguments),
-        Command::Scopes(arguments) => of::scopes(alloc, arguments),
-        Command::Variables(arguments) => of::variables(alloc, arguments),
-        Command::SetVariable(arguments) => of::set_variable(alloc, arguments),
-        Command::Evaluate(arguments) => of::evaluate(alloc, arguments),
-        Command::Disassemble(arguments) => of::disassemble(alloc, arguments),
-        Command::ReadMemory(arguments) => of::read_memory(alloc, arguments),
-        Command::WriteMemory(arguments) => of::write_memory(alloc, arguments),
+        Command::Continue(arguments) => line.value(arguments.thread_id),
+        Command::Next(arguments) => of::step(line, arguments.thread_id, arguments.granularity),
+        Command::StepIn(arguments) => of::step(line, arguments.thread_id, arguments.granularity),
+        Command::StepOut(arguments) => of::step(line, arguments.thread_id, arguments.granularity),
+        Command::Pause(arguments) => line.value(arguments.thread_id),
+        Command::StackTrace(arguments) => of::stack_trace(line, arguments),
+        Command::Scopes(arguments) => line.value(arguments.frame_id),
+        Command::Variables(arguments) => of::variables(line, arguments),
+        Command::SetVariable(arguments) => of::set_variable(line, arguments),
+        Command::Evaluate(arguments) => of::evaluate(line, arguments),
+        Command::Disassemble(arguments) => of::disassemble(line, arguments),
+        Command::ReadMemory(arguments) => of::read_memory(line, arguments),
+        Command::WriteMemory(arguments) => of::write_memory(line, arguments),
         Command::Attach
         | Command::ConfigurationDone
         | Command::Threads
         | Command::Restart
         | Command::Terminate
-        | Command::SetExceptionBreakpoints => Ok(String::new(alloc)),
+        | Command::SetExceptionBreakpoints => Ok(()),
     }
 }
 
+/// The least that a request needs of its arguments, of all requests at once: others are passed over.
+const NEEDED: &str =
+    "{\"breakpoints\":[],\"count\":0,\"data\":\"\",\"expression\":\"\",\"frameId\":0,\
+    \"instructionCount\":0,\"memoryReference\":\"\",\"name\":\"\",\"program\":\"\",\"source\":{},\
+    \"threadId\":0,\"value\":\"\",\"variablesReference\":0}";
+
 /// A request of this number and name, whose arguments say nothing.
-pub(crate) fn request_named(seq: &str, name: &str) -> Result<Request, Fault> {
-    let command = match name {
-        "initialize" => Command::Initialize(InitializeArguments {
-            lines_start_at1: true,
-            columns_start_at1: true,
-        }),
-        "threads" => Command::Threads,
-        "cancel" => Command::Cancel(CancelArguments { request_id: None }),
-        "disconnect" => Command::Disconnect(DisconnectArguments {
-            terminate_debuggee: None,
-            suspend_debuggee: None,
-        }),
-        _ => return Err(Fault::NoCommand),
-    };
+pub(crate) fn request_named(alloc: Global, seq: &str, name: &str) -> Result<Request, Fault> {
+    let seq = parsed(seq)?;
     Ok(Request {
-        seq: parsed(seq)?,
-        command,
+        seq,
+        command: command_named(alloc, name)?,
     })
+}
+
+fn command_named(alloc: Global, name: &str) -> Result<Command, Fault> {
+    let body = body_of(alloc, name)?;
+    match read_request(alloc, body.as_bytes()) {
+        Ok(Incoming::Request(request)) => Ok(request.command),
+        Err(MessageError::NoMemory) => Err(Fault::NoMemoryInCall),
+        _ => Err(Fault::NoCommand),
+    }
+}
+
+/// The body of a request of this name.
+fn body_of(alloc: Global, name: &str) -> Result<String, Fault> {
+    let mut body = String::from_str(alloc, "{\"seq\":1,\"type\":\"request\",\"command\":\"")?;
+    body.push_str(name)?;
+    body.push_str("\",\"arguments\":")?;
+    body.push_str(NEEDED)?;
+    body.push_str("}")?;
+    Ok(body)
 }

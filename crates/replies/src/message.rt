@@ -16,9 +16,9 @@ use std::alloc::{AllocError, Global};
 /// What the adapter sends (`ProtocolMessage`).
 #[derive(Drop)]
 pub enum Message {
-    /// An answer to a request.
+    /// An answer to a request (`Response`).
     Response(Response),
-    /// What no request asked for.
+    /// What no request asked for (`Event`).
     Event(Event),
 }
 
