@@ -62,8 +62,8 @@ impl Event {
     }
 }
 
-/// The event with this number, written. As `write_body`, it fails where no memory is left, and then
-/// the writer is of no more use.
+/// The event with this number, written. It fails where no memory is left, and then the writer is of
+/// no more use.
 pub(crate) fn write(out: &mut Writer, seq: u32, event: &Event) -> Result<(), AllocError>
     ensures { OnOk result (IsWritten out.old out.new (event_data seq event.now)) }
 {
@@ -75,7 +75,7 @@ pub(crate) fn write(out: &mut Writer, seq: u32, event: &Event) -> Result<(), All
     out.end_object()
 }
 
-/// The member that is the body, if there is one.
+/// The member that is the body, if there is one, written. It fails as `write` does.
 fn write_body(out: &mut Writer, event: &Event) -> Result<(), AllocError>
     ensures { OnOk result (AreWritten out.old out.new (member_if (codes "body") (λ d. d) (event_body event.now) no_members)) }
 {
@@ -92,7 +92,8 @@ fn write_body(out: &mut Writer, event: &Event) -> Result<(), AllocError>
     }
 }
 
-/// The event that a value claims to be; `Bad` where it claims to be none.
+/// The event that a value claims to be: `Bad` where it claims to be none, `NoMemory` where no memory
+/// is left.
 pub(crate) fn read(alloc: Global, value: &Value) -> Result<Event, Unread>
     ensures { Reads result (event_in (view value.now)) }
 {
