@@ -14,8 +14,8 @@ use Rattle.session.specs.declared.phase.Phase.{Phase}
 use Rattle.session.specs.declared.refusals.Answer.{Answer as AnAnswer}
 use Rattle.session.specs.declared.refusals.Change.{Change}
 use Rattle.session.specs.declared.refusals.Change.TheVariants as change
-use Rattle.session.specs.Acts.{Now, Seen, Act, Answering, Open, Close, Accept, Enter, Reply, HangUp, Take, opened, closed, entered}
-use Rattle.session.specs.Acts.{hung, numbered, accepted, read_on}
+use Rattle.session.specs.Acts.{Now, Seen, Act, Answering, Open, Close, Accept, Enter, Reply, HangUp, Take}
+use Rattle.session.specs.Acts.{opened, closed, entered, hung, numbered, accepted, read_on}
 use Rattle.session.specs.Effects.{World, Ends}
 use Rattle.session.specs.Prefixes.{IsPrefixOf}
 use Rattle.session.specs.Refusals.{response_to}
