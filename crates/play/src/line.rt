@@ -1,8 +1,12 @@
 //! An answer that is made word by word.
+ghost use Rattle.std.specs.Prelude.{◌≡◌, OnOk, string_bytes};
+ghost use Rattle.hex.specs.Hex.{encode_lower};
+ghost use Rattle.play.specs.Words.{and_word, no_words};
 
 use crate::{Fault, hexadecimal};
 use std::alloc::Global;
 use std::fmt::{Debug, Display};
+use std::marker::Model;
 
 /// An answer that is made word by word, with a space between two words. Each call that adds one fails
 /// where no memory is left.
@@ -13,9 +17,20 @@ pub struct Line {
     is_begun: bool,
 }
 
+impl Model for Line {
+    ghost use Rattle.std.specs.Prelude.{string_bytes};
+    ghost use Rattle.play.specs.Words.{Words};
+
+    ghost Value = { Words };
+
+    ghost view = { λ l. record { text = string_bytes l.text; is_begun = l.is_begun } };
+}
+
 impl Line {
     /// An answer without a word. It takes no memory.
-    pub fn new(alloc: Global) -> Line {
+    pub fn new(alloc: Global) -> Line
+        ensures { result ≡ no_words }
+    {
         Line {
             alloc,
             text: String::new(alloc),
@@ -24,7 +39,9 @@ impl Line {
     }
 
     /// Adds a word as it is spelled.
-    pub fn word(&mut self, word: &str) -> Result<(), Fault> {
+    pub fn word(&mut self, word: &str) -> Result<(), Fault>
+        ensures { OnOk result (self.new ≡ and_word word.now self.old) }
+    {
         if self.is_begun {
             self.text.push(' ')?;
         }
@@ -40,7 +57,8 @@ impl Line {
 
     /// Adds the name of a variant.
     pub fn name<D: Debug + Drop>(&mut self, variant: D) -> Result<(), Fault> {
-        self.word(format!(in self.alloc; "{variant:?}")?.as_str())
+        let alloc = self.alloc;
+        self.word(format!(in alloc; "{variant:?}")?.as_str())
     }
 
     /// Adds a value as it is displayed, or `none`.
@@ -52,12 +70,16 @@ impl Line {
     }
 
     /// Adds bytes as pairs of hexadecimal digits in lower case: a word of no digits where there are none.
-    pub fn bytes(&mut self, bytes: &[u8]) -> Result<(), Fault> {
+    pub fn bytes(&mut self, bytes: &[u8]) -> Result<(), Fault>
+        ensures { OnOk result (self.new ≡ and_word (encode_lower bytes.now) self.old) }
+    {
         self.word(hexadecimal(self.alloc, bytes)?.as_str())
     }
 
     /// The answer, its words with a space between two. It takes no memory.
-    pub fn into_string(self) -> String {
+    pub fn into_string(self) -> String
+        ensures { string_bytes result ≡ self.text }
+    {
         let Line { text, .. } = self;
         text
     }
