@@ -2,6 +2,7 @@ pub mod Words
 pub mod Sums
 pub mod Decoded
 pub mod Unique
+pub mod Computed
 pub mod OneText
 pub mod Bytes
 pub mod Moves

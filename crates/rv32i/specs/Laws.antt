@@ -4,6 +4,7 @@ use Rattle.std.specs.Prelude.{◌≡◌, ℕ, List, Option, slice_index}
 use Rattle.rv32i.specs.Encoding.{Encodes, IsDecoding}
 use Rattle.rv32i.specs.Machine.{Machine, Effect, IsMove}
 use Rattle.rv32i.specs.Texts.{IsTextOf}
+use Rattle.rv32i.specs.Words.{word_of}
 use Rattle.rv32i.specs.declared.instr.Instr.{Instr}
 
 -- A word encodes at most one instruction.
@@ -13,6 +14,10 @@ InstructionIsUnique = (word : ℕ) (i j : Instr) → Encodes i word → Encodes 
 -- An instruction has at most one word.
 abbrev pub EncodingIsUnique : Type 0
 EncodingIsUnique = (i : Instr) (word other : ℕ) → Encodes i word → Encodes i other → word ≡ other
+
+-- It is the one that is computed of the instruction.
+abbrev pub WordIsComputed : Type 0
+WordIsComputed = (i : Instr) (word : ℕ) → Encodes i word → word ≡ word_of i
 
 -- A machine has at most one move: its pc, its registers and its memory settle what a step answers and leaves.
 abbrev pub MoveIsDeterministic : Type 0

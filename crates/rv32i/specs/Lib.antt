@@ -4,6 +4,8 @@
 pub mod Formats
 -- the table of encodings: which word stands for which instruction, and which words are illegal
 pub mod Encoding
+-- the word of an instruction, as a function of it
+pub mod Words
 -- what each instruction does to pc, the registers and memory; the move of a machine, and traps
 pub mod Machine
 -- the names of the registers

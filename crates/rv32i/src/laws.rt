@@ -1,7 +1,7 @@
 //! What holds of every word and of every move: each law is the contract of a function that does
 //! nothing.
 
-ghost use Rattle.rv32i.specs.Laws.{EachMachineMoves, EachWordIsDecoded, EncodingIsUnique, InstructionIsUnique, MoveIsDeterministic, TextIsUnique};
+ghost use Rattle.rv32i.specs.Laws.{EachMachineMoves, EachWordIsDecoded, EncodingIsUnique, InstructionIsUnique, MoveIsDeterministic, TextIsUnique, WordIsComputed};
 
 /// A word encodes at most one instruction.
 pub fn instruction_is_unique()
@@ -12,6 +12,11 @@ pub fn instruction_is_unique()
 /// word.
 pub fn encoding_is_unique()
     ensures { EncodingIsUnique }
+{}
+
+/// The word of an instruction, if it has one, is the one that `Words.word_of` computes of it.
+pub fn word_is_computed()
+    ensures { WordIsComputed }
 {}
 
 /// A machine has at most one move: pc, the registers and memory settle what a step answers and what it
