@@ -12,3 +12,4 @@ pub mod Stopping
 pub mod Ticking
 pub mod Quiet
 pub mod Existing
+pub mod Loading

@@ -1,6 +1,7 @@
 //! What holds of every program: each law is the contract of a function that does nothing.
 
 ghost use Rattle.stepping.specs.Laws.{ReturnsKeepCalls, ReturnsKeepDepth};
+ghost use Rattle.stepping.specs.Loading.{LabelsAreNotLoaded, OneIsLoaded, OneIsReloaded};
 ghost use Rattle.stepping.specs.Past.{LoadedRemembersNone, TicksRemember};
 ghost use Rattle.stepping.specs.RunLaws.{CountsAnew, EachMachineTicks, EachTickAnswers, MovesEnd, RunsSayWhere, RunsStopThere, StopIsUnique, TickIsDeterministic, TicksSayWhere};
 
@@ -9,6 +10,15 @@ ghost use Rattle.stepping.specs.RunLaws.{CountsAnew, EachMachineTicks, EachTickA
 pub fn returns_undo_calls()
     ensures depth { ReturnsKeepDepth }
     ensures calls { ReturnsKeepCalls }
+{}
+
+/// An image, a size of memory and breakpoints settle the machine that is as the image says: it is the one that
+/// `Loading.loaded` makes of them. Loaded anew, the machine before gives the size and the breakpoints. The labels of
+/// the image are none of the machine.
+pub fn one_machine_is_loaded()
+    ensures loaded { OneIsLoaded }
+    ensures anew { OneIsReloaded }
+    ensures labels { LabelsAreNotLoaded }
 {}
 
 /// The calls that a debugged machine keeps are those of all the instructions that have retired since its
