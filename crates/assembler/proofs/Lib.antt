@@ -7,5 +7,7 @@ pub mod Placing
 pub mod Filling
 pub mod Rising
 pub mod Unique
+pub mod Made
+pub mod Loadable
 pub mod Done
 pub mod Texts

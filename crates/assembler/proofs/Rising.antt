@@ -82,13 +82,13 @@ size_words_at None address h = cc
 size_words_at (Some statement) address h = size_words statement address h
 
 -- nothing is wrong with a line, nor with the others
-parted : (line : ℕ) (wrong : Option AsmErrorKind) (later : Option AsmError) → error_at line wrong later ≡ None → (wrong ≡ None) × (later ≡ None)
+pub parted : (line : ℕ) (wrong : Option AsmErrorKind) (later : Option AsmError) → error_at line wrong later ≡ None → (wrong ≡ None) × (later ≡ None)
 parted line None later h = (refl, h)
 parted line (Some kind) later h = cc
 
-multiple : (limit : ℕ) (before : List Label) (p : Place) → misplaced limit before p ≡ None → (words_at p.source.line.statement == 0) ≡ false → p.address % 4 ≡ 0
-multiple limit before p h w =
-    let aligned : is_aligned p.source.line ≡ true = rw w refl in
+-- a line that has to stand at a multiple of 4 does
+pub multiple : (limit : ℕ) (before : List Label) (p : Place) → misplaced limit before p ≡ None → is_aligned p.source.line ≡ true → p.address % 4 ≡ 0
+multiple limit before p h aligned =
     let P : Bool → Bool → Type 0 = λ twice whole. defines_twice p.address before p.source.line.labels ≡ twice → (p.address % 4 == 0) ≡ whole → p.address % 4 ≡ 0 in
     let go : P (defines_twice p.address before p.source.line.labels) (p.address % 4 == 0) = elim (defines_twice p.address before p.source.line.labels) as (λ twice. P twice (p.address % 4 == 0)) [
       | true ↦ λ t v. let e = (rw t at h) in cc
@@ -121,9 +121,10 @@ rise_from limit number address before (source ∷ others) (le, n) first h =
           let last = end_of_le (end_of_line source address) others in
           let same : end_of_line source address ≡ row_end (source.number, address, words) = ap (λ s. address + s) size in
           let some : 1 ≤ words = grind (arith, nat_tests) in
+          let aligned : is_aligned source.line ≡ true = rw t refl in
           let here : address ≤ address = omega arith in
           let on : RowsRiseFrom (source.number + 1) (row_end (source.number, address, words)) (rows_in (places (end_of_line source address) others)) end = subst (λ a. RowsRiseFrom (source.number + 1) a (rows_in (places (end_of_line source address) others)) end) same rest in
-          rw t (rows_rise_from-cons number address (source.number, address, words) (rows_in (places (end_of_line source address) others)) end first le here (multiple limit before (place address source) right.0 t) some (omega (arith, last, same)) on)
+          rw t (rows_rise_from-cons number address (source.number, address, words) (rows_in (places (end_of_line source address) others)) end first le here (multiple limit before (place address source) right.0 aligned) some (omega (arith, last, same)) on)
     ] in go refl
 
 pub rows_rise : (text : List ℕ) (limit : ℕ) (program : List Source) (labels : List Label) (rows : List Row) (end : ℕ) → read_text text ≡ Ok program → IsLayout limit program labels rows end → RowsRise rows end

@@ -10,6 +10,8 @@ pub mod Places
 pub mod Contents
 -- an image that is right for a text, and the error of a text that has none
 pub mod Placed
+-- the image of a text, as a function of it
+pub mod Assembled
 -- the disassembly of an instruction goes back to its word
 pub mod Texts
 -- ---- what only private clauses cite

@@ -1,12 +1,24 @@
 //! What holds of every image and of every text: each law is the contract of a function that does
 //! nothing.
 
+ghost use Rattle.assembler.specs.Assembled.{PlacedIsAssembled, PlacedIsLoadable};
 ghost use Rattle.assembler.specs.Placed.{PlacedIsUnique};
 ghost use Rattle.assembler.specs.Texts.{TextsAreWords};
 
 /// A text has at most one image for a size of memory.
 pub fn placed_is_unique()
     ensures { PlacedIsUnique }
+{}
+
+/// An image that is right for a text is the one that `Assembled.assembled` computes of the text.
+pub fn placed_is_assembled()
+    ensures { PlacedIsAssembled }
+{}
+
+/// An image that is right for a text and a size of memory is no longer than that, and its entry is a multiple
+/// of 4: so it can be loaded.
+pub fn placed_is_loadable()
+    ensures { PlacedIsLoadable }
 {}
 
 /// The disassembly of an instruction at an address reads back as its word: as a line with no label and with a
