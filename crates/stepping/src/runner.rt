@@ -190,6 +190,13 @@ impl Runner {
     {
         self.retired
     }
+
+    /// Whether the check at the entry is due.
+    pub fn is_check_due(&self) -> bool
+        ensures { result ≡ self.now.check_due }
+    {
+        self.check_due
+    }
 }
 
 // Memory into which an image was loaded.

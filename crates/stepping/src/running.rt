@@ -88,19 +88,28 @@ impl Runner {
         }
     }
 
-    // The check at the entry.
+    /// The check at the entry, whether it is due or not: the breakpoints at pc are looked at, and nothing moves.
+    pub fn check(&mut self) -> Tick
+        ensures tick { result ≡ entry_tick self.old }
+        ensures state { self.new ≡ entry_checked self.old }
+    {
+        self.check_due = false;
+        let hit = self.breaks.check(self.hart.pc, &self.hart, &self.memory);
+        Tick {
+            printed: None,
+            outcome: outcome_of(hit, false),
+        }
+    }
+
+    // The same, and how a run ends with it.
     #[cold]
     #[inline(never)]
     fn check_entry(&mut self) -> Option<Ending>
         ensures ending { IsEnding (Ok (entry_tick self.old)) result }
         ensures state { self.new ≡ entry_checked self.old }
     {
-        self.check_due = false;
-        let hit = self.breaks.check(self.hart.pc, &self.hart, &self.memory);
-        ending_of(Tick {
-            printed: None,
-            outcome: outcome_of(hit, false),
-        })
+        let tick = self.check();
+        ending_of(tick)
     }
 
     // An instruction, which was at this pc, has retired. Whether it is known at once that there is nothing to report; else it

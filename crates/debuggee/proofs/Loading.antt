@@ -1,0 +1,59 @@
+-- A program that was just loaded, or is loaded anew.
+use Rattle.std.proofs.Common.{◌≡◌, ℕ, zero, suc, Bool, true, false, Option, Result, Ok, Err, OnOk, MatchBool, ap, sym, ◌∙◌, subst}
+use Rattle.image.specs.declared.Image.{Image}
+use Rattle.stepping.specs.Loading.{CanBeLoaded, IsLoaded, loaded, no_breakpoints, not_hit, reloaded}
+use Rattle.std.specs.declared.alloc.AllocError.{AllocError}
+use Rattle.rv32i.specs.declared.instr.Instr.{Instr}
+use Rattle.rv32i.specs.declared.stepped.Stepped.{Stepped}
+use Rattle.rv32i.specs.declared.stepped.Stepped.TheVariants.{Retired, Printed, Break, Exit, Trap}
+use Rattle.stepping.specs.Plain.{plain_tick}
+use Rattle.stepping.specs.Runs.{EndsRun, Goes, IsRun}
+use Rattle.stepping.specs.Ticks.{Debugged, IsTick, Moves, Settles, entry_checked, entry_tick, moved_as, settled}
+use Rattle.stepping.specs.declared.tick.Ending.{Ending}
+use Rattle.stepping.specs.declared.tick.Ending.TheVariants.{Spent, Ticked, NoMemory}
+use Rattle.stepping.specs.declared.tick.Ran.{Ran}
+use Rattle.stepping.specs.declared.tick.Tick.{Tick}
+use Rattle.stepping.proofs.Loading.{one_is_loaded, one_is_reloaded}
+
+pub just_is : (image : Image) (size : ℕ) (d : Debugged) → IsLoaded image size no_breakpoints d → d ≡ loaded image size no_breakpoints
+just_is image size d h = (one_is_loaded image size no_breakpoints d).0 h
+
+pub anew_is : (image : Image) (before after : Debugged) → IsLoaded image before.size (not_hit before.lists) after → after ≡ reloaded image before
+anew_is image before after h = (one_is_reloaded image before after).0 h
+
+-- ---- moves keep the size of memory
+
+settled_size : (before after : Debugged) (s : Stepped) (instr : Option Instr) (pc : ℕ) → after ≡ settled s instr pc (moved_as before after) → after.size ≡ before.size
+settled_size before after Retired instr pc h = ap (λ (d : Debugged). d.size) h
+settled_size before after (Printed number) instr pc h = ap (λ (d : Debugged). d.size) h
+settled_size before after Break instr pc h = ap (λ (d : Debugged). d.size) h
+settled_size before after (Exit code) instr pc h = ap (λ (d : Debugged). d.size) h
+settled_size before after (Trap cause) instr pc h = ap (λ (d : Debugged). d.size) h
+
+tick_size : (before after : Debugged) (answer : Result Tick AllocError) → IsTick before answer after → after.size ≡ before.size
+tick_size before after answer h = by_due before.check_due h where
+  by_move : (instr : Option Instr) (s : Result Stepped AllocError) → Settles before instr s answer after → after.size ≡ before.size
+  by_move instr (Ok s) e = settled_size before after s instr before.hart.pc e.1
+  by_move instr (Err error) e = ap (λ (d : Debugged). d.size) e.1
+
+  by_due : (due : Bool) → MatchBool due ((answer ≡ Ok (entry_tick before)) × (after ≡ entry_checked before)) (Moves before answer after) → after.size ≡ before.size
+  by_due true e = ap (λ (d : Debugged). d.size) e.1
+  by_due false m = by_move m.instr m.stepped m.settles
+
+goes_size : (n : ℕ) (before after : Debugged) → Goes n before after → after.size ≡ before.size
+goes_size zero before after g = ap (λ (d : Debugged). d.size) g
+goes_size (suc n) before after g = tick_size g.0 after (Ok plain_tick) g.1.1 ∙ goes_size n before g.0 g.1.0
+
+pub run_size : (most : ℕ) (before : Debugged) (ran : Ran) (after : Debugged) → IsRun most before ran after → after.size ≡ before.size
+run_size most before ran after h = by ran.ending h.ends ∙ goes_size ran.went before h.middle h.goes where
+  by : (e : Ending) → EndsRun most ran.went e h.middle after → after.size ≡ h.middle.size
+  by Spent e = ap (λ (d : Debugged). d.size) e.1
+  by (Ticked tick) e = tick_size h.middle after (Ok tick) e.1.1
+  by NoMemory e = tick_size h.middle after _ e.1
+
+pub still_loadable : (image : Image) (most : ℕ) (before : Debugged) (ran : Ran) (after : Debugged) → IsRun most before ran after → CanBeLoaded image before.size → CanBeLoaded image after.size
+still_loadable image most before ran after h c = subst (λ n. CanBeLoaded image n) (sym (run_size most before ran after h)) c
+
+pub on_ok : {A B : Type 0} (P Q : Type 0) (r : Result A B) → (P → Q) → OnOk r P → OnOk r Q
+on_ok P Q (Ok a) f h = f h
+on_ok P Q (Err b) f h = h

@@ -1,0 +1,4 @@
+-- The definitions of `debuggee`, in reading order.
+
+-- the program that is debugged, and what is done to it
+pub mod Programs

@@ -1,0 +1,217 @@
+-- The program that is debugged.
+--
+-- There is one machine at most. Into it a program was loaded: an image, which an assembler made of a file. It stands
+-- still at its entry then, and begins when it is told to. It runs move by move for as long as it is given time. Moves
+-- are those of a debugged machine, and so are the reasons for which one of them ends a run; beside these, a program
+-- stands still where it was marked, and where as many instructions have retired as may.
+--
+-- What a move comes to is to be told to whoever debugs the program: a number that it printed, and why it stops. It is
+-- owed from the move on until it is told, and the program still runs while it is owed.
+use Rattle.std.specs.Prelude.{◌≡◌, ◌≢◌, ◌<◌, zero, suc, ℕ, ℤ, Bool, true, false, if◌then◌else◌, List, [], Option, Some, None}
+use Rattle.breakpoints.specs.Stops.{Lists}
+use Rattle.image.specs.declared.Image.{Image}
+use Rattle.stepping.specs.Loading.{loaded, no_breakpoints, reloaded}
+use Rattle.stepping.specs.Ticks.{Debugged, entry_tick, entry_checked}
+use Rattle.stepping.specs.declared.goal.Goal.{Goal}
+use Rattle.stepping.specs.declared.goal.Goal.TheVariants.{Go}
+use Rattle.stepping.specs.declared.tick.Outcome.{Outcome}
+use Rattle.stepping.specs.declared.tick.Outcome.TheVariants.{Went, Stopped as HasStopped, Ended as HasEnded}
+use Rattle.stepping.specs.declared.tick.Reason.{Reason}
+use Rattle.stepping.specs.declared.tick.Reason.TheVariants.{Exception, Ebreak, Source, Instruction, Goal as GoalMet}
+use Rattle.stepping.specs.declared.tick.Tick.{Tick}
+use Rattle.stepping.specs.Plain.{plain_tick}
+use Rattle.stepping.proofs.Existing.{the_tick}
+use Rattle.debuggee.specs.declared.program.Advanced.{Advanced}
+use Rattle.debuggee.specs.declared.program.Advanced.TheVariants.{Spent, Owes, Meets}
+use Rattle.debuggee.specs.declared.run.Run.{Run}
+use Rattle.debuggee.specs.declared.run.Run.TheVariants.{Running, Stopped, Ended}
+use Rattle.debuggee.specs.declared.run.Mark.{Mark}
+use Rattle.debuggee.specs.declared.run.Mark.TheVariants.{Entry as MarkEntry, Pause as MarkPause, Hold as MarkHold}
+use Rattle.debuggee.specs.declared.run.Why.{Why}
+use Rattle.debuggee.specs.declared.run.Why.TheVariants as why
+
+-- A program that was loaded: its image, and the path of its file; whether it was launched to stop at its entry; whether
+-- it runs, and what it was marked with, if it was; its machine; and what that owes.
+pub record Program : Type 0 where
+  pub image : Image
+  pub path : List ℕ
+  pub stop_on_entry : Bool
+  pub run : Run
+  pub mark : Option Mark
+  pub machine : Debugged
+  pub owed : Option Tick
+
+-- it was just loaded, and stands still at its entry
+abbrev pub just_loaded : Image → List ℕ → Bool → ℕ → Program
+just_loaded image path stop_on_entry size = record {
+  image = image;
+  path = path;
+  stop_on_entry = stop_on_entry;
+  run = Stopped why.Entry;
+  mark = None;
+  machine = loaded image size no_breakpoints;
+  owed = None;
+}
+
+-- it runs
+abbrev pub is_running : Run → Bool
+is_running Running = true
+is_running (Stopped reason) = false
+is_running (Ended code) = false
+
+-- it has ended
+abbrev pub is_ended : Run → Bool
+is_ended Running = false
+is_ended (Stopped reason) = false
+is_ended (Ended code) = true
+
+-- why a program stands still that was marked so
+abbrev pub why_marked : Mark → Why
+why_marked MarkEntry = why.Entry
+why_marked MarkPause = why.Pause
+why_marked MarkHold = why.Pause
+
+-- the first of two marks, if there is one
+abbrev pub first_mark : Option Mark → Option Mark → Option Mark
+first_mark None other = other
+first_mark (Some mark) other = Some mark
+
+-- ---- what is done to a program
+
+-- It stops, for this reason. A mark has done its work then.
+abbrev pub stopped : Why → Program → Program
+stopped reason p = record p { run = Stopped reason; mark = None }
+
+-- it ends
+abbrev pub ended : Option ℤ → Program → Program
+ended code p = record p { run = Ended code; mark = None }
+
+-- a machine begins a run with a goal, from the depth that it has
+abbrev pub begun : Goal → Bool → Debugged → Debugged
+begun goal first d = record d { goal = goal; start = d.calls.depth; check_due = first }
+
+-- it goes on, with a goal
+abbrev pub resumed : Goal → Program → Program
+resumed goal p = record p { run = Running; machine = begun goal false p.machine }
+
+-- the mark of a program that is launched to stop at its entry
+abbrev pub entry_mark : Bool → Option Mark
+entry_mark stop_on_entry = if stop_on_entry then Some MarkEntry else None
+
+-- its first run begins, with the check at the entry
+abbrev pub first_run : Program → Program
+first_run p = record p {
+  run = Running;
+  mark = first_mark p.mark (entry_mark p.stop_on_entry);
+  machine = begun Go true p.machine;
+}
+
+-- it is loaded anew
+abbrev pub restarted : Program → Program
+restarted p = record p { machine = reloaded p.image p.machine }
+
+-- it is marked, if it runs and is not
+abbrev pub marked_by : Run → Mark → Program → Program
+marked_by Running mark p = record p { mark = first_mark p.mark (Some mark) }
+marked_by (Stopped reason) mark p = p
+marked_by (Ended code) mark p = p
+
+abbrev pub marked : Mark → Program → Program
+marked mark p = marked_by p.run mark p
+
+-- it has these breakpoints
+abbrev pub with_lists : Lists → Program → Program
+with_lists lists p = record p { machine = record p.machine { lists = lists } }
+
+-- ---- what a move leaves
+
+-- what there is to tell of a tick: nothing where the machine goes on and nothing was printed
+abbrev pub owing_by : Option ℤ → Outcome → Option Tick
+owing_by None Went = None
+owing_by printed outcome = Some (record { printed = printed; outcome = outcome })
+
+abbrev pub owing : Tick → Option Tick
+owing tick = owing_by tick.printed tick.outcome
+
+-- the check at the entry is made
+abbrev pub entered : Program → Program
+entered p = record p { machine = entry_checked p.machine; owed = owing (entry_tick p.machine) }
+
+-- what a move answers, and what it leaves
+abbrev pub next_tick : Program → Tick
+next_tick p = (the_tick p.machine).tick
+
+abbrev pub moved : Program → Program
+moved p = record p { machine = (the_tick p.machine).after; owed = owing (next_tick p) }
+
+-- the run after a tick
+abbrev pub run_after : Outcome → Run → Run
+run_after Went run = run
+run_after (HasStopped reason) run = Stopped (why.Met reason)
+run_after (HasEnded code) run = Ended (Some code)
+
+-- What it owes was told: the breakpoints that stopped it are named no more.
+abbrev pub told : Program → Program
+told p = record p { machine = record p.machine { lists = record p.machine.lists { ids = [] } }; owed = None }
+
+-- ---- an editor goes
+
+-- the run that is left of one that owes a tick: what is owed is made
+abbrev pub run_left : Option Tick → Run → Run
+run_left None run = run
+run_left (Some tick) run = run_after tick.outcome run
+
+-- Its breakpoints and its mark go; a stop that is owed is made, and told to nobody.
+abbrev pub left : Program → Program
+left p = record p {
+  run = run_left p.owed p.run;
+  mark = None;
+  machine = record p.machine { lists = no_breakpoints };
+  owed = None;
+}
+
+-- ---- the one program, if there is one
+
+-- the program that is debugged, if one was loaded; and the last number that a breakpoint was given
+pub record Debuggee : Type 0 where
+  pub program : Option Program
+  pub last_break : ℕ
+
+-- the program is now as that makes of it
+abbrev pub on_program : (Program → Program) → Option Program → Option Program
+on_program f None = None
+on_program f (Some p) = Some (f p)
+
+abbrev pub with_program : (Program → Program) → Debuggee → Debuggee
+with_program f d = record d { program = on_program f d.program }
+
+-- ---- many moves at once
+
+-- an exception is met
+abbrev pub is_exception : Reason → Bool
+is_exception (Exception cause) = true
+is_exception Ebreak = false
+is_exception Source = false
+is_exception Instruction = false
+is_exception GoalMet = false
+
+-- an instruction that traps or ends the program does not retire: the machine stays where it was
+abbrev pub stays : Outcome → Bool
+stays Went = false
+stays (HasStopped reason) = is_exception reason
+stays (HasEnded code) = true
+
+-- so many moves, of none of which there is anything to tell
+abbrev pub GoesQuietly : ℕ → Program → Program → Type 0
+GoesQuietly zero p q = q ≡ p
+GoesQuietly (suc n) p q = (middle : Program)
+    × (GoesQuietly n p middle × ((next_tick middle ≡ plain_tick) × (q ≡ moved middle)))
+
+-- What comes of moves, so many at most: all of them, with nothing to tell; or so many, the last of which is to be told;
+-- or so many, before an instruction that stays.
+abbrev pub Advances : ℕ → Program → Advanced → Program → Type 0
+Advances most p Spent q = GoesQuietly most p q
+Advances most p (Owes n) q = (middle : Program) × (k : ℕ) × ((n ≡ suc k) × ((k < most) × (GoesQuietly k p middle
+    × ((stays (next_tick middle).outcome ≡ false) × ((next_tick middle ≢ plain_tick) × (q ≡ moved middle))))))
+Advances most p (Meets n tick) q =
+    (n < most) × (GoesQuietly n p q × ((next_tick q ≡ tick) × (stays tick.outcome ≡ true)))
