@@ -1,4 +1,4 @@
--- The program that is debugged.
+-- The program that is debugged (Debug Adapter Protocol: the debuggee).
 --
 -- There is one machine at most. Into it a program was loaded: an image, which an assembler made of a file. It stands
 -- still at its entry then, and begins when it is told to. It runs move by move for as long as it is given time. Moves
@@ -6,7 +6,11 @@
 -- stands still where it was marked, and where as many instructions have retired as may.
 --
 -- What a move comes to is to be told to whoever debugs the program: a number that it printed, and why it stops. It is
--- owed from the move on until it is told, and the program still runs while it is owed.
+-- owed from the move on until it is told, and the program still runs while it is owed. A trap and the end of the
+-- program retire nothing: their instruction stays, to be met again, and nothing is owed of it.
+--
+-- A machine has one tick: it has one, and no second (the laws `each_machine_ticks` and `tick_is_deterministic` of
+-- `stepping`). `the_tick` is that one, with what it answers and what it leaves.
 use Rattle.std.specs.Prelude.{◌≡◌, ◌≢◌, ◌<◌, zero, suc, ℕ, ℤ, Bool, true, false, if◌then◌else◌, List, [], Option, Some, None}
 use Rattle.breakpoints.specs.Stops.{Lists}
 use Rattle.image.specs.declared.Image.{Image}
@@ -31,7 +35,7 @@ use Rattle.debuggee.specs.declared.run.Why.{Why}
 use Rattle.debuggee.specs.declared.run.Why.TheVariants as why
 
 -- A program that was loaded: its image, and the path of its file; whether it was launched to stop at its entry; whether
--- it runs, and what it was marked with, if it was; its machine; and what that owes.
+-- it runs, and its mark, if it has one; its machine; and what it owes, if it owes something.
 pub record Program : Type 0 where
   pub image : Image
   pub path : List ℕ
@@ -41,7 +45,7 @@ pub record Program : Type 0 where
   pub machine : Debugged
   pub owed : Option Tick
 
--- it was just loaded, and stands still at its entry
+-- one that was just loaded, into a machine of this size: it stands still at its entry, without a breakpoint
 abbrev pub just_loaded : Image → List ℕ → Bool → ℕ → Program
 just_loaded image path stop_on_entry size = record {
   image = image;
@@ -86,11 +90,11 @@ stopped reason p = record p { run = Stopped reason; mark = None }
 abbrev pub ended : Option ℤ → Program → Program
 ended code p = record p { run = Ended code; mark = None }
 
--- a machine begins a run with a goal, from the depth that it has
+-- a machine begins a run with a goal, from the depth that it has; the check at the entry is due, or is not
 abbrev pub begun : Goal → Bool → Debugged → Debugged
 begun goal first d = record d { goal = goal; start = d.calls.depth; check_due = first }
 
--- it goes on, with a goal
+-- it goes on, with a goal; no other run than the first makes the check at the entry
 abbrev pub resumed : Goal → Program → Program
 resumed goal p = record p { run = Running; machine = begun goal false p.machine }
 
@@ -98,7 +102,7 @@ resumed goal p = record p { run = Running; machine = begun goal false p.machine 
 abbrev pub entry_mark : Bool → Option Mark
 entry_mark stop_on_entry = if stop_on_entry then Some MarkEntry else None
 
--- its first run begins, with the check at the entry
+-- its first run begins, with the check at the entry; a mark that is set stays
 abbrev pub first_run : Program → Program
 first_run p = record p {
   run = Running;
@@ -106,11 +110,11 @@ first_run p = record p {
   machine = begun Go true p.machine;
 }
 
--- it is loaded anew
+-- it is loaded anew: its breakpoints stay, and so does all else but the machine
 abbrev pub restarted : Program → Program
 restarted p = record p { machine = reloaded p.image p.machine }
 
--- it is marked, if it runs and is not
+-- it is marked, if it runs and has no mark yet
 abbrev pub marked_by : Run → Mark → Program → Program
 marked_by Running mark p = record p { mark = first_mark p.mark (Some mark) }
 marked_by (Stopped reason) mark p = p
@@ -133,30 +137,30 @@ owing_by printed outcome = Some (record { printed = printed; outcome = outcome }
 abbrev pub owing : Tick → Option Tick
 owing tick = owing_by tick.printed tick.outcome
 
--- the check at the entry is made
+-- the check at the entry is made; what it came to is owed
 abbrev pub entered : Program → Program
 entered p = record p { machine = entry_checked p.machine; owed = owing (entry_tick p.machine) }
 
--- what a move answers, and what it leaves
+-- what its next move comes to, and what that leaves: where it is no plain one, it is owed
 abbrev pub next_tick : Program → Tick
 next_tick p = (the_tick p.machine).tick
 
 abbrev pub moved : Program → Program
 moved p = record p { machine = (the_tick p.machine).after; owed = owing (next_tick p) }
 
--- the run after a tick
+-- the run after a tick that was told, or that nobody will be told of
 abbrev pub run_after : Outcome → Run → Run
 run_after Went run = run
 run_after (HasStopped reason) run = Stopped (why.Met reason)
 run_after (HasEnded code) run = Ended (Some code)
 
--- What it owes was told: the breakpoints that stopped it are named no more.
+-- What it owes was told: the breakpoints that stopped it are named no more. Its run is as it was.
 abbrev pub told : Program → Program
 told p = record p { machine = record p.machine { lists = record p.machine.lists { ids = [] } }; owed = None }
 
 -- ---- an editor goes
 
--- the run that is left of one that owes a tick: what is owed is made
+-- the run that is left of one that owes this: a stop that is owed is made
 abbrev pub run_left : Option Tick → Run → Run
 run_left None run = run
 run_left (Some tick) run = run_after tick.outcome run
@@ -177,7 +181,7 @@ pub record Debuggee : Type 0 where
   pub program : Option Program
   pub last_break : ℕ
 
--- the program is now as that makes of it
+-- the program, if there is one, is now as that makes of it
 abbrev pub on_program : (Program → Program) → Option Program → Option Program
 on_program f None = None
 on_program f (Some p) = Some (f p)
@@ -187,7 +191,7 @@ with_program f d = record d { program = on_program f d.program }
 
 -- ---- many moves at once
 
--- an exception is met
+-- whether it is an exception (ISA 1.6: a trap)
 abbrev pub is_exception : Reason → Bool
 is_exception (Exception cause) = true
 is_exception Ebreak = false
@@ -195,7 +199,7 @@ is_exception Source = false
 is_exception Instruction = false
 is_exception GoalMet = false
 
--- an instruction that traps or ends the program does not retire: the machine stays where it was
+-- Whether an instruction stays that comes to this: one that traps or ends the program does not retire.
 abbrev pub stays : Outcome → Bool
 stays Went = false
 stays (HasStopped reason) = is_exception reason

@@ -1,4 +1,4 @@
-//! A program that was loaded.
+//! A program that was loaded, and what is done to it.
 ghost use Rattle.std.specs.Prelude.{◌≡◌, ◌+◌, ◌^◌, ◌<◌, ◌≤◌, true, false, Some, None, IfOk, OnErr, OnOk};
 ghost use Rattle.debuggee.specs.Programs as spec;
 ghost use Rattle.stepping.specs.Loading.{CanBeLoaded};
@@ -10,7 +10,8 @@ use std::alloc::{AllocError, Global};
 use std::marker::Model;
 use stepping::{Ending, Goal, Outcome, Reason, Runner, Tick};
 
-/// A program that was loaded. A contract sees its image and path, its run, and its machine.
+/// A program that was loaded. A contract sees its image and path, whether it was launched to stop at its entry, its run
+/// and mark, its machine, and what it owes: what its last move, or the check at its entry, came to and nobody was told.
 #[derive(Drop)]
 pub struct Program {
     image: Image,
@@ -43,26 +44,27 @@ impl Model for Program {
       owed = p.owed;
     } };
 
-    // Ids are those of the breakpoints that stopped it, as long as that is owed.
-    // Its image can be loaded anew.
+    // The machine has the ids of the breakpoints that stopped it as long as the stop is owed, and no longer; and the image can be
+    // loaded anew.
     ghost invariant = { λ p. (p.owed ≡ None → p.runner.lists.ids ≡ []) × CanBeLoaded p.image p.runner.size };
 }
 
-/// What came of moves, so many at most.
+/// What came of moves, of which no more were made than asked for.
 #[derive(Clone, Copy, Debug, PartialEq, Eq)]
 pub enum Advanced {
-    /// All of them were made, and there is nothing to tell.
+    /// As many as asked for were made, and there is nothing to tell.
     Spent,
-    /// So many were made, and the last of them is to be told.
+    /// So many were made, and the program owes what the last of them came to.
     Owes(u32),
-    /// So many were made, with nothing to tell. The instruction that comes next traps or ends the
-    /// program: it would answer this.
+    /// So many were made, and there is nothing to tell of them. The instruction that comes next was not made: it traps or ends the
+    /// program, and would come to this.
     Meets(u32, Tick),
 }
 
 impl Program {
-    /// A program of which this is the image and that the path of its file, loaded into a machine with so
-    /// many bytes of memory. `Err`: no memory was left.
+    /// The program of an image, with the path of its file and whether it was launched to stop at its entry, loaded into a machine
+    /// with `size` bytes of memory. It stands still at its entry, has no breakpoints and no mark, and owes nothing.
+    /// `Err`: no memory was left.
     pub fn new(
         alloc: Global,
         image: Image,
@@ -85,8 +87,8 @@ impl Program {
         })
     }
 
-    /// It is loaded anew: its breakpoints stay, and none was hit yet. `Err`: no memory was left, and
-    /// nothing changes.
+    /// Its image is loaded anew. Its breakpoints stay, and none was hit yet; its run and its mark stay too, and `begin` begins its
+    /// first run (`RestartRequest`). `Err`: no memory was left, and nothing changes.
     pub fn restart(&mut self) -> Result<(), AllocError>
         ensures ok { OnOk result (self.new ≡ spec.restarted self.old) }
         ensures err { OnErr result (self.new ≡ self.old) }
@@ -94,7 +96,7 @@ impl Program {
         self.runner.reload(&self.image)
     }
 
-    /// It stops.
+    /// It stands still, for this reason. Its mark has done its work, and goes (`StoppedEvent`).
     pub fn stop(&mut self, why: Why)
         ensures { self.new ≡ spec.stopped why self.old }
     {
@@ -102,7 +104,7 @@ impl Program {
         self.mark = None;
     }
 
-    /// It ends.
+    /// It has ended: with this code, or without one where it was made to. Its mark goes (`ExitedEvent`, `TerminatedEvent`).
     pub fn end(&mut self, code: Option<i32>)
         ensures { self.new ≡ spec.ended code self.old }
     {
@@ -110,7 +112,8 @@ impl Program {
         self.mark = None;
     }
 
-    /// It goes on, with a goal.
+    /// It runs, with this goal, which counts from the depth of its calls now. No check at the entry is due (`ContinueRequest`,
+    /// `NextRequest`, `StepInRequest`, `StepOutRequest`).
     pub fn resume(&mut self, goal: Goal)
         ensures { self.new ≡ spec.resumed goal self.old }
     {
@@ -118,7 +121,8 @@ impl Program {
         self.runner.begin(goal, false);
     }
 
-    /// Its first run begins.
+    /// Its first run begins: it runs without a goal, and the check at the entry is due. Where it was launched to stop at its entry it
+    /// is marked so, unless it has a mark already (`ConfigurationDoneRequest`, `RestartRequest`).
     pub fn begin(&mut self)
         ensures { self.new ≡ spec.first_run self.old }
     {
@@ -129,7 +133,7 @@ impl Program {
         self.runner.begin(Goal::Go, true);
     }
 
-    /// It is marked.
+    /// It is to stand still before its next move. Nothing changes where it does not run, or has a mark already.
     pub fn set_mark(&mut self, mark: Mark)
         ensures { self.new ≡ spec.marked mark self.old }
     {
@@ -138,7 +142,8 @@ impl Program {
         }
     }
 
-    /// The check at the entry is made.
+    /// Makes the check at the entry, whether it is due or not, and none is due then: the breakpoints at pc are looked at, and nothing
+    /// moves. It owes the stop, if one of them stops it.
     #[tactic(auto, using(crate::proofs::Advancing::entry_names_none))]
     pub fn check_entry(&mut self)
         ensures { self.new ≡ spec.entered self.old }
@@ -147,7 +152,9 @@ impl Program {
         self.owed = owing(tick);
     }
 
-    /// Makes moves, so many at most, until there is something to tell.
+    /// Makes `most` moves, or fewer: up to the first of which there is something to tell, which it then owes, and none that traps or
+    /// ends the program, since a stop that is not told is not made. It runs or not as before. No check at the entry is due, it
+    /// owes nothing, and no more than 2^62 instructions will have retired.
     pub fn advance(&mut self, most: u32) -> Advanced
         requires due { self.old.machine.check_due ≡ false }
         requires few { self.old.machine.retired + most ≤ 2 ^ 62 }
@@ -169,7 +176,8 @@ impl Program {
         }
     }
 
-    /// What it owes was told.
+    /// What it owes was told: it owes nothing, and names no breakpoint that stopped it. It runs or not as before: `stop` and `end`
+    /// make the stop that was told.
     pub fn tell(&mut self)
         ensures { self.new ≡ spec.told self.old }
     {
@@ -177,7 +185,8 @@ impl Program {
         self.owed = None;
     }
 
-    /// An editor goes: its breakpoints and its mark go, and a stop that is owed is made.
+    /// An editor goes. Its breakpoints and the mark go with it; a stop that is owed is made, and told to nobody (`DisconnectRequest`).
+    /// Else it runs, or stands still, as before.
     pub fn leave(&mut self)
         ensures { self.new ≡ spec.left self.old }
     {
@@ -189,7 +198,7 @@ impl Program {
         self.owed = None;
     }
 
-    /// Its image.
+    /// The image that it was loaded from.
     pub fn image(&self) -> &Image
         ensures { result.now ≡ self.now.image }
     {
@@ -203,21 +212,21 @@ impl Program {
         self.path.as_str()
     }
 
-    /// Whether it runs.
+    /// Whether it runs, and why it stands still if it does.
     pub fn run(&self) -> Run
         ensures { result ≡ self.now.run }
     {
         self.run
     }
 
-    /// What it was marked with, if it was.
+    /// Its mark, if it has one.
     pub fn mark(&self) -> Option<Mark>
         ensures { result ≡ self.now.mark }
     {
         self.mark
     }
 
-    /// What it owes, if it owes something.
+    /// What it owes, if it owes something: what its last move, or the check at its entry, came to.
     pub fn owed(&self) -> Option<Tick>
         ensures { result ≡ self.now.owed }
     {
@@ -250,7 +259,7 @@ fn run_after(outcome: Outcome, run: Run) -> Run
     }
 }
 
-// Whether an instruction stays: it traps, or ends the program.
+// Whether an instruction that comes to this leaves the machine where it was: it traps, or ends the program.
 fn stays(outcome: Outcome) -> bool
     ensures { result ≡ spec.stays outcome }
 {

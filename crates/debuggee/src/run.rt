@@ -4,8 +4,7 @@ ghost use Rattle.debuggee.specs.Programs.{why_marked};
 
 use stepping::Reason;
 
-/// Whether a program runs (Debug Adapter Protocol, "Launching and attaching": a debuggee is stopped,
-/// or runs, or has terminated).
+/// Whether a program runs (Debug Adapter Protocol, "Stopping and accessing debuggee state", "Debug session end").
 #[derive(Clone, Copy, Debug, PartialEq, Eq)]
 pub enum Run {
     /// It runs, or will as soon as it is given time.
@@ -16,14 +15,14 @@ pub enum Run {
     Ended(Option<i32>),
 }
 
-/// Why a program stands still (`StoppedEvent.reason`).
+/// Why a program stands still (Debug Adapter Protocol, `StoppedEvent.reason`).
 #[derive(Clone, Copy, Debug, PartialEq, Eq)]
 pub enum Why {
     /// It is at its entry.
     Entry,
     /// It was asked to stand still.
     Pause,
-    /// As many instructions have retired as may.
+    /// As many instructions have retired as may since it was loaded.
     Limit,
     /// A move, or the check at the entry, met this.
     Met(Reason),
@@ -36,12 +35,12 @@ pub enum Mark {
     Entry,
     /// An editor asked for it.
     Pause,
-    /// Whoever gives it time does, to hear what the editor says.
+    /// Whoever gives it time asked for it, to hear what the editor says.
     Hold,
 }
 
 impl Mark {
-    /// Why a program stands still that was marked so.
+    /// Why a program stands still that was marked so: at its entry, or as it was asked to.
     pub fn why(self) -> Why
         ensures { result ≡ why_marked self }
     {
