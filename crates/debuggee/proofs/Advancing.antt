@@ -1,5 +1,5 @@
 -- Many moves, and the check at the entry.
-use Rattle.std.proofs.Common.{◌≡◌, ◌≢◌, ℕ, ℤ, zero, suc, ◌+◌, Bool, true, false, List, [], Option, Some, None, Result, Ok, Err, alloc_error, MatchBool, refl, sym, ap, ◌∙◌, subst, arith}
+use Rattle.std.proofs.Common.{◌≡◌, ◌≢◌, ℕ, ℤ, zero, suc, ◌+◌, Bool, true, false, List, [], Option, Some, None, Result, Ok, Err, MatchBool, refl, sym, ap, ◌∙◌, subst, arith}
 use Rattle.std.specs.declared.alloc.AllocError.{AllocError}
 use Rattle.rv32i.specs.Machine.{IsMove, machine_of}
 use Rattle.rv32i.specs.declared.instr.Instr.{Instr}
@@ -15,7 +15,7 @@ use Rattle.stepping.specs.declared.tick.Outcome.TheVariants.{Went, Stopped, Ende
 use Rattle.stepping.specs.declared.tick.Ran.{Ran}
 use Rattle.stepping.specs.declared.tick.Tick.{Tick}
 use Rattle.breakpoints.specs.declared.breakpoint.Hit.{Hit}
-use Rattle.stepping.proofs.Advancing.{each_tick_answers, stays_so}
+use Rattle.stepping.proofs.Advancing.{stays_so}
 use Rattle.stepping.proofs.Determined.{tick_is_deterministic}
 use Rattle.stepping.proofs.Existing.{the_tick}
 use Rattle.debuggee.specs.Programs.{Program, Advances, GoesQuietly, moved, next_tick, owing, owing_by, stays}
@@ -30,9 +30,6 @@ at_entry d after answer due h = subst (λ (b : Bool). MatchBool b ((answer ≡ O
 
 not_at_entry : (d after : Debugged) (answer : Result Tick AllocError) → d.check_due ≡ false → IsTick d answer after → Moves d answer after
 not_at_entry d after answer due h = subst (λ (b : Bool). MatchBool b ((answer ≡ Ok (entry_tick d)) × (after ≡ entry_checked d)) (Moves d answer after)) due h
-
-pub none_lacks_memory : (d after : Debugged) (e : AllocError) → IsTick d (Err e) after → ⊥
-none_lacks_memory d after e h = let never : false ≡ true = each_tick_answers d after (Err e) h in cc
 
 tick_or : Tick → Result Tick AllocError → Tick
 tick_or t (Ok tick) = tick
@@ -166,11 +163,6 @@ pub spent_names_none : (most : ℕ) (before : Debugged) (ran : Ran) (after : Deb
 spent_names_none most before ran after none e h =
     let ends : EndsRun most ran.went ending.Spent h.middle after = subst (λ (x : Ending). EndsRun most ran.went x h.middle after) e h.ends in
     ap (λ (d : Debugged). d.lists.ids) ends.1 ∙ none_named_after ran.went before h.middle none h.goes
-
-pub run_lacks_no_memory : (most : ℕ) (before : Debugged) (ran : Ran) (after : Debugged) → ran.ending ≡ ending.NoMemory → IsRun most before ran after → ⊥
-run_lacks_no_memory most before ran after e h =
-    let ends : EndsRun most ran.went ending.NoMemory h.middle after = subst (λ (x : Ending). EndsRun most ran.went x h.middle after) e h.ends in
-    none_lacks_memory h.middle after alloc_error ends.1
 
 pub run_meets : (most : ℕ) (p : Program) (ran : Ran) (tick : Tick) (after : Debugged) → p.owed ≡ None → p.machine.lists.ids ≡ [] → p.machine.check_due ≡ false → ran.ending ≡ ending.Ticked tick → stays tick.outcome ≡ true → IsRun most p.machine ran after
     → Advances most p (Meets ran.went tick) (with_machine p after) × (after.lists.ids ≡ [])

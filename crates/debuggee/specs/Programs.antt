@@ -11,7 +11,8 @@
 --
 -- A machine has one tick: it has one, and no second (the laws `each_machine_ticks` and `tick_is_deterministic` of
 -- `stepping`). `the_tick` is that one, with what it answers and what it leaves.
-use Rattle.std.specs.Prelude.{◌≡◌, ◌≢◌, ◌<◌, zero, suc, ℕ, ℤ, Bool, true, false, if◌then◌else◌, List, [], Option, Some, None}
+use Rattle.std.specs.Prelude.{◌≡◌, ◌≢◌, ◌<◌, zero, suc, ℕ, ℤ}
+use Rattle.std.specs.Prelude.{Bool, true, false, if◌then◌else◌, List, [], Option, Some, None}
 use Rattle.breakpoints.specs.Stops.{Lists}
 use Rattle.image.specs.declared.Image.{Image}
 use Rattle.stepping.specs.Loading.{loaded, no_breakpoints, reloaded}
