@@ -1,6 +1,7 @@
 //! `rvdap asm FILE`: the listing of a file on standard output.
 
 use assembler::TEXT_LIMIT;
+use descriptors::Waiting;
 use listing::{ListFault, listing};
 use std::fs::File;
 use std::io;
@@ -23,7 +24,8 @@ pub(crate) fn list_file(rt: &HostRuntime, file: &str) -> Result<(), AsmFault> {
     if text.len() > TEXT_LIMIT {
         return Err(AsmFault::Unreadable);
     }
-    match listing(rt.alloc(), text.as_slice(), &mut rt.stdout()) {
+    let mut output = Waiting::new(rt.stdout());
+    match listing(rt.alloc(), text.as_slice(), &mut output) {
         Ok(()) => Ok(()),
         Err(fault) => Err(AsmFault::Unlisted(fault)),
     }

@@ -8,6 +8,7 @@ mod options;
 mod serving;
 
 use asm::{AsmFault, list_file};
+use descriptors::Waiting;
 use ending::Ending;
 use listing::ListFault;
 use options::{Task, task_of};
@@ -31,7 +32,9 @@ fn main(rt: HostRuntime) -> ExitCode {
 fn serve_editor(rt: &HostRuntime) -> Ending {
     let mut session = Session::new(rt.alloc(), Limits::greatest()).unwrap();
     let _ = session.connect();
-    serve(rt.alloc(), &mut session, &mut rt.stdin(), &mut rt.stdout())
+    let mut input = Waiting::new(rt.stdin());
+    let mut output = Waiting::new(rt.stdout());
+    serve(rt.alloc(), &mut session, &mut input, &mut output)
 }
 
 fn list(rt: &HostRuntime, file: &str) -> ExitCode {
