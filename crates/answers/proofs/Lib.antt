@@ -1,0 +1,5 @@
+pub mod Tokens
+pub mod Reading
+pub mod Trimming
+pub mod Lists
+pub mod Settable
