@@ -9,7 +9,7 @@ use image::{Bytes, FIRST_ADDRESS, Image, LineTable};
 use indexmap::IndexMap;
 use play::{Fault, Line, called};
 use play_image::rise;
-use protocol::{Command, Incoming, Request, Text, read_request};
+use protocol::{Command, Incoming, MessageError, Request, Text, read_request};
 use replies::{Message, Response, write_message};
 use std::alloc::Global;
 use std::str;
@@ -68,9 +68,7 @@ impl Program {
         request: &[u8],
         line: &mut Line,
     ) -> Result<(), Fault> {
-        let Ok(Incoming::Request(request)) = read_request(alloc, request) else {
-            return Err(Fault::NoCommand);
-        };
+        let request = request_in(alloc, request)?;
         if !is_for_breakpoints(&request.command) || self.view.line_base > 1 || next > 1 << 31 {
             return Err(Fault::NoCommand);
         }
@@ -88,6 +86,14 @@ impl Program {
         };
         show_message(alloc, response, line)?;
         show_list(alloc, &self.runner, list, line)
+    }
+}
+
+fn request_in(alloc: Global, body: &[u8]) -> Result<Request, Fault> {
+    match read_request(alloc, body) {
+        Ok(Incoming::Request(request)) => Ok(request),
+        Err(MessageError::NoMemory) => Err(Fault::NoMemory),
+        _ => Err(Fault::NoCommand),
     }
 }
 
