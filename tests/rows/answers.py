@@ -10,7 +10,7 @@ MOST = 1024
 PATH = "/w/p.s"
 
 PROFILE = "docs/PROTOCOL.md, \"Breakpoints\""
-EXAMPLES = "docs/PROTOCOL.md, \"Bodies of responses\""
+EXAMPLES = "docs/PROTOCOL.md, \"Bodies of answers that are not yet sent\""
 BY_HAND = "worked by hand from docs/PROTOCOL.md, \"Breakpoints\""
 
 UNKNOWN = "unknown source"

@@ -3,3 +3,4 @@ pub mod Reading
 pub mod Trimming
 pub mod Lists
 pub mod Settable
+pub mod Entries

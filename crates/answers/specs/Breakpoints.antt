@@ -1,8 +1,8 @@
 -- Breakpoints that are asked for (DAP specification, `Breakpoint`).
 --
--- Each breakpoint is looked at by itself: either it can be set, or there is a problem with it. Those that can be set get
--- numbers, one after the other in the order in which they were asked for. The answer has an entry for each, the list
--- that is set has those that can be set.
+-- Each breakpoint is looked at by itself: either it can be set, or there is a problem with it. Those that can be set
+-- get numbers, one after the other in the order in which they were asked for. The answer has an entry for each, the
+-- list that is set has those that can be set.
 use Rattle.std.specs.Prelude.{ℕ, ◌+◌, List, [], ◌∷◌, Option, Result, Ok, Err, option_map, codes}
 use Rattle.breakpoints.specs.declared.breakpoint.BreakSpec.{BreakSpec}
 use Rattle.expressions.specs.Nodes.{tree_of}

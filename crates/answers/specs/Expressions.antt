@@ -35,7 +35,8 @@ is_number (Err error) n = false
 -- whether bytes name a register
 abbrev pub names : List ℕ → ℕ → Bool
 names bytes r = nat_lt r 32
-    && (bytes_eq bytes (name_of r) || (bytes_eq bytes (numbered_name_of r) || (bytes_eq bytes (codes "fp") && (r == 8))))
+    && (bytes_eq bytes (name_of r)
+    || (bytes_eq bytes (numbered_name_of r) || (bytes_eq bytes (codes "fp") && (r == 8))))
 
 -- whether bytes spell a token
 abbrev pub spells : List ℕ → Token → Bool

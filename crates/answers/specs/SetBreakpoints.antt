@@ -1,9 +1,10 @@
 -- What `setBreakpoints` answers (DAP specification, `SetBreakpointsRequest`).
 --
 -- The breakpoints are those of one source. Where that is not the program's, none is set and no list is replaced. A
--- breakpoint is set at the first line with code, from the asked line on, and at the first instruction there. Lines count
--- from 0 or 1, as the editor said; the image counts them from 1.
-use Rattle.std.specs.Prelude.{◌≡◌, ℕ, ◌+◌, ◌-◌, min, nat_lt, Bool, false, if◌then◌else◌, List, length, Option, Some, None}
+-- breakpoint is set at the first line with code, from the asked line on, and at the first instruction there. Lines
+-- count from 0 or 1, as the editor said; the image counts them from 1.
+use Rattle.std.specs.Prelude.{◌≡◌, ℕ, ◌+◌, ◌-◌, min, nat_lt, Bool, false}
+use Rattle.std.specs.Prelude.{if◌then◌else◌, List, length, Option, Some, None}
 use Rattle.std.specs.Prelude.{Result, Ok, Err, bytes_eq, refl}
 use Rattle.image.specs.Lines.{Table, bind}
 use Rattle.protocol.specs.declared.set_breakpoints.SetBreakpointsArguments.{SetBreakpointsArguments}
