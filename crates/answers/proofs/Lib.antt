@@ -4,3 +4,4 @@ pub mod Trimming
 pub mod Lists
 pub mod Settable
 pub mod Entries
+pub mod Proper

@@ -30,7 +30,7 @@ use Rattle.answers.specs.declared.view.View.{View}
 
 -- ---- results
 
-one_value : {A E : Type 0} (r : Result A E) (x y : A) → r ≡ Ok x → r ≡ Ok y → x ≡ y
+pub one_value : {A E : Type 0} (r : Result A E) (x y : A) → r ≡ Ok x → r ≡ Ok y → x ≡ y
 one_value (Ok z) x y e f = cc
 one_value (Err error) x y e f = cc
 

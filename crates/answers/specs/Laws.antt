@@ -1,10 +1,15 @@
 -- What the definitions promise.
+use Rattle.std.specs.Prelude.{All, IfOk, ◌^◌, ⊤}
 use Rattle.std.specs.Prelude.{◌≡◌, ◌↔◌, ℕ, ◌+◌, ◌<◌, ◌≤◌, IsTrue, List, [], ◌∷◌, length, map, slice_index}
 use Rattle.std.specs.Prelude.{Option, Some, None, Result, Ok}
 use Rattle.expressions.specs.Trees.{Tree}
-use Rattle.image.specs.Lines.{Table}
+use Rattle.image.specs.Lines.{Table, line_in, start_of}
+use Rattle.protocol.specs.Commands.{name_of}
 use Rattle.protocol.specs.declared.command.Command.{Command}
+use Rattle.protocol.specs.declared.command.Command.TheVariants as asked
 use Rattle.protocol.specs.declared.refusal.Refusal.{Refusal}
+use Rattle.replies.specs.Responses.{IsOutcomeOf}
+use Rattle.replies.specs.declared.response.Outcome.TheVariants.{Done}
 use Rattle.replies.specs.declared.response.ResponseBody.{ResponseBody}
 use Rattle.replies.specs.declared.response.ResponseBody.TheVariants.{SetBreakpoints, SetInstructionBreakpoints}
 use Rattle.replies.specs.declared.set_breakpoints.SourceBreakpoint as at_line
@@ -65,3 +70,21 @@ abbrev pub EachHasItsEntry : Type 0
 EachHasItsEntry = (command : Command) (table : Table) (size : ℕ) (view : View) (next : ℕ) →
     IsTrue (sets_breakpoints command) → count_asked command ≤ 1024 →
     entries_in (breaks_answer command table size view next).result ≡ count_asked command
+
+-- ---- answers that can be sent
+
+-- lines and addresses of a table are numbers of 32 bits
+pub record IsNarrow (table : Table) : Type 0 where
+  pub lines : All (λ row. line_in row < 2 ^ 32) table.rows
+  pub places : All (λ row. start_of row < 2 ^ 32) table.rows
+
+-- the lines that are asked for are
+abbrev pub AsksNarrowly : Command → Type 0
+AsksNarrowly (asked.SetBreakpoints arguments) = All (λ b. b.line < 2 ^ 32) arguments.breakpoints
+AsksNarrowly other = ⊤
+
+-- The body is that of the request, and its numbers are in their ranges.
+abbrev pub AnswersAreProper : Type 0
+AnswersAreProper = (command : Command) (table : Table) (size : ℕ) (view : View) (next : ℕ) →
+    IsTrue (sets_breakpoints command) → IsNarrow table → AsksNarrowly command → next ≤ 2147483648 →
+    IfOk (breaks_answer command table size view next).result (λ body. IsOutcomeOf (name_of command) (Done body))
