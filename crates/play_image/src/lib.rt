@@ -3,6 +3,8 @@
 
 mod answers;
 mod asking;
+mod rising;
 
 pub use answers::{found, pair};
 pub use asking::ask_lines;
+pub use rising::rise;

@@ -3,13 +3,10 @@
 //! - `row LINE ADDRESS WORDS`, `label NAME ADDRESS`: what the next table is to have; the rows have to rise.
 //! - `new END`: the table of these; it is then asked as `play_image` says.
 //! - `image ENTRY BYTES`: an image with the table; then `bytes`, and `parts`, the entry and the bytes that it gives back.
-ghost use Rattle.std.specs.Prelude.{IsTrue};
-ghost use Rattle.image.specs.Lines.{RowsRise};
-
 use image::{Bytes, Image, LineTable};
 use indexmap::IndexMap;
 use play::{Fault, bytes_of, hexadecimal, parsed, shown};
-use play_image::ask_lines;
+use play_image::{ask_lines, rise};
 use std::alloc::{AllocError, Global};
 use std::mem;
 
@@ -104,20 +101,4 @@ impl Tables {
         let bytes = hexadecimal(alloc, &bytes.into_vec())?;
         Ok(format!(in alloc; "{entry} {bytes}")?)
     }
-}
-
-// Whether rows rise as those of a line table have to.
-fn rise(rows: &[(u32, u32, u32)], end: u32) -> bool
-    ensures { IsTrue result → RowsRise rows.now end }
-{
-    let mut line = 0;
-    let mut address = 65536;
-    for row in rows {
-        if u64::from(row.0) < line || u64::from(row.1) < address || row.1 % 4 != 0 || row.2 == 0 {
-            return false;
-        }
-        line = u64::from(row.0) + 1;
-        address = u64::from(row.1) + 4 * u64::from(row.2);
-    }
-    address <= u64::from(end)
 }

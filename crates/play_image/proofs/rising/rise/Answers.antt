@@ -1,7 +1,7 @@
 use Rattle.std.proofs.Common.{◌≤◌, slice_index_or, refl, arith}
 use Rattle.image.specs.Lines.{Row, line_in, start_of, words_in}
-use Rattle.play_machine.proofs.Rising.{rising-step}
-use Rattle.play_machine.proofs.tables.rise.Goals as goal
+use Rattle.play_image.proofs.Rows.{rising-step}
+use Rattle.play_image.proofs.rising.rise.Goals as goal
 
 pub loop-row-preserved : goal.loop-row-preserved
 loop-row-preserved c =

@@ -1,0 +1,134 @@
+-- Answers can be sent: their numbers are in their ranges.
+use Rattle.std.proofs.Common.{◌≡◌, ℕ, ℤ, pos, negsuc, ◌+◌, ◌+ℤ◌, ◌<◌, ◌≤◌, Bool, true, false, cond, ◌&&◌, ltb, List, [], ◌∷◌, length, Option, Some, None, Result, Ok, Err, IfOk, option_map, refl, ap, subst, arith}
+use Rattle.std.specs.Prelude.{All, find}
+use Rattle.std.specs.List.{list_all}
+use Rattle.std.proofs.lemmas.Bool.{lt-ltb, ltb-true, ltb-false}
+use Rattle.std.proofs.lemmas.List.Elements.{All-head, All-tail}
+use Rattle.image.specs.Lines.{Row, Table, bind, line_in, start_of}
+use Rattle.protocol.specs.declared.command.Command.TheVariants as command
+use Rattle.protocol.specs.declared.refusal.Refusal.TheVariants.{TooMuch}
+use Rattle.protocol.specs.declared.set_breakpoints.SourceBreakpoint.{SourceBreakpoint}
+use Rattle.protocol.specs.declared.set_instruction_breakpoints.InstructionBreakpoint.{InstructionBreakpoint}
+use Rattle.replies.specs.SetBreakpoints.{source_breakpoint}
+use Rattle.replies.specs.SetInstructionBreakpoints.{instruction_breakpoint}
+use Rattle.replies.specs.declared.response.ResponseBody.{ResponseBody}
+use Rattle.answers.specs.Breakpoints.{Answer, entries_of, next_after}
+use Rattle.answers.specs.Laws.{AnswersAreProper, IsNarrow}
+use Rattle.answers.specs.References.{address_in, address_of, offset_by, reference_of}
+use Rattle.answers.specs.SetBreakpoints as source
+use Rattle.answers.specs.SetInstructionBreakpoints as instruction
+use Rattle.answers.specs.Terms.{Terms, terms_of}
+use Rattle.answers.specs.declared.problem.Problem.{Problem}
+use Rattle.answers.proofs.Settable.{one_value}
+
+both : (x y : Bool) → x ≡ true → y ≡ true → (x && y) ≡ true
+both true y a b = b
+both false y a b = cc
+
+-- ---- entries of lines
+
+line_set : (id address line : ℕ) → id < 4294967296 → address < 4294967296 → line < 4294967296 → (ltb id 4294967296 && (ltb address 4294967296 && (ltb line 4294967296 && true))) ≡ true
+line_set id address line a b c = both (ltb id 4294967296) _ (lt-ltb id 4294967296 a) (both (ltb address 4294967296) _ (lt-ltb address 4294967296 b) (both (ltb line 4294967296) true (lt-ltb line 4294967296 c) refl))
+
+lines_proper : (judged : SourceBreakpoint → Result source.Place Problem) (base next : ℕ) (asked : List SourceBreakpoint) → ((one : SourceBreakpoint) (place : source.Place) → judged one ≡ Ok place → (place.address < 4294967296) × (place.line < 4294967296)) → All (λ b. b.line < 4294967296) asked → next + length asked ≤ 4294967296 → list_all source_breakpoint.is_in (entries_of judged (source.entry base) next asked) ≡ true
+lines_proper judged base next [] narrow lines room = refl
+lines_proper judged base next (one ∷ others) narrow lines room = go (judged one) refl (λ n r. lines_proper judged base n others narrow (All-tail (λ b. b.line < 4294967296) one others lines) r) where
+  go : (found : Result source.Place Problem) → judged one ≡ found → ((n : ℕ) → n + length others ≤ 4294967296 → list_all source_breakpoint.is_in (entries_of judged (source.entry base) n others) ≡ true) → (source_breakpoint.is_in (source.entry base next one found) && list_all source_breakpoint.is_in (entries_of judged (source.entry base) (next_after next found) others)) ≡ true
+  go (Ok place) e on =
+      let small = narrow one place e in
+      both (source_breakpoint.is_in (source.verified base next place)) _ (line_set next place.address (source.line_in_editor base place.line) (omega (arith, room)) small.0 (omega (arith, small.1))) (on (next + 1) (omega (arith, room)))
+  go (Err problem) e on =
+      let first : one.line < 4294967296 = All-head (λ b. b.line < 4294967296) one others lines in
+      both (source_breakpoint.is_in (source.unverified one.line problem)) _ (both (ltb one.line 4294967296) true (lt-ltb one.line 4294967296 first) refl) (on next (omega (arith, room)))
+
+bound : (p : Row → Bool) (rows : List Row) (found : ℕ × ℕ) → All (λ row. line_in row < 4294967296) rows → All (λ row. start_of row < 4294967296) rows → option_map (λ row. (line_in row, start_of row)) (find p rows) ≡ Some found → (found.1 < 4294967296) × (found.0 < 4294967296)
+bound p [] found lines places e = cc
+bound p (row ∷ rows) found lines places e =
+    let line : line_in row < 4294967296 = All-head (λ r. line_in r < 4294967296) row rows lines in
+    let place : start_of row < 4294967296 = All-head (λ r. start_of r < 4294967296) row rows places in
+    let P : Bool → Type 0 = λ v. option_map (λ r. (line_in r, start_of r)) (cond v (Some row) (find p rows)) ≡ Some found → (found.1 < 4294967296) × (found.0 < 4294967296) in
+    let go : P (p row) = elim (p row) as P [
+      | true ↦ λ f. here (line_in row, start_of row) found line place f
+      | false ↦ λ f. bound p rows found (All-tail (λ r. line_in r < 4294967296) row rows lines) (All-tail (λ r. start_of r < 4294967296) row rows places) f
+    ] in go e
+  where
+    here : (made found : ℕ × ℕ) → made.0 < 4294967296 → made.1 < 4294967296 → Some made ≡ Some found → (found.1 < 4294967296) × (found.0 < 4294967296)
+    here made found a b f = let same : made ≡ found = cc in (subst (λ (x : ℕ × ℕ). x.1 < 4294967296) same b, subst (λ (x : ℕ × ℕ). x.0 < 4294967296) same a)
+
+found_there : (terms : Result Terms Problem) (found : Option (ℕ × ℕ)) (place : source.Place) → source.placed terms found ≡ Ok place → found ≡ Some (place.line, place.address)
+found_there (Err problem) found place e = cc
+found_there (Ok terms) None place e = cc
+found_there (Ok terms) (Some found) place e = ap (λ (x : source.Place). Some (x.line, x.address)) (one_value (Ok (record { line = found.0; address = found.1; terms = terms })) (record { line = found.0; address = found.1; terms = terms }) place refl e)
+
+source_narrow : (own : Bool) (table : Table) (base : ℕ) → IsNarrow table → (one : SourceBreakpoint) (place : source.Place) → source.judged own table base one ≡ Ok place → (place.address < 4294967296) × (place.line < 4294967296)
+source_narrow true table base narrow one place e =
+    bound _ table.rows (place.line, place.address) narrow.lines narrow.places (found_there (terms_of one.condition one.hit_condition) (bind table (source.line_in_image base one.line)) place e)
+source_narrow false table base narrow one place e = cc
+
+-- ---- entries of instructions
+
+instruction_set : (id address : ℕ) → id < 4294967296 → address < 4294967296 → (ltb id 4294967296 && (ltb address 4294967296 && true)) ≡ true
+instruction_set id address a b = both (ltb id 4294967296) _ (lt-ltb id 4294967296 a) (both (ltb address 4294967296) true (lt-ltb address 4294967296 b) refl)
+
+instructions_proper : (judged : InstructionBreakpoint → Result instruction.Place Problem) (next : ℕ) (asked : List InstructionBreakpoint) → ((one : InstructionBreakpoint) (place : instruction.Place) → judged one ≡ Ok place → place.address < 4294967296) → next + length asked ≤ 4294967296 → list_all instruction_breakpoint.is_in (entries_of judged instruction.entry next asked) ≡ true
+instructions_proper judged next [] narrow room = refl
+instructions_proper judged next (one ∷ others) narrow room = go (judged one) refl (λ n r. instructions_proper judged n others narrow r) where
+  go : (found : Result instruction.Place Problem) → judged one ≡ found → ((n : ℕ) → n + length others ≤ 4294967296 → list_all instruction_breakpoint.is_in (entries_of judged instruction.entry n others) ≡ true) → (instruction_breakpoint.is_in (instruction.entry next one found) && list_all instruction_breakpoint.is_in (entries_of judged instruction.entry (next_after next found) others)) ≡ true
+  go (Ok place) e on = both (instruction_breakpoint.is_in (instruction.verified next place)) _ (instruction_set next place.address (omega (arith, room)) (narrow one place e)) (on (next + 1) (omega (arith, room)))
+  go (Err problem) e on = both (instruction_breakpoint.is_in (instruction.unverified problem)) _ refl (on next (omega (arith, room)))
+
+address_small : (z : ℤ) (n : ℕ) → address_of z ≡ Some n → n < 4294967296
+address_small (negsuc m) n e = cc
+address_small (pos m) n e =
+    let P : Bool → Type 0 = λ v. ltb m 4294967296 ≡ v → cond v (Some m) None ≡ Some n → n < 4294967296 in
+    let go : P (ltb m 4294967296) = elim (ltb m 4294967296) as P [
+      | true ↦ λ v f. same m n f (ltb-true m 4294967296 v)
+      | false ↦ λ v f. absurd (none n f)
+    ] in go refl e
+  where
+    same : (m n : ℕ) → Some m ≡ Some n → m < 4294967296 → n < 4294967296
+    same m n f h = let one : m ≡ n = cc in omega (arith, one, h)
+
+    none : (n : ℕ) → None ≡ Some n → ⊥
+    none n f = cc
+
+offset_small : (offset : ℤ) (reference : Option ℕ) (n : ℕ) → offset_by offset reference ≡ Some n → n < 4294967296
+offset_small offset None n e = cc
+offset_small offset (Some m) n e = address_small (pos m +ℤ offset) n e
+
+kept_small : (size : ℕ) (found : Option ℕ) (n : ℕ) → instruction.if_instructions size found ≡ Some n → found ≡ Some n
+kept_small size None n e = e
+kept_small size (Some m) n e =
+    let P : Bool → Type 0 = λ v. cond v (Some m) None ≡ Some n → Some m ≡ Some n in
+    let go : P (instruction.is_instructions size m) = elim (instruction.is_instructions size m) as P [ true ↦ λ f. f | false ↦ λ f. cc ] in
+    go e
+
+instruction_there : (terms : Result Terms Problem) (found : Option ℕ) (place : instruction.Place) → instruction.placed terms found ≡ Ok place → found ≡ Some place.address
+instruction_there (Err problem) found place e = cc
+instruction_there (Ok terms) None place e = cc
+instruction_there (Ok terms) (Some found) place e = ap (λ (x : instruction.Place). Some x.address) (one_value (Ok (record { address = found; terms = terms })) (record { address = found; terms = terms }) place refl e)
+
+instruction_narrow : (size : ℕ) (one : InstructionBreakpoint) (place : instruction.Place) → instruction.judged size one ≡ Ok place → place.address < 4294967296
+instruction_narrow size one place e =
+    let there = instruction_there (terms_of one.condition one.hit_condition) (instruction.asked_address size one) place e in
+    offset_small one.offset (reference_of one.instruction_reference) place.address (kept_small size (address_in one.instruction_reference one.offset) place.address there)
+
+-- ---- answers
+
+if_few : (P : ResponseBody → Type 0) (many : ℕ) (answer : Answer) → (many ≤ 1024 → IfOk answer.result P) → IfOk (cond (ltb 1024 many) (record { result = Err TooMuch; list = None }) answer).result P
+if_few P many answer h =
+    let Q : Bool → Type 0 = λ v. ltb 1024 many ≡ v → IfOk (cond v (record { result = Err TooMuch; list = None }) answer).result P in
+    let go : Q (ltb 1024 many) = elim (ltb 1024 many) as Q [ true ↦ λ v. tt | false ↦ λ v. h (ltb-false 1024 many v) ] in
+    go refl
+
+alone : (x : Bool) → x ≡ true → (x && true) ≡ true
+alone true e = refl
+alone false e = cc
+
+pub answers_are_proper : AnswersAreProper
+answers_are_proper (command.SetBreakpoints arguments) table size view next sets narrow lines small =
+    let own = source.is_own view.path arguments.source.path in
+    if_few _ (length arguments.breakpoints) (source.of_source own table view next arguments.breakpoints) (λ few. (refl, alone _ (lines_proper (source.judged own table view.line_base) view.line_base next arguments.breakpoints (source_narrow own table view.line_base narrow) lines (omega (arith, few, small)))))
+answers_are_proper (command.SetInstructionBreakpoints arguments) table size view next sets narrow lines small =
+    if_few _ (length arguments.breakpoints) _ (λ few. (refl, alone _ (instructions_proper (instruction.judged size) next arguments.breakpoints (instruction_narrow size) (omega (arith, few, small)))))
+answers_are_proper other table size view next sets narrow lines small = cc

@@ -1,0 +1,153 @@
+-- A list that an answer sets can be set: it is short enough, and each breakpoint stops at some hit.
+use Rattle.std.proofs.Common.{◌≡◌, ℕ, ◌≤◌, Bool, true, false, cond, ltb, leb, List, [], ◌∷◌, length, map, Option, Some, None, Result, Ok, Err, IfOk, IfSome, option_map, refl, sym, ap, subst, arith}
+use Rattle.std.specs.Prelude.{All}
+use Rattle.std.proofs.lemmas.Bool.{leb-true, ltb-false}
+use Rattle.std.proofs.lemmas.List.{length-map}
+use Rattle.std.specs.declared.alloc.AllocError.{AllocError}
+use Rattle.protocol.specs.declared.refusal.Refusal.TheVariants.{TooMuch}
+use Rattle.replies.specs.declared.response.ResponseBody.TheVariants.{SetInstructionBreakpoints}
+use Rattle.answers.specs.declared.problem.Problem.TheVariants.{BadHitCondition}
+use Rattle.std.proofs.lemmas.List.Elements.{All-cons, All-nil, All-head, All-tail}
+use Rattle.breakpoints.specs.Stops.{CanBeSet}
+use Rattle.breakpoints.specs.declared.breakpoint.BreakSpec.{BreakSpec}
+use Rattle.expressions.specs.Trees.{Tree}
+use Rattle.image.specs.Lines.{Table, bind}
+use Rattle.numerals.specs.Numerals.{numeral}
+use Rattle.numerals.specs.declared.NumeralError.{NumeralError}
+use Rattle.protocol.specs.declared.set_breakpoints.SourceBreakpoint.{SourceBreakpoint}
+use Rattle.protocol.specs.declared.set_breakpoints.SetBreakpointsArguments.{SetBreakpointsArguments}
+use Rattle.protocol.specs.declared.set_instruction_breakpoints.InstructionBreakpoint.{InstructionBreakpoint}
+use Rattle.protocol.specs.declared.set_instruction_breakpoints.SetInstructionBreakpointsArguments as given
+use Rattle.answers.specs.Answers.{answer_by}
+use Rattle.answers.specs.Breakpoints.{Answer, Wanted, entries_of, followed_by, list_of, next_after, wanted_by}
+use Rattle.answers.specs.SetBreakpoints as source
+use Rattle.answers.specs.SetInstructionBreakpoints as instruction
+use Rattle.answers.specs.Spaces.{said}
+use Rattle.answers.specs.Terms.{Terms, both, condition_of, hit_of, if_positive, terms_of}
+use Rattle.answers.specs.declared.breaks.BreakAnswer.{BreakAnswer}
+use Rattle.answers.specs.declared.problem.Problem.{Problem}
+use Rattle.answers.specs.declared.view.View.{View}
+
+-- ---- results
+
+pub one_value : {A E : Type 0} (r : Result A E) (x y : A) → r ≡ Ok x → r ≡ Ok y → x ≡ y
+one_value (Ok z) x y e f = cc
+one_value (Err error) x y e f = cc
+
+no_value : {A E : Type 0} (r : Result A E) (error : E) (x : A) → r ≡ Err error → r ≡ Ok x → ⊥
+no_value (Ok z) error x e f = cc
+no_value (Err other) error x e f = cc
+
+-- ---- hits
+
+positive : (found : Result ℕ NumeralError) (n : ℕ) → if_positive found ≡ Ok n → 1 ≤ n
+positive (Err error) n e = cc
+positive (Ok m) n e =
+    let P : Bool → Type 0 = λ v. leb 1 m ≡ v → cond v (Ok m) (Err BadHitCondition) ≡ Ok n → 1 ≤ n in
+    let go : P (leb 1 m) = elim (leb 1 m) as P [
+      | true ↦ λ v f. subst (λ (x : ℕ). 1 ≤ x) (one_value (Ok m) m n refl f) (leb-true 1 m v)
+      | false ↦ λ v f. absurd (no_value (Err BadHitCondition) BadHitCondition n refl f)
+    ] in go refl e
+
+hit_positive : (text : Option (List ℕ)) (n : ℕ) → hit_of text ≡ Ok n → 1 ≤ n
+hit_positive None n e = let one : 1 ≡ n = cc in omega (arith, one)
+hit_positive (Some text) n e = positive (numeral 10 text) n e
+
+both_hit : (condition : Result (Option Tree) Problem) (hit : Result ℕ Problem) (terms : Terms) → both condition hit ≡ Ok terms → hit ≡ Ok terms.hit
+both_hit (Err problem) hit terms e = cc
+both_hit (Ok condition) (Err problem) terms e = cc
+both_hit (Ok condition) (Ok hit) terms e = ap (λ (x : Terms). Ok x.hit) (one_value (Ok (record { condition = condition; hit = hit })) (record { condition = condition; hit = hit }) terms refl e)
+
+terms_positive : (condition hits : Option (List ℕ)) (terms : Terms) → terms_of condition hits ≡ Ok terms → 1 ≤ terms.hit
+terms_positive condition hits terms e =
+    hit_positive (said hits) terms.hit (both_hit (condition_of (said condition)) (hit_of (said hits)) terms e)
+
+source_placed : (terms : Result Terms Problem) (found : Option (ℕ × ℕ)) (place : source.Place) → source.placed terms found ≡ Ok place → terms ≡ Ok place.terms
+source_placed (Err problem) found place e = cc
+source_placed (Ok terms) None place e = cc
+source_placed (Ok terms) (Some found) place e = ap (λ (x : source.Place). Ok x.terms) (one_value (Ok (record { line = found.0; address = found.1; terms = terms })) (record { line = found.0; address = found.1; terms = terms }) place refl e)
+
+instruction_placed : (terms : Result Terms Problem) (found : Option ℕ) (place : instruction.Place) → instruction.placed terms found ≡ Ok place → terms ≡ Ok place.terms
+instruction_placed (Err problem) found place e = cc
+instruction_placed (Ok terms) None place e = cc
+instruction_placed (Ok terms) (Some found) place e = ap (λ (x : instruction.Place). Ok x.terms) (one_value (Ok (record { address = found; terms = terms })) (record { address = found; terms = terms }) place refl e)
+
+source_positive : (own : Bool) (table : Table) (base : ℕ) (asked : SourceBreakpoint) (place : source.Place) → source.judged own table base asked ≡ Ok place → 1 ≤ place.terms.hit
+source_positive true table base asked place e =
+    terms_positive asked.condition asked.hit_condition place.terms (source_placed (terms_of asked.condition asked.hit_condition) (bind table (source.line_in_image base asked.line)) place e)
+source_positive false table base asked place e = cc
+
+instruction_positive : (size : ℕ) (asked : InstructionBreakpoint) (place : instruction.Place) → instruction.judged size asked ≡ Ok place → 1 ≤ place.terms.hit
+instruction_positive size asked place e =
+    terms_positive asked.condition asked.hit_condition place.terms (instruction_placed (terms_of asked.condition asked.hit_condition) (instruction.asked_address size asked) place e)
+
+-- ---- lists
+
+-- a list that can be set, as the definitions see it
+pub record IsSettable (list : List Wanted) : Type 0 where
+  pub few : length list ≤ 1024
+  pub reachable : All (λ w. 1 ≤ w.hit) list
+
+-- no list is longer than what was asked for
+no_longer : {A P : Type 0} (judged : A → Result P Problem) (wanted : ℕ → P → Wanted) (next : ℕ) (asked : List A) → length (list_of judged wanted next asked) ≤ length asked
+no_longer judged wanted next [] = omega arith
+no_longer {P = P} judged wanted next (one ∷ others) = one_more (judged one) (no_longer judged wanted (next_after next (judged one)) others) where
+  one_more : (found : Result P Problem) → length (list_of judged wanted (next_after next found) others) ≤ length others → length (followed_by wanted next found (list_of judged wanted (next_after next found) others)) ≤ length (one ∷ others)
+  one_more (Ok place) h = omega (arith, h)
+  one_more (Err problem) h = omega (arith, h)
+
+all_reachable : {A P : Type 0} (judged : A → Result P Problem) (wanted : ℕ → P → Wanted) (next : ℕ) (asked : List A) → ((n : ℕ) (one : A) (place : P) → judged one ≡ Ok place → 1 ≤ (wanted n place).hit) → All (λ w. 1 ≤ w.hit) (list_of judged wanted next asked)
+all_reachable judged wanted next [] h = All-nil (λ w. 1 ≤ w.hit)
+all_reachable {P = P} judged wanted next (one ∷ others) h = one_more (judged one) refl (all_reachable judged wanted (next_after next (judged one)) others h) where
+  one_more : (found : Result P Problem) → judged one ≡ found → All (λ w. 1 ≤ w.hit) (list_of judged wanted (next_after next found) others) → All (λ w. 1 ≤ w.hit) (followed_by wanted next found (list_of judged wanted (next_after next found) others))
+  one_more (Ok place) e r = All-cons (λ w. 1 ≤ w.hit) (wanted next place) _ (h next one place e) r
+  one_more (Err problem) e r = r
+
+-- ---- the lists of answers
+
+pub source_settable : (table : Table) (view : View) (next : ℕ) (arguments : SetBreakpointsArguments) → IfSome (source.set_breakpoints table view next arguments).list IsSettable
+source_settable table view next arguments =
+    let asked = arguments.breakpoints in
+    let of_list : (own : Bool) → length asked ≤ 1024 → IfSome (source.of_source own table view next asked).list IsSettable = λ own few. by own few in
+    let P : Bool → Type 0 = λ v. ltb 1024 (length asked) ≡ v → IfSome (cond v (record { result = Err TooMuch; list = None }) (source.of_source (source.is_own view.path arguments.source.path) table view next asked)).list IsSettable in
+    let go : P (ltb 1024 (length asked)) = elim (ltb 1024 (length asked)) as P [
+      | true ↦ λ v. tt
+      | false ↦ λ v. of_list (source.is_own view.path arguments.source.path) (ltb-false 1024 (length asked) v)
+    ] in go refl
+  where
+    by : (own : Bool) → length arguments.breakpoints ≤ 1024 → IfSome (source.of_source own table view next arguments.breakpoints).list IsSettable
+    by true few = record {
+      few = let short = no_longer (source.judged true table view.line_base) source.wanted next arguments.breakpoints in omega (arith, few, short);
+      reachable = all_reachable (source.judged true table view.line_base) source.wanted next arguments.breakpoints (λ n one place e. source_positive true table view.line_base one place e);
+    }
+    by false few = tt
+
+pub instruction_settable : (size next : ℕ) (arguments : given.SetInstructionBreakpointsArguments) → IfSome (instruction.set_instruction_breakpoints size next arguments).list IsSettable
+instruction_settable size next arguments =
+    let asked = arguments.breakpoints in
+    let of_list : length asked ≤ 1024 → IsSettable (list_of (instruction.judged size) instruction.wanted next asked) = λ few. record {
+      few = let short = no_longer (instruction.judged size) instruction.wanted next asked in omega (arith, few, short);
+      reachable = all_reachable (instruction.judged size) instruction.wanted next asked (λ n one place e. instruction_positive size one place e);
+    } in
+    let made : Answer = record { result = Ok (SetInstructionBreakpoints (record { breakpoints = entries_of (instruction.judged size) instruction.entry next asked })); list = Some (list_of (instruction.judged size) instruction.wanted next asked) } in
+    let P : Bool → Type 0 = λ v. ltb 1024 (length asked) ≡ v → IfSome (cond v (record { result = Err TooMuch; list = None }) made).list IsSettable in
+    let go : P (ltb 1024 (length asked)) = elim (ltb 1024 (length asked)) as P [
+      | true ↦ λ v. tt
+      | false ↦ λ v. of_list (ltb-false 1024 (length asked) v)
+    ] in go refl
+
+-- ---- the code's
+
+can_be_set : (specs : List BreakSpec) → IsSettable (map wanted_by specs) → CanBeSet specs
+can_be_set specs h = record { few = subst (λ (n : ℕ). n ≤ 1024) (length-map specs wanted_by) h.few; reachable = hits specs h.reachable } where
+  hits : (specs : List BreakSpec) → All (λ w. 1 ≤ w.hit) (map wanted_by specs) → All (λ spec. 1 ≤ spec.hit) specs
+  hits [] r = All-nil (λ spec. 1 ≤ spec.hit)
+  hits (spec ∷ specs) r = All-cons (λ spec. 1 ≤ spec.hit) spec specs (All-head (λ w. 1 ≤ w.hit) (wanted_by spec) (map wanted_by specs) r) (hits specs (All-tail (λ w. 1 ≤ w.hit) (wanted_by spec) (map wanted_by specs) r))
+
+list_settable : {V : Type 0} (items : V → List BreakSpec) (list : Option V) → IfSome (option_map (λ v. map wanted_by (items v)) list) IsSettable → IfSome list (λ v. CanBeSet (items v))
+list_settable items None h = tt
+list_settable items (Some v) h = can_be_set (items v) h
+
+pub settable : (result : Result BreakAnswer AllocError) (a : Answer) → IfSome a.list IsSettable → IfOk result (λ answer. answer_by answer ≡ a) → IfOk result (λ answer. IfSome answer.list (λ list. CanBeSet list.items))
+settable (Ok answer) a s h = list_settable (λ v. v.items) answer.list (subst (λ (x : Answer). IfSome x.list IsSettable) (sym h) s)
+settable (Err error) a s h = tt

@@ -1,0 +1,10 @@
+use Rattle.std.proofs.Common.{◌≡◌, ◌≢◌, ℕ, List, ◌∷◌, Option, MatchOption, sym, ◌∙◌, subst, arith, Bor}
+use Rattle.std.proofs.lemmas.Str.Pattern.{strip_prefix_char}
+use Rattle.answers.proofs.Trimming.{none_leads}
+use Rattle.answers.proofs.spaces.without_leading_spaces.Goals as goal
+
+pub returns : goal.returns
+returns c =
+    let left = c.loop-rest.left.now in
+    let h = strip_prefix_char 32 left c.strip_prefix.result c.strip_prefix.ensures.cases (omega arith) in
+    sym (none_leads left (subst (λ (r : Option (Bor (List ℕ))). MatchOption r ((rest : List ℕ) → left ≢ 32 ∷ rest) (λ x. left ≡ 32 ∷ x.now)) c.in_default.is h)) ∙ c.loop-rest.invariant.1

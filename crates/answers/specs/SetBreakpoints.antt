@@ -1,0 +1,82 @@
+-- What `setBreakpoints` answers (DAP specification, `SetBreakpointsRequest`).
+--
+-- The breakpoints are those of one source. Where that is not the program's, none is set and no list is replaced. A
+-- breakpoint is set at the first line with code, from the asked line on, and at the first instruction there. Lines
+-- count from 0 or 1, as the editor said; the image counts them from 1.
+use Rattle.std.specs.Prelude.{◌≡◌, ℕ, ◌+◌, ◌-◌, min, nat_lt, Bool, false}
+use Rattle.std.specs.Prelude.{if◌then◌else◌, List, length, Option, Some, None}
+use Rattle.std.specs.Prelude.{Result, Ok, Err, bytes_eq, refl}
+use Rattle.image.specs.Lines.{Table, bind}
+use Rattle.protocol.specs.declared.set_breakpoints.SetBreakpointsArguments.{SetBreakpointsArguments}
+use Rattle.protocol.specs.declared.set_breakpoints.SourceBreakpoint.{SourceBreakpoint}
+use Rattle.protocol.specs.declared.refusal.Refusal.TheVariants.{TooMuch}
+use Rattle.replies.specs.declared.response.ResponseBody.TheVariants.{SetBreakpoints}
+use Rattle.replies.specs.declared.set_breakpoints.SourceBreakpoint as replied
+use Rattle.replies.specs.declared.set_breakpoints.SourceBreakpoint.TheVariants.{Verified, Unverified}
+use Rattle.answers.specs.Breakpoints.{Answer, Wanted, entries_of, list_of, message_of}
+use Rattle.answers.specs.Terms.{Terms, terms_of}
+use Rattle.answers.specs.declared.problem.Problem.{Problem}
+use Rattle.answers.specs.declared.problem.Problem.TheVariants.{UnknownSource, NoCode}
+use Rattle.answers.specs.declared.view.View.{View}
+
+-- a line as the image counts it, of an editor whose first line is `base`; what 32 bits do not hold is no editor's line
+abbrev pub line_in_image : ℕ → ℕ → ℕ
+line_in_image base line = min (line + (1 - base)) 4294967295
+
+-- a line of the image as the editor counts it
+abbrev pub line_in_editor : ℕ → ℕ → ℕ
+line_in_editor base line = line - (1 - base)
+
+-- a breakpoint that can be set: the line in the image, its first address, and its terms
+pub record Place : Type 0 where
+  pub line : ℕ
+  pub address : ℕ
+  pub terms : Terms
+
+abbrev pub placed : Result Terms Problem → Option (ℕ × ℕ) → Result Place Problem
+placed (Err problem) found = Err problem
+placed (Ok terms) None = Err NoCode
+placed (Ok terms) (Some found) = Ok (record { line = found.0; address = found.1; terms = terms })
+
+-- whether a breakpoint can be set, and where; `own`: the source is the program's
+abbrev pub judged : Bool → Table → ℕ → SourceBreakpoint → Result Place Problem
+judged own table base asked =
+    if own then placed (terms_of asked.condition asked.hit_condition) (bind table (line_in_image base asked.line))
+    else Err UnknownSource
+
+-- what is said of it; `id` is its number where it is set
+abbrev pub verified : ℕ → ℕ → Place → replied.SourceBreakpoint
+verified base id place = Verified id place.address (line_in_editor base place.line)
+
+abbrev pub unverified : ℕ → Problem → replied.SourceBreakpoint
+unverified line problem = Unverified line (message_of problem)
+
+abbrev pub entry : ℕ → ℕ → SourceBreakpoint → Result Place Problem → replied.SourceBreakpoint
+entry base id asked (Ok place) = verified base id place
+entry base id asked (Err problem) = unverified asked.line problem
+
+abbrev pub wanted : ℕ → Place → Wanted
+wanted id place =
+    record { id = id; address = place.address; condition = place.terms.condition; hit = place.terms.hit }
+
+-- whether a source is the program's
+abbrev pub is_own : List ℕ → Option (List ℕ) → Bool
+is_own path None = false
+is_own path (Some asked) = bytes_eq asked path
+
+abbrev pub of_source : Bool → Table → View → ℕ → List SourceBreakpoint → Answer
+of_source own table view next asked = record {
+  result = Ok (SetBreakpoints (record {
+    breakpoints = entries_of (judged own table view.line_base) (entry view.line_base) next asked;
+  }));
+  list = if own then Some (list_of (judged own table view.line_base) wanted next asked) else None;
+}
+
+-- the answer
+abbrev pub set_breakpoints : Table → View → ℕ → SetBreakpointsArguments → Answer
+set_breakpoints table view next arguments =
+    if nat_lt 1024 (length arguments.breakpoints) then record { result = Err TooMuch; list = None }
+    else of_source (is_own view.path arguments.source.path) table view next arguments.breakpoints
+
+lines_from_0 : line_in_editor 0 (line_in_image 0 7) ≡ 7
+lines_from_0 = refl

@@ -1,0 +1,205 @@
+//! `setBreakpoints`: the breakpoints at the lines of a source.
+
+ghost use Rattle.std.specs.Prelude.{◌≡◌, ◌+◌, ◌<◌, ◌≤◌, ◌^◌, ◌++◌, IfOk, OnOk, OnErr, length};
+ghost use Rattle.answers.specs.Answers.{answer_by};
+ghost use Rattle.answers.specs.Breakpoints.{entries_of, list_of};
+ghost use Rattle.answers.specs.SetBreakpoints as spec;
+ghost use Rattle.answers.specs.Steps.{list_in, source_place_by, source_place_in, Takes, terms_in};
+
+use crate::breaks::{BreakAnswer, MOST};
+use crate::draft::Draft;
+use crate::problem::Problem;
+use crate::terms::{Terms, terms_of};
+use crate::view::View;
+use image::LineTable;
+use protocol::{Entries, Refusal, SetBreakpointsArguments, SourceBreakpoint, Text};
+use replies::{ResponseBody, SetBreakpoints};
+use std::alloc::{AllocError, Global};
+
+/// Where a breakpoint can be set.
+#[derive(Drop)]
+struct Place {
+    /// The line, as the image counts them.
+    line: u32,
+    /// The address of its first instruction.
+    address: u32,
+    terms: Terms,
+}
+
+/// The answer, with this number for the first breakpoint that is set. More than 1,024 breakpoints are refused as too many, and where the
+/// source is not the program's, no list is to be set. It fails where no memory is left.
+pub(crate) fn answer(
+    alloc: Global,
+    arguments: &SetBreakpointsArguments,
+    lines: &LineTable,
+    view: &View,
+    next_id: u32,
+) -> Result<BreakAnswer, AllocError>
+    requires base { view.now.line_base ≤ 1 }
+    requires next { next_id ≤ 2147483648 }
+    ensures answer { IfOk result (λ answer. answer_by answer ≡ spec.set_breakpoints lines.now view.now next_id arguments.now) }
+    ensures few { OnErr result (length arguments.now.breakpoints ≤ 1024) }
+{
+    let asked = arguments.breakpoints.as_slice();
+    if asked.len() > MOST {
+        return Ok(BreakAnswer {
+            result: Err(Refusal::TooMuch),
+            list: None,
+        });
+    }
+    let own = is_own(view.path.as_str(), &arguments.source.path);
+    of_source(alloc, own, lines, view, next_id, asked)
+}
+
+// Whether a source is the program's.
+fn is_own(path: &str, source: &Option<Text>) -> bool
+    ensures { result ≡ spec.is_own path.now source.now }
+{
+    match source {
+        None => false,
+        Some(asked) => asked.as_str() == path,
+    }
+}
+
+// The same, of a source that is the program's or not.
+fn of_source(
+    alloc: Global,
+    own: bool,
+    lines: &LineTable,
+    view: &View,
+    next_id: u32,
+    asked: &[SourceBreakpoint],
+) -> Result<BreakAnswer, AllocError>
+    requires base { view.now.line_base ≤ 1 }
+    requires next { next_id ≤ 2147483648 }
+    requires few { length asked.now ≤ 1024 }
+    ensures { IfOk result (λ answer. answer_by answer ≡ spec.of_source own lines.now view.now next_id asked.now) }
+{
+    let mut draft = Draft::new(alloc, next_id);
+    let entries = entries_of(alloc, own, lines, view.line_base, asked, &mut draft)?;
+    let body = SetBreakpoints {
+        breakpoints: Entries::from_vec(entries),
+    };
+    let list = if own { Some(draft.list) } else { None };
+    Ok(BreakAnswer {
+        result: Ok(ResponseBody::SetBreakpoints(body)),
+        list,
+    })
+}
+
+// What is said of each breakpoint; those that can be set are added to the draft.
+fn entries_of(
+    alloc: Global,
+    own: bool,
+    lines: &LineTable,
+    base: u32,
+    asked: &[SourceBreakpoint],
+    draft: &mut Draft,
+) -> Result<Vec<replies::SourceBreakpoint>, AllocError>
+    requires base { base ≤ 1 }
+    requires room { draft.old.next_id + length asked.now < 2 ^ 32 }
+    ensures entries { IfOk result (λ entries. entries.items ≡ entries_of (spec.judged own lines.now base) (spec.entry base) draft.old.next_id asked.now) }
+    ensures list { OnOk result (list_in draft.new ≡ list_in draft.old ++ list_of (spec.judged own lines.now base) spec.wanted draft.old.next_id asked.now) }
+{
+    let mut entries = Vec::with_capacity(alloc, asked.len())?;
+    for breakpoint in asked {
+        entries.push(entry(alloc, own, lines, base, breakpoint, draft)?)?;
+    }
+    Ok(entries)
+}
+
+// What is said of a breakpoint, which is added to the draft where it can be set.
+fn entry(
+    alloc: Global,
+    own: bool,
+    lines: &LineTable,
+    base: u32,
+    asked: &SourceBreakpoint,
+    draft: &mut Draft,
+) -> Result<replies::SourceBreakpoint, AllocError>
+    requires base { base ≤ 1 }
+    requires room { draft.old.next_id + 1 < 2 ^ 32 }
+    ensures entry { IfOk result (λ entry. entry ≡ spec.entry base draft.old.next_id asked.now (spec.judged own lines.now base asked.now)) }
+    ensures takes { OnOk result (Takes spec.wanted (spec.judged own lines.now base asked.now) draft.old draft.new) }
+{
+    match judged(alloc, own, lines, base, asked)? {
+        Ok(place) => set(draft, base, place),
+        Err(problem) => unset(alloc, asked.line, problem),
+    }
+}
+
+fn set(draft: &mut Draft, base: u32, place: Place) -> Result<replies::SourceBreakpoint, AllocError>
+    requires base { base ≤ 1 }
+    requires room { draft.old.next_id + 1 < 2 ^ 32 }
+    ensures entry { IfOk result (λ entry. entry ≡ spec.verified base draft.old.next_id (source_place_in place)) }
+    ensures takes { OnOk result (Takes spec.wanted (Ok (source_place_in place)) draft.old draft.new) }
+{
+    let id = draft.add(place.address, place.terms)?;
+    Ok(replies::SourceBreakpoint::Verified {
+        id,
+        instruction_reference: place.address,
+        line: line_in_editor(base, place.line),
+    })
+}
+
+fn unset(
+    alloc: Global,
+    line: u32,
+    problem: Problem,
+) -> Result<replies::SourceBreakpoint, AllocError>
+    ensures { IfOk result (λ entry. entry ≡ spec.unverified line problem) }
+{
+    Ok(replies::SourceBreakpoint::Unverified {
+        line,
+        message: problem.message(alloc)?,
+    })
+}
+
+// Whether a breakpoint can be set, and where.
+fn judged(
+    alloc: Global,
+    own: bool,
+    lines: &LineTable,
+    base: u32,
+    asked: &SourceBreakpoint,
+) -> Result<Result<Place, Problem>, AllocError>
+    requires { base ≤ 1 }
+    ensures { IfOk result (λ found. source_place_by found ≡ spec.judged own lines.now base asked.now) }
+{
+    if !own {
+        return Ok(Err(Problem::UnknownSource));
+    }
+    match terms_of(alloc, &asked.condition, &asked.hit_condition)? {
+        Err(problem) => Ok(Err(problem)),
+        Ok(terms) => Ok(placed(terms, lines.bind(line_in_image(base, asked.line)))),
+    }
+}
+
+fn placed(terms: Terms, found: Option<(u32, u32)>) -> Result<Place, Problem>
+    ensures { source_place_by result ≡ spec.placed (Ok (terms_in terms)) found }
+{
+    match found {
+        None => Err(Problem::NoCode),
+        Some((line, address)) => Ok(Place {
+            line,
+            address,
+            terms,
+        }),
+    }
+}
+
+// A line as the image counts it.
+fn line_in_image(base: u32, line: u32) -> u32
+    requires { base ≤ 1 }
+    ensures { result ≡ spec.line_in_image base line }
+{
+    line.saturating_add(1 - base)
+}
+
+// A line of the image as the editor counts it.
+fn line_in_editor(base: u32, line: u32) -> u32
+    requires { base ≤ 1 }
+    ensures { result ≡ spec.line_in_editor base line }
+{
+    line.saturating_sub(1 - base)
+}
