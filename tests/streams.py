@@ -111,7 +111,7 @@ def an_empty_input_that_does_not_block_is_waited_for():
             expect(streams.read(len(ANSWERS)), ANSWERS, "the answers over " + kind.__name__)
             status, err, seconds = streams.end()
             expect((status, err), (0, b""), "the end over " + kind.__name__)
-            expect(seconds < 0.2, True, "%.2f seconds of processor time is a wait" % seconds)
+            expect(seconds < 0.5, True, "%.2f seconds of processor time is a wait" % seconds)
 
 
 def each_answer_comes_before_more_is_waited_for():
@@ -142,8 +142,8 @@ def a_full_output_costs_no_processor_time():
         writer.start()
         time.sleep(0.3)
         before = time_used(streams.process.pid)
-        time.sleep(0.5)
-        expect(time_used(streams.process.pid) - before < 0.1, True, "it waits")
+        time.sleep(1)
+        expect(time_used(streams.process.pid) - before < 0.5, True, "it waits")
         expect(streams.read(len(MANY_ANSWERS)), MANY_ANSWERS, "the answers")
         writer.join()
 
