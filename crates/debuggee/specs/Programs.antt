@@ -13,7 +13,6 @@
 -- `stepping`). `the_tick` is that one, with what it answers and what it leaves.
 use Rattle.std.specs.Prelude.{◌≡◌, ◌≢◌, ◌<◌, zero, suc, ℕ, ℤ}
 use Rattle.std.specs.Prelude.{Bool, true, false, if◌then◌else◌, List, [], Option, Some, None}
-use Rattle.breakpoints.specs.Stops.{Lists}
 use Rattle.image.specs.declared.Image.{Image}
 use Rattle.stepping.specs.Loading.{loaded, no_breakpoints, reloaded}
 use Rattle.stepping.specs.Ticks.{Debugged, entry_tick, entry_checked}
@@ -123,10 +122,6 @@ marked_by (Ended code) mark p = p
 
 abbrev pub marked : Mark → Program → Program
 marked mark p = marked_by p.run mark p
-
--- it has these breakpoints
-abbrev pub with_lists : Lists → Program → Program
-with_lists lists p = record p { machine = record p.machine { lists = lists } }
 
 -- ---- what a move leaves
 
