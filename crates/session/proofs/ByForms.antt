@@ -1,14 +1,16 @@
 -- What is kept where an act does something is kept by acts.
 use Rattle.std.proofs.Common.{◌≡◌, ℕ, ◌<◌, false, ltb, List, [], ◌∷◌, Option, Some, None, ltb-true}
 use Rattle.replies.specs.declared.message.Message.{Message}
-use Rattle.replies.specs.declared.message.Message.TheVariants.{Response}
+use Rattle.replies.specs.declared.message.Message.TheVariants.{Response, Event as IsEvent}
 use Rattle.replies.specs.declared.response.Outcome.{Outcome}
 use Rattle.session.specs.declared.link.Link.{Link}
 use Rattle.session.specs.declared.pending.Pending.{Pending}
-use Rattle.session.specs.declared.phase.Phase.{Phase}
-use Rattle.session.specs.Acts.{Open, Close, Accept, Enter, Reply, HangUp, Take, numbered, accepted, read_on}
+use Rattle.session.specs.declared.terms.Terms.{Terms}
+use Rattle.debuggee.specs.Programs.{Debuggee}
+use Rattle.replies.specs.declared.event.Event.{Event}
+use Rattle.session.specs.Acts.{Open, Close, Accept, Agree, Become, Reply, Tell, HangUp, Take, numbered, accepted, read_on}
 use Rattle.session.specs.Refusals.{response_to}
-use Rattle.session.specs.Sessions.{Session, said_next, with_said, with_piece, replied_on, accepted_on, entered_on, opened_on, hung_on, performed_on}
+use Rattle.session.specs.Sessions.{Session, said_next, with_said, with_piece, replied_on, accepted_on, agreed_on, said_on, opened_on, hung_on, performed_on}
 use Rattle.session.proofs.Reaching.{if_keeps, KeptByActs}
 
 -- a session on that connection, on which these requests wait
@@ -20,7 +22,7 @@ on_with l pending s = record s { now = record s.now { link = l; arrivals = recor
 
 -- the session after a message
 abbrev pub saying : Link → Message → List Pending → Session → Session
-saying l m rest s = record s { now = numbered s.now l rest; life = with_said s.life (said_next l m) }
+saying l m rest s = record s { now = numbered s.now l rest; life = with_said s.life (said_next s.now l m) }
 
 -- and after a piece
 abbrev pub accepting : Link → List ℕ → Session → Session
@@ -31,7 +33,9 @@ pub record KeptByOthers (P : Session → Type 0) : Type 0 where
   pub opens : (s : Session) → P (on None s) → P (performed_on Open (on None s))
   pub closes : (s : Session) → P s → P (performed_on Close s)
   pub accepts : (l : Link) (piece : List ℕ) (s : Session) → l.is_closing ≡ false → P (on (Some l) s) → P (accepting l piece (on (Some l) s))
-  pub enters : (l : Link) (phase : Phase) (s : Session) → P (on (Some l) s) → P (performed_on (Enter phase) (on (Some l) s))
+  pub agrees : (l : Link) (terms : Terms) (s : Session) → P (on (Some l) s) → P (performed_on (Agree terms) (on (Some l) s))
+  pub becomes : (d : Debuggee) (s : Session) → P s → P (performed_on (Become d) s)
+  pub tells : (l : Link) (event : Event) (s : Session) → l.seq < s.now.limits.last_seq → P (on (Some l) s) → P (saying l (IsEvent event) s.now.arrivals.pending (on (Some l) s))
   pub hangs : (l : Link) (s : Session) → P (on (Some l) s) → P (performed_on HangUp (on (Some l) s))
   pub takes : (n : ℕ) (s : Session) → P s → P (performed_on (Take n) s)
 
@@ -48,9 +52,13 @@ module _ (P : Session → Type 0) (k : KeptByOthers P) (says : KeptByAnswers P) 
   accepts_by None piece s h = h
   accepts_by (Some l) piece s h = if_keeps P l.is_closing _ _ (λ _. h) (λ e. k.accepts l piece s e h)
 
-  enters_by : (l : Option Link) (phase : Phase) (s : Session) → P (on l s) → P (entered_on l phase (on l s))
-  enters_by None phase s h = h
-  enters_by (Some l) phase s h = k.enters l phase s h
+  agrees_by : (l : Option Link) (terms : Terms) (s : Session) → P (on l s) → P (agreed_on l terms (on l s))
+  agrees_by None terms s h = h
+  agrees_by (Some l) terms s h = k.agrees l terms s h
+
+  tells_by : (l : Option Link) (event : Event) (s : Session) → P (on l s) → P (said_on l (IsEvent event) s.now.arrivals.pending (on l s))
+  tells_by None event s h = h
+  tells_by (Some l) event s h = if_keeps P (ltb l.seq s.now.limits.last_seq) _ _ (λ e. k.tells l event s (ltb-true l.seq s.now.limits.last_seq e) h) (λ _. h)
 
   hangs_by : (l : Option Link) (s : Session) → P (on l s) → P (hung_on l (on l s))
   hangs_by None s h = h
@@ -65,7 +73,9 @@ module _ (P : Session → Type 0) (k : KeptByOthers P) (says : KeptByAnswers P) 
   by_forms Open s h = opens_by s.now.link s h
   by_forms Close s h = k.closes s h
   by_forms (Accept piece) s h = accepts_by s.now.link piece s h
-  by_forms (Enter phase) s h = enters_by s.now.link phase s h
+  by_forms (Agree terms) s h = agrees_by s.now.link terms s h
+  by_forms (Become d) s h = k.becomes d s h
+  by_forms (Tell event) s h = tells_by s.now.link event s h
   by_forms (Reply outcome) s h = replies_by s.now.link s.now.arrivals.pending outcome s h
   by_forms HangUp s h = hangs_by s.now.link s h
   by_forms (Take n) s h = k.takes n s h

@@ -13,7 +13,6 @@ use Rattle.session.specs.declared.event.Event.{Event}
 use Rattle.session.specs.declared.event.Event.TheVariants.{Recv}
 use Rattle.session.specs.declared.event.EventError.TheVariants.{Busy, PieceTooLong, Closing}
 use Rattle.session.specs.declared.event.LinkFault.{LinkFault}
-use Rattle.session.specs.declared.limits.Limits.{Limits}
 use Rattle.session.specs.declared.link.Link.{Link}
 use Rattle.session.specs.declared.pending.Ask.{Ask}
 use Rattle.session.specs.Acts.{Accept, read_on, fault_or, fault_of_reading, tail_kept}
@@ -21,7 +20,7 @@ use Rattle.session.specs.Arrivals.{Arrivals, joined, all_joined, asks_of, messag
 use Rattle.session.specs.Effects.{performed}
 use Rattle.session.specs.Laws.{RequestsAreRead, FaultIsOfTheBytes, IsTaken, CutsDoNotMatter}
 use Rattle.session.specs.Outcomes.{Outcome, refused, done, outcome, outcome_at}
-use Rattle.session.specs.Sessions.{Session, Life, Effect, Answer, histories, After, up_to_fault, is_faulty, accepted_on}
+use Rattle.session.specs.Sessions.{Beginning, Session, Life, Effect, Answer, histories, After, up_to_fault, is_faulty, accepted_on}
 use Rattle.session.proofs.Reaching.{each_life, reached_by_acts}
 use Rattle.session.proofs.ByForms.{on, accepting, KeptByOthers, KeptByAnswers, by_forms}
 use Rattle.session.proofs.Reading.{asks_of-append, message_fault_of-append, fault_stays, asks_up_to, fault_up_to, up_to_fault_all, up_to_fault-append, ends_at_fault, reading_after-append, no_message_fault, none_if}
@@ -79,6 +78,10 @@ reads_accepts l piece s e h =
       fault = sym (fault_up_to s.life.accepted piece ∙ whole_fault s piece so.0 so.1);
     }
 
+still_open : (is_last closing : Bool) → cond is_last true closing ≡ false → closing ≡ false
+still_open true closing e = absurd (cc)
+still_open false closing e = e
+
 reads : KeptByOthers Reads
 reads = record {
   opens = λ s h. record {
@@ -89,26 +92,24 @@ reads = record {
   };
   closes = λ s h. record { before = h.before; present = h.present; goes_on = tt; fault = h.fault };
   accepts = reads_accepts;
-  enters = λ l phase s h. record { before = h.before; present = h.present; goes_on = h.goes_on; fault = h.fault };
+  agrees = λ l terms s h. record { before = h.before; present = h.present; goes_on = h.goes_on; fault = h.fault };
+  becomes = λ d s h. record { before = h.before; present = h.present; goes_on = h.goes_on; fault = h.fault };
+  tells = λ l event s few h. record { before = h.before; present = h.present; goes_on = λ e. h.goes_on (still_open _ l.is_closing e); fault = h.fault };
   hangs = λ l s h. record { before = h.before; present = h.present; goes_on = λ e. absurd (cc); fault = h.fault };
   takes = λ n s h. record { before = h.before; present = h.present; goes_on = h.goes_on; fault = h.fault };
 }
 
-still_open : (is_last closing : Bool) → cond is_last true closing ≡ false → closing ≡ false
-still_open true closing e = absurd (cc)
-still_open false closing e = e
-
 reads_answers : KeptByAnswers Reads
 reads_answers = λ l p rest outcome s few h. record { before = h.before; present = h.present; goes_on = λ e. h.goes_on (still_open _ l.is_closing e); fault = h.fault }
 
-always_reads : (limits : Limits) (events : List Event) → Reads (After limits events)
-always_reads limits events = reached_by_acts Reads (by_forms Reads reads reads_answers) limits (record { before = All-nil IsRead; present = sym nothing_is_read; goes_on = tt; fault = sym nothing_is_wrong }) events
+always_reads : (from : Beginning) (events : List Event) → Reads (After from events)
+always_reads from events = reached_by_acts Reads (by_forms Reads reads reads_answers) from (record { before = All-nil IsRead; present = sym nothing_is_read; goes_on = tt; fault = sym nothing_is_wrong }) events
 
-pub requests_are_read : (limits : Limits) (events : List Event) → RequestsAreRead (After limits events)
-requests_are_read limits events = let h = always_reads limits events in each_life IsRead (After limits events) (sym nothing_is_read) h.before h.present
+pub requests_are_read : (from : Beginning) (events : List Event) → RequestsAreRead (After from events)
+requests_are_read from events = let h = always_reads from events in each_life IsRead (After from events) (sym nothing_is_read) h.before h.present
 
-pub fault_is_of_the_bytes : (limits : Limits) (events : List Event) → FaultIsOfTheBytes (After limits events)
-fault_is_of_the_bytes limits events = (always_reads limits events).fault
+pub fault_is_of_the_bytes : (from : Beginning) (events : List Event) → FaultIsOfTheBytes (After from events)
+fault_is_of_the_bytes from events = (always_reads from events).fault
 
 -- ---- a piece that is taken
 
@@ -237,5 +238,5 @@ cut s h prefix after taken as_one then =
           let c = closed_to mid after (record l { is_closing = is_some (fault_of_reading (read_on s.now prefix)) }) refl t in
           c.1 ∙ closes s l prefix after tail fine c.0
 
-pub cuts_do_not_matter : (limits : Limits) (events : List Event) → CutsDoNotMatter (After limits events)
-cuts_do_not_matter limits events = cut (After limits events) (always_reads limits events)
+pub cuts_do_not_matter : (from : Beginning) (events : List Event) → CutsDoNotMatter (After from events)
+cuts_do_not_matter from events = cut (After from events) (always_reads from events)

@@ -1,102 +1,257 @@
--- An answer that is written first, and then changed and numbered, is the answer act by act.
-use Rattle.std.proofs.Common.{◌≡◌, ℕ, ◌+◌, Bool, true, false, ltb, List, [], ◌∷◌, ◌++◌, Option, Some, None, refl, sym, ap, ◌∙◌, subst, arith, append-nil}
+-- Messages that are written first, and numbered at once, are those that are queued one after the other.
+use Rattle.std.proofs.Common.{◌≡◌, ℕ, ◌+◌, ◌<◌, ◌≤◌, Bool, true, false, cond, eqb, ltb, List, [], ◌∷◌, ◌++◌, map, Option, Some, None, refl, sym, ap, ◌∙◌, subst, arith, append-nil, append_assoc, lt-ltb}
 use Rattle.std.proofs.lemmas.Bool.Decides.{nat_tests}
-use Rattle.replies.specs.declared.message.Message.TheVariants.{Response}
+use Rattle.debuggee.specs.Programs.{Debuggee}
+use Rattle.replies.specs.declared.event.Event.{Event}
+use Rattle.replies.specs.declared.message.Message.{Message}
+use Rattle.replies.specs.declared.message.Message.TheVariants.{Response, Event as IsEvent}
 use Rattle.replies.specs.declared.response.Outcome.{Outcome}
 use Rattle.session.specs.declared.limits.Limits.{Limits}
 use Rattle.session.specs.declared.link.Link.{Link}
 use Rattle.session.specs.declared.pending.Pending.{Pending}
-use Rattle.session.specs.declared.refusals.Answer.{Answer}
-use Rattle.session.specs.declared.refusals.Change.{Change}
-use Rattle.session.specs.declared.refusals.Change.TheVariants as change
-use Rattle.session.specs.Acts.{Answering}
+use Rattle.session.specs.declared.terms.Terms.{Terms}
+use Rattle.session.specs.declared.answer.Change.{Change}
+use Rattle.session.specs.declared.prepared.Prepared.{Prepared}
+use Rattle.session.specs.Preparing.{IsPrepared, draft_of}
+use Rattle.session.specs.Acts.{Act, Answering, Become, Now, Tell, agreed, numbered}
 use Rattle.session.specs.Arrivals.{first_pending, others_pending}
 use Rattle.session.specs.Effects.{performed}
-use Rattle.session.specs.Kept.{Kept, Drafted, acts_of, answering_as, draft_on, drafted, settled, keepings, kept_closing, kept_replied}
-use Rattle.session.specs.Outcomes.{answering, next_turn}
+use Rattle.session.specs.Outcomes.{answering, closing, needs_memory, next_turn}
+use Rattle.session.specs.Kept.{Kept, Drafted, changed, kept_changed, kept_closing, draft_on, draft_told, drafted, drafted_all, keepings, kept_said, settled}
+use Rattle.session.specs.Phases.{is_active}
 use Rattle.session.specs.Refusals.{answer_to, response_to}
 use Rattle.session.specs.Writing.{frame_of}
 
 -- on this connection, where these requests wait
-abbrev at : Option Link → Pending → List Pending → Kept → Kept
-at l p rest k = record k { now = record k.now { link = l; arrivals = record k.now.arrivals { pending = p ∷ rest } } }
+abbrev pub at : Option Link → List Pending → Kept → Kept
+at l pending k = record k { now = record k.now { link = l; arrivals = record k.now.arrivals { pending = pending } } }
 
--- the answer, written
-abbrev draft_of : Limits → Option Link → Pending → Outcome → Drafted
-draft_of limits l p outcome = drafted limits (Response (response_to p.ask outcome)) (draft_on limits l)
+-- what was drafted is queued, and its numbers are given; these requests wait then
+abbrev pub settling : Option Link → List Pending → Drafted → Kept → Kept
+settling l rest d k = record k { now = settled l d.seq rest k.now; waiting = k.waiting ++ d.bytes }
 
-abbrev written : Kept → Drafted → Kept
-written k d = record k { waiting = k.waiting ++ d.bytes }
+abbrev next_frame : Drafted → Message → Drafted
+next_frame d m = record { bytes = d.bytes ++ frame_of (d.seq + 1) m; seq = d.seq + 1 }
+
+-- after some messages, of which there was one at least, by the test whether the last number was given
+abbrev after : Bool → Link → List Pending → Kept → Drafted → Kept
+after b link rest k d = record k {
+  now = record k.now {
+    link = Some (record link { seq = d.seq; is_closing = cond b true link.is_closing });
+    arrivals = record k.now.arrivals { pending = cond b [] rest };
+  };
+  waiting = k.waiting ++ d.bytes;
+}
+
+not_last : (n last : ℕ) → ltb n last ≡ true → eqb n last ≡ false
+not_last n last h = grind (arith, nat_tests)
+
+-- ---- one message more
+
+one_told : (b : Bool) (link : Link) (rest : List Pending) (k : Kept) (d : Drafted) (m : Message) → ltb d.seq k.now.limits.last_seq ≡ b →
+    let t = after (eqb d.seq k.now.limits.last_seq) link rest k d in
+    kept_said t.now.link m t.now.arrivals.pending t
+    ≡ after (eqb (drafted k.now.limits m d).seq k.now.limits.last_seq) link rest k (drafted k.now.limits m d)
+one_told true link rest k d m h =
+    let last = k.now.limits.last_seq in
+    let t = after (eqb d.seq last) link rest k d in
+    let next = next_frame d m in
+    let said : Bool → Kept = λ b. record k {
+      now = numbered (after b link rest k d).now (record link { seq = d.seq; is_closing = cond b true link.is_closing }) (cond b [] rest);
+      waiting = (k.waiting ++ d.bytes) ++ frame_of (d.seq + 1) m;
+    } in
+    ap (λ b. cond b (said (eqb d.seq last)) t) h ∙ ap said (not_last d.seq last h)
+    ∙ ap (λ w. record (after (eqb (d.seq + 1) last) link rest k next) { waiting = w }) (append_assoc k.waiting d.bytes (frame_of (d.seq + 1) m))
+    ∙ sym (ap (λ b. let e : Drafted = cond b next d in after (eqb e.seq last) link rest k e) h)
+one_told false link rest k d m h =
+    let last = k.now.limits.last_seq in
+    let t = after (eqb d.seq last) link rest k d in
+    let next = next_frame d m in
+    ap (λ b. cond b (record t { now = numbered t.now (record link { seq = d.seq; is_closing = cond (eqb d.seq last) true link.is_closing }) t.now.arrivals.pending; waiting = t.waiting ++ frame_of (d.seq + 1) m }) t) h
+    ∙ sym (ap (λ b. let e : Drafted = cond b next d in after (eqb e.seq last) link rest k e) h)
+
+all_told : (events : List Event) (link : Link) (rest : List Pending) (k : Kept) (d : Drafted) →
+    performed keepings (map Tell events) (after (eqb d.seq k.now.limits.last_seq) link rest k d)
+    ≡ after (eqb (drafted_all k.now.limits events d).seq k.now.limits.last_seq) link rest k (drafted_all k.now.limits events d)
+all_told [] link rest k d = refl
+all_told (e ∷ es) link rest k d =
+    ap (performed keepings (map Tell es)) (one_told (ltb d.seq k.now.limits.last_seq) link rest k d (IsEvent e) refl)
+    ∙ all_told es link rest k (drafted k.now.limits (IsEvent e) d)
+
+-- the draft only grows
+grows : (limits : Limits) (events : List Event) (d : Drafted) → d.seq ≤ (drafted_all limits events d).seq
+grows limits [] d = omega arith
+grows limits (e ∷ es) d =
+    let more = grows limits es (drafted limits (IsEvent e) d) in
+    let one : d.seq ≤ (drafted limits (IsEvent e) d).seq = grind (arith, nat_tests) in
+    omega (arith, one, more)
+
+-- ---- where no number is left, nothing is told and nothing is written
+
+full_told : (events : List Event) (link : Link) (pending : List Pending) (k : Kept) → ltb link.seq k.now.limits.last_seq ≡ false →
+    performed keepings (map Tell events) (at (Some link) pending k) ≡ at (Some link) pending k
+full_told [] link pending k h = refl
+full_told (e ∷ es) link pending k h =
+    let t = at (Some link) pending k in
+    ap (λ b. performed keepings (map Tell es) (cond b (record t { now = numbered t.now link pending; waiting = t.waiting ++ frame_of (link.seq + 1) (IsEvent e) }) t)) h
+    ∙ full_told es link pending k h
+
+full_written : (limits : Limits) (events : List Event) (d : Drafted) → ltb d.seq limits.last_seq ≡ false → drafted_all limits events d ≡ d
+full_written limits [] d h = refl
+full_written limits (e ∷ es) d h = ap (λ b. drafted_all limits es (cond b (next_frame d (IsEvent e)) d)) h ∙ full_written limits es d h
+
+none_told : (events : List Event) (pending : List Pending) (k : Kept) → performed keepings (map Tell events) (at None pending k) ≡ at None pending k
+none_told [] pending k = refl
+none_told (e ∷ es) pending k = none_told es pending k
+
+none_left : (n : ℕ) → ltb n n ≡ false
+none_left n = grind (arith, nat_tests)
+
+-- without a connection, or a number, a draft settles nothing
+settles_none : (l : Option Link) (pending : List Pending) (k : Kept) → settling l pending (draft_on k.now.limits l) (at l pending k) ≡ at l pending k
+settles_none None pending k = ap (λ w. record (at None pending k) { waiting = w }) (append-nil k.waiting)
+settles_none (Some link) pending k =
+    let t = at (Some link) pending k in
+    ap (λ b. record t { now = cond b (after (eqb link.seq k.now.limits.last_seq) link pending t (record { bytes = []; seq = link.seq })).now t.now; waiting = k.waiting ++ [] }) (none_left link.seq)
+    ∙ ap (λ w. record t { waiting = w }) (append-nil k.waiting)
+
+-- ---- a message, and events after it
+
+linked_says : (b : Bool) (link : Link) (k : Kept) (pending rest : List Pending) (m : Message) (events : List Event) → ltb link.seq k.now.limits.last_seq ≡ b →
+    performed keepings (map Tell events) (kept_said (Some link) m rest (at (Some link) pending k))
+    ≡ cond b (settling (Some link) rest (drafted_all k.now.limits events (drafted k.now.limits m (draft_on k.now.limits (Some link)))) (at (Some link) pending k)) (at (Some link) pending k)
+linked_says true link k pending rest m events h =
+    let s = at (Some link) pending k in
+    let first : Drafted = record { bytes = frame_of (link.seq + 1) m; seq = link.seq + 1 } in
+    let d = drafted_all k.now.limits events first in
+    let rises : link.seq < d.seq = let g = grows k.now.limits events first in omega (arith, g) in
+    ap (λ b. performed keepings (map Tell events) (cond b (record s { now = numbered s.now link rest; waiting = s.waiting ++ frame_of (link.seq + 1) m }) s)) h
+    ∙ all_told events link rest s first
+    ∙ sym (ap (λ b. settling (Some link) rest (drafted_all k.now.limits events (cond b first (record { bytes = []; seq = link.seq }))) s) h
+    ∙ ap (λ b. record s { now = cond b (after (eqb d.seq k.now.limits.last_seq) link rest s d).now s.now; waiting = s.waiting ++ d.bytes }) (lt-ltb link.seq d.seq rises))
+linked_says false link k pending rest m events h =
+    let s = at (Some link) pending k in
+    ap (λ b. performed keepings (map Tell events) (cond b (record s { now = numbered s.now link rest; waiting = s.waiting ++ frame_of (link.seq + 1) m }) s)) h
+    ∙ full_told events link pending k h
+
+-- where there is no number, the same is drafted
+no_number : (link : Link) (k : Kept) (pending rest : List Pending) (m : Message) (events : List Event) → ltb link.seq k.now.limits.last_seq ≡ false →
+    settling (Some link) rest (drafted_all k.now.limits events (drafted k.now.limits m (draft_on k.now.limits (Some link)))) (at (Some link) pending k) ≡ at (Some link) pending k
+no_number link k pending rest m events h =
+    let s = at (Some link) pending k in
+    let none : Drafted = record { bytes = []; seq = link.seq } in
+    ap (λ b. settling (Some link) rest (drafted_all k.now.limits events (cond b (next_frame none m) none)) s) h
+    ∙ ap (λ e. settling (Some link) rest e s) (full_written k.now.limits events none h)
+    ∙ ap (λ b. record s { now = cond b (after (eqb link.seq k.now.limits.last_seq) link rest s none).now s.now; waiting = s.waiting ++ [] }) (none_left link.seq)
+    ∙ ap (λ w. record s { waiting = w }) (append-nil s.waiting)
+
+either_says : (b : Bool) (link : Link) (k : Kept) (pending rest : List Pending) (m : Message) (events : List Event) → ltb link.seq k.now.limits.last_seq ≡ b →
+    performed keepings (map Tell events) (kept_said (Some link) m rest (at (Some link) pending k))
+    ≡ settling (Some link) rest (drafted_all k.now.limits events (drafted k.now.limits m (draft_on k.now.limits (Some link)))) (at (Some link) pending k)
+either_says true link k pending rest m events h = linked_says true link k pending rest m events h
+either_says false link k pending rest m events h = linked_says false link k pending rest m events h ∙ sym (no_number link k pending rest m events h)
+
+nothing_drafted : (limits : Limits) (events : List Event) → drafted_all limits events (draft_on limits None) ≡ draft_on limits None
+nothing_drafted limits events = full_written limits events (draft_on limits None) (none_left limits.last_seq)
+
+pub says : (l : Option Link) (k : Kept) (pending rest : List Pending) (m : Message) (events : List Event) →
+    performed keepings (map Tell events) (kept_said l m rest (at l pending k))
+    ≡ settling l rest (drafted_all k.now.limits events (drafted k.now.limits m (draft_on k.now.limits l))) (at l pending k)
+says (Some link) k pending rest m events = either_says (ltb link.seq k.now.limits.last_seq) link k pending rest m events refl
+says None k pending rest m events =
+    let none = draft_on k.now.limits None in
+    let s = at None pending k in
+    none_told events pending k
+    ∙ sym (ap (λ b. settling None rest (drafted_all k.now.limits events (cond b (next_frame none m) none)) s) (none_left k.now.limits.last_seq)
+    ∙ ap (λ e. settling None rest e s) (nothing_drafted k.now.limits events)
+    ∙ ap (λ w. record s { waiting = w }) (append-nil k.waiting))
+
+-- ---- events alone
+
+pub tells_all : (events : List Event) (l : Option Link) (pending : List Pending) (k : Kept) →
+    performed keepings (map Tell events) (at l pending k) ≡ settling l pending (drafted_all k.now.limits events (draft_on k.now.limits l)) (at l pending k)
+tells_all [] l pending k = sym (settles_none l pending k)
+tells_all (e ∷ es) l pending k = says l k pending pending (IsEvent e) es
+
+-- to an editor that has said all
+abbrev pub tells_if : Bool → List Event → List Act
+tells_if b events = cond b (map Tell events) []
+
+told_if : (b : Bool) (events : List Event) (l : Option Link) (pending : List Pending) (k : Kept) →
+    performed keepings (tells_if b events) (at l pending k) ≡ settling l pending (cond b (drafted_all k.now.limits events (draft_on k.now.limits l)) (draft_on k.now.limits l)) (at l pending k)
+told_if true events l pending k = tells_all events l pending k
+told_if false events l pending k = sym (settles_none l pending k)
+
+pub tells_told : (events : List Event) (k : Kept) →
+    performed keepings (tells_if (is_active k.now.link) events) k ≡ settling k.now.link k.now.arrivals.pending (draft_told k.now.limits k.now.link events) k
+tells_told events k = told_if (is_active k.now.link) events k.now.link k.now.arrivals.pending k
+
+-- ---- an answer
 
 abbrev numbers_given : Kept → Drafted → Kept
 numbers_given k d = record k { now = settled k.now.link d.seq (others_pending k.now.arrivals.pending) k.now }
 
--- ---- without a change
+abbrev written : Kept → Drafted → Kept
+written k d = record k { waiting = k.waiting ++ d.bytes }
 
-linked_replies : (b : Bool) (link : Link) (p : Pending) (rest : List Pending) (k : Kept) (outcome : Outcome) → ltb link.seq k.now.limits.last_seq ≡ b
-    → numbers_given (written (at (Some link) p rest k) (draft_of k.now.limits (Some link) p outcome)) (draft_of k.now.limits (Some link) p outcome) ≡ kept_replied (p ∷ rest) outcome (at (Some link) p rest k)
-linked_replies true link p rest k outcome h =
-    let frame : List ℕ = frame_of (link.seq + 1) (Response (response_to p.ask outcome)) in
-    let rises : ltb link.seq (link.seq + 1) ≡ true = grind (arith, nat_tests) in
-    rw (h, rises) refl
-linked_replies false link p rest k outcome h =
-    let same : ltb link.seq link.seq ≡ false = grind (arith, nat_tests) in
-    rw (h, same) (ap (λ w. record (at (Some link) p rest k) { waiting = w }) (append-nil k.waiting))
+performed_append : (xs ys : List Act) (k : Kept) → performed keepings (xs ++ ys) k ≡ performed keepings ys (performed keepings xs k)
+performed_append [] ys k = refl
+performed_append (x ∷ xs) ys k = performed_append xs ys (keepings.perform x k)
 
-replies : (l : Option Link) (p : Pending) (rest : List Pending) (k : Kept) (outcome : Outcome)
-    → numbers_given (written (at l p rest k) (draft_of k.now.limits l p outcome)) (draft_of k.now.limits l p outcome) ≡ kept_replied (p ∷ rest) outcome (at l p rest k)
-replies None p rest k outcome = rw (nothing k.now.limits.last_seq) (ap (λ w. record (at None p rest k) { waiting = w }) (append-nil k.waiting)) where
-  nothing : (n : ℕ) → ltb n n ≡ false
-  nothing n = grind (arith, nat_tests)
-replies (Some link) p rest k outcome = linked_replies (ltb link.seq k.now.limits.last_seq) link p rest k outcome refl
+closes_after : (closes : Bool) (k : Kept) → performed keepings (closing closes) k ≡ kept_closing closes k
+closes_after true k = refl
+closes_after false k = refl
 
--- ---- behind its change
+answers : (link : Link) (p : Pending) (rest : List Pending) (k : Kept) (c : Change) (a : Answering) → changed c k.now.debuggee ≡ a.debuggee →
+    let s = at (Some link) (p ∷ rest) k in
+    let d = draft_of k.now.limits (Some link) p a in
+    kept_closing a.closes (numbers_given (kept_changed c a.terms (written s d)) d) ≡ performed keepings (answering a) s
+answers link p rest k c a e =
+    let s = at (Some link) (p ∷ rest) k in
+    let d = draft_of k.now.limits (Some link) p a in
+    let m : Message = Response (response_to p.ask a.outcome) in
+    let l = record link { terms = a.terms } in
+    let t : Debuggee → Kept = λ x. record s { now = agreed (record s.now { debuggee = x }) link a.terms } in
+    ap (λ (x : Debuggee). kept_closing a.closes (numbers_given (written (t x) d) d)) e
+    ∙ sym (performed_append (map Tell a.events) (closing a.closes) (kept_said (Some l) m rest (t a.debuggee))
+    ∙ ap (performed keepings (closing a.closes)) (says (Some l) (t a.debuggee) (p ∷ rest) rest m a.events)
+    ∙ closes_after a.closes _)
 
--- an answer of the code, made of a change, an outcome, and whether it closes
-abbrev made : Change → Outcome → Bool → Answering
-made c outcome closes = record { change = acts_of c; outcome = outcome; closes = closes }
+abbrev AnswersAs : Option (List ℕ) → Link → Pending → Prepared → Kept → Type 0
+AnswersAs file link p r k = IsPrepared k.now p (answer_to k.now link.terms file p) r
 
-abbrev Answers : Change → Outcome → Bool → Type 0
-Answers c outcome closes = (l : Option Link) (p : Pending) (rest : List Pending) (k : Kept) →
-    let s = at l p rest k in
-    let d = draft_of k.now.limits l p outcome in
-    kept_closing closes (numbers_given (performed keepings (acts_of c) (written s d)) d) ≡ performed keepings (answering (made c outcome closes)) s
+abbrev Turns : Option (List ℕ) → Link → Prepared → Kept → Type 0
+Turns file link r k = (t : Kept) → t ≡ kept_changed r.change r.terms (written k r.draft)
+    → kept_closing r.closes (numbers_given t r.draft) ≡ performed keepings (next_turn k.now link.terms file k.now.arrivals.pending).acts k
 
-closes_behind : (closes : Bool) (k : Kept) (outcome : Outcome) (l : Option Link) (p : Pending) (rest : List Pending) → let d = draft_of k.now.limits l p outcome in
-    kept_closing closes (numbers_given (written (at l p rest k) d) d) ≡ performed keepings (answering (made change.Nothing outcome closes)) (at l p rest k)
-closes_behind true k outcome l p rest = ap (kept_closing true) (replies l p rest k outcome)
-closes_behind false k outcome l p rest = replies l p rest k outcome
-
-answers : (c : Change) (outcome : Outcome) (closes : Bool) → Answers c outcome closes
-answers change.Nothing outcome closes l p rest k = closes_behind closes k outcome l p rest
-answers (change.Enter phase) outcome closes None p rest k = closes_behind closes k outcome None p rest
-answers (change.Enter phase) outcome closes (Some link) p rest k = closes_behind closes k outcome (Some (record link { phase = phase })) p rest
-
--- the first that waits is answered
-abbrev where_waits : Option Link → List Pending → Kept → Kept
-where_waits l pending k = record k { now = record k.now { link = l; arrivals = record k.now.arrivals { pending = pending } } }
-
-abbrev Turns : Kept → Link → Pending → Answer → Option Link → List Pending → Type 0
-Turns k link p answer l pending = (t : Kept) (draft : Drafted) → draft ≡ draft_of k.now.limits l p answer.outcome → t ≡ performed keepings (acts_of answer.change) (written (where_waits l pending k) draft)
-    → kept_closing answer.closes (numbers_given t draft) ≡ performed keepings (next_turn link pending).acts (where_waits l pending k)
-
-at_once : (k : Kept) (link : Link) (p : Pending) (rest : List Pending) (answer : Answer) → answering_as answer ≡ answer_to link.phase p → Turns k link p answer (Some link) (p ∷ rest)
-at_once k link p rest answer is_answer t draft is_draft is_changed =
-    let s = at (Some link) p rest k in
-    ap (λ x. kept_closing answer.closes (numbers_given x draft)) is_changed
-    ∙ ap (λ d. kept_closing answer.closes (numbers_given (performed keepings (acts_of answer.change) (written s d)) d)) is_draft
-    ∙ answers answer.change answer.outcome answer.closes (Some link) p rest k
-    ∙ ap (λ a. performed keepings (answering a) s) is_answer
+at_once : (k : Kept) (link : Link) (file : Option (List ℕ)) (p : Pending) (rest : List Pending) (r : Prepared) → AnswersAs file link p r (at (Some link) (p ∷ rest) k) → Turns file link r (at (Some link) (p ∷ rest) k)
+at_once k link file p rest r h t e =
+    let s = at (Some link) (p ∷ rest) k in
+    let a = answer_to s.now link.terms file p in
+    ap (λ x. kept_closing r.closes (numbers_given x r.draft)) e
+    ∙ ap (λ (x : Drafted). kept_closing r.closes (numbers_given (kept_changed r.change r.terms (written s x)) x)) h.draft
+    ∙ ap (λ (x : Terms). kept_closing r.closes (numbers_given (kept_changed r.change x (written s (draft_of s.now.limits (Some link) p a))) (draft_of s.now.limits (Some link) p a))) h.terms
+    ∙ ap (λ (x : Bool). kept_closing x (numbers_given (kept_changed r.change a.terms (written s (draft_of s.now.limits (Some link) p a))) (draft_of s.now.limits (Some link) p a))) h.closes
+    ∙ answers link p rest k r.change a h.debuggee
 
 first_is : (pending : List Pending) (p : Pending) → Some p ≡ first_pending pending → pending ≡ p ∷ others_pending pending
 first_is [] p e = absurd (cc)
 first_is (q ∷ rest) p e = let same : q ≡ p = cc in ap (λ (x : Pending). x ∷ rest) same
 
-pub first_answers : (k t : Kept) (link : Link) (p : Pending) (answer : Answer) (draft : Drafted) → k.now.link ≡ Some link → Some p ≡ first_pending k.now.arrivals.pending → answering_as answer ≡ answer_to link.phase p
-    → draft ≡ draft_of k.now.limits k.now.link p answer.outcome → t ≡ performed keepings (acts_of answer.change) (written k draft)
-    → kept_closing answer.closes (numbers_given t draft) ≡ performed keepings (next_turn link k.now.arrivals.pending).acts k
-first_answers k t link p answer draft is_link first is_answer is_draft is_changed =
+abbrev Claims : Option (List ℕ) → Link → Pending → Prepared → Kept → Option Link → List Pending → Type 0
+Claims file link p r k l pending = AnswersAs file link p r (at l pending k) → Turns file link r (at l pending k)
+
+pub first_answers : (k t : Kept) (link : Link) (file : Option (List ℕ)) (p : Pending) (r : Prepared)
+    → k.now.link ≡ Some link → Some p ≡ first_pending k.now.arrivals.pending → IsPrepared k.now p (answer_to k.now link.terms file p) r → t ≡ kept_changed r.change r.terms (written k r.draft)
+    → kept_closing r.closes (numbers_given t r.draft) ≡ performed keepings (next_turn k.now link.terms file k.now.arrivals.pending).acts k
+first_answers k t link file p r is_link first prepared changed =
     let rest = others_pending k.now.arrivals.pending in
-    let here = at_once k link p rest answer is_answer in
-    let linked = subst (λ l. Turns k link p answer l (p ∷ rest)) (sym is_link) here in
-    (subst (Turns k link p answer k.now.link) (sym (first_is k.now.arrivals.pending p first)) linked) t draft is_draft is_changed
+    let waits : k.now.arrivals.pending ≡ p ∷ rest = first_is k.now.arrivals.pending p first in
+    let here : Claims file link p r k (Some link) (p ∷ rest) = at_once k link file p rest r in
+    let linked : Claims file link p r k k.now.link (p ∷ rest) = subst (λ l. Claims file link p r k l (p ∷ rest)) (sym is_link) here in
+    (subst (λ pending. Claims file link p r k k.now.link pending) (sym waits) linked) prepared t changed
+
+-- an answer needs memory
+pub answer_needs : (now : Now) (terms : Terms) (file : Option (List ℕ)) (pending : List Pending) (p : Pending) → Some p ≡ first_pending pending → needs_memory (next_turn now terms file pending).acts ≡ true
+answer_needs now terms file [] p e = absurd (cc)
+answer_needs now terms file (q ∷ rest) p e = refl

@@ -1,14 +1,14 @@
 -- What goes so on what is kept happens so to whatever it stood for.
-use Rattle.std.proofs.Common.{◌≡◌, Result, Ok, Err, sym, ap, ◌∙◌, subst}
+use Rattle.std.proofs.Common.{◌≡◌, ℕ, Option, Some, None, Result, Ok, Err, sym, ap, ◌∙◌, subst}
 use Rattle.session.specs.declared.event.Applied.{Applied}
 use Rattle.session.specs.declared.event.Event.{Event}
 use Rattle.session.specs.declared.event.EventError.{EventError}
 use Rattle.session.specs.declared.event.EventError.TheVariants.{NotConnected, AlreadyConnected, Busy, SentTooMuch, PieceTooLong, Closing, NoMemory, Spent}
-use Rattle.session.specs.Effects.{Ends, effect, answer}
-use Rattle.session.specs.Outcomes.{outcome, needs_memory}
+use Rattle.session.specs.Effects.{Ends, EndsWell, moves_asked, ran_out, effect, answer}
+use Rattle.session.specs.Outcomes.{may_lack}
 use Rattle.session.specs.Sessions.{Session, histories}
 use Rattle.session.specs.Kept.{Kept, Stands, Goes, Happens, keepings}
-use Rattle.session.proofs.Simulation.{effect_keeps, answer_keeps}
+use Rattle.session.proofs.Simulation.{effect_keeps, answer_keeps, breaks_keep}
 use Rattle.session.proofs.Standing.{standing}
 
 pub stands_here : (new k : Kept) (s : Session) → new ≡ k → Stands k s → Stands new s
@@ -20,10 +20,14 @@ ended old e result new s st h = (
   stands_here new _ _ h.1 (effect_keeps keepings histories Stands standing e old s st),
 )
 
+ends_well : (old : Kept) (e : Event) (x : Applied) (out : Option ℕ) (new : Kept) → EndsWell keepings old e x out (λ k. new ≡ k) → (s : Session) → Stands old s → EndsWell histories s e x out (λ t. Stands new t)
+ends_well old e x None new h s st = ended old e (Ok x) new s st h
+ends_well old e x (Some moved) new h s st = breaks_keep keepings histories Stands standing (moves_asked e) moved old s (λ k. new ≡ k) (λ t. Stands new t) st (λ k t r same. stands_here new k t same r) h
+
 by_result : (old : Kept) (e : Event) (result : Result Applied EventError) (new : Kept) → Goes old e result new → (s : Session) → Stands old s → Ends histories s e result (λ t. Stands new t)
-by_result old e (Ok x) new h s st = ended old e (Ok x) new s st h
+by_result old e (Ok x) new h s st = ends_well old e x (ran_out x) new h s st
 by_result old e (Err NoMemory) new h s st = (
-  sym (ap (λ seen. needs_memory (outcome seen e).acts) (standing.sees old s st)) ∙ h.0,
+  sym (ap (λ seen. may_lack seen e) (standing.sees old s st)) ∙ h.0,
   stands_here new old s h.1 st,
 )
 by_result old e (Err NotConnected) new h s st = ended old e (Err NotConnected) new s st h

@@ -1,4 +1,11 @@
 pub mod Firsts
+pub mod Launching
+pub mod Told
+pub mod Deciding
+pub mod Stretching
+pub mod Advancing
+pub mod Enough
+pub mod Slicing
 pub mod Arriving
 pub mod Simulation
 pub mod Standing
@@ -16,3 +23,4 @@ pub mod Once
 pub mod Proper
 pub mod Reading
 pub mod Refusing
+pub mod Wanting

@@ -1,23 +1,29 @@
 -- `initialize` succeeds once at most on a connection.
-use Rattle.std.proofs.Common.{◌≡◌, ℕ, ◌+◌, ◌≤◌, true, ltb, List, [], ◌∷◌, ◌++◌, Option, Some, None, refl, subst, arith}
+use Rattle.std.proofs.Common.{◌≡◌, ℕ, ◌+◌, ◌≤◌, Bool, true, false, ltb, List, [], ◌∷◌, ◌++◌, map, Option, Some, None, refl, sym, subst, arith}
 use Rattle.std.specs.Prelude.{All}
 use Rattle.std.proofs.lemmas.List.Elements.{All-push, All-nil}
+use Rattle.assembler.specs.Placed.{error_of}
+use Rattle.assembler.specs.declared.error.AsmError.{AsmError}
 use Rattle.protocol.specs.declared.command.Command.{Command}
-use Rattle.protocol.specs.declared.command.Command.TheVariants.{Initialize, Threads, Cancel, Disconnect}
-use Rattle.replies.specs.declared.message.Message.TheVariants.{Response}
+use Rattle.protocol.specs.declared.command.Command.TheVariants.{Initialize, Launch, ConfigurationDone, Threads, Cancel, Restart, Terminate, Disconnect, SetExceptionBreakpoints, Continue, Next, StepIn, StepOut, Pause}
+use Rattle.replies.specs.declared.event.Event.{Event}
+use Rattle.replies.specs.declared.message.Message.TheVariants.{Response, Event as IsEvent}
 use Rattle.replies.specs.declared.response.Outcome.{Outcome}
-use Rattle.session.specs.declared.event.Event.{Event}
-use Rattle.session.specs.declared.limits.Limits.{Limits}
+use Rattle.session.specs.declared.event.Event.{Event as SessionEvent}
 use Rattle.session.specs.declared.link.Link.{Link}
 use Rattle.session.specs.declared.pending.Pending.{Pending}
 use Rattle.session.specs.declared.phase.Phase.{Phase}
-use Rattle.session.specs.declared.phase.Phase.TheVariants.{Fresh, Initialized, Left}
+use Rattle.session.specs.declared.phase.Phase.TheVariants.{Fresh, Initialized, Configuring, Active, Left}
+use Rattle.session.specs.declared.terms.Terms.{Terms}
+use Rattle.session.specs.Acts.{Act, Answering, Now, Tell}
 use Rattle.session.specs.Effects.{performed}
+use Rattle.session.specs.Launch.{assembles}
 use Rattle.session.specs.Laws.{initializes, initializes_by, times_initialized, InitializesOnce}
-use Rattle.session.specs.Outcomes.{answering}
-use Rattle.session.specs.Refusals.{refused, response_to}
+use Rattle.session.specs.Outcomes.{answering, closing}
+use Rattle.session.specs.Phases.{is_fresh_in}
+use Rattle.session.specs.Refusals.{answer_to, response_to}
 use Rattle.session.specs.Requests.{is_taken_in, success_of}
-use Rattle.session.specs.Sessions.{Session, Life, Said, said_next, replied_on, hung_on, histories, After}
+use Rattle.session.specs.Sessions.{Beginning, Session, Life, Said, said_next, said_on, replied_on, hung_on, performed_on, histories, After}
 use Rattle.session.proofs.Serving.{of_answer, not_taken}
 use Rattle.session.proofs.Reaching.{if_keeps, each_life}
 use Rattle.session.proofs.ByForms.{on, on_with}
@@ -27,16 +33,20 @@ use Rattle.session.proofs.Turning.{KeptByEvents, reached_by_events}
 abbrev Suits : Phase → ℕ → Type 0
 Suits Fresh n = n ≡ 0
 Suits Initialized n = n ≤ 1
+Suits Configuring n = n ≤ 1
+Suits Active n = n ≤ 1
 Suits Left n = n ≤ 1
 
 fewer : (phase : Phase) (n k : ℕ) → Suits phase (n + k) → Suits phase (n + 0)
 fewer Fresh n k h = omega (arith, h)
 fewer Initialized n k h = omega (arith, h)
+fewer Configuring n k h = omega (arith, h)
+fewer Active n k h = omega (arith, h)
 fewer Left n k h = omega (arith, h)
 
 abbrev SuitsOn : Option Link → ℕ → Type 0
 SuitsOn None n = Unit {0}
-SuitsOn (Some l) n = Suits l.phase n
+SuitsOn (Some l) n = Suits l.terms.phase n
 
 abbrev Once : Life → Type 0
 Once life = times_initialized life.said ≤ 1
@@ -61,19 +71,19 @@ times_more xs m = let e = times-append xs m in omega (arith, e)
 
 not_said : (l : Option Link) (k : ℕ) (s : Session) → OnceWith k (on l s) → OnceWith 0 (on l s)
 not_said None k s h = record { before = h.before; present = none_more (times_initialized s.life.said) k h.present; suits = tt }
-not_said (Some l) k s h = record { before = h.before; present = none_more (times_initialized s.life.said) k h.present; suits = fewer l.phase (times_initialized s.life.said) k h.suits }
+not_said (Some l) k s h = record { before = h.before; present = none_more (times_initialized s.life.said) k h.present; suits = fewer l.terms.phase (times_initialized s.life.said) k h.suits }
 
 -- an answer
 replies : (l : Option Link) (pending : List Pending) (outcome : Outcome) (s : Session) → OnceWith (initializes outcome) (on_with l pending s) → OnceWith 0 (replied_on pending outcome (on_with l pending s))
 replies l [] outcome s h = not_said l (initializes outcome) (on_with l [] s) h
 replies None (p ∷ rest) outcome s h = not_said None (initializes outcome) (on_with None (p ∷ rest) s) h
 replies (Some l) (p ∷ rest) outcome s h =
-    let m : Said = said_next l (Response (response_to p.ask outcome)) in
+    let m : Said = said_next s.now l (Response (response_to p.ask outcome)) in
     if_keeps (OnceWith 0) (ltb l.seq s.now.limits.last_seq) _ _
     (λ _. record {
       before = h.before;
       present = subst (λ n. n ≤ 1) (let e = times_more s.life.said m in cc) h.present;
-      suits = subst (Suits l.phase) (let e = times_more s.life.said m in cc) h.suits;
+      suits = subst (Suits l.terms.phase) (let e = times_more s.life.said m in cc) h.suits;
     })
     (λ _. not_said (Some l) (initializes outcome) (on_with (Some l) (p ∷ rest) s) h)
 
@@ -81,40 +91,96 @@ hangs : (l : Option Link) (s : Session) → OnceWith 0 (on l s) → OnceWith 0 (
 hangs None s h = h
 hangs (Some l) s h = record { before = h.before; present = h.present; suits = h.suits }
 
--- the connection has come so far
-enters : (l : Link) (phase : Phase) (k : ℕ) (s : Session) → OnceWith 0 (on (Some l) s) → times_initialized s.life.said + k ≤ 1 → Suits phase (times_initialized s.life.said + k) → OnceWith k (on (Some (record l { phase = phase })) s)
-enters l phase k s h few suits = record { before = h.before; present = few; suits = suits }
-
-first_time : (phase : Phase) (n : ℕ) → phase ≡ Fresh → Suits phase (n + 0) → n + 1 ≤ 1
+first_time : (phase : Phase) (n : ℕ) → is_fresh_in phase ≡ true → Suits phase (n + 0) → n + 1 ≤ 1
 first_time Fresh n e h = omega (arith, h)
-first_time Initialized n e h = absurd (cc)
-first_time Left n e h = absurd (cc)
+first_time Initialized n e h = absurd (let never : false ≡ true = e in cc)
+first_time Configuring n e h = absurd (let never : false ≡ true = e in cc)
+first_time Active n e h = absurd (let never : false ≡ true = e in cc)
+first_time Left n e h = absurd (let never : false ≡ true = e in cc)
 
-taken_keeps : (l : Link) (p : Pending) (rest : List Pending) (s : Session) (command : Command) (phase : Phase) → l.phase ≡ phase → is_taken_in phase command ≡ true → OnceWith 0 (on_with (Some l) (p ∷ rest) s)
-    → OnceWith 0 (performed histories (answering (success_of command)) (on_with (Some l) (p ∷ rest) s))
-taken_keeps l p rest s (Initialize arguments) Fresh e taken h =
-    let few = first_time l.phase (times_initialized s.life.said) e h.suits in
-    replies (Some (record l { phase = Initialized })) (p ∷ rest) (success_of (Initialize arguments)).outcome s (enters l Initialized 1 (on_with (Some l) (p ∷ rest) s) h few few)
-taken_keeps l p rest s Threads phase e taken h = replies (Some l) (p ∷ rest) (success_of Threads).outcome s h
-taken_keeps l p rest s (Cancel arguments) phase e taken h = replies (Some l) (p ∷ rest) (success_of (Cancel arguments)).outcome s h
-taken_keeps l p rest s (Disconnect arguments) phase e taken h =
-    let t = replied_on (p ∷ rest) (success_of (Disconnect arguments)).outcome (on_with (Some (record l { phase = Left })) (p ∷ rest) s) in
-    hangs t.now.link t (replies (Some (record l { phase = Left })) (p ∷ rest) (success_of (Disconnect arguments)).outcome s (enters l Left 0 (on_with (Some l) (p ∷ rest) s) h h.present h.present))
-taken_keeps l p rest s command phase e taken h = absurd (not_taken taken)
+-- an answer: where it succeeds so many times more, and what is agreed suits that
+abbrev Fits : ℕ → Answering → Type 0
+Fits n a = (n + initializes a.outcome ≤ 1) × Suits a.terms.phase (n + initializes a.outcome)
+
+-- something is told after it
+said_more : (l : Option Link) (event : Event) (s : Session) → OnceWith 0 (on l s) → OnceWith 0 (said_on l (IsEvent event) s.now.arrivals.pending (on l s))
+said_more None event s h = h
+said_more (Some l) event s h =
+    let m : Said = said_next s.now l (IsEvent event) in
+    if_keeps (OnceWith 0) (ltb l.seq s.now.limits.last_seq) _ _
+    (λ _. record {
+      before = h.before;
+      present = subst (λ n. n ≤ 1) (let e = times_more s.life.said m in cc) h.present;
+      suits = subst (Suits l.terms.phase) (let e = times_more s.life.said m in cc) h.suits;
+    })
+    (λ _. h)
+
+all_more : (events : List Event) (s : Session) → OnceWith 0 s → OnceWith 0 (performed histories (map Tell events) s)
+all_more [] s h = h
+all_more (e ∷ es) s h = all_more es (performed_on (Tell e) s) (said_more s.now.link e s h)
+
+closes_more : (closes : Bool) (s : Session) → OnceWith 0 s → OnceWith 0 (performed histories (closing closes) s)
+closes_more true s h = hangs s.now.link s h
+closes_more false s h = h
+
+performed_append : (xs ys : List Act) (s : Session) → performed histories (xs ++ ys) s ≡ performed histories ys (performed histories xs s)
+performed_append [] ys s = refl
+performed_append (x ∷ xs) ys s = performed_append xs ys (performed_on x s)
+
+answer_keeps : (l : Link) (p : Pending) (rest : List Pending) (s : Session) (a : Answering) → Fits (times_initialized s.life.said) a → OnceWith 0 (on_with (Some l) (p ∷ rest) s) → OnceWith 0 (performed histories (answering a) (on_with (Some l) (p ∷ rest) s))
+answer_keeps l p rest s a fits h =
+    let t : Session = record s { now = record s.now { debuggee = a.debuggee } } in
+    let replied = replied_on (p ∷ rest) a.outcome (on_with (Some (record l { terms = a.terms })) (p ∷ rest) t) in
+    let after : OnceWith 0 replied = replies (Some (record l { terms = a.terms })) (p ∷ rest) a.outcome t (record { before = h.before; present = fits.0; suits = fits.1 }) in
+    subst (OnceWith 0) (sym (performed_append (map Tell a.events) (closing a.closes) replied))
+    (closes_more a.closes (performed histories (map Tell a.events) replied) (all_more a.events replied after))
+
+-- ---- each answer fits
+
+same_fits : (n : ℕ) (phase : Phase) → n + 0 ≤ 1 → Suits phase (n + 0) → (n + 0 ≤ 1) × Suits phase (n + 0)
+same_fits n phase few suits = (few, suits)
+
+command_fits : (now : Now) (terms : Terms) (file : Option (List ℕ)) (command : Command) (n : ℕ) → is_taken_in terms.phase command ≡ true → n + 0 ≤ 1 → Suits terms.phase (n + 0) → Fits n (success_of now terms file command)
+command_fits now terms file (Initialize arguments) n taken few suits = let one = first_time terms.phase n taken suits in (one, one)
+command_fits now terms None (Launch arguments) n taken few suits = (few, suits)
+command_fits now terms (Some text) (Launch arguments) n taken few suits = by (error_of text now.size) where
+  by : (error : Option AsmError) → Fits n (assembles now terms arguments text error)
+  by None = (few, few)
+  by (Some e) = (few, suits)
+command_fits now terms file ConfigurationDone n taken few suits = (few, few)
+command_fits now terms file Threads n taken few suits = (few, suits)
+command_fits now terms file (Cancel arguments) n taken few suits = (few, suits)
+command_fits now terms file Restart n taken few suits = (few, suits)
+command_fits now terms file Terminate n taken few suits = (few, suits)
+command_fits now terms file (Disconnect arguments) n taken few suits = (few, few)
+command_fits now terms file SetExceptionBreakpoints n taken few suits = (few, suits)
+command_fits now terms file (Continue arguments) n taken few suits = (few, suits)
+command_fits now terms file (Next arguments) n taken few suits = (few, suits)
+command_fits now terms file (StepIn arguments) n taken few suits = (few, suits)
+command_fits now terms file (StepOut arguments) n taken few suits = (few, suits)
+command_fits now terms file (Pause arguments) n taken few suits = (few, suits)
+command_fits now terms file command n taken few suits = absurd (not_taken taken)
 
 once : KeptByEvents (OnceWith 0)
 once = record {
   opens = λ s h. record { before = All-push Once s.before s.life h.before (let few = h.present in omega (arith, few)); present = omega arith; suits = refl };
   closes = λ s h. record { before = h.before; present = h.present; suits = tt };
   accepts = λ l piece s e h. record { before = h.before; present = h.present; suits = h.suits };
-  answers = λ l p rest s h. of_answer (λ ask answer. OnceWith 0 (performed histories (answering answer) (on_with (Some l) (p ∷ rest) s))) l.phase p.ask p.fate
-      (λ refusal _. replies (Some l) (p ∷ rest) (refused refusal).outcome s h)
-      (λ r taken. taken_keeps l p rest s r.command l.phase refl taken h);
+  becomes = λ d s h. record { before = h.before; present = h.present; suits = h.suits };
+  tells = λ l event s few h. record {
+    before = h.before;
+    present = subst (λ n. n ≤ 1) (let e = times_more s.life.said (said_next s.now l (IsEvent event)) in cc) h.present;
+    suits = subst (Suits l.terms.phase) (let e = times_more s.life.said (said_next s.now l (IsEvent event)) in cc) h.suits;
+  };
+  answers = λ l p rest file s h. answer_keeps l p rest s (answer_to (on_with (Some l) (p ∷ rest) s).now l.terms file p)
+      (of_answer (λ ask answer. Fits (times_initialized s.life.said) answer) (on_with (Some l) (p ∷ rest) s).now l.terms file p.ask p.fate
+      (λ refusal _. (h.present, h.suits))
+      (λ r taken. command_fits (on_with (Some l) (p ∷ rest) s).now l.terms file r.command (times_initialized s.life.said) taken h.present h.suits)) h;
   takes = λ n s h. record { before = h.before; present = h.present; suits = h.suits };
 }
 
-pub initializes_once : (limits : Limits) (events : List Event) → InitializesOnce (After limits events)
-initializes_once limits events =
-    let s = After limits events in
-    let h : OnceWith 0 s = reached_by_events (OnceWith 0) once limits (record { before = All-nil Once; present = omega arith; suits = tt }) events in
+pub initializes_once : (from : Beginning) (events : List SessionEvent) → InitializesOnce (After from events)
+initializes_once from events =
+    let s = After from events in
+    let h : OnceWith 0 s = reached_by_events (OnceWith 0) once from (record { before = All-nil Once; present = omega arith; suits = tt }) events in
     each_life Once s (omega arith) h.before (let few = h.present in omega (arith, few))

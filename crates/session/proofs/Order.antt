@@ -5,8 +5,7 @@ use Rattle.std.proofs.lemmas.Bool.Decides.{nat_tests}
 use Rattle.std.proofs.lemmas.List.{map-append, length-append}
 use Rattle.std.proofs.lemmas.List.Concat.{flat_map-append}
 use Rattle.std.proofs.lemmas.List.Elements.{All-push, All-nil}
-use Rattle.replies.specs.declared.message.Message.TheVariants.{Response}
-use Rattle.session.specs.declared.limits.Limits.{Limits}
+use Rattle.replies.specs.declared.message.Message.TheVariants.{Response, Event as IsEvent}
 use Rattle.session.specs.declared.link.Link.{Link}
 use Rattle.session.specs.declared.pending.Ask.{Ask}
 use Rattle.session.specs.declared.pending.Pending.{Pending}
@@ -15,7 +14,7 @@ use Rattle.session.specs.Acts.{read_on}
 use Rattle.session.specs.Arrivals.{asks_of}
 use Rattle.session.specs.Prefixes.{IsPrefixOf}
 use Rattle.session.specs.Refusals.{response_to}
-use Rattle.session.specs.Sessions.{Session, Life, Said, said_next, After}
+use Rattle.session.specs.Sessions.{Beginning, Session, Life, Said, said_next, After}
 use Rattle.session.specs.Laws.{asked_as, answered_as, asked_in, answered_in, pending_as, AnswersInOrder, AreNumberedFrom, NumbersRise}
 use Rattle.session.proofs.Standing.{prefix_of_more}
 use Rattle.session.proofs.Joining.{all_joined_as}
@@ -64,24 +63,33 @@ ordered = record {
         rest = λ few. more ∙ ap (λ x. x ++ map asked_as asks) (h.rest few) ∙ append_assoc (answered_in s.life) (pending_as s.now.arrivals.pending) (map asked_as asks)
             ∙ sym (ap (λ x. answered_in s.life ++ x) (all_joined_as asked_as asks s.now.arrivals));
       };
-  enters = λ l phase s h. record { before = h.before; present = h.present; rest = h.rest };
+  agrees = λ l terms s h. record { before = h.before; present = h.present; rest = h.rest };
+  becomes = λ d s h. record { before = h.before; present = h.present; rest = h.rest };
+  tells = λ l event s few h.
+      let pending = s.now.arrivals.pending in
+      let now : Rest s.life.heard (s.life.said ++ said_next s.now l (IsEvent event) ∷ []) pending = says s.life _ pending (h.rest few) in
+      record {
+        before = h.before;
+        present = (pending_as pending, now);
+        rest = λ left. subst (Rest s.life.heard (s.life.said ++ said_next s.now l (IsEvent event) ∷ [])) (sym (still_wait (l.seq + 1) s.now.limits.last_seq pending left)) now;
+      };
   hangs = λ l s h. record { before = h.before; present = h.present; rest = h.rest };
   takes = λ n s h. record { before = h.before; present = h.present; rest = h.rest };
 }
 
 ordered_answers : KeptByAnswers Ordered
 ordered_answers = λ l p rest outcome s few h.
-    let now : Rest s.life.heard (s.life.said ++ said_next l (Response (response_to p.ask outcome)) ∷ []) rest = says s.life _ rest (h.rest few) in
+    let now : Rest s.life.heard (s.life.said ++ said_next s.now l (Response (response_to p.ask outcome)) ∷ []) rest = says s.life _ rest (h.rest few) in
     record {
       before = h.before;
       present = (pending_as rest, now);
-      rest = λ left. subst (Rest s.life.heard (s.life.said ++ said_next l (Response (response_to p.ask outcome)) ∷ [])) (sym (still_wait (l.seq + 1) s.now.limits.last_seq rest left)) now;
+      rest = λ left. subst (Rest s.life.heard (s.life.said ++ said_next s.now l (Response (response_to p.ask outcome)) ∷ [])) (sym (still_wait (l.seq + 1) s.now.limits.last_seq rest left)) now;
     }
 
-pub answers_in_order : (limits : Limits) (events : List Event) → AnswersInOrder (After limits events)
-answers_in_order limits events =
-    let s = After limits events in
-    let h : Ordered s = reached_by_acts Ordered (by_forms Ordered ordered ordered_answers) limits (record { before = All-nil Prefix; present = ([], refl); rest = tt }) events in
+pub answers_in_order : (from : Beginning) (events : List Event) → AnswersInOrder (After from events)
+answers_in_order from events =
+    let s = After from events in
+    let h : Ordered s = reached_by_acts Ordered (by_forms Ordered ordered ordered_answers) from (record { before = All-nil Prefix; present = ([], refl); rest = tt }) events in
     record {
       prefixes = each_life Prefix s ([], refl) h.before h.present;
       rest = λ link e. subst (λ (x : Option Link). RestOn x s.now.limits.last_seq s.life.heard s.life.said s.now.arrivals.pending) e h.rest;
@@ -110,7 +118,13 @@ counted = record {
   opens = λ s h. record { before = All-push Rising s.before s.life h.before h.present; present = tt; last = refl };
   closes = λ s h. record { before = h.before; present = h.present; last = tt };
   accepts = λ l piece s e h. record { before = h.before; present = h.present; last = h.last };
-  enters = λ l phase s h. record { before = h.before; present = h.present; last = h.last };
+  agrees = λ l terms s h. record { before = h.before; present = h.present; last = h.last };
+  becomes = λ d s h. record { before = h.before; present = h.present; last = h.last };
+  tells = λ l event s few h. record {
+    before = h.before;
+    present = numbered_more 1 s.life.said _ h.present (let e : l.seq ≡ length s.life.said = h.last in let f : l.seq + 1 ≡ 1 + length s.life.said = omega (arith, e) in f);
+    last = ap (λ n. n + 1) h.last ∙ sym (length-append s.life.said (_ ∷ []));
+  };
   hangs = λ l s h. record { before = h.before; present = h.present; last = h.last };
   takes = λ n s h. record { before = h.before; present = h.present; last = h.last };
 }
@@ -122,8 +136,8 @@ counted_answers = λ l p rest outcome s few h. record {
   last = ap (λ n. n + 1) h.last ∙ sym (length-append s.life.said (_ ∷ []));
 }
 
-pub numbers_rise : (limits : Limits) (events : List Event) → NumbersRise (After limits events)
-numbers_rise limits events =
-    let s = After limits events in
-    let h : Counted s = reached_by_acts Counted (by_forms Counted counted counted_answers) limits (record { before = All-nil Rising; present = tt; last = tt }) events in
+pub numbers_rise : (from : Beginning) (events : List Event) → NumbersRise (After from events)
+numbers_rise from events =
+    let s = After from events in
+    let h : Counted s = reached_by_acts Counted (by_forms Counted counted counted_answers) from (record { before = All-nil Rising; present = tt; last = tt }) events in
     each_life Rising s tt h.before h.present

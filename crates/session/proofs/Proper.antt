@@ -18,7 +18,6 @@ use Rattle.replies.specs.Responses.{IsOutcomeOf}
 use Rattle.replies.specs.declared.message.Message.TheVariants.{Response}
 use Rattle.replies.specs.declared.response.Outcome.{Outcome}
 use Rattle.session.specs.declared.event.Event.{Event}
-use Rattle.session.specs.declared.limits.Limits.{Limits}
 use Rattle.session.specs.declared.link.Link.{Link}
 use Rattle.session.specs.declared.pending.Ask.{Ask}
 use Rattle.session.specs.declared.pending.Ask.TheVariants.{Request, Bad}
@@ -32,7 +31,7 @@ use Rattle.session.specs.Laws.{AnswersAreProper}
 use Rattle.session.specs.Outcomes.{answering}
 use Rattle.session.specs.Refusals.{refused, answer_to, response_to}
 use Rattle.session.specs.Requests.{is_taken_in, success_of}
-use Rattle.session.specs.Sessions.{Session, Life, Said, said_next, replied_on, hung_on, histories, After}
+use Rattle.session.specs.Sessions.{Beginning, Session, Life, Said, said_next, replied_on, hung_on, histories, After}
 use Rattle.session.proofs.Joining.{seen_as, all_joined_as}
 use Rattle.session.proofs.Reaching.{if_keeps, each_life}
 use Rattle.session.proofs.ByForms.{on, on_with}
@@ -112,7 +111,7 @@ record Proper (s : Session) : Type 0 where
 -- an answer to the first that waits
 replies : (l : Link) (p : Pending) (rest : List Pending) (outcome : Outcome) (s : Session) → IsOutcomeOf (name_asked p.ask) outcome → Proper (on_with (Some l) (p ∷ rest) s) → Proper (replied_on (p ∷ rest) outcome (on_with (Some l) (p ∷ rest) s))
 replies l p rest outcome s fits h =
-    let m : Said = said_next l (Response (response_to p.ask outcome)) in
+    let m : Said = said_next s.now l (Response (response_to p.ask outcome)) in
     if_keeps Proper (ltb l.seq s.now.limits.last_seq) _ _
     (λ _. record {
       before = h.before;
@@ -154,8 +153,8 @@ proper = record {
   takes = λ n s h. record { before = h.before; present = h.present; pending = h.pending };
 }
 
-pub answers_are_proper : (limits : Limits) (events : List Event) → AnswersAreProper (After limits events)
-answers_are_proper limits events =
-    let s = After limits events in
-    let h : Proper s = reached_by_events Proper proper limits (record { before = All-nil AllProper; present = All-nil (λ (m : Said). IsProper m.message); pending = tt }) events in
+pub answers_are_proper : (from : Beginning) (events : List Event) → AnswersAreProper (After from events)
+answers_are_proper from events =
+    let s = After from events in
+    let h : Proper s = reached_by_events Proper proper from (record { before = All-nil AllProper; present = All-nil (λ (m : Said). IsProper m.message); pending = tt }) events in
     each_life AllProper s (All-nil (λ (m : Said). IsProper m.message)) h.before h.present

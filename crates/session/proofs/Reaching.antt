@@ -1,13 +1,17 @@
 -- What holds at the start, and is kept by each event, holds after any list of events; and what each act keeps, each event does.
-use Rattle.std.proofs.Common.{◌≡◌, ℕ, zero, suc, Bool, true, false, cond, List, [], ◌∷◌, get_or, refl}
+use Rattle.std.proofs.Common.{◌≡◌, ℕ, zero, suc, Bool, true, false, cond, ltb, List, [], ◌∷◌, Option, Some, None, get_or, refl}
 use Rattle.std.specs.Prelude.{All}
 use Rattle.std.proofs.lemmas.List.Elements.{All-push, All-head, All-tail}
 use Rattle.session.specs.declared.event.Event.{Event}
 use Rattle.session.specs.declared.limits.Limits.{Limits}
 use Rattle.session.specs.Acts.{Act}
-use Rattle.session.specs.Effects.{performed, after_all}
+use Rattle.debuggee.specs.Programs.{Program}
+use Rattle.session.specs.declared.event.Ending.{Ending}
+use Rattle.session.specs.declared.event.Event.TheVariants.{Connect, Recv, Turn, Slice, Hold, Sent, DropConnection}
+use Rattle.session.specs.Slices.{beat}
+use Rattle.session.specs.Effects.{performed, after_all, beats, enough, next_by}
 use Rattle.session.specs.Outcomes.{outcome}
-use Rattle.session.specs.Sessions.{Session, Life, no_life, lives, life_of, performed_on, histories, Effect, start, After}
+use Rattle.session.specs.Sessions.{Beginning, Session, Life, no_life, lives, life_of, performed_on, histories, Effect, start, After}
 
 -- what holds of either choice holds of the one that is made
 pub if_keeps : {A : Type 0} (P : A → Type 0) (b : Bool) (x y : A) → (b ≡ true → P x) → (b ≡ false → P y) → P (cond b x y)
@@ -19,8 +23,8 @@ module _ (P : Session → Type 0) (by_event : (e : Event) (s : Session) → P s 
   all_keep [] s h = h
   all_keep (e ∷ events) s h = all_keep events (Effect s e) (by_event e s h)
 
-  pub reached : (limits : Limits) → P (start limits) → (events : List Event) → P (After limits events)
-  reached limits h events = all_keep events (start limits) h
+  pub reached : (from : Beginning) → P (start from) → (events : List Event) → P (After from events)
+  reached from h events = all_keep events (start from) h
 
 -- ---- what each act keeps, in every state
 
@@ -32,8 +36,24 @@ module _ (P : Session → Type 0) (k : KeptByActs P) where
   acts_keep [] s h = h
   acts_keep (act ∷ acts) s h = acts_keep acts (performed_on act s) (k act s h)
 
-  pub reached_by_acts : (limits : Limits) → P (start limits) → (events : List Event) → P (After limits events)
-  reached_by_acts limits h events = reached P (λ e s h. acts_keep (outcome (histories.see s) e).acts s h) limits h events
+  beats_keep : (n i : ℕ) (s : Session) → P s → P (beats histories n i s).state
+  beats_keep n zero s h = h
+  beats_keep n (suc i) s h = by (beats histories n i s).ending (beats_keep n i s h) where
+    by : (e : Option Ending) → P (beats histories n i s).state → P (next_by histories n e (beats histories n i s)).state
+    by (Some e) x = x
+    by None x = acts_keep (beat (histories.see (beats histories n i s).state) (ltb (beats histories n i s).moved n)).acts (beats histories n i s).state x
+
+  pub event_keeps : (e : Event) (s : Session) → P s → P (Effect s e)
+  event_keeps Connect s h = acts_keep (outcome (histories.see s) Connect).acts s h
+  event_keeps (Recv piece) s h = acts_keep (outcome (histories.see s) (Recv piece)).acts s h
+  event_keeps (Turn file) s h = acts_keep (outcome (histories.see s) (Turn file)).acts s h
+  event_keeps (Slice n) s h = beats_keep n (enough n) s h
+  event_keeps Hold s h = acts_keep (outcome (histories.see s) Hold).acts s h
+  event_keeps (Sent n) s h = acts_keep (outcome (histories.see s) (Sent n)).acts s h
+  event_keeps DropConnection s h = acts_keep (outcome (histories.see s) DropConnection).acts s h
+
+  pub reached_by_acts : (from : Beginning) → P (start from) → (events : List Event) → P (After from events)
+  reached_by_acts from h events = reached P event_keeps from h events
 
 -- ---- lives
 

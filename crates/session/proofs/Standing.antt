@@ -4,17 +4,18 @@ use Rattle.std.specs.List.{flat_map}
 use Rattle.std.proofs.lemmas.List.{drop_at}
 use Rattle.std.proofs.lemmas.List.Concat.{flat_map-append}
 use Rattle.replies.specs.declared.message.Message.{Message}
-use Rattle.replies.specs.declared.message.Message.TheVariants.{Response}
+use Rattle.replies.specs.declared.message.Message.TheVariants.{Response, Event as IsEvent}
 use Rattle.replies.specs.declared.response.Outcome.{Outcome}
 use Rattle.session.specs.declared.limits.Limits.{Limits}
 use Rattle.session.specs.declared.link.Link.{Link}
 use Rattle.session.specs.declared.pending.Pending.{Pending}
-use Rattle.session.specs.declared.phase.Phase.{Phase}
-use Rattle.session.specs.Acts.{Now, Act, Open, Close, Accept, Enter, Reply, HangUp, Take, closed}
-use Rattle.session.specs.Kept.{Kept, Stands, kept_said, kept_replied, kept_accepted, kept_entered, kept_opened, kept_hung, kept_performed, keepings, nothing_kept}
+use Rattle.session.specs.declared.terms.Terms.{Terms}
+use Rattle.debuggee.specs.Programs.{Program}
+use Rattle.session.specs.Acts.{Now, Act, Open, Close, Accept, Agree, Become, Reply, Tell, HangUp, Take, closed}
+use Rattle.session.specs.Kept.{Kept, Stands, kept_said, kept_replied, kept_accepted, kept_agreed, kept_opened, kept_hung, kept_performed, keepings, nothing_kept}
 use Rattle.session.specs.Prefixes.{IsPrefixOf}
 use Rattle.session.specs.Refusals.{response_to}
-use Rattle.session.specs.Sessions.{Session, Said, bytes_of, frame_said, not_taken, waiting_of, said_on, said_next, replied_on, accepted_on, entered_on, opened_on, hung_on, performed_on, histories, start}
+use Rattle.session.specs.Sessions.{Beginning, Session, Said, bytes_of, frame_said, not_taken, waiting_of, said_on, said_next, replied_on, accepted_on, agreed_on, opened_on, hung_on, performed_on, histories, start}
 use Rattle.session.proofs.Simulation.{Simulates}
 
 -- ---- prefixes
@@ -82,7 +83,7 @@ at_now f g k s h i = subst (λ (n : Now). Stands (f (record { now = n; waiting =
 said_stands : (l : Option Link) (m : Message) (rest : List Pending) (k : Kept) (s : Session) → Stands (kept_at (with_link l s) k) (with_link l s) → Stands (kept_said l m rest (kept_at (with_link l s) k)) (said_on l m rest (with_link l s))
 said_stands None m rest k s h = h
 said_stands (Some link) m rest k s h =
-    let next : Said = said_next link m in
+    let next : Said = said_next s.now link m in
     both (ltb link.seq s.now.limits.last_seq) _ _ _ _ (record {
       now = refl;
       waiting = ap (λ x. x ++ frame_said next) h.waiting ∙ sym (ap (drop (length s.life.taken)) (bytes_more s.life.said next) ∙ waits_more (bytes_of s.life) s.life.taken (frame_said next) h.taken);
@@ -97,9 +98,9 @@ accepted_stands : (l : Option Link) (piece : List ℕ) (k : Kept) (s : Session) 
 accepted_stands None piece k s h = h
 accepted_stands (Some link) piece k s h = both link.is_closing _ _ _ _ h (record { now = refl; waiting = h.waiting; taken = h.taken })
 
-entered_stands : (l : Option Link) (phase : Phase) (k : Kept) (s : Session) → Stands (kept_at (with_link l s) k) (with_link l s) → Stands (kept_entered l phase (kept_at (with_link l s) k)) (entered_on l phase (with_link l s))
-entered_stands None phase k s h = h
-entered_stands (Some link) phase k s h = record { now = refl; waiting = h.waiting; taken = h.taken }
+agreed_stands : (l : Option Link) (terms : Terms) (k : Kept) (s : Session) → Stands (kept_at (with_link l s) k) (with_link l s) → Stands (kept_agreed l terms (kept_at (with_link l s) k)) (agreed_on l terms (with_link l s))
+agreed_stands None terms k s h = h
+agreed_stands (Some link) terms k s h = record { now = refl; waiting = h.waiting; taken = h.taken }
 
 opened_stands : (l : Option Link) (k : Kept) (s : Session) → Stands (kept_at (with_link l s) k) (with_link l s) → Stands (kept_opened l (kept_at (with_link l s) k)) (opened_on l (with_link l s))
 opened_stands (Some link) k s h = h
@@ -113,7 +114,9 @@ act_stands : (act : Act) (k : Kept) (s : Session) → Stands k s → Stands (kep
 act_stands Open k s h = at_now (kept_performed Open) (performed_on Open) k s h (opened_stands s.now.link k s)
 act_stands Close k s h = record { now = ap closed h.now; waiting = refl; taken = h.taken }
 act_stands (Accept piece) k s h = at_now (kept_performed (Accept piece)) (performed_on (Accept piece)) k s h (accepted_stands s.now.link piece k s)
-act_stands (Enter phase) k s h = at_now (kept_performed (Enter phase)) (performed_on (Enter phase)) k s h (entered_stands s.now.link phase k s)
+act_stands (Agree terms) k s h = at_now (kept_performed (Agree terms)) (performed_on (Agree terms)) k s h (agreed_stands s.now.link terms k s)
+act_stands (Become debuggee) k s h = record { now = ap (λ (n : Now). record n { debuggee = debuggee }) h.now; waiting = h.waiting; taken = h.taken }
+act_stands (Tell event) k s h = at_now (kept_performed (Tell event)) (performed_on (Tell event)) k s h (said_stands s.now.link (IsEvent event) s.now.arrivals.pending k s)
 act_stands (Reply outcome) k s h = at_now (kept_performed (Reply outcome)) (performed_on (Reply outcome)) k s h (replied_stands s.now.arrivals.pending outcome k s)
 act_stands HangUp k s h = at_now (kept_performed HangUp) (performed_on HangUp) k s h (hung_stands s.now.link k s)
 act_stands (Take n) k s h = record {
@@ -125,5 +128,5 @@ act_stands (Take n) k s h = record {
 pub standing : Simulates keepings histories Stands
 standing = record { sees = sees; acts = act_stands }
 
-pub begins : (limits : Limits) → Stands (nothing_kept limits) (start limits)
-begins limits = record { now = refl; waiting = refl; taken = ([], refl) }
+pub begins : (from : Beginning) → Stands (nothing_kept from) (start from)
+begins from = record { now = refl; waiting = refl; taken = ([], refl) }

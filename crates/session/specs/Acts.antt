@@ -9,6 +9,8 @@ use Rattle.framing.specs.Reading.Tail.{Partial}
 use Rattle.framing.specs.Streams.{fault_of, reading_after}
 use Rattle.framing.specs.declared.error.FrameError.{FrameError}
 use Rattle.protocol.specs.declared.request.MessageError.{MessageError}
+use Rattle.debuggee.specs.Programs.{Debuggee}
+use Rattle.replies.specs.declared.event.Event.{Event}
 use Rattle.replies.specs.declared.response.Outcome.{Outcome}
 use Rattle.session.specs.declared.TheConstants.{BODY_LIMIT}
 use Rattle.session.specs.declared.event.LinkFault.{LinkFault}
@@ -16,20 +18,23 @@ use Rattle.session.specs.declared.event.LinkFault.TheVariants.{Frame, Message}
 use Rattle.session.specs.declared.limits.Limits.{Limits}
 use Rattle.session.specs.declared.link.Link.{Link}
 use Rattle.session.specs.declared.pending.Pending.{Pending}
-use Rattle.session.specs.declared.phase.Phase.{Phase}
-use Rattle.session.specs.declared.phase.Phase.TheVariants.{Fresh}
+use Rattle.session.specs.declared.terms.Terms.{Terms}
+use Rattle.session.specs.Phases.{first_terms}
 use Rattle.session.specs.Arrivals.{Arrivals, no_arrivals, all_joined, asks_of, message_fault_of}
 
--- What a session is now, as far as no past is needed to say it: its limits; how many connections were made; the present
--- one, if there is one; the requests that came on it and wait for their answers; what has come of the next frame; and
--- what closed the present connection or the last one, if something did.
+-- What a session is now, as far as no past is needed to say it: its limits, and how many bytes of memory a machine gets;
+-- how many connections were made; the present one, if there is one; the requests that came on it and wait for their
+-- answers; what has come of the next frame; what closed the present connection or the last one, if something did; and
+-- the program that is debugged.
 pub record Now : Type 0 where
   pub limits : Limits
+  pub size : ℕ
   pub connections : ℕ
   pub link : Option Link
   pub arrivals : Arrivals
   pub tail : Tail
   pub fault : Option LinkFault
+  pub debuggee : Debuggee
 
 -- all that an answer depends on: also how many bytes wait to be sent
 pub record Seen : Type 0 where
@@ -43,29 +48,38 @@ pub data Act : Type 0 where
   Close : Act
   -- a piece is taken: the requests in it join those that wait
   Accept : List ℕ → Act
-  -- the connection has come so far
-  Enter : Phase → Act
+  -- this is agreed on the connection
+  Agree : Terms → Act
+  -- the program that is debugged is now this
+  Become : Debuggee → Act
   -- the first request that waits is answered
   Reply : Outcome → Act
+  -- the editor is told something that it did not ask
+  Tell : Event → Act
   -- the connection takes nothing more
   HangUp : Act
   -- the first of the waiting bytes were sent
   Take : ℕ → Act
 
--- whether an act needs memory: taking a piece and queueing an answer do, and nothing else
+-- whether an act needs memory: taking a piece and queueing a message do, and nothing else
 abbrev pub grows : Act → Bool
 grows Open = false
 grows Close = false
 grows (Accept piece) = true
-grows (Enter phase) = false
+grows (Agree terms) = false
+grows (Become debuggee) = false
 grows (Reply outcome) = true
+grows (Tell event) = true
 grows HangUp = false
 grows (Take n) = false
 
--- an answer: what it changes first, what became of the request, and whether the connection takes nothing more then
+-- An answer: what the program that is debugged is first, and what is agreed then; what became of the request; what the
+-- editor is told after it; and whether the connection takes nothing more then.
 pub record Answering : Type 0 where
-  pub change : List Act
+  pub debuggee : Debuggee
+  pub terms : Terms
   pub outcome : Outcome
+  pub events : List Event
   pub closes : Bool
 
 -- ---- what acts make of what a session is now
@@ -74,7 +88,7 @@ pub record Answering : Type 0 where
 abbrev pub opened : Now → Now
 opened now = record now {
   connections = now.connections + 1;
-  link = Some (record { seq = 0; phase = Fresh; is_closing = false });
+  link = Some (record { seq = 0; terms = first_terms; is_closing = false });
   arrivals = no_arrivals;
   tail = Partial [];
   fault = None;
@@ -84,9 +98,9 @@ opened now = record now {
 abbrev pub closed : Now → Now
 closed now = record now { link = None; arrivals = no_arrivals; tail = Partial [] }
 
--- it has come so far
-abbrev pub entered : Now → Link → Phase → Now
-entered now link phase = record now { link = Some (record link { phase = phase }) }
+-- this is agreed on it
+abbrev pub agreed : Now → Link → Terms → Now
+agreed now link terms = record now { link = Some (record link { terms = terms }) }
 
 -- it takes nothing more
 abbrev pub hung : Now → Link → Now

@@ -14,12 +14,16 @@ use Rattle.session.specs.declared.event.Event.TheVariants.{Connect, Recv, Turn, 
 use Rattle.session.specs.Limits.{greatest_limits}
 use Rattle.session.specs.Outcomes.{is_finished}
 use Rattle.session.specs.Requests.{is_served}
-use Rattle.session.specs.Sessions.{After, histories, waiting_of}
+use Rattle.session.specs.Sessions.{After, Beginning, histories, waiting_of}
 use Rattle.session.specs.Writing.{frame_of}
 
 -- the header part of a frame, by the digits of its length
 abbrev header : List ℕ → List ℕ
 header digits = codes "Content-Length: " ++ digits ++ end_of_line ++ end_of_line
+
+-- what the session begins with: one mebibyte for a machine, and no program
+abbrev first : Beginning
+first = record { limits = greatest_limits; size = 1048576; program = None }
 
 -- what the editor sends first: `threads`, and the beginning of `disconnect`
 abbrev first_piece : List ℕ
@@ -45,7 +49,7 @@ success = header (codes "81")
 abbrev one_answered : List Event
 one_answered = Connect ∷ Recv first_piece ∷ Turn None ∷ []
 
-the_refusal_waits : waiting_of (After greatest_limits one_answered) ≡ refusal
+the_refusal_waits : waiting_of (After first one_answered) ≡ refusal
 unfolding json_on_literals reading_of start_of json_of incoming_of is_served frame_of
 the_refusal_waits = refl
 
@@ -53,12 +57,12 @@ the_refusal_waits = refl
 abbrev both_answered : List Event
 both_answered = one_answered ++ Recv second_piece ∷ Turn None ∷ []
 
-both_answers_wait : waiting_of (After greatest_limits both_answered) ≡ refusal ++ success
+both_answers_wait : waiting_of (After first both_answered) ≡ refusal ++ success
 unfolding json_on_literals reading_of start_of json_of incoming_of is_served frame_of
 both_answers_wait = refl
 
 -- 180 bytes were sent
-the_rest_waits : waiting_of (After greatest_limits (both_answered ++ Sent 180 ∷ [])) ≡ drop 180 (refusal ++ success)
+the_rest_waits : waiting_of (After first (both_answered ++ Sent 180 ∷ [])) ≡ drop 180 (refusal ++ success)
 unfolding json_on_literals reading_of start_of json_of incoming_of is_served frame_of
 the_rest_waits = refl
 
@@ -66,6 +70,6 @@ the_rest_waits = refl
 abbrev all_sent : List Event
 all_sent = both_answered ++ Sent 180 ∷ Sent 96 ∷ []
 
-all_is_said : is_finished (histories.see (After greatest_limits all_sent)) ≡ true
+all_is_said : is_finished (histories.see (After first all_sent)) ≡ true
 unfolding json_on_literals reading_of start_of json_of incoming_of is_served frame_of
 all_is_said = refl

@@ -1,17 +1,27 @@
--- `initialize`: taken until one was answered with success, and not again (DAP specification, `InitializeRequest`).
-use Rattle.std.specs.Prelude.{Bool, true, false, [], ◌∷◌}
-use Rattle.replies.specs.declared.response.Outcome.TheVariants.{Done}
+-- `initialize`: taken until one was answered with success, and not again (DAP specification, `InitializeRequest`). It
+-- says how the editor counts lines and columns.
+use Rattle.std.specs.Prelude.{Bool, []}
+use Rattle.protocol.specs.declared.initialize.InitializeArguments.{InitializeArguments}
 use Rattle.replies.specs.declared.response.ResponseBody.TheVariants as body
 use Rattle.session.specs.declared.phase.Phase.{Phase}
-use Rattle.session.specs.declared.phase.Phase.TheVariants.{Fresh, Initialized, Left}
-use Rattle.session.specs.Acts.{Answering, Enter}
+use Rattle.session.specs.declared.phase.Phase.TheVariants.{Initialized}
+use Rattle.session.specs.declared.terms.Terms.{Terms}
+use Rattle.session.specs.Acts.{Now, Answering}
+use Rattle.session.specs.Phases.{base_of, is_fresh_in}
+use Rattle.session.specs.Successes.{agreeing}
 
 -- the phases in which it is taken
 abbrev pub is_taken_in : Phase → Bool
-is_taken_in Fresh = true
-is_taken_in Initialized = false
-is_taken_in Left = false
+is_taken_in phase = is_fresh_in phase
+
+-- what is agreed by it
+abbrev pub agreed : Terms → InitializeArguments → Terms
+agreed terms arguments = record terms {
+  phase = Initialized;
+  line_base = base_of arguments.lines_start_at1;
+  column_base = base_of arguments.columns_start_at1;
+}
 
 -- what comes of it
-abbrev pub success : Answering
-success = record { change = Enter Initialized ∷ []; outcome = Done body.Initialize; closes = false }
+abbrev pub success : Now → Terms → InitializeArguments → Answering
+success now terms arguments = agreeing now (agreed terms arguments) body.Initialize

@@ -2,7 +2,7 @@
 use Rattle.std.specs.Prelude.{◌≡◌, ℕ, nat_lt, ◌+◌, ◌==◌, if◌then◌else◌, Bool, true, false, List, [], ◌∷◌, ◌++◌}
 use Rattle.std.specs.Prelude.{length, drop, Option, Some, None, Result, Ok, Err}
 use Rattle.replies.specs.declared.message.Message.{Message}
-use Rattle.replies.specs.declared.message.Message.TheVariants.{Response}
+use Rattle.replies.specs.declared.message.Message.TheVariants.{Response, Event as IsEvent}
 use Rattle.replies.specs.declared.response.Outcome.{Outcome}
 use Rattle.session.specs.declared.event.Applied.{Applied}
 use Rattle.session.specs.declared.event.Event.{Event}
@@ -10,16 +10,20 @@ use Rattle.session.specs.declared.event.EventError.{EventError}
 use Rattle.session.specs.declared.limits.Limits.{Limits}
 use Rattle.session.specs.declared.link.Link.{Link}
 use Rattle.session.specs.declared.pending.Pending.{Pending}
-use Rattle.session.specs.declared.phase.Phase.{Phase}
-use Rattle.session.specs.declared.refusals.Answer.{Answer as AnAnswer}
-use Rattle.session.specs.declared.refusals.Change.{Change}
-use Rattle.session.specs.declared.refusals.Change.TheVariants as change
-use Rattle.session.specs.Acts.{Now, Seen, Act, Answering, Open, Close, Accept, Enter, Reply, HangUp, Take}
-use Rattle.session.specs.Acts.{opened, closed, entered, hung, numbered, accepted, read_on}
+use Rattle.session.specs.declared.terms.Terms.{Terms}
+use Rattle.debuggee.specs.Programs.{Debuggee, Program, ended, first_run, left, marked, restarted, resumed, with_program}
+use Rattle.replies.specs.declared.event.Event.{Event as AnEvent}
+use Rattle.session.specs.declared.answer.Answer.{Answer as AnAnswer}
+use Rattle.session.specs.declared.answer.Change.{Change}
+use Rattle.session.specs.declared.answer.Change.TheVariants as change
+use Rattle.session.specs.Disconnect.{departed}
+use Rattle.session.specs.Acts.{Now, Seen, Act, Answering, Open, Close, Accept, Agree, Become, Reply, Tell, HangUp, Take}
+use Rattle.session.specs.Acts.{opened, closed, agreed, hung, numbered, accepted, read_on}
 use Rattle.session.specs.Effects.{World, Ends}
+use Rattle.session.specs.Phases.{is_active}
 use Rattle.session.specs.Prefixes.{IsPrefixOf}
 use Rattle.session.specs.Refusals.{response_to}
-use Rattle.session.specs.Sessions.{Session, bytes_of, waiting_of, histories, nothing_yet}
+use Rattle.session.specs.Sessions.{Beginning, Session, bytes_of, waiting_of, histories, nothing_yet}
 use Rattle.session.specs.Writing.{frame_of}
 
 -- what the session is now, and the bytes that wait
@@ -38,9 +42,9 @@ kept_accepted None piece k = k
 kept_accepted (Some link) piece k =
     if link.is_closing then k else record k { now = accepted k.now (read_on k.now piece) link }
 
-abbrev pub kept_entered : Option Link → Phase → Kept → Kept
-kept_entered None phase k = k
-kept_entered (Some link) phase k = record k { now = entered k.now link phase }
+abbrev pub kept_agreed : Option Link → Terms → Kept → Kept
+kept_agreed None terms k = k
+kept_agreed (Some link) terms k = record k { now = agreed k.now link terms }
 
 abbrev pub kept_said : Option Link → Message → List Pending → Kept → Kept
 kept_said None message rest k = k
@@ -61,8 +65,10 @@ abbrev pub kept_performed : Act → Kept → Kept
 kept_performed Open k = kept_opened k.now.link k
 kept_performed Close k = record { now = closed k.now; waiting = [] }
 kept_performed (Accept piece) k = kept_accepted k.now.link piece k
-kept_performed (Enter phase) k = kept_entered k.now.link phase k
+kept_performed (Agree terms) k = kept_agreed k.now.link terms k
+kept_performed (Become debuggee) k = record k { now = record k.now { debuggee = debuggee } }
 kept_performed (Reply outcome) k = kept_replied k.now.arrivals.pending outcome k
+kept_performed (Tell event) k = kept_said k.now.link (IsEvent event) k.now.arrivals.pending k
 kept_performed HangUp k = kept_hung k.now.link k
 kept_performed (Take n) k = record k { waiting = drop n k.waiting }
 
@@ -75,19 +81,52 @@ abbrev pub see_kept : Kept → Seen
 see_kept k = keepings.see k
 
 -- before anything happened
-abbrev pub nothing_kept : Limits → Kept
-nothing_kept limits = record { now = nothing_yet limits; waiting = [] }
+abbrev pub nothing_kept : Beginning → Kept
+nothing_kept from = record { now = nothing_yet from; waiting = [] }
 
 -- ---- for private clauses alone: an answer, and messages that are written before any of them is queued
 
--- the acts of a change
-abbrev pub acts_of : Change → List Act
-acts_of change.Nothing = []
-acts_of (change.Enter phase) = Enter phase ∷ []
+-- what a change makes of a program
+abbrev pub changed_one : Change → Program → Program
+changed_one change.Nothing p = p
+changed_one (change.Load program) p = program
+changed_one change.Begin p = first_run p
+changed_one (change.Resume goal) p = resumed goal p
+changed_one (change.Mark mark) p = marked mark p
+changed_one change.Restart p = first_run (restarted p)
+changed_one change.End p = ended None p
+changed_one (change.Leave ends stands) p = departed ends stands (left p)
 
--- the answer that the code's is
-abbrev pub answering_as : AnAnswer → Answering
-answering_as a = record { change = acts_of a.change; outcome = a.outcome; closes = a.closes }
+-- what it makes of the one that is debugged
+abbrev pub changed : Change → Debuggee → Debuggee
+changed change.Nothing d = d
+changed (change.Load program) d = record d { program = Some program }
+changed change.Begin d = with_program first_run d
+changed (change.Resume goal) d = with_program (resumed goal) d
+changed (change.Mark mark) d = with_program (marked mark) d
+changed change.Restart d = with_program (λ p. first_run (restarted p)) d
+changed change.End d = with_program (ended None) d
+changed (change.Leave ends stands) d = with_program (λ p. departed ends stands (left p)) d
+
+-- the events of an answer of the code
+abbrev pub events_of : Option AnEvent → List AnEvent
+events_of None = []
+events_of (Some event) = event ∷ []
+
+-- the answer that the code's is, where this is debugged
+abbrev pub answering_as : Debuggee → AnAnswer → Answering
+answering_as d a = record {
+  debuggee = changed a.change d;
+  terms = a.terms;
+  outcome = a.outcome;
+  events = events_of a.event;
+  closes = a.closes;
+}
+
+-- what is kept after a change, and what is agreed with it
+abbrev pub kept_changed : Change → Terms → Kept → Kept
+kept_changed c terms k =
+    kept_agreed k.now.link terms (record k { now = record k.now { debuggee = changed c k.now.debuggee } })
 
 -- their bytes, and the last number given
 pub record Drafted : Type 0 where
@@ -103,6 +142,16 @@ draft_on limits (Some link) = record { bytes = []; seq = link.seq }
 abbrev pub drafted : Limits → Message → Drafted → Drafted
 drafted limits message d = if nat_lt d.seq limits.last_seq
     then record { bytes = d.bytes ++ frame_of (d.seq + 1) message; seq = d.seq + 1 } else d
+
+-- and events
+abbrev pub drafted_all : Limits → List AnEvent → Drafted → Drafted
+drafted_all limits [] d = d
+drafted_all limits (event ∷ events) d = drafted_all limits events (drafted limits (IsEvent event) d)
+
+-- the events that an editor is told, if it has said all
+abbrev pub draft_told : Limits → Option Link → List AnEvent → Drafted
+draft_told limits link events =
+    if is_active link then drafted_all limits events (draft_on limits link) else draft_on limits link
 
 -- what a session is after messages up to that number, where these requests wait then
 abbrev pub settled : Option Link → ℕ → List Pending → Now → Now

@@ -2,16 +2,28 @@
 
 -- the requests that wait: which join, which are repeats, what a `cancel` does
 pub mod Arrivals
+-- how far a connection has come, and what was agreed on it
+pub mod Phases
 -- what a session is now, and the acts that events and answers are made of
 pub mod Acts
+-- what a request asks of the program that is debugged
+pub mod Demands
+-- the kinds of successes
+pub mod Successes
 -- `initialize`: its phases, and what comes of it
 pub mod Initialize
--- `threads`, likewise
+-- `launch`, and the requests after it, likewise
+pub mod Launch
+pub mod ConfigurationDone
 pub mod Threads
--- `cancel`, likewise
 pub mod Cancel
--- `disconnect`, likewise
+pub mod Restart
+pub mod Terminate
 pub mod Disconnect
+pub mod SetExceptionBreakpoints
+pub mod Continue
+pub mod Stepping
+pub mod Pause
 -- the list of the requests
 pub mod Requests
 -- the answer to a request: the refusals in their order, or its success
@@ -21,6 +33,12 @@ pub mod Writing
 -- ---- events
 -- the last numbers that a session gives
 pub mod Limits
+-- how much memory a machine gets
+pub mod Config
+-- what an editor is told of the program that it debugs
+pub mod Telling
+-- a slice, beat by beat
+pub mod Slices
 -- what an event answers, and the acts that it comes to
 pub mod Outcomes
 -- what an event leaves and answers, of whatever is seen as a session
@@ -34,6 +52,10 @@ pub mod Prefixes
 -- what the code keeps, which sessions that stands for (`Stands`), and what a call does for each of them (`Happens`);
 -- of these definitions `Goes` and what it needs are for private clauses alone
 pub mod Kept
+pub mod Preparing
+pub mod Beats
+-- what a session is at first
+pub mod Begins
 -- ---- what follows
 -- what holds after every list of events
 pub mod Laws

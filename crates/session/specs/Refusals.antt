@@ -3,11 +3,19 @@
 -- Each request has one answer. It is refused for the first reason of a list that applies, and then only its answer is
 -- sent: a refused request changes nothing. One that no reason applies to succeeds: what it changes stands before its
 -- answer, which has the body of that request.
-use Rattle.std.specs.Prelude.{Bool, true, false, not, List, [], ◌∷◌, Option, Some, None, if◌then◌else◌}
+use Rattle.std.specs.Prelude.{ℕ, Bool, true, false, not, ◌&&◌, List, [], ◌∷◌, ◌++◌, Option, Some, None, if◌then◌else◌}
+use Rattle.debuggee.specs.declared.run.Run.{Run}
+use Rattle.protocol.specs.declared.command.Command.{Command}
+use Rattle.protocol.specs.declared.command.Command.TheVariants.{Launch}
+use Rattle.protocol.specs.declared.refusal.Refusal.TheVariants.{NoMachine, Ended, NoThread, NotStopped}
+use Rattle.session.specs.declared.demand.Demand.{Demand}
+use Rattle.session.specs.declared.link.Link.{Link}
+use Rattle.session.specs.declared.terms.Terms.{Terms}
+use Rattle.session.specs.Demands.{asks_nothing, goes_on, has_ended, has_none, is_no_thread, run_of}
+use Rattle.session.specs.Successes.{refusing}
 use Rattle.protocol.specs.declared.refusal.Refusal.{Refusal}
 use Rattle.protocol.specs.declared.refusal.Refusal.TheVariants.{RepeatedSequence, Cancelled as IsCancelled, WrongPhase}
 use Rattle.protocol.specs.declared.refusal.Refusal.TheVariants.{UnknownCommand, RequestGone}
-use Rattle.replies.specs.declared.response.Outcome.TheVariants.{Refused}
 use Rattle.replies.specs.declared.response.Outcome.{Outcome}
 use Rattle.replies.specs.declared.response.Response.{Response}
 use Rattle.session.specs.declared.phase.Phase.{Phase}
@@ -16,9 +24,9 @@ use Rattle.session.specs.declared.pending.Ask.TheVariants.{Request, Bad}
 use Rattle.session.specs.declared.pending.Fate.{Fate}
 use Rattle.session.specs.declared.pending.Fate.TheVariants.{Waits, Repeated, Cancelled, NamesNone}
 use Rattle.session.specs.declared.pending.Pending.{Pending}
-use Rattle.session.specs.Acts.{Answering}
+use Rattle.session.specs.Acts.{Now, Answering}
 use Rattle.session.specs.Arrivals.{number_of, name_asked, is_repeat}
-use Rattle.session.specs.Requests.{is_served, is_taken_in, success_of}
+use Rattle.session.specs.Requests.{demand_of, is_served, is_taken_in, success_of}
 
 -- whether a later `cancel` named the request
 abbrev pub is_cancelled : Fate → Bool
@@ -52,17 +60,21 @@ abbrev pub comes_wrong : Phase → Ask → Bool
 comes_wrong phase (Request r) = not (is_taken_in phase r.command)
 comes_wrong phase (Bad seq command refusal) = false
 
--- The reasons, in their order.
-abbrev pub refusals : Phase → Pending → List (Option Refusal)
-refusals phase p = where_so (is_repeat p.fate) RepeatedSequence
-    ∷ where_so (is_cancelled p.fate) IsCancelled
-    ∷ where_so (is_unknown p.ask) UnknownCommand
-    ∷ misread p.ask
-    ∷ where_so (comes_wrong phase p.ask) WrongPhase
-    ∷ where_so (names_none p.fate) RequestGone
+-- what it asks of the program that is debugged
+abbrev pub demand_by : Ask → Demand
+demand_by (Request r) = demand_of r.command
+demand_by (Bad seq command refusal) = asks_nothing
+
+-- what the program lacks of that, in order
+abbrev pub unmet : Option Run → Demand → List (Option Refusal)
+unmet run demand =
+    where_so (demand.loaded && has_none run) NoMachine
+    ∷ where_so (demand.alive && has_ended run) Ended
+    ∷ where_so (is_no_thread demand.thread) NoThread
+    ∷ where_so (demand.still && goes_on run) NotStopped
     ∷ []
 
--- those of them that the request itself gives
+-- those of the reasons that the request itself gives, in order
 abbrev pub as_it_stands : Phase → Ask → List (Option Refusal)
 as_it_stands phase ask =
     where_so (is_unknown ask) UnknownCommand
@@ -70,26 +82,52 @@ as_it_stands phase ask =
     ∷ where_so (comes_wrong phase ask) WrongPhase
     ∷ []
 
+-- The reasons, in their order.
+abbrev pub refusals : Option Run → Phase → Pending → List (Option Refusal)
+refusals run phase p = where_so (is_repeat p.fate) RepeatedSequence
+    ∷ where_so (is_cancelled p.fate) IsCancelled
+    ∷ (as_it_stands phase p.ask ++ (unmet run (demand_by p.ask)
+    ++ where_so (names_none p.fate) RequestGone ∷ []))
+
 -- the first that applies, if one does
 abbrev pub first_refusal : List (Option Refusal) → Option Refusal
 first_refusal [] = None
 first_refusal (None ∷ rest) = first_refusal rest
 first_refusal (Some refusal ∷ rest) = Some refusal
 
--- A refused request changes nothing.
-abbrev pub refused : Refusal → Answering
-refused refusal = record { change = []; outcome = Refused refusal None; closes = false }
-
 -- the answer, by the refusal that applies, if one does
-abbrev pub answer_by : Option Refusal → Ask → Answering
-answer_by (Some refusal) ask = refused refusal
-answer_by None (Request r) = success_of r.command
-answer_by None (Bad seq command refusal) = refused refusal
+abbrev pub answer_by : Now → Terms → Option (List ℕ) → Option Refusal → Ask → Answering
+answer_by now terms file (Some refusal) ask = refusing now terms refusal None
+answer_by now terms file None (Request r) = success_of now terms file r.command
+answer_by now terms file None (Bad seq command refusal) = refusing now terms refusal None
 
--- what a request is answered in this phase
-abbrev pub answer_to : Phase → Pending → Answering
-answer_to phase p = answer_by (first_refusal (refusals phase p)) p.ask
+-- what a request is answered, with the file that it names
+abbrev pub answer_to : Now → Terms → Option (List ℕ) → Pending → Answering
+answer_to now terms file p =
+    answer_by now terms file (first_refusal (refusals (run_of now.debuggee.program) terms.phase p)) p.ask
 
 -- the response that says so: it names the request by its number and its name
 abbrev pub response_to : Ask → Outcome → Response
 response_to ask outcome = record { request_seq = number_of ask; command = name_asked ask; outcome = outcome }
+
+-- ---- the file that a request names
+
+-- the path in a command, if it has one
+abbrev pub path_of : Command → Option (List ℕ)
+path_of (Launch arguments) = Some arguments.program
+path_of other = None
+
+-- the path of the file that a request wants, where it is not refused before
+abbrev pub path_in : Option Refusal → Ask → Option (List ℕ)
+path_in (Some refusal) ask = None
+path_in None (Request r) = path_of r.command
+path_in None (Bad seq command refusal) = None
+
+-- the file that the answer to the first that waits wants, if it wants one
+abbrev pub wanted_by : Option Run → Phase → List Pending → Option (List ℕ)
+wanted_by run phase [] = None
+wanted_by run phase (p ∷ rest) = path_in (first_refusal (refusals run phase p)) p.ask
+
+abbrev pub wanted_on : Now → Option Link → Option (List ℕ)
+wanted_on now None = None
+wanted_on now (Some link) = wanted_by (run_of now.debuggee.program) link.terms.phase now.arrivals.pending

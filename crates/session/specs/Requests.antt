@@ -1,28 +1,55 @@
--- The requests: in which phases each is taken, and what comes of it. This is the list of them; what there is to say of
--- one stands in the file of its name.
+-- The requests: in which phases each is taken, what it asks of the program that is debugged, and what comes of it. This
+-- is the list of them; what there is to say of one stands in the file of its name.
 --
 -- Those of the profile that a session does not serve yet are to it as any name that nobody knows: none is taken in any
 -- phase, and nothing comes of it (DAP specification, `Request.command`).
-use Rattle.std.specs.Prelude.{◌≡◌, ℕ, Bool, true, false, List, [], ◌∷◌, codes, bytes_eq, refl}
+use Rattle.std.specs.Prelude.{◌≡◌, ℕ, Bool, true, false, List, [], ◌∷◌, Option, codes, bytes_eq, refl}
 use Rattle.std.specs.List.{list_any}
 use Rattle.protocol.specs.declared.initialize.TheConstants.{NAME as INITIALIZE}
+use Rattle.protocol.specs.declared.launch.TheConstants.{NAME as LAUNCH}
+use Rattle.protocol.specs.declared.configuration_done.TheConstants.{NAME as CONFIGURATION_DONE}
 use Rattle.protocol.specs.declared.threads.TheConstants.{NAME as THREADS}
 use Rattle.protocol.specs.declared.cancel.TheConstants.{NAME as CANCEL}
+use Rattle.protocol.specs.declared.restart.TheConstants.{NAME as RESTART}
+use Rattle.protocol.specs.declared.terminate.TheConstants.{NAME as TERMINATE}
 use Rattle.protocol.specs.declared.disconnect.TheConstants.{NAME as DISCONNECT}
-use Rattle.replies.specs.declared.response.Outcome.TheVariants.{Done}
-use Rattle.replies.specs.declared.response.ResponseBody.TheVariants.{Empty}
+use Rattle.protocol.specs.declared.set_exception_breakpoints.TheConstants.{NAME as SET_EXCEPTION_BREAKPOINTS}
+use Rattle.protocol.specs.declared.continue_.TheConstants.{NAME as CONTINUE}
+use Rattle.protocol.specs.declared.next.TheConstants.{NAME as NEXT}
+use Rattle.protocol.specs.declared.step_in.TheConstants.{NAME as STEP_IN}
+use Rattle.protocol.specs.declared.step_out.TheConstants.{NAME as STEP_OUT}
+use Rattle.protocol.specs.declared.pause.TheConstants.{NAME as PAUSE}
+use Rattle.replies.specs.declared.response.ResponseBody.TheVariants as body
 use Rattle.protocol.specs.declared.command.Command.{Command}
-use Rattle.protocol.specs.declared.command.Command.TheVariants.{Initialize, Threads, Cancel, Disconnect}
+use Rattle.protocol.specs.declared.command.Command.TheVariants.{Initialize, Launch, ConfigurationDone, Threads, Cancel}
+use Rattle.protocol.specs.declared.command.Command.TheVariants.{Restart, Terminate, Disconnect, SetExceptionBreakpoints}
+use Rattle.protocol.specs.declared.command.Command.TheVariants.{Continue, Next, StepIn, StepOut, Pause}
+use Rattle.stepping.specs.declared.goal.Goal.TheVariants as goal
+use Rattle.session.specs.declared.demand.Demand.{Demand}
 use Rattle.session.specs.declared.phase.Phase.{Phase}
-use Rattle.session.specs.Acts.{Answering}
+use Rattle.session.specs.declared.terms.Terms.{Terms}
+use Rattle.session.specs.Acts.{Now, Answering}
+use Rattle.session.specs.Demands.{asks_alive, asks_nothing, asks_program, asks_still, asks_thread}
+use Rattle.session.specs.Successes.{agreeing}
+use Rattle.session.specs.Stepping.{granularity_of}
 use Rattle.session.specs.Initialize as initialize
+use Rattle.session.specs.Launch as launch
+use Rattle.session.specs.ConfigurationDone as configuration_done
 use Rattle.session.specs.Threads as threads
 use Rattle.session.specs.Cancel as cancel
+use Rattle.session.specs.Restart as restart
+use Rattle.session.specs.Terminate as terminate
 use Rattle.session.specs.Disconnect as disconnect
+use Rattle.session.specs.SetExceptionBreakpoints as set_exception_breakpoints
+use Rattle.session.specs.Continue as continue
+use Rattle.session.specs.Stepping as stepping
+use Rattle.session.specs.Pause as pause
 
 -- the names of the requests that are served
 abbrev pub served : List (List ℕ)
-served = INITIALIZE.now ∷ THREADS.now ∷ CANCEL.now ∷ DISCONNECT.now ∷ []
+served = INITIALIZE.now ∷ LAUNCH.now ∷ CONFIGURATION_DONE.now ∷ THREADS.now ∷ CANCEL.now ∷ RESTART.now ∷ TERMINATE.now
+    ∷ DISCONNECT.now ∷ SET_EXCEPTION_BREAKPOINTS.now ∷ CONTINUE.now ∷ NEXT.now ∷ STEP_IN.now ∷ STEP_OUT.now
+    ∷ PAUSE.now ∷ []
 
 -- whether a request of that name is served
 unfoldable pub is_served : List ℕ → Bool
@@ -32,22 +59,58 @@ a_served_request : is_served (codes "threads") ≡ true
 unfolding is_served
 a_served_request = refl
 
-one_that_is_not_served : is_served (codes "launch") ≡ false
+one_that_is_not_served : is_served (codes "goto") ≡ false
 unfolding is_served
 one_that_is_not_served = refl
 
 -- whether the request is taken in the phase
 abbrev pub is_taken_in : Phase → Command → Bool
 is_taken_in phase (Initialize arguments) = initialize.is_taken_in phase
+is_taken_in phase (Launch arguments) = launch.is_taken_in phase
+is_taken_in phase ConfigurationDone = configuration_done.is_taken_in phase
 is_taken_in phase Threads = threads.is_taken_in phase
 is_taken_in phase (Cancel arguments) = cancel.is_taken_in phase
+is_taken_in phase Restart = restart.is_taken_in phase
+is_taken_in phase Terminate = terminate.is_taken_in phase
 is_taken_in phase (Disconnect arguments) = disconnect.is_taken_in phase
+is_taken_in phase SetExceptionBreakpoints = set_exception_breakpoints.is_taken_in phase
+is_taken_in phase (Continue arguments) = continue.is_taken_in phase
+is_taken_in phase (Next arguments) = stepping.is_taken_in phase
+is_taken_in phase (StepIn arguments) = stepping.is_taken_in phase
+is_taken_in phase (StepOut arguments) = stepping.is_taken_in phase
+is_taken_in phase (Pause arguments) = pause.is_taken_in phase
 is_taken_in phase not_served = false
 
--- what comes of the request where it is taken
-abbrev pub success_of : Command → Answering
-success_of (Initialize arguments) = initialize.success
-success_of Threads = threads.success
-success_of (Cancel arguments) = cancel.success
-success_of (Disconnect arguments) = disconnect.success
-success_of not_served = record { change = []; outcome = Done Empty; closes = false }
+-- what the request asks of the program that is debugged
+abbrev pub demand_of : Command → Demand
+demand_of ConfigurationDone = asks_alive
+demand_of Restart = asks_alive
+demand_of Terminate = asks_alive
+demand_of SetExceptionBreakpoints = asks_program
+demand_of (Continue arguments) = asks_still arguments.thread_id
+demand_of (Next arguments) = asks_still arguments.thread_id
+demand_of (StepIn arguments) = asks_still arguments.thread_id
+demand_of (StepOut arguments) = asks_still arguments.thread_id
+demand_of (Pause arguments) = asks_thread arguments.thread_id
+demand_of other = asks_nothing
+
+-- what comes of the request where it is taken, and the program is as it asks; it is given the file that it names
+abbrev pub success_of : Now → Terms → Option (List ℕ) → Command → Answering
+success_of now terms file (Initialize arguments) = initialize.success now terms arguments
+success_of now terms file (Launch arguments) = launch.success now terms file arguments
+success_of now terms file ConfigurationDone = configuration_done.success now terms
+success_of now terms file Threads = threads.success now terms
+success_of now terms file (Cancel arguments) = cancel.success now terms
+success_of now terms file Restart = restart.success now terms
+success_of now terms file Terminate = terminate.success now terms
+success_of now terms file (Disconnect arguments) = disconnect.success now terms arguments
+success_of now terms file SetExceptionBreakpoints = set_exception_breakpoints.success now terms
+success_of now terms file (Continue arguments) = continue.success now terms
+success_of now terms file (Next arguments) =
+    stepping.success now terms (goal.Over (granularity_of arguments.granularity))
+success_of now terms file (StepIn arguments) =
+    stepping.success now terms (goal.In (granularity_of arguments.granularity))
+success_of now terms file (StepOut arguments) =
+    stepping.success now terms (goal.Out (granularity_of arguments.granularity))
+success_of now terms file (Pause arguments) = pause.success now terms
+success_of now terms file not_served = agreeing now terms body.Empty

@@ -9,7 +9,7 @@ use Rattle.std.specs.List.{flat_map}
 use Rattle.framing.specs.Reading.{reading_of}
 use Rattle.framing.specs.Reading.Tail.{Partial}
 use Rattle.replies.specs.declared.message.Message.{Message}
-use Rattle.replies.specs.declared.message.Message.TheVariants.{Response}
+use Rattle.replies.specs.declared.message.Message.TheVariants.{Response, Event as IsEvent}
 use Rattle.replies.specs.declared.response.Outcome.{Outcome}
 use Rattle.session.specs.declared.TheConstants.{BODY_LIMIT}
 use Rattle.session.specs.declared.event.Applied.{Applied}
@@ -19,18 +19,21 @@ use Rattle.session.specs.declared.limits.Limits.{Limits}
 use Rattle.session.specs.declared.link.Link.{Link}
 use Rattle.session.specs.declared.pending.Ask.{Ask}
 use Rattle.session.specs.declared.pending.Pending.{Pending}
-use Rattle.session.specs.declared.phase.Phase.{Phase}
-use Rattle.session.specs.Acts.{Now, Act, Open, Close, Accept, Enter, Reply, HangUp, Take, opened, closed, entered, hung}
+use Rattle.session.specs.declared.terms.Terms.{Terms}
+use Rattle.debuggee.specs.Programs.{Debuggee, Program}
+use Rattle.session.specs.Acts.{Now, Act, Open, Close, Accept, Agree, Become, Reply, Tell, HangUp, Take, opened, closed}
+use Rattle.session.specs.Acts.{agreed, hung}
 use Rattle.session.specs.Acts.{numbered, accepted, read_on, fault_of_reading}
 use Rattle.session.specs.Arrivals.{no_arrivals, asks_of}
 use Rattle.session.specs.Effects.{World, effect, answer, after_all}
 use Rattle.session.specs.Refusals.{response_to}
 use Rattle.session.specs.Writing.{frame_of}
 
--- a message as it was queued, with its number
+-- a message as it was queued, with its number, and the program that was debugged then
 pub record Said : Type 0 where
   pub seq : ℕ
   pub message : Message
+  pub snapshot : Debuggee
 
 -- All of one connection: the bytes that were accepted, up to where a fault is decided, and the requests in them; the
 -- messages that were queued; and the bytes of these that were taken.
@@ -107,14 +110,14 @@ accepted_on (Some link) piece s = if link.is_closing then s else record s {
   life = with_piece s.life s.now piece;
 }
 
--- the connection has come so far, if there is one
-abbrev pub entered_on : Option Link → Phase → Session → Session
-entered_on None phase s = s
-entered_on (Some link) phase s = record s { now = entered s.now link phase }
+-- this is agreed on the connection, if there is one
+abbrev pub agreed_on : Option Link → Terms → Session → Session
+agreed_on None terms s = s
+agreed_on (Some link) terms s = record s { now = agreed s.now link terms }
 
 -- the message that is said next
-abbrev pub said_next : Link → Message → Said
-said_next link message = record { seq = link.seq + 1; message = message }
+abbrev pub said_next : Now → Link → Message → Said
+said_next now link message = record { seq = link.seq + 1; message = message; snapshot = now.debuggee }
 
 -- a life in which a message more was queued
 abbrev pub with_said : Life → Said → Life
@@ -125,7 +128,7 @@ abbrev pub said_on : Option Link → Message → List Pending → Session → Se
 said_on None message rest s = s
 said_on (Some link) message rest s = if nat_lt link.seq s.now.limits.last_seq then record s {
   now = numbered s.now link rest;
-  life = with_said s.life (said_next link message);
+  life = with_said s.life (said_next s.now link message);
 } else s
 
 -- the first of the requests that wait is answered
@@ -147,8 +150,10 @@ abbrev pub performed_on : Act → Session → Session
 performed_on Open s = opened_on s.now.link s
 performed_on Close s = record s { now = closed s.now }
 performed_on (Accept piece) s = accepted_on s.now.link piece s
-performed_on (Enter phase) s = entered_on s.now.link phase s
+performed_on (Agree terms) s = agreed_on s.now.link terms s
+performed_on (Become debuggee) s = record s { now = record s.now { debuggee = debuggee } }
 performed_on (Reply outcome) s = replied_on s.now.arrivals.pending outcome s
+performed_on (Tell event) s = said_on s.now.link (IsEvent event) s.now.arrivals.pending s
 performed_on HangUp s = hung_on s.now.link s
 performed_on (Take n) s = record s { life = with_taken s.life (take n (waiting_of s)) }
 
@@ -164,15 +169,29 @@ Effect s e = effect histories e s
 abbrev pub Answer : Session → Event → Result Applied EventError
 Answer s e = answer histories e s
 
+-- what a session begins with: its limits, how much memory a machine gets, and a program, if one was given
+pub record Beginning : Type 0 where
+  pub limits : Limits
+  pub size : ℕ
+  pub program : Option Program
+
 -- what a session is before anything happened
-abbrev pub nothing_yet : Limits → Now
-nothing_yet limits =
-    record { limits = limits; connections = 0; link = None; arrivals = no_arrivals; tail = Partial []; fault = None }
+abbrev pub nothing_yet : Beginning → Now
+nothing_yet from = record {
+  limits = from.limits;
+  size = from.size;
+  connections = 0;
+  link = None;
+  arrivals = no_arrivals;
+  tail = Partial [];
+  fault = None;
+  debuggee = record { program = from.program; last_break = 0 };
+}
 
 -- a session to which nothing happened
-abbrev pub start : Limits → Session
-start limits = record { now = nothing_yet limits; before = []; life = no_life }
+abbrev pub start : Beginning → Session
+start from = record { now = nothing_yet from; before = []; life = no_life }
 
 -- what a list of events leaves
-abbrev pub After : Limits → List Event → Session
-After limits events = after_all histories events (start limits)
+abbrev pub After : Beginning → List Event → Session
+After from events = after_all histories events (start from)

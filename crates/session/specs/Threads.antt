@@ -1,17 +1,16 @@
 -- `threads`: which threads there are (DAP specification, `ThreadsRequest`).
-use Rattle.std.specs.Prelude.{Bool, true, false, []}
-use Rattle.replies.specs.declared.response.Outcome.TheVariants.{Done}
+use Rattle.std.specs.Prelude.{Bool}
 use Rattle.replies.specs.declared.response.ResponseBody.TheVariants as body
 use Rattle.session.specs.declared.phase.Phase.{Phase}
-use Rattle.session.specs.declared.phase.Phase.TheVariants.{Fresh, Initialized, Left}
-use Rattle.session.specs.Acts.{Answering}
+use Rattle.session.specs.declared.terms.Terms.{Terms}
+use Rattle.session.specs.Acts.{Now, Answering}
+use Rattle.session.specs.Phases.{is_listening_in}
+use Rattle.session.specs.Successes.{agreeing}
 
 -- the phases in which it is taken
 abbrev pub is_taken_in : Phase → Bool
-is_taken_in Fresh = false
-is_taken_in Initialized = true
-is_taken_in Left = false
+is_taken_in phase = is_listening_in phase
 
 -- what comes of it
-abbrev pub success : Answering
-success = record { change = []; outcome = Done body.Threads; closes = false }
+abbrev pub success : Now → Terms → Answering
+success now terms = agreeing now terms body.Threads

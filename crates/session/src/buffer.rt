@@ -1,5 +1,5 @@
 //! Bytes that wait to be sent.
-ghost use Rattle.std.specs.Prelude.{◌≡◌, ◌≤◌, ◌+◌, ◌-◌, ◌*◌, ◌++◌, [], OnOk, OnErr, drop, length, max, vec_len, vec_capacity};
+ghost use Rattle.std.specs.Prelude.{◌≡◌, ◌≤◌, ◌+◌, ◌-◌, ◌*◌, ◌++◌, [], OnOk, OnErr, drop, take, length, max, vec_len, vec_capacity};
 
 use std::alloc::{AllocError, Global};
 use std::marker::Model;
@@ -44,6 +44,15 @@ impl Buffer {
         ensures { result.now ≡ self.now }
     {
         &self.slots.bytes[self.slots.start..]
+    }
+
+    /// Takes the last bytes back, as many as are there at least.
+    pub fn take_back(&mut self, count: usize)
+        requires { count ≤ length self.old }
+        ensures { self.new ≡ take (length self.old - count) self.old }
+    {
+        let kept = self.slots.bytes.len() - count;
+        self.slots.bytes.truncate(kept);
     }
 
     /// Puts bytes after those that wait. Where no memory is left, nothing changes.

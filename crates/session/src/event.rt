@@ -14,6 +14,10 @@ pub enum Event {
     Recv(Bytes),
     /// A request is answered, with the file that it asks for, if it asks for one (`Session::turn`).
     Turn(Option<Bytes>),
+    /// The program is given time for so many moves (`Session::slice`).
+    Slice(u32),
+    /// The program is to stand still before its next move (`Session::hold`).
+    Hold,
     /// So many of the waiting bytes were sent (`Session::sent`).
     Sent(usize),
     /// The connection ends (`Session::drop_connection`).
@@ -29,6 +33,10 @@ pub enum Applied {
     Recv,
     /// What was done.
     Turn(Turned),
+    /// What the program did with its time.
+    Slice(Sliced),
+    /// The program is marked, if it runs.
+    Hold,
     /// The bytes wait no more.
     Sent,
     /// The connection ended.
@@ -44,6 +52,33 @@ pub enum Turned {
     Nothing,
     /// More than 65,536 bytes wait to be sent: nothing was done.
     Full,
+}
+
+/// What a program did with the time that it was given.
+#[derive(Clone, Copy, Debug, PartialEq, Eq)]
+pub struct Sliced {
+    /// How many instructions retired.
+    pub moved: u32,
+    /// What ended the slice.
+    pub ending: Ending,
+}
+
+/// What ended a slice.
+#[derive(Clone, Copy, Debug, PartialEq, Eq)]
+pub enum Ending {
+    /// As many instructions retired as were asked for.
+    Spent,
+    /// More than 65,536 bytes wait to be sent.
+    Full,
+    /// There is no program that runs, or its editor has not said all yet.
+    Idle,
+    /// The program stopped.
+    Stopped,
+    /// The program ended.
+    Ended,
+    /// No memory was left to tell what it did. What is owed will be told first by the next slice, or
+    /// the next turn; a stop that no move made was not made.
+    NoMemory,
 }
 
 /// Why an event did not happen. It changed nothing.

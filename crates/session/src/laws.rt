@@ -2,47 +2,46 @@
 //! clauses say it.
 ghost use Rattle.std.specs.Prelude.{List};
 ghost use Rattle.session.specs.declared.event.Event.{Event as AnEvent};
-ghost use Rattle.session.specs.declared.limits.Limits.{Limits as TheLimits};
-ghost use Rattle.session.specs.Sessions.{After, Session as ASession};
+ghost use Rattle.session.specs.Sessions.{After, Beginning as ABeginning, Session as ASession};
 ghost use Rattle.session.specs.Laws as law;
 
 /// Whatever happens, the life of the last connection that was made is at the place that is its number.
 pub fn lives_are_numbered()
-    ensures { (limits : TheLimits) (events : List AnEvent) → law.LivesAreNumbered (After limits events) }
+    ensures { (from : ABeginning) (events : List AnEvent) → law.LivesAreNumbered (After from events) }
 {}
 
 /// Whatever happens, the bytes that were taken of a connection are a prefix of its bytes, and on the
 /// present connection the bytes that wait are the rest: none is lost, doubled or changed.
 pub fn every_byte_is_taken_or_waits()
-    ensures { (limits : TheLimits) (events : List AnEvent) → law.EveryByteIsTakenOrWaits (After limits events) }
+    ensures { (from : ABeginning) (events : List AnEvent) → law.EveryByteIsTakenOrWaits (After from events) }
 {}
 
 /// Whatever happens, the messages of a connection have the numbers 1, 2, 3 and so on.
 pub fn numbers_rise()
-    ensures { (limits : TheLimits) (events : List AnEvent) → law.NumbersRise (After limits events) }
+    ensures { (from : ABeginning) (events : List AnEvent) → law.NumbersRise (After from events) }
 {}
 
 /// Whatever happens, the requests of a connection have one answer each, in the order in which they
 /// came, for a prefix of them; the others wait, as long as there are numbers for answers.
 pub fn answers_in_order()
-    ensures { (limits : TheLimits) (events : List AnEvent) → law.AnswersInOrder (After limits events) }
+    ensures { (from : ABeginning) (events : List AnEvent) → law.AnswersInOrder (After from events) }
 {}
 
 /// Whatever happens, the requests that came on a connection are those of the bytes that were
 /// accepted on it.
 pub fn requests_are_read()
-    ensures { (limits : TheLimits) (events : List AnEvent) → law.RequestsAreRead (After limits events) }
+    ensures { (from : ABeginning) (events : List AnEvent) → law.RequestsAreRead (After from events) }
 {}
 
 /// Whatever happens, what closed the last connection is the fault of the bytes that were accepted on
 /// it, if they have one.
 pub fn fault_is_of_the_bytes()
-    ensures { (limits : TheLimits) (events : List AnEvent) → law.FaultIsOfTheBytes (After limits events) }
+    ensures { (from : ABeginning) (events : List AnEvent) → law.FaultIsOfTheBytes (After from events) }
 {}
 
 /// Whatever happened, two pieces leave what they leave as one.
 pub fn cuts_do_not_matter()
-    ensures { (limits : TheLimits) (events : List AnEvent) → law.CutsDoNotMatter (After limits events) }
+    ensures { (from : ABeginning) (events : List AnEvent) → law.CutsDoNotMatter (After from events) }
 {}
 
 /// An event that is refused changes nothing.
@@ -52,10 +51,10 @@ pub fn refused_changes_nothing()
 
 /// Whatever happens, each answer is a message that an adapter may send.
 pub fn answers_are_proper()
-    ensures { (limits : TheLimits) (events : List AnEvent) → law.AnswersAreProper (After limits events) }
+    ensures { (from : ABeginning) (events : List AnEvent) → law.AnswersAreProper (After from events) }
 {}
 
 /// Whatever happens, `initialize` succeeds once at most on a connection.
 pub fn initializes_once()
-    ensures { (limits : TheLimits) (events : List AnEvent) → law.InitializesOnce (After limits events) }
+    ensures { (from : ABeginning) (events : List AnEvent) → law.InitializesOnce (After from events) }
 {}

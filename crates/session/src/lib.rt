@@ -1,8 +1,11 @@
 //! A debug session: what an editor sends and what it is answered, one event after another.
 #![tactic(auto)]
 
+mod answer;
 mod arrivals;
 mod buffer;
+mod config;
+mod demand;
 mod draft;
 mod event;
 mod feeding;
@@ -11,17 +14,22 @@ mod limits;
 mod link;
 mod pending;
 mod phase;
+mod prepared;
 mod refusals;
 mod requests;
 mod session;
+mod slices;
 mod state;
+mod telling;
+mod terms;
 mod writing;
 
 pub use buffer::Buffer;
 pub use byte_strings::Bytes;
-pub use event::{Applied, Event, EventError, LinkFault, Turned};
+pub use config::{Config, ConfigError};
+pub use event::{Applied, Ending, Event, EventError, LinkFault, Sliced, Turned};
 pub use feeding::feed;
-pub use limits::{ConfigError, Limits};
+pub use limits::Limits;
 pub use session::Session;
 pub use state::MOST_PIECE;
 pub use writing::framed;

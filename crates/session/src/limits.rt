@@ -3,7 +3,6 @@ ghost use Rattle.std.specs.Prelude.{◌≡◌};
 ghost use Rattle.session.specs.Limits.{greatest_limits, are_limits};
 
 use protocol::LAST_SEQ;
-use thiserror::Error;
 
 /// The last numbers that a session gives, each at least 1.
 #[derive(Clone, Copy, Debug, PartialEq, Eq)]
@@ -15,14 +14,6 @@ pub struct Limits {
     pub last_ref: u32,
     /// How many instructions retire at most since the machine was loaded, at most 2^62.
     pub last_retired: u64,
-}
-
-/// Why there is no session of these numbers.
-#[derive(Clone, Copy, Debug, PartialEq, Eq, Error)]
-pub enum ConfigError {
-    /// A limit is 0 or above its greatest value.
-    #[error("bad limit")]
-    BadLimit,
 }
 
 const GREATEST_REF: u32 = 2_147_483_647;

@@ -1,60 +1,72 @@
-//! What is answered to a request.
-ghost use Rattle.std.specs.Prelude.{◌≡◌, None, IfOk};
+//! Why a request is refused, and what it is answered else.
+ghost use Rattle.std.specs.Prelude.{◌≡◌, ◌++◌, IfOk, None, option_map};
+ghost use Rattle.std.specs.Option.{option_copied};
+ghost use Rattle.session.specs.Acts.{Now as ANow};
+ghost use Rattle.session.specs.Config.{IsSize};
+ghost use Rattle.session.specs.Demands.{run_of};
 ghost use Rattle.session.specs.Kept.{answering_as};
 ghost use Rattle.session.specs.Refusals as spec;
 
+use crate::answer::{Answer, refusing};
+use crate::demand::Demand;
 use crate::pending::{Ask, Fate, Pending};
 use crate::phase::Phase;
-use crate::requests::{is_served, is_taken_in, success_of};
-use protocol::Refusal;
+use crate::requests::{demand_of, is_served, is_taken_in, success_of};
+use crate::terms::Terms;
+use debuggee::Run;
+use protocol::{Command, Refusal};
 use replies::{Outcome, Response};
 use std::alloc::{AllocError, Global};
 
-/// What an answer changes.
-#[derive(Clone, Copy, Debug, PartialEq, Eq)]
-pub enum Change {
-    /// Nothing.
-    Nothing,
-    /// The connection has come so far.
-    Enter(Phase),
-}
-
-/// What a request is answered.
-#[derive(Drop)]
-pub struct Answer {
-    /// What it changes, before it is queued.
-    pub change: Change,
-    /// What becomes of the request.
-    pub outcome: Outcome,
-    /// Whether the connection takes nothing more then.
-    pub closes: bool,
-}
-
-/// What a request is answered in a phase.
-pub(crate) fn answer_to(phase: Phase, pending: &Pending) -> Answer
-    ensures { answering_as result ≡ spec.answer_to phase pending.now }
+/// What a request is answered, where the program that is debugged runs so, by the file that it names,
+/// if it names one, for so many bytes of memory. `Err`: no memory was left.
+pub(crate) fn answer_to(
+    alloc: Global,
+    run: Option<Run>,
+    terms: Terms,
+    size: u32,
+    file: Option<&[u8]>,
+    pending: &Pending,
+) -> Result<Answer, AllocError>
+    requires { IsSize size }
+    ensures { IfOk result (λ a. (now : ANow) → now.size ≡ size → run ≡ run_of now.debuggee.program
+        → answering_as now.debuggee a ≡ spec.answer_to now terms (option_copied file.entry) pending.now) }
 {
-    match refusal_of(phase, pending) {
-        Some(refusal) => refused(refusal),
-        None => taken(&pending.ask),
+    match refusal_of(run, terms.phase, pending) {
+        Some(refusal) => Ok(refusing(terms, refusal, None)),
+        None => taken(alloc, terms, size, file, &pending.ask),
     }
 }
 
-// The first reason for a refusal that applies.
-fn refusal_of(phase: Phase, pending: &Pending) -> Option<Refusal>
-    ensures { result ≡ spec.first_refusal (spec.refusals phase pending.now) }
+/// The first reason for a refusal that applies.
+pub(crate) fn refusal_of(run: Option<Run>, phase: Phase, pending: &Pending) -> Option<Refusal>
+    ensures { result ≡ spec.first_refusal (spec.refusals run phase pending.now) }
 {
     match pending.fate {
         Fate::Repeated => Some(Refusal::RepeatedSequence),
         Fate::Cancelled => Some(Refusal::Cancelled),
-        Fate::Waits => refusal_as_it_stands(phase, &pending.ask),
-        Fate::NamesNone => match refusal_as_it_stands(phase, &pending.ask) {
+        Fate::Waits => refusal_by_itself(run, phase, &pending.ask),
+        Fate::NamesNone => match refusal_by_itself(run, phase, &pending.ask) {
             Some(refusal) => Some(refusal),
             None => Some(Refusal::RequestGone),
         },
     }
 }
 
+// Those that the request gives, or the program.
+fn refusal_by_itself(run: Option<Run>, phase: Phase, ask: &Ask) -> Option<Refusal>
+    ensures { result ≡ spec.first_refusal (spec.as_it_stands phase ask.now ++ spec.unmet run (spec.demand_by ask.now)) }
+{
+    match refusal_as_it_stands(phase, ask) {
+        Some(refusal) => Some(refusal),
+        None => match ask {
+            Ask::Request(request) => refusal_unmet(run, demand_of(&request.command)),
+            Ask::Bad { .. } => refusal_unmet(run, Demand::nothing()),
+        },
+    }
+}
+
+// Those that the request gives.
 fn refusal_as_it_stands(phase: Phase, ask: &Ask) -> Option<Refusal>
     ensures { result ≡ spec.first_refusal (spec.as_it_stands phase ask.now) }
 {
@@ -73,22 +85,57 @@ fn refusal_as_it_stands(phase: Phase, ask: &Ask) -> Option<Refusal>
     }
 }
 
-fn taken(ask: &Ask) -> Answer
-    ensures { answering_as result ≡ spec.answer_by None ask.now }
+// Those that the program gives.
+fn refusal_unmet(run: Option<Run>, demand: Demand) -> Option<Refusal>
+    ensures { result ≡ spec.first_refusal (spec.unmet run demand) }
+{
+    if demand.loaded && run.is_none() {
+        return Some(Refusal::NoMachine);
+    }
+    if demand.alive && matches!(run, Some(Run::Ended(_))) {
+        return Some(Refusal::Ended);
+    }
+    if let Some(number) = demand.thread {
+        if number != 1 {
+            return Some(Refusal::NoThread);
+        }
+    }
+    if demand.still && matches!(run, Some(Run::Running)) {
+        return Some(Refusal::NotStopped);
+    }
+    None
+}
+
+fn taken(
+    alloc: Global,
+    terms: Terms,
+    size: u32,
+    file: Option<&[u8]>,
+    ask: &Ask,
+) -> Result<Answer, AllocError>
+    requires { IsSize size }
+    ensures { IfOk result (λ a. (now : ANow) → now.size ≡ size
+        → answering_as now.debuggee a ≡ spec.answer_by now terms (option_copied file.entry) None ask.now) }
 {
     match ask {
-        Ask::Request(request) => success_of(&request.command),
-        Ask::Bad { refusal, .. } => refused(*refusal),
+        Ask::Request(request) => success_of(alloc, terms, size, file, &request.command),
+        Ask::Bad { refusal, .. } => Ok(refusing(terms, *refusal, None)),
     }
 }
 
-fn refused(refusal: Refusal) -> Answer
-    ensures { answering_as result ≡ spec.refused refusal }
+/// The path of the file that the answer to a request wants, if it wants one.
+pub(crate) fn wanted_by<'p>(run: Option<Run>, phase: Phase, pending: &'p Pending) -> Option<&'p str>
+    ensures { option_map (λ path. path.now) result ≡ spec.path_in (spec.first_refusal (spec.refusals run phase pending.now)) pending.now.ask }
 {
-    Answer {
-        change: Change::Nothing,
-        outcome: Outcome::Refused(refusal, None),
-        closes: false,
+    match refusal_of(run, phase, pending) {
+        Some(_) => None,
+        None => match &pending.ask {
+            Ask::Request(request) => match &request.command {
+                Command::Launch(arguments) => Some(arguments.program.as_str()),
+                _ => None,
+            },
+            Ask::Bad { .. } => None,
+        },
     }
 }
 

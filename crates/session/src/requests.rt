@@ -1,17 +1,34 @@
 //! The requests, each in a module of its own. This is the list of them.
-ghost use Rattle.std.specs.Prelude.{◌≡◌, false};
-ghost use Rattle.session.specs.Kept.{acts_of, answering_as};
-ghost use Rattle.session.specs.Requests.{is_served, is_taken_in, success_of};
+ghost use Rattle.std.specs.Prelude.{◌≡◌, IfOk};
+ghost use Rattle.std.specs.Option.{option_copied};
+ghost use Rattle.session.specs.Acts.{Now as ANow};
+ghost use Rattle.session.specs.Config.{IsSize};
+ghost use Rattle.session.specs.Kept.{answering_as};
+ghost use Rattle.protocol.specs.declared.command.Command.TheVariants as a_command;
+ghost use Rattle.protocol.specs.declared.launch.LaunchArguments.{LaunchArguments};
+ghost use Rattle.session.specs.Requests.{demand_of, is_served, is_taken_in, success_of};
 
 mod cancel;
+mod configuration_done;
+mod continue_;
 mod disconnect;
 mod initialize;
+mod launch;
+mod pause;
+mod restart;
+mod set_exception_breakpoints;
+mod steps;
+mod terminate;
 mod threads;
 
+use crate::answer::{Answer, agreeing};
+use crate::demand::Demand;
 use crate::phase::Phase;
-use crate::refusals::{Answer, Change};
+use crate::terms::Terms;
 use protocol::Command;
-use replies::{Outcome, ResponseBody};
+use replies::ResponseBody;
+use std::alloc::{AllocError, Global};
+use stepping::Goal;
 
 /// Whether a request of that name is served (`Request.command`).
 #[tactic(auto, unfolding(crate::specs::Requests::is_served))]
@@ -21,9 +38,19 @@ pub(crate) fn is_served(name: &str) -> bool
     matches!(
         name,
         protocol::initialize::NAME
+            | protocol::launch::NAME
+            | protocol::configuration_done::NAME
             | protocol::threads::NAME
             | protocol::cancel::NAME
+            | protocol::restart::NAME
+            | protocol::terminate::NAME
             | protocol::disconnect::NAME
+            | protocol::set_exception_breakpoints::NAME
+            | protocol::continue_::NAME
+            | protocol::next::NAME
+            | protocol::step_in::NAME
+            | protocol::step_out::NAME
+            | protocol::pause::NAME
     )
 }
 
@@ -32,34 +59,88 @@ pub(crate) fn is_taken_in(phase: Phase, command: &Command) -> bool
     ensures { result ≡ is_taken_in phase command.now }
 {
     match command {
-        Command::Initialize(_) => initialize::is_taken_in(phase),
-        Command::Threads => threads::is_taken_in(phase),
-        Command::Cancel(_) => cancel::is_taken_in(phase),
-        Command::Disconnect(_) => disconnect::is_taken_in(phase),
+        Command::Initialize(_) => phase.is_fresh(),
+        Command::Launch(_) => phase.is_initialized(),
+        Command::ConfigurationDone => phase.is_configuring(),
+        Command::Threads => phase.is_listening(),
+        Command::Cancel(_) | Command::Disconnect(_) => phase.is_there(),
+        Command::Terminate | Command::SetExceptionBreakpoints => phase.is_debugging(),
+        Command::Restart
+        | Command::Continue(_)
+        | Command::Next(_)
+        | Command::StepIn(_)
+        | Command::StepOut(_)
+        | Command::Pause(_) => phase.is_active(),
         _ => false,
     }
 }
 
-/// What comes of the request where it is taken: of one that is not served, nothing.
-pub(crate) fn success_of(command: &Command) -> Answer
-    ensures { answering_as result ≡ success_of command.now }
+/// What the request asks of the program that is debugged.
+pub(crate) fn demand_of(command: &Command) -> Demand
+    ensures { result ≡ demand_of command.now }
 {
     match command {
-        Command::Initialize(_) => initialize::success(),
-        Command::Threads => threads::success(),
-        Command::Cancel(_) => cancel::success(),
-        Command::Disconnect(_) => disconnect::success(),
-        _ => succeeds(Change::Nothing, ResponseBody::Empty),
+        Command::ConfigurationDone | Command::Restart | Command::Terminate => Demand::alive(),
+        Command::SetExceptionBreakpoints => Demand::program(),
+        Command::Continue(arguments) => Demand::still(arguments.thread_id),
+        Command::Next(arguments) => Demand::still(arguments.thread_id),
+        Command::StepIn(arguments) => Demand::still(arguments.thread_id),
+        Command::StepOut(arguments) => Demand::still(arguments.thread_id),
+        Command::Pause(arguments) => Demand::thread(arguments.thread_id),
+        _ => Demand::nothing(),
     }
 }
 
-/// A success that the connection outlasts.
-fn succeeds(change: Change, body: ResponseBody) -> Answer
-    ensures { answering_as result ≡ record { change = acts_of change; outcome = Outcome.Done body; closes = false } }
+/// What comes of the request where it is taken, and the program is as it asks: of one that is not
+/// served, nothing. `Err`: no memory was left.
+pub(crate) fn success_of(
+    alloc: Global,
+    terms: Terms,
+    size: u32,
+    file: Option<&[u8]>,
+    command: &Command,
+) -> Result<Answer, AllocError>
+    requires { IsSize size }
+    ensures { IfOk result (λ a. (now : ANow) → now.size ≡ size
+        → answering_as now.debuggee a ≡ success_of now terms (option_copied file.entry) command.now) }
 {
-    Answer {
-        change,
-        outcome: Outcome::Done(body),
-        closes: false,
+    match command {
+        Command::Launch(arguments) => launch::success(alloc, terms, size, file, arguments),
+        other => Ok(plain_success_of(terms, file, other)),
+    }
+}
+
+// The same of any other request than `launch`.
+fn plain_success_of(terms: Terms, file: Option<&[u8]>, command: &Command) -> Answer
+    requires { (arguments : LaunchArguments) → command.now ≡ a_command.Launch arguments → ⊥ }
+    ensures { (now : ANow)
+        → answering_as now.debuggee result ≡ success_of now terms (option_copied file.entry) command.now }
+{
+    let _ = file;
+    match command {
+        Command::Initialize(arguments) => initialize::success(terms, arguments),
+        Command::Launch(_) => unreachable!(),
+        Command::ConfigurationDone => configuration_done::success(terms),
+        Command::Threads => threads::success(terms),
+        Command::Cancel(_) => cancel::success(terms),
+        Command::Restart => restart::success(terms),
+        Command::Terminate => terminate::success(terms),
+        Command::Disconnect(arguments) => disconnect::success(terms, arguments),
+        Command::SetExceptionBreakpoints => set_exception_breakpoints::success(terms),
+        Command::Continue(_) => continue_::success(terms),
+        Command::Next(arguments) => {
+            let granularity = steps::granularity_of(arguments.granularity);
+            steps::success(terms, Goal::Over(granularity))
+        }
+        Command::StepIn(arguments) => {
+            let granularity = steps::granularity_of(arguments.granularity);
+            steps::success(terms, Goal::In(granularity))
+        }
+        Command::StepOut(arguments) => {
+            let granularity = steps::granularity_of(arguments.granularity);
+            steps::success(terms, Goal::Out(granularity))
+        }
+        Command::Pause(_) => pause::success(terms),
+        _ => agreeing(terms, ResponseBody::Empty),
     }
 }

@@ -1,15 +1,18 @@
 //! A session: one event after another.
-ghost use Rattle.std.specs.Prelude.{◌≡◌, ◌↔◌, true, length, IsOk, IfOk, OnErr, Result, Err};
+ghost use Rattle.std.specs.Prelude.{◌≡◌, length, OnErr, Result, Ok, Err, option_map};
 ghost use Rattle.std.specs.Option.{option_copied};
 ghost use Rattle.session.specs.declared.event.Event.TheVariants as event;
 ghost use Rattle.session.specs.declared.event.Applied.TheVariants as applied;
-ghost use Rattle.session.specs.Limits.{are_limits};
+ghost use Rattle.session.specs.Begins.{Begins};
+ghost use Rattle.session.specs.Refusals.{wanted_on};
+ghost use Rattle.session.specs.Slices.{is_runnable};
 ghost use Rattle.session.specs.Outcomes.{is_finished};
 ghost use Rattle.session.specs.Sessions.{start, waiting_of, histories};
 ghost use Rattle.session.specs.Kept.{Happens, OfEach, Stands, answered, see_kept};
 
-use crate::event::{Applied, Event, EventError, LinkFault, Turned};
-use crate::limits::{ConfigError, Limits};
+use crate::config::{Config, ConfigError, first_program, is_size};
+use crate::event::{Applied, Event, EventError, LinkFault, Sliced, Turned};
+use crate::limits::Limits;
 use crate::state::State;
 use std::alloc::Global;
 use std::marker::Model;
@@ -27,6 +30,10 @@ pub struct Session {
 
 impl Model for Session {
     ghost use Rattle.session.specs.Kept.{Kept};
+    ghost use Rattle.std.specs.Coded.{codes};
+    ghost use Rattle.breakpoints.specs.contracts.breakpoint.Breakpoint as breakpoint;
+
+    ghost coded = { Prim.hlevel (codes, breakpoint.the_row.coded) };
 
     ghost Value = { Kept };
 
@@ -35,17 +42,22 @@ impl Model for Session {
 
 #[tactic(auto, using(crate::proofs::Happening::happening, crate::proofs::Standing::begins))]
 impl Session {
-    /// A session to which nothing happened, with these limits. `BadLimit` where one of them is 0 or
-    /// above its greatest value. It takes no memory; the allocator is kept for later.
-    pub fn new(alloc: Global, limits: Limits) -> Result<Session, ConfigError>
-        ensures right { IsOk result ↔ (are_limits limits ≡ true) }
-        ensures stands { IfOk result (λ s. Stands s (start limits)) }
+    /// A session to which nothing happened, with these limits, in which a machine gets so much memory;
+    /// and with a program, if one is given. The errors apply in this order: `BadMemorySize` where
+    /// memory cannot have the size, `BadLimit` where a limit is 0 or above its greatest value,
+    /// `Assembly` where the program has no image, `NoMemory` where no memory was left.
+    pub fn new(alloc: Global, config: Config, limits: Limits) -> Result<Session, ConfigError>
+        ensures { Begins config limits result }
     {
+        if !is_size(config.memory_size) {
+            return Err(ConfigError::BadMemorySize);
+        }
         if !limits.are_right() {
             return Err(ConfigError::BadLimit);
         }
+        let program = first_program(alloc, config.program, config.memory_size)?;
         Ok(Session {
-            state: State::new(alloc, limits),
+            state: State::new(alloc, limits, config.memory_size, program),
         })
     }
 
@@ -76,7 +88,8 @@ impl Session {
         self.state.recv(piece)
     }
 
-    /// Answers the first request that waits. `file` is not looked at yet: no request asks for one.
+    /// Tells what the program owes, if it owes something; else answers the first request that waits,
+    /// with the file that it names, if it names one (`wants_file`): `None` where that cannot be read.
     ///
     /// `Full` where more than 65,536 bytes wait to be sent, and else `Nothing` where no request waits;
     /// neither changes anything. The errors are `NotConnected` and `NoMemory`.
@@ -84,8 +97,24 @@ impl Session {
         ensures stands { Happens self.old (event.Turn (option_copied file.entry)) (answered applied.Turn result) self.new }
         ensures err { OnErr result (self.new ≡ self.old) }
     {
-        let _ = file;
-        self.state.turn()
+        self.state.turn(file)
+    }
+
+    /// Gives the program time for so many moves. First what it owes is told. It ends with `Stopped` or
+    /// `Ended` where the program does; with `Idle` where there is nothing to do; with `Full` where more
+    /// than 65,536 bytes wait to be sent; with `Spent` where so many instructions have retired; and with
+    /// `NoMemory` where none was left to tell what the program did, which is then owed.
+    pub fn slice(&mut self, moves: u32) -> Sliced
+        ensures stands { Happens self.old (event.Slice moves) (Ok (applied.Slice result)) self.new }
+    {
+        self.state.slice(moves)
+    }
+
+    /// The program is to stand still before its next move, if it runs. It takes no memory.
+    pub fn hold(&mut self)
+        ensures stands { Happens self.old event.Hold (Ok applied.Hold) self.new }
+    {
+        self.state.hold()
     }
 
     /// The first `count` of the waiting bytes were sent, and wait no more.
@@ -123,6 +152,11 @@ impl Session {
                 Applied::Recv
             }
             Event::Turn(file) => Applied::Turn(self.turn(file.as_ref().map(|f| f.as_slice()))?),
+            Event::Slice(moves) => Applied::Slice(self.slice(*moves)),
+            Event::Hold => {
+                self.hold();
+                Applied::Hold
+            }
             Event::Sent(count) => {
                 self.sent(*count)?;
                 Applied::Sent
@@ -157,6 +191,23 @@ impl Session {
         ensures stands { OfEach self.now (λ s. result ≡ is_finished (histories.see s)) }
     {
         self.state.finished()
+    }
+
+    /// Whether a slice would do something: a program runs, and its editor, if there is one, has said all.
+    pub fn runnable(&self) -> bool
+        ensures now { result ≡ is_runnable self.now.now }
+        ensures stands { OfEach self.now (λ s. result ≡ is_runnable s.now) }
+    {
+        self.state.runnable()
+    }
+
+    /// The path of the file that the next answer wants, if it wants one: `turn` is to be given what it
+    /// holds.
+    pub fn wants_file(&self) -> Option<&str>
+        ensures now { option_map (λ path. path.now) result ≡ wanted_on self.now.now self.now.now.link }
+        ensures stands { OfEach self.now (λ s. option_map (λ path. path.now) result ≡ wanted_on s.now s.now.link) }
+    {
+        self.state.wants_file()
     }
 
     /// What closed the connection, if what came on it was no frame or no message. It is kept after the

@@ -1,17 +1,29 @@
 //! What a session keeps.
-ghost use Rattle.std.specs.Prelude.{◌≡◌, true, [], Option, Some, Ok, Err, IfOk, OnOk, OnErr, IsSome, ◌++◌, ◌∷◌, List, ℕ, length};
+ghost use Rattle.std.specs.Prelude.{◌≡◌, ◌≤◌, ◌^◌, None, true, [], Option, Some, Ok, Err, IfOk, OnOk, OnErr, IsSome, ◌++◌, ◌∷◌, List, ℕ, length};
 ghost use Rattle.std.specs.Option.{option_map};
 ghost use Rattle.session.specs.declared.event.Event.TheVariants as event;
 ghost use Rattle.session.specs.declared.event.Applied.TheVariants as applied;
-ghost use Rattle.session.specs.Kept.{Goes, acts_of, answered, draft_on, drafted, kept_closing, kept_entered, nothing_kept, keepings, see_kept, settled};
+ghost use Rattle.session.specs.Kept.{Drafted, Goes, answered, changed, changed_one, draft_on, drafted, drafted_all, events_of, kept_agreed, kept_changed, kept_closing, nothing_kept, keepings, see_kept, settled};
+ghost use Rattle.session.specs.Config.{IsSize};
+ghost use Rattle.session.specs.Demands.{run_of};
+ghost use Rattle.std.specs.Option.{option_copied};
+ghost use Rattle.debuggee.specs.Programs.{left, marked, with_program};
+ghost use Rattle.debuggee.specs.declared.run.Mark.TheVariants as a_mark;
 ghost use Rattle.session.specs.Acts as acts;
 ghost use Rattle.session.specs.Arrivals.{no_arrivals, others_pending};
 ghost use Rattle.framing.specs.Reading.Tail.{Partial};
 ghost use Rattle.session.specs.Outcomes as spec;
-ghost use Rattle.session.specs.Refusals.{response_to};
+ghost use Rattle.session.specs.Refusals.{response_to, wanted_on};
+ghost use Rattle.session.specs.Refusals as spec_answer;
+ghost use Rattle.session.specs.Preparing.{IsPrepared};
+ghost use Rattle.session.specs.Disconnect.{departed};
+ghost use Rattle.session.specs.declared.answer.Change.TheVariants as a_change;
+ghost use Rattle.debuggee.specs.Programs.{Program as AProgram, first_run, restarted};
+ghost use Rattle.session.specs.Slices.{is_runnable};
 ghost use Rattle.session.specs.Effects.{performed};
 
 use crate::BODY_LIMIT;
+use crate::answer::{Answer, Change};
 use crate::arrivals::Arrivals;
 use crate::buffer::Buffer;
 use crate::draft::Draft;
@@ -20,11 +32,13 @@ use crate::feeding::feed;
 use crate::limits::Limits;
 use crate::link::Link;
 use crate::pending::Pending;
-use crate::phase::Phase;
-use crate::refusals::{Change, answer_to, response_to};
+use crate::prepared::Prepared;
+use crate::refusals::{answer_to, response_to, wanted_by};
+use crate::terms::Terms;
+use debuggee::{Mark, Program, Run, Why};
 use framing::{FrameError, Unframer};
 use protocol::MessageError;
-use replies::{Message, Outcome};
+use replies::{Event, Message, Outcome};
 use std::alloc::{AllocError, Global};
 use std::marker::Model;
 
@@ -42,52 +56,67 @@ pub const LAST_CONNECTION: u32 = 4_294_967_295;
 
 #[derive(Drop)]
 pub(crate) struct State {
-    alloc: Global,
-    limits: Limits,
+    pub(crate) alloc: Global,
+    pub(crate) limits: Limits,
+    size: u32,
     connections: u32,
-    link: Option<Link>,
+    pub(crate) link: Option<Link>,
     arrivals: Arrivals,
     unframer: Unframer,
     fault: Option<LinkFault>,
-    buffer: Buffer,
+    pub(crate) buffer: Buffer,
+    pub(crate) program: Option<Program>,
+    last_break: u32,
 }
 
 impl Model for State {
-    ghost use Rattle.std.specs.Prelude.{◌≡◌, []};
+    ghost use Rattle.std.specs.Prelude.{◌≡◌, ◌≤◌, ◌^◌, []};
     ghost use Rattle.session.specs.declared.TheConstants.{BODY_LIMIT};
     ghost use Rattle.session.specs.Kept.{Kept};
+    ghost use Rattle.session.specs.Config.{IsSize};
+    ghost use Rattle.std.specs.Coded.{codes};
+    ghost use Rattle.breakpoints.specs.contracts.breakpoint.Breakpoint as breakpoint;
+
+    ghost coded = { Prim.hlevel (codes, breakpoint.the_row.coded) };
 
     ghost Value = { Kept };
 
     ghost view = { λ s. record {
       now = record {
         limits = s.limits;
+        size = s.size;
         connections = s.connections;
         link = s.link;
         arrivals = s.arrivals;
         tail = s.unframer.tail;
         fault = s.fault;
+        debuggee = record { program = s.program; last_break = s.last_break };
       };
       waiting = s.buffer;
     } };
 
-    ghost invariant = { λ s. (s.unframer.limit ≡ BODY_LIMIT) × (s.unframer.waiting ≡ []) };
+    ghost invariant = { λ s. (s.unframer.limit ≡ BODY_LIMIT) × (s.unframer.waiting ≡ []) × IsSize s.size × (s.limits.last_retired ≤ 2 ^ 62) };
 }
 
 impl State {
     /// Before anything happened. It takes no memory.
-    pub(crate) fn new(alloc: Global, limits: Limits) -> State
-        ensures { result ≡ nothing_kept limits }
+    pub(crate) fn new(alloc: Global, limits: Limits, size: u32, program: Option<Program>) -> State
+        requires size { IsSize size }
+        requires few { limits.last_retired ≤ 2 ^ 62 }
+        ensures { result ≡ nothing_kept (record { limits = limits; size = size; program = program }) }
     {
         State {
             alloc,
             limits,
+            size,
             connections: 0,
             link: None,
             arrivals: Arrivals::new(alloc),
             unframer: Unframer::new(alloc, BODY_LIMIT),
             fault: None,
             buffer: Buffer::new(alloc),
+            program,
+            last_break: 0,
         }
     }
 
@@ -106,7 +135,7 @@ impl State {
         self.connections += 1;
         self.link = Some(Link {
             seq: 0,
-            phase: Phase::Fresh,
+            terms: Terms::first(),
             is_closing: false,
         });
         self.forget();
@@ -139,9 +168,21 @@ impl State {
         if self.link.is_none() {
             return Err(EventError::NotConnected);
         }
+        if let Some(program) = &mut self.program {
+            program.leave();
+        }
         self.link = None;
         self.forget();
         Ok(())
+    }
+
+    /// The program is to stand still before its next move.
+    pub(crate) fn hold(&mut self)
+        ensures { Goes self.old event.Hold (Ok applied.Hold) self.new }
+    {
+        if let Some(program) = &mut self.program {
+            program.set_mark(Mark::Hold);
+        }
     }
 
     // Nothing is kept of what came on a connection, nor of what waits to be sent.
@@ -156,18 +197,24 @@ impl State {
         self.buffer.clear();
     }
 
-    /// Answers the first request that waits.
-    pub(crate) fn turn(&mut self) -> Result<Turned, EventError>
-        ensures kept { (file : Option (List ℕ)) → Goes self.old (event.Turn file) (answered applied.Turn result) self.new }
+    /// Tells what is owed, or else answers the first request that waits, with the file that it names.
+    pub(crate) fn turn(&mut self, file: Option<&[u8]>) -> Result<Turned, EventError>
+        ensures kept { Goes self.old (event.Turn (option_copied file.entry)) (answered applied.Turn result) self.new }
         ensures err { OnErr result (self.new ≡ self.old) }
     {
         let Some(link) = self.link else {
             return Err(EventError::NotConnected);
         };
+        if let Some(tick) = self.owed() {
+            return match self.tell(tick) {
+                Ok(()) => Ok(Turned::Answered),
+                Err(_) => Err(EventError::NoMemory),
+            };
+        }
         if self.buffer.len() > FULL {
             return Ok(Turned::Full);
         }
-        match self.answer_first(link) {
+        match self.answer_first(link, file) {
             Ok(turned) => Ok(turned),
             Err(_) => Err(EventError::NoMemory),
         }
@@ -175,57 +222,114 @@ impl State {
 
     // Answers the first request that waits on the connection: all growth comes first, then the change,
     // and then the numbers are given.
-    #[tactic(auto, using(crate::proofs::Drafting::first_answers))]
-    fn answer_first(&mut self, link: Link) -> Result<Turned, AllocError>
+    #[tactic(auto, using(crate::proofs::Drafting::first_answers, crate::proofs::Drafting::answer_needs))]
+    fn answer_first(&mut self, link: Link, file: Option<&[u8]>) -> Result<Turned, AllocError>
         requires { self.old.now.link ≡ Some link }
-        ensures answer { IfOk result (λ turned. (spec.next_turn link self.old.now.arrivals.pending).answer
+        ensures answer { IfOk result (λ turned. (spec.next_turn self.old.now link.terms (option_copied file.entry) self.old.now.arrivals.pending).answer
             ≡ Ok (applied.Turn turned)) }
         ensures ok { OnOk result (self.new
-            ≡ performed keepings (spec.next_turn link self.old.now.arrivals.pending).acts self.old) }
+            ≡ performed keepings (spec.next_turn self.old.now link.terms (option_copied file.entry) self.old.now.arrivals.pending).acts self.old) }
         ensures err { OnErr result (self.new ≡ self.old) }
-        ensures needs { OnErr result (spec.needs_memory (spec.next_turn link self.old.now.arrivals.pending).acts ≡ true) }
+        ensures needs { OnErr result (spec.needs_memory (spec.next_turn self.old.now link.terms (option_copied file.entry) self.old.now.arrivals.pending).acts ≡ true) }
     {
         let Some(first) = self.arrivals.first() else {
             return Ok(Turned::Nothing);
         };
-        let answer = answer_to(link.phase, first);
-        let change = answer.change;
-        let closes = answer.closes;
-        let draft = self.draft_answer(first, answer.outcome)?;
-        self.buffer.push(draft.bytes())?;
-        self.change(change);
-        self.settle(draft.seq());
-        self.hang_up(closes);
+        let prepared = self.prepare(link, file, first)?;
+        self.carry_out(prepared.change, prepared.terms, &prepared.draft)?;
+        self.settle(prepared.draft.seq());
+        self.hang_up(prepared.closes);
         Ok(Turned::Answered)
     }
 
-    // The answer to a request, written.
-    fn draft_answer(&self, pending: &Pending, outcome: Outcome) -> Result<Draft, AllocError>
-        ensures { IfOk result (λ d. d ≡ drafted self.now.now.limits (Message.Response (response_to pending.now.ask outcome))
-            (draft_on self.now.now.limits self.now.now.link)) }
+    // What the first request is answered, written.
+    fn prepare(
+        &self,
+        link: Link,
+        file: Option<&[u8]>,
+        first: &Pending,
+    ) -> Result<Prepared, AllocError>
+        ensures { IfOk result (λ r. IsPrepared self.now.now first.now
+            (spec_answer.answer_to self.now.now link.terms (option_copied file.entry) first.now) r) }
+    {
+        let answer = answer_to(self.alloc, self.run(), link.terms, self.size, file, first)?;
+        let Answer {
+            change,
+            terms,
+            outcome,
+            event,
+            closes,
+        } = answer;
+        let draft = self.draft_answer(first, outcome, event)?;
+        Ok(Prepared {
+            change,
+            terms,
+            closes,
+            draft,
+        })
+    }
+
+    // The answer to a request, written, with what the editor is told after it.
+    fn draft_answer(
+        &self,
+        pending: &Pending,
+        outcome: Outcome,
+        event: Option<Event>,
+    ) -> Result<Draft, AllocError>
+        ensures { IfOk result (λ d. d ≡ drafted_all self.now.now.limits (events_of event)
+            (drafted self.now.now.limits (Message.Response (response_to pending.now.ask outcome))
+            (draft_on self.now.now.limits self.now.now.link))) }
     {
         let mut draft = Draft::new(self.alloc, self.limits, self.link);
         let response = response_to(self.alloc, &pending.ask, outcome)?;
         draft.add(self.limits, &Message::Response(response))?;
+        if let Some(event) = event {
+            draft.add(self.limits, &Message::Event(event))?;
+        }
         Ok(draft)
     }
 
-    // What an answer changes.
-    fn change(&mut self, change: Change)
-        ensures { self.new ≡ performed keepings (acts_of change) self.old }
+    // What was drafted is queued, and the change stands: both or none.
+    fn carry_out(&mut self, change: Change, terms: Terms, draft: &Draft) -> Result<(), AllocError>
+        ensures ok { OnOk result (self.new ≡ kept_changed change terms (record self.old { waiting = self.old.waiting ++ draft.now.bytes })) }
+        ensures err { OnErr result (self.new ≡ self.old) }
     {
-        match change {
-            Change::Nothing => {}
-            Change::Enter(phase) => self.enter(phase),
+        self.buffer.push(draft.bytes())?;
+        match self.change(change) {
+            Ok(()) => {
+                self.agree(terms);
+                Ok(())
+            }
+            Err(refused) => {
+                self.buffer.take_back(draft.bytes().len());
+                Err(refused)
+            }
         }
     }
 
-    // The connection has come so far.
-    fn enter(&mut self, phase: Phase)
-        ensures { self.new ≡ kept_entered self.old.now.link phase self.old }
+    // What an answer makes of the program that is debugged.
+    fn change(&mut self, change: Change) -> Result<(), AllocError>
+        ensures ok { OnOk result (self.new ≡ record self.old { now = record self.old.now { debuggee = changed change self.old.now.debuggee } }) }
+        ensures err { OnErr result (self.new ≡ self.old) }
+    {
+        match change {
+            Change::Nothing => {}
+            Change::Load(program) => self.program = Some(program),
+            change => {
+                if let Some(program) = &mut self.program {
+                    change_program(program, change)?;
+                }
+            }
+        }
+        Ok(())
+    }
+
+    // This is agreed on the connection.
+    fn agree(&mut self, terms: Terms)
+        ensures { self.new ≡ kept_agreed self.old.now.link terms self.old }
     {
         if let Some(link) = self.link {
-            self.link = Some(Link { phase, ..link });
+            self.link = Some(Link { terms, ..link });
         }
     }
 
@@ -249,7 +353,30 @@ impl State {
         }
         self.link = Some(Link {
             seq,
-            phase: link.phase,
+            terms: link.terms,
+            is_closing: is_last || link.is_closing,
+        });
+    }
+
+    // Events up to this number were queued.
+    pub(crate) fn settle_told(&mut self, seq: u32)
+        ensures { self.new ≡ record self.old {
+          now = settled self.old.now.link seq self.old.now.arrivals.pending self.old.now;
+        } }
+    {
+        let Some(link) = self.link else {
+            return;
+        };
+        if link.seq >= seq {
+            return;
+        }
+        let is_last = seq == self.limits.last_seq;
+        if is_last {
+            self.arrivals.drop_all();
+        }
+        self.link = Some(Link {
+            seq,
+            terms: link.terms,
             is_closing: is_last || link.is_closing,
         });
     }
@@ -359,11 +486,103 @@ impl State {
         }
     }
 
+    /// Whether a slice would do something.
+    pub(crate) fn runnable(&self) -> bool
+        ensures { result ≡ is_runnable self.now.now }
+    {
+        match &self.program {
+            Some(program) => self.is_given_time(program.run()),
+            None => false,
+        }
+    }
+
+    /// The path of the file that the next answer wants, if it wants one.
+    #[tactic(auto, using(crate::proofs::Wanting::wants_first, crate::proofs::Wanting::wants_none))]
+    pub(crate) fn wants_file(&self) -> Option<&str>
+        ensures { option_map (λ path. path.now) result ≡ wanted_on self.now.now self.now.now.link }
+    {
+        let run = self.run();
+        match self.link {
+            Some(link) => match self.arrivals.first() {
+                Some(first) => wanted_by(run, link.terms.phase, first),
+                None => None,
+            },
+            None => None,
+        }
+    }
+
+    // The run of the program that is debugged, if there is one.
+    fn run(&self) -> Option<Run>
+        ensures { result ≡ run_of self.now.now.debuggee.program }
+    {
+        match &self.program {
+            Some(program) => Some(program.run()),
+            None => None,
+        }
+    }
+
     /// What closed the connection, or the last one.
     pub(crate) fn link_fault(&self) -> Option<LinkFault>
         ensures { result ≡ self.now.now.fault }
     {
         self.fault
+    }
+}
+
+// What an answer makes of the program that is debugged, where there is one.
+fn change_program(program: &mut Program, change: Change) -> Result<(), AllocError>
+    requires nothing { change ≡ a_change.Nothing → ⊥ }
+    requires load { (other : AProgram) → change ≡ a_change.Load other → ⊥ }
+    ensures ok { OnOk result (program.new ≡ changed_one change program.old) }
+    ensures err { OnErr result (program.new ≡ program.old) }
+{
+    match change {
+        Change::Nothing | Change::Load(_) => unreachable!(),
+        Change::Begin => program.begin(),
+        Change::Resume(goal) => program.resume(goal),
+        Change::Mark(mark) => program.set_mark(mark),
+        Change::Restart => return start_anew(program),
+        Change::End => program.end(None),
+        Change::Leave { ends, stands } => {
+            program.leave();
+            depart(program, ends, stands);
+        }
+    }
+    Ok(())
+}
+
+// A program is loaded anew, and its first run begins.
+fn start_anew(program: &mut Program) -> Result<(), AllocError>
+    ensures ok { OnOk result (program.new ≡ first_run (restarted program.old)) }
+    ensures err { OnErr result (program.new ≡ program.old) }
+{
+    match program.restart() {
+        Ok(()) => {
+            program.begin();
+            Ok(())
+        }
+        Err(refused) => Err(refused),
+    }
+}
+
+// The editor has left a program: it ends, or is to stand still, or goes on.
+fn depart(program: &mut Program, ends: bool, stands: bool)
+    ensures { program.new ≡ departed ends stands program.old }
+{
+    match program.run() {
+        Run::Ended(_) => {}
+        Run::Stopped(_) => {
+            if ends {
+                program.end(None);
+            }
+        }
+        Run::Running => {
+            if ends {
+                program.end(None);
+            } else if stands {
+                program.stop(Why::Pause);
+            }
+        }
     }
 }
 

@@ -1,27 +1,16 @@
 //! `cancel`: a request is not to be answered as it stands. It acts when it comes; this is its answer.
 ghost use Rattle.std.specs.Prelude.{◌≡◌};
+ghost use Rattle.session.specs.Acts.{Now as ANow};
 ghost use Rattle.session.specs.Kept.{answering_as};
 ghost use Rattle.session.specs.Cancel as spec;
 
-use super::succeeds;
-use crate::phase::Phase;
-use crate::refusals::{Answer, Change};
+use crate::answer::{Answer, agreeing};
+use crate::terms::Terms;
 use replies::ResponseBody;
 
-/// Whether the request is taken in the phase.
-pub(crate) fn is_taken_in(phase: Phase) -> bool
-    ensures { result ≡ spec.is_taken_in phase }
-{
-    match phase {
-        Phase::Fresh => true,
-        Phase::Initialized => true,
-        Phase::Left => false,
-    }
-}
-
 /// What comes of it.
-pub(crate) fn success() -> Answer
-    ensures { answering_as result ≡ spec.success }
+pub(crate) fn success(terms: Terms) -> Answer
+    ensures { (now : ANow) → answering_as now.debuggee result ≡ spec.success now terms }
 {
-    succeeds(Change::Nothing, ResponseBody::Empty)
+    agreeing(terms, ResponseBody::Empty)
 }

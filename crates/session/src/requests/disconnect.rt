@@ -1,30 +1,28 @@
-//! `disconnect`: the end of the session, in every phase but after itself.
+//! `disconnect`: the end of the connection, in every phase but after itself.
 ghost use Rattle.std.specs.Prelude.{◌≡◌};
+ghost use Rattle.session.specs.Acts.{Now as ANow};
 ghost use Rattle.session.specs.Kept.{answering_as};
 ghost use Rattle.session.specs.Disconnect as spec;
 
+use crate::answer::{Answer, Change};
 use crate::phase::Phase;
-use crate::refusals::{Answer, Change};
+use crate::terms::Terms;
+use protocol::disconnect::DisconnectArguments;
 use replies::{Outcome, ResponseBody};
 
-/// Whether the request is taken in the phase.
-pub(crate) fn is_taken_in(phase: Phase) -> bool
-    ensures { result ≡ spec.is_taken_in phase }
-{
-    match phase {
-        Phase::Fresh => true,
-        Phase::Initialized => true,
-        Phase::Left => false,
-    }
-}
-
 /// What comes of it.
-pub(crate) fn success() -> Answer
-    ensures { answering_as result ≡ spec.success }
+pub(crate) fn success(terms: Terms, arguments: &DisconnectArguments) -> Answer
+    ensures { (now : ANow) → answering_as now.debuggee result ≡ spec.success now terms arguments.now }
 {
+    let debugs = terms.phase.is_debugging();
     Answer {
-        change: Change::Enter(Phase::Left),
+        change: Change::Leave {
+            ends: debugs && arguments.terminate_debuggee.unwrap_or(terms.launched),
+            stands: debugs && arguments.suspend_debuggee.unwrap_or(false),
+        },
+        terms: terms.in_phase(Phase::Left),
         outcome: Outcome::Done(ResponseBody::Empty),
+        event: None,
         closes: true,
     }
 }

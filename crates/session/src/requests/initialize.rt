@@ -1,27 +1,24 @@
 //! `initialize`: taken until one was answered with success, and not again.
 ghost use Rattle.std.specs.Prelude.{◌≡◌};
+ghost use Rattle.session.specs.Acts.{Now as ANow};
 ghost use Rattle.session.specs.Kept.{answering_as};
 ghost use Rattle.session.specs.Initialize as spec;
 
-use super::succeeds;
+use crate::answer::{Answer, agreeing};
 use crate::phase::Phase;
-use crate::refusals::{Answer, Change};
+use crate::terms::Terms;
+use protocol::initialize::InitializeArguments;
 use replies::ResponseBody;
 
-/// Whether the request is taken in the phase.
-pub(crate) fn is_taken_in(phase: Phase) -> bool
-    ensures { result ≡ spec.is_taken_in phase }
-{
-    match phase {
-        Phase::Fresh => true,
-        Phase::Initialized => false,
-        Phase::Left => false,
-    }
-}
-
 /// What comes of it.
-pub(crate) fn success() -> Answer
-    ensures { answering_as result ≡ spec.success }
+pub(crate) fn success(terms: Terms, arguments: &InitializeArguments) -> Answer
+    ensures { (now : ANow) → answering_as now.debuggee result ≡ spec.success now terms arguments.now }
 {
-    succeeds(Change::Enter(Phase::Initialized), ResponseBody::Initialize)
+    let agreed = Terms {
+        phase: Phase::Initialized,
+        line_base: u32::from(arguments.lines_start_at1),
+        column_base: u32::from(arguments.columns_start_at1),
+        ..terms
+    };
+    agreeing(agreed, ResponseBody::Initialize)
 }

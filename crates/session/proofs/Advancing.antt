@@ -1,0 +1,232 @@
+-- Moves of which there is nothing to tell are as many beats.
+use Rattle.std.proofs.Common.{◌≡◌, ◌≢◌, ℕ, ℤ, zero, suc, ◌+◌, ◌-◌, ◌<◌, ◌≤◌, Bool, true, false, cond, leb, ltb, List, [], ◌∷◌, length, Option, Some, None, Result, Ok, Err, MatchBool, refl, sym, ap, ◌∙◌, subst, arith}
+use Rattle.std.proofs.lemmas.Bool.Decides.{nat_tests}
+use Rattle.std.specs.declared.alloc.AllocError.{AllocError}
+use Rattle.rv32i.specs.declared.instr.Instr.{Instr}
+use Rattle.rv32i.specs.declared.stepped.Stepped.{Stepped}
+use Rattle.rv32i.specs.declared.stepped.Stepped.TheVariants.{Retired, Printed, Break, Exit, Trap}
+use Rattle.stepping.specs.Plain.{plain_tick}
+use Rattle.stepping.specs.Ticks.{Debugged, IsTick, Moves as Ticks, Settles, entry_checked, entry_tick, moved_as, settled, tick_of}
+use Rattle.stepping.specs.declared.tick.Outcome.{Outcome}
+use Rattle.stepping.specs.declared.tick.Outcome.TheVariants.{Went, Stopped, Ended}
+use Rattle.stepping.specs.declared.tick.Reason.{Reason}
+use Rattle.stepping.specs.declared.tick.Reason.TheVariants as met
+use Rattle.stepping.specs.declared.tick.Tick.{Tick}
+use Rattle.stepping.proofs.Existing.{the_tick}
+use Rattle.debuggee.specs.Programs.{Program, Advances, GoesQuietly, moved, next_tick, owing, stays}
+use Rattle.debuggee.specs.declared.program.Advanced.{Advanced}
+use Rattle.debuggee.specs.declared.program.Advanced.TheVariants.{Spent, Owes, Meets}
+use Rattle.debuggee.specs.declared.run.Run.{Run}
+use Rattle.session.specs.Beats.{IsFree, MeetsNext, Moved, Stretches, going, moves_of, unless_memory}
+use Rattle.session.specs.declared.event.Ending.{Ending}
+use Rattle.session.specs.declared.slices.Moves.{Moves}
+use Rattle.session.specs.Effects.{Slicing, after_beat, beats_on, next_beat}
+use Rattle.session.specs.Kept.{Kept, keepings}
+use Rattle.session.specs.Slices.{Beat, beat, is_runnable_by, moves_by, retires}
+use Rattle.session.proofs.Deciding.{free_beat}
+use Rattle.session.proofs.Told.{with_one}
+
+-- ---- what a move leaves
+
+abbrev pub Retires : Debugged → Debugged → Type 0
+Retires before after = (after.check_due ≡ before.check_due) × (after.retired ≡ before.retired + 1)
+
+settled_retires : (before after : Debugged) (s : Stepped) (instr : Option Instr) (pc : ℕ) → stays (tick_of s instr pc (moved_as before after)).outcome ≡ false → after ≡ settled s instr pc (moved_as before after) → Retires before after
+settled_retires before after Retired instr pc e h = (ap (λ (d : Debugged). d.check_due) h, ap (λ (d : Debugged). d.retired) h)
+settled_retires before after (Printed number) instr pc e h = (ap (λ (d : Debugged). d.check_due) h, ap (λ (d : Debugged). d.retired) h)
+settled_retires before after Break instr pc e h = (ap (λ (d : Debugged). d.check_due) h, ap (λ (d : Debugged). d.retired) h)
+settled_retires before after (Exit code) instr pc e h = absurd (let never : true ≡ false = e in cc)
+settled_retires before after (Trap cause) instr pc e h = absurd (let never : true ≡ false = e in cc)
+
+tick_retires : (before after : Debugged) (tick : Tick) → before.check_due ≡ false → stays tick.outcome ≡ false → IsTick before (Ok tick) after → Retires before after
+tick_retires before after tick due e h =
+    let m : Ticks before (Ok tick) after = subst (λ (b : Bool). MatchBool b (((let r : Result Tick AllocError = Ok tick in r) ≡ Ok (entry_tick before)) × (after ≡ entry_checked before)) (Ticks before (Ok tick) after)) due h in
+    by m.instr m.stepped m.settles where
+      by : (instr : Option Instr) (s : Result Stepped AllocError) → Settles before instr s (Ok tick) after → Retires before after
+      by instr (Ok s) x =
+          let same : tick ≡ tick_of s instr before.hart.pc (moved_as before after) = cc in
+          settled_retires before after s instr before.hart.pc (sym (ap (λ (t : Tick). stays t.outcome) same) ∙ e) x.1
+      by instr (Err error) x = absurd (cc)
+
+pub move_retires : (p : Program) → p.machine.check_due ≡ false → stays (next_tick p).outcome ≡ false → Retires p.machine (moved p).machine
+move_retires p due e = tick_retires p.machine (the_tick p.machine).after (next_tick p) due e (the_tick p.machine).is
+
+plain_goes : (t : Tick) → t ≡ plain_tick → stays t.outcome ≡ false
+plain_goes t e = ap (λ (x : Tick). stays x.outcome) e
+
+-- ---- a beat that makes a move
+
+retiring : (k : Kept) (p : Program) (outcome : Outcome) → stays outcome ≡ false → moves_by k.now p outcome ≡ retires k.now p
+retiring k p Went e = refl
+retiring k p (Stopped reason) e = stopped_retiring reason e where
+  stopped_retiring : (reason : Reason) → stays (Stopped reason) ≡ false → moves_by k.now p (Stopped reason) ≡ retires k.now p
+  stopped_retiring (met.Exception cause) e = absurd (let never : true ≡ false = e in cc)
+  stopped_retiring met.Ebreak e = refl
+  stopped_retiring met.Source e = refl
+  stopped_retiring met.Instruction e = refl
+  stopped_retiring met.Goal e = refl
+retiring k p (Ended code) e = absurd (let never : true ≡ false = e in cc)
+
+-- one beat more
+one_more : (n m j : ℕ) (k t : Kept) (p : Program) → ltb (m + j) n ≡ true → IsFree p t → stays (next_tick p).outcome ≡ false → beats_on keepings n j (going k m) ≡ going t (m + j)
+    → beats_on keepings n (suc j) (going k m) ≡ going (with_one (moved p) t) (m + suc j)
+one_more n m j k t p lt free e h =
+    let b : beat (keepings.see t) true ≡ retires t.now p = free_beat p t free ∙ retiring t p (next_tick p).outcome e in
+    let sum : m + j + 1 ≡ m + suc j = omega arith in
+    ap (next_beat keepings n) h
+    ∙ ap (λ (x : Bool). let c = beat (keepings.see t) x in let d : Slicing Kept = record { state = after_beat keepings c t; moved = m + j + c.moved; ending = c.ending } in d) lt
+    ∙ ap (λ (c : Beat). let d : Slicing Kept = record { state = after_beat keepings c t; moved = m + j + c.moved; ending = c.ending } in d) b
+    ∙ ap (λ (x : ℕ). going (with_one (moved p) t) x) sum
+
+-- ---- many
+
+-- what stays of a program along such moves
+record Still (j : ℕ) (p q : Program) : Type 0 where
+  run : q.run ≡ p.run
+  mark : q.mark ≡ p.mark
+  owed : q.owed ≡ None
+  due : q.machine.check_due ≡ false
+  retired : q.machine.retired ≡ p.machine.retired + j
+
+same_one : (k : Kept) (p : Program) → k.now.debuggee.program ≡ Some p → k ≡ with_one p k
+same_one k p e = λ i. record k { now = record k.now { debuggee = record k.now.debuggee { program = e i } } }
+
+still_fewer : (last retired theirs j most : ℕ) → theirs ≡ retired + j → j < most → retired + most ≤ last → leb last theirs ≡ false
+still_fewer last retired theirs j most e lt few =
+    let h : theirs < last = omega (arith, e, lt, few) in
+    grind (arith, nat_tests)
+
+still_free : (k : Kept) (p q : Program) (j most : ℕ) → IsFree p k → Still j p q → j < most → p.machine.retired + most ≤ k.now.limits.last_retired → IsFree q (with_one q k)
+still_free k p q j most f s lt few = record {
+  program = refl;
+  owed = s.owed;
+  runnable = ap (λ (r : Run). is_runnable_by k.now.link r) s.run ∙ f.runnable;
+  mark = s.mark ∙ f.mark;
+  room = f.room;
+  due = s.due;
+  few = still_fewer k.now.limits.last_retired p.machine.retired q.machine.retired j most s.retired lt few;
+}
+
+moved_still : (j : ℕ) (p q : Program) → Still j p q → next_tick q ≡ plain_tick → Still (suc j) p (moved q)
+moved_still j p q s e =
+    let r = move_retires q s.due (plain_goes (next_tick q) e) in
+    let one = r.1 in
+    let all = s.retired in
+    record {
+      run = s.run;
+      mark = s.mark;
+      owed = ap owing e;
+      due = r.0 ∙ s.due;
+      retired = omega (arith, one, all);
+    }
+
+still_more : (m j most n : ℕ) → suc j ≤ most → m + most ≤ n → ltb (m + j) n ≡ true
+still_more m j most n le few =
+    let h : m + j < n = omega (arith, le, few) in
+    grind (arith, nat_tests)
+
+record Quietly (n m j : ℕ) (k : Kept) (p q : Program) : Type 0 where
+  goes : beats_on keepings n j (going k m) ≡ going (with_one q k) (m + j)
+  still : Still j p q
+
+quietly : (n m most j : ℕ) (k : Kept) (p q : Program) → IsFree p k → j ≤ most → m + most ≤ n → p.machine.retired + most ≤ k.now.limits.last_retired → GoesQuietly j p q → Quietly n m j k p q
+quietly n m most zero k p q f le room few g =
+    let none : m ≡ m + zero = omega arith in
+    let here : p.machine.retired ≡ p.machine.retired + zero = omega arith in
+    record {
+      goes = ap (λ (x : Kept). going x m) (same_one k p f.program) ∙ ap (λ (x : Program). going (with_one x k) m) (sym g) ∙ ap (λ (x : ℕ). going (with_one q k) x) none;
+      still = subst (λ (x : Program). Still zero p x) (sym g) (record { run = refl; mark = refl; owed = f.owed; due = f.due; retired = here });
+    }
+quietly n m most (suc j) k p q f le room few g =
+    let middle = g.0 in
+    let less : j ≤ most = omega (arith, le) in
+    let lt : j < most = omega (arith, le) in
+    let before : Quietly n m j k p middle = quietly n m most j k p middle f less room few g.1.0 in
+    let free = still_free k p middle j most f before.still lt few in
+    record {
+      goes = one_more n m j k (with_one middle k) middle (still_more m j most n le room) free (plain_goes (next_tick middle) g.1.1.0) before.goes
+          ∙ ap (λ (x : Program). going (with_one x k) (m + suc j)) (sym g.1.1.1);
+      still = subst (λ (x : Program). Still (suc j) p x) (sym g.1.1.1) (moved_still j p middle before.still g.1.1.0);
+    }
+
+-- ---- what is made of them
+
+pub advance_moves : (left most : ℕ) (k new : Kept) (p q : Program) (a : Advanced) → IsFree p k → 1 ≤ most → most ≤ left → p.machine.retired + most ≤ k.now.limits.last_retired → Advances most p a q → new ≡ with_one q k → Moved left k (moves_of most a) new
+advance_moves left most k new p q Spent f some le few g e = record {
+  few = le;
+  goes = λ n m room. let less : m + most ≤ n = omega (arith, le, room) in let same : most ≤ most = omega arith in (quietly n m most most k p q f same less few g).goes ∙ ap (λ (x : Kept). going x (m + most)) (sym e);
+  next = some;
+}
+advance_moves left most k new p q (Owes count) f some le few g e =
+    let middle = g.0 in
+    let j = g.1 in
+    let h = g.2 in
+    let lt = h.1.0 in
+    let is : count ≡ suc j = h.0 in
+    let less : suc j ≤ left = omega (arith, lt, le) in
+    let one : 1 ≤ suc j = omega arith in
+    record {
+      few = subst (λ (x : ℕ). x ≤ left) (sym is) less;
+      goes = λ n m room.
+          let before : m + most ≤ n = omega (arith, le, room) in
+          let fewer : j ≤ most = omega (arith, lt) in
+          let more : suc j ≤ most = omega (arith, lt) in
+          let quiet = quietly n m most j k p middle f fewer before few h.1.1.0 in
+          let free = still_free k p middle j most f quiet.still lt few in
+          subst (λ (x : ℕ). beats_on keepings n x (going k m) ≡ going new (m + x)) (sym is)
+          (one_more n m j k (with_one middle k) middle (still_more m j most n more before) free h.1.1.1.0 quiet.goes
+          ∙ ap (λ (x : Program). going (with_one x k) (m + suc j)) (sym h.1.1.1.1.1) ∙ ap (λ (x : Kept). going x (m + suc j)) (sym e));
+      next = subst (λ (x : ℕ). 1 ≤ x) (sym is) one;
+    }
+advance_moves left most k new p q (Meets count tick) f some le few g e =
+    let lt = g.0 in
+    let less : count ≤ left = omega (arith, lt, le) in
+    let fewer : count < left = omega (arith, lt, le) in
+    let within : count ≤ most = omega (arith, lt) in
+    let none : 0 + most ≤ most = omega arith in
+    let still : Still count p q = (quietly most 0 most count k p q f within none few g.1.0).still in
+    record {
+      few = less;
+      goes = λ n m room. let before : m + most ≤ n = omega (arith, le, room) in (quietly n m most count k p q f within before few g.1.0).goes ∙ ap (λ (x : Kept). going x (m + count)) (sym e);
+      next = (fewer, (q, (subst (IsFree q) (sym e) (still_free k p q count most f still lt few), g.1.1)));
+    }
+
+-- ---- then the slice goes on, or the instruction that stays comes
+
+pub beats_after : (n j i : ℕ) (d : Slicing Kept) → beats_on keepings n (j + i) d ≡ beats_on keepings n i (beats_on keepings n j d)
+beats_after n j zero d = let e : j + zero ≡ j = omega arith in ap (λ (x : ℕ). beats_on keepings n x d) e
+beats_after n j (suc i) d = let e : j + suc i ≡ suc (j + i) = omega arith in ap (λ (x : ℕ). beats_on keepings n x d) e ∙ ap (next_beat keepings n) (beats_after n j i d)
+
+pub moves_stretch : (left m : ℕ) (k new : Kept) (moves : Moves) → Moved left k moves new → moves.meets ≡ None → Stretches (m + left) m k (record { moved = moves.moved; ending = None }) new
+moves_stretch left m k new moves h e =
+    let all : m + left ≤ m + left = omega arith in
+    let next : MeetsNext left moves.moved None new = subst (λ (x : Option Tick). MeetsNext left moves.moved x new) e h.next in
+    record { count = moves.moved; goes = h.goes (m + left) m all; some = λ none. next }
+
+pub moves_then : (left m : ℕ) (k middle new : Kept) (moves : Moves) (end : Option Ending) → Moved left k moves middle → Stretches (m + left) (m + moves.moved) middle (record { moved = 0; ending = end }) new → (end ≡ None → ⊥)
+    → Stretches (m + left) m k (record { moved = moves.moved; ending = end }) new
+moves_then left m k middle new moves end h s some =
+    let all : m + left ≤ m + left = omega arith in
+    let sum : m + moves.moved + 0 ≡ m + moves.moved = omega arith in
+    record {
+      count = moves.moved + s.count;
+      goes = beats_after (m + left) moves.moved s.count (going k m)
+          ∙ ap (beats_on keepings (m + left) s.count) (h.goes (m + left) m all)
+          ∙ s.goes
+          ∙ (λ i. record { state = new; moved = sum i; ending = unless_memory end });
+      some = λ none. absurd (some none);
+    }
+
+pub is_before : (left m moved : ℕ) → moved < left → ltb (m + moved) (m + left) ≡ true
+is_before left m moved lt = let h : m + moved < m + left = omega (arith, lt) in grind (arith, nat_tests)
+
+some_or : Program → Option Program → Program
+some_or p None = p
+some_or p (Some q) = q
+
+pub the_free_one : (k : Kept) (p q : Program) → k.now.debuggee.program ≡ Some q → IsFree p k → IsFree q k
+unfolding some_or
+the_free_one k p q e f = subst (λ (x : Program). IsFree x k) (ap (some_or p) (sym f.program ∙ e)) f
+
+pub advances_so : (left most : ℕ) (k new : Kept) (p q : Program) (a : Advanced) (made : Moves) → made ≡ moves_of most a → IsFree p k → 1 ≤ most → most ≤ left → p.machine.retired + most ≤ k.now.limits.last_retired → Advances most p a q → new ≡ with_one q k → Moved left k made new
+advances_so left most k new p q a made is f some le few g e = subst (λ (x : Moves). Moved left k x new) (sym is) (advance_moves left most k new p q a f some le few g e)

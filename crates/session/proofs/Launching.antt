@@ -1,0 +1,47 @@
+-- An image of a text can be loaded, and is the one that the text has.
+use Rattle.std.proofs.Common.{◌≡◌, ℕ, Bool, List, true, false, [], ◌∷◌, Option, Some, None, Result, Ok, Err, IfOk, sym, ap, ◌∙◌}
+use Rattle.image.specs.declared.Image.{Image}
+use Rattle.assembler.specs.Assembled.{assembled}
+use Rattle.assembler.specs.Placed.{Placed, error_of}
+use Rattle.assembler.proofs.Loadable.{loadable}
+use Rattle.assembler.proofs.Made.{made}
+use Rattle.debuggee.specs.Programs.{Program, just_loaded}
+use Rattle.protocol.specs.declared.launch.LaunchArguments.{LaunchArguments}
+use Rattle.replies.specs.declared.event.Event.TheVariants.{Initialized}
+use Rattle.replies.specs.declared.response.Outcome.TheVariants.{Done}
+use Rattle.replies.specs.declared.response.ResponseBody.TheVariants.{Empty}
+use Rattle.session.specs.declared.answer.Change.TheVariants.{Load}
+use Rattle.session.specs.declared.phase.Phase.TheVariants.{Configuring}
+use Rattle.session.specs.declared.terms.Terms.{Terms}
+use Rattle.session.specs.Acts.{Answering, Now}
+use Rattle.session.specs.Config.{IsSize}
+use Rattle.session.specs.Kept.{answering_as}
+use Rattle.session.specs.Launch.{assembles}
+use Rattle.stepping.specs.Loading.{CanBeLoaded}
+
+pub can_be_loaded : (text : List ℕ) (image : Image) (size : ℕ) → IsSize size → Placed text size image → CanBeLoaded image size
+can_be_loaded text image size s p =
+    let l = loadable text size image p in
+    record { whole = s.whole; some = s.some; few = s.few; fits = l.fits; aligned = l.aligned }
+
+pub is_of_text : (text : List ℕ) (image : Image) (path : List ℕ) (stop : Bool) (size : ℕ) (p : Program) → Placed text size image → p ≡ just_loaded image path stop size → p ≡ just_loaded (assembled text) path stop size
+is_of_text text image path stop size p h e = e ∙ ap (λ (i : Image). just_loaded i path stop size) (made text size image h)
+
+pub if_ok : {A B : Type 0} (P Q : A → Type 0) (r : Result A B) → ((a : A) → P a → Q a) → IfOk r P → IfOk r Q
+if_ok P Q (Ok a) f h = f a h
+if_ok P Q (Err b) f h = h
+
+pub loads_so : (now : Now) (terms : Terms) (arguments : LaunchArguments) (text : List ℕ) (size : ℕ) (p : Program) (path : List ℕ) → error_of text size ≡ None → now.size ≡ size → path ≡ arguments.program
+    → p ≡ just_loaded (assembled text) path arguments.stop_on_entry size
+    → answering_as now.debuggee (record { change = Load p; terms = record terms { phase = Configuring; launched = true }; outcome = Done Empty; event = Some Initialized; closes = false }) ≡ assembles now terms arguments text (error_of text now.size)
+loads_so now terms arguments text size p path right is_size is_path e =
+    let loads_program : Program → Answering = λ q. record {
+      debuggee = record now.debuggee { program = Some q };
+      terms = record terms { phase = Configuring; launched = true };
+      outcome = Done Empty;
+      events = Initialized ∷ [];
+      closes = false;
+    } in
+    let is : p ≡ just_loaded (assembled text) arguments.program arguments.stop_on_entry now.size =
+    e ∙ ap (λ (x : List ℕ). just_loaded (assembled text) x arguments.stop_on_entry size) is_path ∙ ap (λ (n : ℕ). just_loaded (assembled text) arguments.program arguments.stop_on_entry n) (sym is_size) in
+    ap loads_program is ∙ sym (ap (assembles now terms arguments text) (ap (error_of text) is_size ∙ right))

@@ -1,0 +1,80 @@
+-- A slice, stretch by stretch.
+use Rattle.std.proofs.Common.{◌≡◌, ℕ, zero, suc, ◌+◌, ◌-◌, ◌≤◌, Option, Some, None, Result, Ok, refl, sym, ap, ◌∙◌, subst, arith}
+use Rattle.session.specs.declared.event.Applied.{Applied}
+use Rattle.session.specs.declared.event.Applied.TheVariants.{Slice as DidSlice}
+use Rattle.session.specs.declared.event.Ending.{Ending}
+use Rattle.session.specs.declared.event.Ending.TheVariants.{Spent, Full, Idle, Stopped, Ended, NoMemory}
+use Rattle.session.specs.declared.event.Event.TheVariants.{Slice}
+use Rattle.session.specs.declared.event.EventError.{EventError}
+use Rattle.session.specs.declared.slices.Step.{Step}
+use Rattle.session.specs.Beats.{Reached, Stretches, going, unless_memory}
+use Rattle.session.specs.Effects.{EndsWell, Slicing, answer, beats, beats_on, enough, from_here, ran_out_at, slice_answer, sliced}
+use Rattle.session.specs.Kept.{Kept, keepings}
+use Rattle.session.proofs.Advancing.{beats_after}
+use Rattle.session.proofs.Enough.{is_sliced, not_after}
+
+pub begins_slice : (n : ℕ) (s : Kept) → Reached n 0 s 0 s
+begins_slice n s = record { count = 0; goes = refl; few = omega arith; within = omega arith }
+
+-- so many beats more
+abbrev After : ℕ → Kept → ℕ → Kept → Step → Option Ending → Type 0
+After n s m new step e = (count : ℕ) × (beats keepings n count s ≡ record { state = new; moved = m + step.moved; ending = unless_memory e })
+
+reaches : (n i m : ℕ) (s k new : Kept) (step : Step) → Reached n i s m k → Stretches (m + (n - m)) m k step new → (count : ℕ) × ((beats keepings n count s ≡ record { state = new; moved = m + step.moved; ending = unless_memory step.ending }) × (step.ending ≡ None → i + 1 ≤ count))
+reaches n i m s k new step r t =
+    let within = r.within in
+    let all : m + (n - m) ≡ n = omega (arith, within) in
+    let more : beats_on keepings n t.count (going k m) ≡ record { state = new; moved = m + step.moved; ending = unless_memory step.ending } =
+    subst (λ (x : ℕ). beats_on keepings x t.count (going k m) ≡ record { state = new; moved = m + step.moved; ending = unless_memory step.ending }) all t.goes in (
+      r.count + t.count,
+      (
+        beats_after n r.count t.count (from_here s) ∙ ap (beats_on keepings n t.count) r.goes ∙ more,
+        λ none. let a = r.few in let b = t.some none in omega (arith, a, b),
+      ),
+    )
+
+pub goes_more : (n i m : ℕ) (s k new : Kept) (step : Step) → Reached n i s m k → Stretches (m + (n - m)) m k step new → step.ending ≡ None → step.moved ≤ n - m → Reached n (i + 1) s (m + step.moved) new
+goes_more n i m s k new step r t none few =
+    let more = reaches n i m s k new step r t in
+    let within = r.within in
+    record {
+      count = more.0;
+      goes = more.1.0 ∙ ap (λ (e : Option Ending). let d : Slicing Kept = record { state = new; moved = m + step.moved; ending = unless_memory e } in d) none;
+      few = more.1.1 none;
+      within = omega (arith, within, few);
+    }
+
+-- ---- how it ends
+
+abbrev EndsSo : ℕ → ℕ → Kept → Kept → Ending → Type 0
+EndsSo n moved s new e = EndsWell keepings s (Slice n) (DidSlice (record { moved = moved; ending = e })) (ran_out_at moved e) (λ k. new ≡ k)
+
+whole : (n count moved : ℕ) (s new : Kept) (e : Ending) → beats keepings n count s ≡ record { state = new; moved = moved; ending = Some e }
+    → (answer keepings (Slice n) s ≡ Ok (DidSlice (record { moved = moved; ending = e }))) × (new ≡ (sliced keepings n s).state)
+whole n count moved s new e h =
+    let is : sliced keepings n s ≡ record { state = new; moved = moved; ending = Some e } = sym (is_sliced n count s e (ap (λ (d : Slicing Kept). d.ending) h)) ∙ h in
+    (ap (λ (d : Slicing Kept). let r : Result Applied EventError = Ok (DidSlice (slice_answer d)) in r) is, sym (ap (λ (d : Slicing Kept). d.state) is))
+
+by_ending : (n count moved : ℕ) (s new : Kept) (e : Ending) → beats keepings n count s ≡ record { state = new; moved = moved; ending = unless_memory (Some e) } → EndsSo n moved s new e
+by_ending n count moved s new Spent h = whole n count moved s new Spent h
+by_ending n count moved s new Full h = whole n count moved s new Full h
+by_ending n count moved s new Idle h = whole n count moved s new Idle h
+by_ending n count moved s new Stopped h = whole n count moved s new Stopped h
+by_ending n count moved s new Ended h = whole n count moved s new Ended h
+by_ending n count moved s new NoMemory h = record {
+  count = count;
+  goes_on = ap (λ (d : Slicing Kept). d.ending) h;
+  moves = ap (λ (d : Slicing Kept). d.moved) h;
+  holds = sym (ap (λ (d : Slicing Kept). d.state) h);
+}
+
+pub slice_ends : (n i m : ℕ) (s k new : Kept) (step : Step) (e : Ending) → Reached n i s m k → Stretches (m + (n - m)) m k step new → step.ending ≡ Some e → EndsSo n (m + step.moved) s new e
+slice_ends n i m s k new step e r t is =
+    let more = reaches n i m s k new step r t in
+    by_ending n more.0 (m + step.moved) s new e (more.1.0 ∙ ap (λ (x : Option Ending). let d : Slicing Kept = record { state = new; moved = m + step.moved; ending = unless_memory x } in d) is)
+
+pub has_ended : (n i m : ℕ) (s k : Kept) → Reached n i s m k → enough n ≤ i → ⊥
+has_ended n i m s k r le =
+    let few = r.few in
+    let more : enough n ≤ r.count = omega (arith, le, few) in
+    not_after n r.count s more (ap (λ (d : Slicing Kept). d.ending) r.goes)

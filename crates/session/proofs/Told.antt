@@ -1,0 +1,96 @@
+-- What a beat tells is written first, and numbered at once.
+use Rattle.std.proofs.Common.{◌≡◌, ℕ, ℤ, Bool, true, false, cond, ltb, List, [], ◌∷◌, ◌++◌, map, Option, Some, None, refl, sym, ap, ◌∙◌, subst, append-nil}
+use Rattle.debuggee.specs.Programs.{Debuggee, Program, ended, stays, stopped, told}
+use Rattle.debuggee.specs.declared.run.Why.{Why}
+use Rattle.debuggee.specs.declared.run.Why.TheVariants as why
+use Rattle.replies.specs.declared.event.Event.{Event}
+use Rattle.replies.specs.declared.message.Message.{Message}
+use Rattle.replies.specs.declared.message.Message.TheVariants.{Event as IsEvent}
+use Rattle.session.specs.declared.link.Link.{Link}
+use Rattle.session.specs.declared.pending.Pending.{Pending}
+use Rattle.session.specs.Acts.{Act, Become, Tell}
+use Rattle.session.specs.Beats.{concluded, outcome_events, printed_events, tick_events}
+use Rattle.session.specs.Effects.{performed}
+use Rattle.session.specs.Kept.{Kept, draft_told, keepings, kept_said, settled}
+use Rattle.session.specs.Phases.{is_active}
+use Rattle.session.specs.Slices.{becomes, concludes, exits, halts, prints, telling, tells}
+use Rattle.session.specs.Telling.{exit_events, stop_event}
+use Rattle.stepping.specs.declared.tick.Outcome.{Outcome}
+use Rattle.stepping.specs.declared.tick.Outcome.TheVariants.{Went, Stopped, Ended}
+use Rattle.stepping.specs.declared.tick.Tick.{Tick}
+use Rattle.session.proofs.Drafting.{settling, tells_if, tells_told}
+
+abbrev pub debugging : Debuggee → Kept → Kept
+debugging d k = record k { now = record k.now { debuggee = d } }
+
+-- the program, as it is kept
+abbrev pub with_one : Program → Kept → Kept
+with_one p k = debugging (record k.now.debuggee { program = Some p }) k
+
+-- it is all the same when the program changes
+either_way : (b : Bool) (d : Debuggee) (x y : Kept) → debugging d (cond b x y) ≡ cond b (debugging d x) (debugging d y)
+either_way true d x y = refl
+either_way false d x y = refl
+
+said_before : (l : Option Link) (m : Message) (rest : List Pending) (d : Debuggee) (k : Kept) → debugging d (kept_said l m rest k) ≡ kept_said l m rest (debugging d k)
+said_before None m rest d k = refl
+said_before (Some link) m rest d k = either_way (ltb link.seq k.now.limits.last_seq) d _ k
+
+all_before : (events : List Event) (d : Debuggee) (k : Kept) → debugging d (performed keepings (map Tell events) k) ≡ performed keepings (map Tell events) (debugging d k)
+all_before [] d k = refl
+all_before (e ∷ es) d k = all_before es d (kept_said k.now.link (IsEvent e) k.now.arrivals.pending k) ∙ ap (performed keepings (map Tell es)) (said_before k.now.link (IsEvent e) k.now.arrivals.pending d k)
+
+performed_append : (xs ys : List Act) (k : Kept) → performed keepings (xs ++ ys) k ≡ performed keepings ys (performed keepings xs k)
+performed_append [] ys k = refl
+performed_append (x ∷ xs) ys k = performed_append xs ys (keepings.perform x k)
+
+map_append : (xs ys : List Event) → map Tell (xs ++ ys) ≡ map Tell xs ++ map Tell ys
+map_append [] ys = refl
+map_append (x ∷ xs) ys = ap (λ (l : List Act). Tell x ∷ l) (map_append xs ys)
+
+-- events, a change, and more events
+told_twice : (b : Bool) (first more : List Event) (d : Debuggee) (k : Kept) →
+    performed keepings (tells_if b first ++ Become d ∷ tells_if b more) k ≡ performed keepings (tells_if b (first ++ more)) (debugging d k)
+told_twice true first more d k =
+    performed_append (map Tell first) (Become d ∷ map Tell more) k
+    ∙ ap (performed keepings (map Tell more)) (all_before first d k)
+    ∙ sym (performed_append (map Tell first) (map Tell more) (debugging d k))
+    ∙ sym (ap (λ acts. performed keepings acts (debugging d k)) (map_append first more))
+told_twice false first more d k = refl
+
+told_once : (b : Bool) (events : List Event) (k : Kept) → performed keepings (tells_if b events ++ []) k ≡ performed keepings (tells_if b (events ++ [])) k
+told_once b events k = performed_append (tells_if b events) [] k ∙ ap (λ l. performed keepings (tells_if b l) k) (sym (append-nil events))
+
+-- ---- the acts of a beat
+
+abbrev pub Tells : List Act → Program → List Event → Kept → Type 0
+Tells acts p events k = performed keepings acts k ≡ settling k.now.link k.now.arrivals.pending (draft_told k.now.limits k.now.link events) (with_one p k)
+
+pub stop_tells : (k : Kept) (p : Program) (reason : Why) (ids : List ℕ) → performed keepings (halts k.now p reason ids) k ≡ settling k.now.link k.now.arrivals.pending (draft_told k.now.limits k.now.link (stop_event reason ids ∷ [])) (with_one (stopped reason p) k)
+stop_tells k p reason ids = tells_told (stop_event reason ids ∷ []) (with_one (stopped reason p) k)
+
+-- what comes next, where it stays
+pub end_tells : (k : Kept) (p : Program) (outcome : Outcome) → stays outcome ≡ true → performed keepings (concludes k.now p outcome []) k ≡ settling k.now.link k.now.arrivals.pending (draft_told k.now.limits k.now.link (outcome_events outcome [])) (with_one (concluded outcome p) k)
+end_tells k p Went e = absurd (let never : false ≡ true = e in cc)
+end_tells k p (Stopped reason) e = tells_told (stop_event (why.Met reason) [] ∷ []) (with_one (stopped (why.Met reason) p) k)
+end_tells k p (Ended code) e = tells_told (exit_events code) (with_one (ended (Some code) p) k)
+
+printed_as : (k : Kept) (printed : Option ℤ) → prints k.now printed ≡ tells_if (is_active k.now.link) (printed_events printed)
+printed_as k None = none (is_active k.now.link) where
+  none : (b : Bool) → [] ≡ tells_if b []
+  none true = refl
+  none false = refl
+printed_as k (Some number) = refl
+
+by_outcome : (k : Kept) (p : Program) (printed : List Event) (outcome : Outcome) (ids : List ℕ) →
+    performed keepings (tells_if (is_active k.now.link) printed ++ concludes k.now p outcome ids) (with_one p k)
+    ≡ performed keepings (tells_if (is_active k.now.link) (printed ++ outcome_events outcome ids)) (with_one (concluded outcome p) k)
+by_outcome k p printed Went ids = told_once (is_active k.now.link) printed (with_one p k)
+by_outcome k p printed (Stopped reason) ids = told_twice (is_active k.now.link) printed (stop_event (why.Met reason) ids ∷ []) (record k.now.debuggee { program = Some (stopped (why.Met reason) p) }) (with_one p k)
+by_outcome k p printed (Ended code) ids = told_twice (is_active k.now.link) printed (exit_events code) (record k.now.debuggee { program = Some (ended (Some code) p) }) (with_one p k)
+
+pub tick_tells : (k : Kept) (p : Program) (tick : Tick) → performed keepings (telling k.now p tick) k ≡ settling k.now.link k.now.arrivals.pending (draft_told k.now.limits k.now.link (tick_events tick p.machine.lists.ids)) (with_one (concluded tick.outcome (told p)) k)
+tick_tells k p tick =
+    ap (λ acts. performed keepings (acts ++ concludes k.now (told p) tick.outcome p.machine.lists.ids) (with_one (told p) k)) (printed_as k tick.printed)
+    ∙ by_outcome k (told p) (printed_events tick.printed) tick.outcome p.machine.lists.ids
+    ∙ tells_told (tick_events tick p.machine.lists.ids) (with_one (concluded tick.outcome (told p)) k)

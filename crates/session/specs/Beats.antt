@@ -1,0 +1,118 @@
+-- For private clauses alone: what comes next in a slice, and many beats at once.
+use Rattle.std.specs.Prelude.{◌≡◌, ℕ, ℤ, ◌+◌, ◌<◌, ◌≤◌, nat_lt, nat_le, Bool, true, false, List, [], ◌∷◌, ◌++◌, length, Option, Some, None}
+use Rattle.debuggee.specs.Programs.{Debuggee, Program, ended, entered, is_running, next_tick, stays, stopped}
+use Rattle.debuggee.specs.declared.program.Advanced.{Advanced}
+use Rattle.debuggee.specs.declared.program.Advanced.TheVariants as advanced
+use Rattle.debuggee.specs.declared.run.Why.{Why}
+use Rattle.debuggee.specs.declared.run.Why.TheVariants as why
+use Rattle.replies.specs.declared.event.Event.{Event}
+use Rattle.session.specs.declared.event.Ending.{Ending}
+use Rattle.session.specs.declared.event.Ending.TheVariants as ending
+use Rattle.session.specs.declared.slices.Moves.{Moves}
+use Rattle.session.specs.declared.slices.Next.{Next}
+use Rattle.session.specs.declared.slices.Next.TheVariants as next
+use Rattle.session.specs.declared.slices.Step.{Step}
+use Rattle.session.specs.declared.state.TheConstants.{FULL}
+use Rattle.session.specs.Acts.{Now, Seen}
+use Rattle.session.specs.Effects.{Slicing, beats, beats_on}
+use Rattle.session.specs.Kept.{Kept, keepings}
+use Rattle.session.specs.Slices.{Beat, beat, ends, is_runnable_by, stops, becomes}
+use Rattle.session.specs.Telling.{exit_events, output_event, stop_event}
+use Rattle.stepping.specs.declared.tick.Outcome.{Outcome}
+use Rattle.stepping.specs.declared.tick.Outcome.TheVariants.{Went, Stopped, Ended}
+use Rattle.stepping.specs.declared.tick.Tick.{Tick}
+
+-- what the program owes, if there is one and it owes something
+abbrev pub owed_of : Option Program → Option Tick
+owed_of None = None
+owed_of (Some p) = p.owed
+
+-- what is told of a tick
+abbrev pub printed_events : Option ℤ → List Event
+printed_events None = []
+printed_events (Some number) = output_event number ∷ []
+
+abbrev pub outcome_events : Outcome → List ℕ → List Event
+outcome_events Went ids = []
+outcome_events (Stopped reason) ids = stop_event (why.Met reason) ids ∷ []
+outcome_events (Ended code) ids = exit_events code
+
+abbrev pub tick_events : Tick → List ℕ → List Event
+tick_events tick ids = printed_events tick.printed ++ outcome_events tick.outcome ids
+
+-- what it comes to is made
+abbrev pub concluded : Outcome → Program → Program
+concluded Went p = p
+concluded (Stopped reason) p = stopped (why.Met reason) p
+concluded (Ended code) p = ended (Some code) p
+
+-- that no memory was left ends no beat
+abbrev pub unless_memory : Option Ending → Option Ending
+unless_memory None = None
+unless_memory (Some ending.Spent) = Some ending.Spent
+unless_memory (Some ending.Full) = Some ending.Full
+unless_memory (Some ending.Idle) = Some ending.Idle
+unless_memory (Some ending.Stopped) = Some ending.Stopped
+unless_memory (Some ending.Ended) = Some ending.Ended
+unless_memory (Some ending.NoMemory) = None
+
+-- ---- what comes next
+
+-- the program makes moves where nothing stands in its way
+pub record IsFree (p : Program) (k : Kept) : Type 0 where
+  pub program : k.now.debuggee.program ≡ Some p
+  pub owed : p.owed ≡ None
+  pub runnable : is_runnable_by k.now.link p.run ≡ true
+  pub mark : p.mark ≡ None
+  pub room : nat_lt FULL (length k.waiting) ≡ false
+  pub due : p.machine.check_due ≡ false
+  pub few : nat_le k.now.limits.last_retired p.machine.retired ≡ false
+
+-- what comes next is what the beat does
+abbrev pub Decides : Next → Kept → Bool → Type 0
+Decides (next.Tell tick) k more = owed_of k.now.debuggee.program ≡ Some tick
+Decides (next.End e) k more = (beat (keepings.see k) more ≡ ends e) × (unless_memory (Some e) ≡ Some e)
+Decides (next.Stop reason) k more =
+    (p : Program) × ((k.now.debuggee.program ≡ Some p) × (beat (keepings.see k) more ≡ stops k.now p reason))
+Decides next.Check k more = (p : Program) × ((k.now.debuggee.program ≡ Some p)
+    × (beat (keepings.see k) more ≡ record { acts = becomes k.now (entered p) ∷ []; moved = 0; ending = None }))
+Decides next.Advance k more = (more ≡ true) × ((p : Program) × IsFree p k)
+
+-- ---- many beats
+
+-- a slice under way, which goes on
+abbrev pub going : Kept → ℕ → Slicing Kept
+going k moved = record { state = k; moved = moved; ending = None }
+
+-- so many beats of a slice of n moves, from where so many were made
+pub record Stretches (n moved : ℕ) (old : Kept) (step : Step) (new : Kept) : Type 0 where
+  pub count : ℕ
+  pub goes : beats_on keepings n count (going old moved)
+      ≡ record { state = new; moved = moved + step.moved; ending = unless_memory step.ending }
+  pub some : step.ending ≡ None → 1 ≤ count
+
+-- what would come next: some move was made, or the next one is known
+abbrev pub MeetsNext : ℕ → ℕ → Option Tick → Kept → Type 0
+MeetsNext left moved None k = 1 ≤ moved
+MeetsNext left moved (Some tick) k = (moved < left)
+    × ((p : Program) × (IsFree p k × ((next_tick p ≡ tick) × (stays tick.outcome ≡ true))))
+
+-- what came of moves, so many at most
+abbrev pub moves_of : ℕ → Advanced → Moves
+moves_of most advanced.Spent = record { moved = most; meets = None }
+moves_of most (advanced.Owes n) = record { moved = n; meets = None }
+moves_of most (advanced.Meets n tick) = record { moved = n; meets = Some tick }
+
+-- so many moves, all but the last of which have nothing to tell, are as many beats; and where the next instruction
+-- traps or ends the program, it would come next
+pub record Moved (left : ℕ) (old : Kept) (moves : Moves) (new : Kept) : Type 0 where
+  pub few : moves.moved ≤ left
+  pub goes : (n moved : ℕ) → moved + left ≤ n → beats_on keepings n moves.moved (going old moved) ≡ going new (moved + moves.moved)
+  pub next : MeetsNext left moves.moved moves.meets new
+
+-- a slice under way, after so many beats at least
+pub record Reached (n least : ℕ) (s : Kept) (moved : ℕ) (k : Kept) : Type 0 where
+  pub count : ℕ
+  pub goes : beats keepings n count s ≡ going k moved
+  pub few : least ≤ count
+  pub within : moved ≤ n

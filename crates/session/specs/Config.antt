@@ -1,0 +1,38 @@
+-- What a session is made of: how much memory a machine gets, and the program that is there from the beginning.
+use Rattle.std.specs.Prelude.{◌≡◌, ℕ, ◌%◌, ◌==◌, ◌≤◌, nat_le, Bool, true, false, ◌&&◌, List, Option, Some, None, Result, Ok, Err, ⊤}
+use Rattle.assembler.specs.Assembled.{assembled}
+use Rattle.assembler.specs.Placed.{error_of}
+use Rattle.debuggee.specs.Programs.{Program, just_loaded}
+use Rattle.session.specs.declared.config.ConfigError.{ConfigError}
+use Rattle.session.specs.declared.config.ConfigError.TheVariants.{BadMemorySize, BadLimit, Assembly, NoMemory}
+
+-- a size that memory can have, in bytes
+pub record IsSize (size : ℕ) : Type 0 where
+  pub whole : size % 4096 ≡ 0
+  pub some : 4096 ≤ size
+  pub few : size ≤ 16777216
+
+abbrev pub is_size : ℕ → Bool
+is_size size = (size % 4096 == 0) && nat_le 4096 size && nat_le size 16777216
+
+-- ---- the program that is there from the beginning
+
+-- it is loaded, and stands still at its entry
+abbrev pub given : List ℕ → List ℕ → ℕ → Program
+given path text size = just_loaded (assembled text) path false size
+
+-- A program is loaded exactly where its text has no error; else the error is what is wrong with it, or that no memory
+-- was left.
+abbrev pub LoadsOne : List ℕ → List ℕ → ℕ → Result Program ConfigError → Type 0
+LoadsOne path text size (Ok p) = (error_of text size ≡ None) × (p ≡ given path text size)
+LoadsOne path text size (Err (Assembly error)) = error_of text size ≡ Some error
+LoadsOne path text size (Err NoMemory) = ⊤
+LoadsOne path text size (Err BadMemorySize) = ⊥
+LoadsOne path text size (Err BadLimit) = ⊥
+
+-- the same of the program, if one is given
+abbrev pub Loads : Option (List ℕ × List ℕ) → ℕ → Result (Option Program) ConfigError → Type 0
+Loads None size result = result ≡ Ok None
+Loads (Some program) size (Ok None) = ⊥
+Loads (Some program) size (Ok (Some p)) = LoadsOne program.0 program.1 size (Ok p)
+Loads (Some program) size (Err error) = LoadsOne program.0 program.1 size (Err error)

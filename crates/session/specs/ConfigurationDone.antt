@@ -1,0 +1,18 @@
+-- `configurationDone`: the editor has said all, and the program runs (DAP specification, `ConfigurationDoneRequest`).
+use Rattle.std.specs.Prelude.{Bool}
+use Rattle.debuggee.specs.Programs.{first_run}
+use Rattle.replies.specs.declared.response.ResponseBody.TheVariants as body
+use Rattle.session.specs.declared.phase.Phase.{Phase}
+use Rattle.session.specs.declared.phase.Phase.TheVariants.{Active}
+use Rattle.session.specs.declared.terms.Terms.{Terms}
+use Rattle.session.specs.Acts.{Now, Answering}
+use Rattle.session.specs.Phases.{is_configuring_in}
+use Rattle.session.specs.Successes.{changing}
+
+-- the phases in which it is taken
+abbrev pub is_taken_in : Phase → Bool
+is_taken_in phase = is_configuring_in phase
+
+-- what comes of it
+abbrev pub success : Now → Terms → Answering
+success now terms = changing now (record terms { phase = Active }) first_run body.Empty

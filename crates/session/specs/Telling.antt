@@ -1,0 +1,60 @@
+-- What an editor is told of the program that it debugs (DAP specification, `StoppedEvent`, `OutputEvent`,
+-- `ExitedEvent`).
+use Rattle.std.specs.Prelude.{ℕ, ℤ, List, [], ◌∷◌, ◌++◌, Option, Some, None, codes}
+use Rattle.std.specs.Fmt.{signed_decimal}
+use Rattle.debuggee.specs.declared.run.Why.{Why}
+use Rattle.debuggee.specs.declared.run.Why.TheVariants as why
+use Rattle.replies.specs.declared.event.Event.{Event}
+use Rattle.replies.specs.declared.event.Event.TheVariants as event
+use Rattle.replies.specs.declared.stopped.Reason.{Reason}
+use Rattle.replies.specs.declared.stopped.Reason.TheVariants as reason
+use Rattle.rv32i.specs.declared.stepped.Cause.{Cause}
+use Rattle.rv32i.specs.declared.stepped.Cause.TheVariants as cause
+use Rattle.stepping.specs.declared.tick.Reason.TheVariants as met
+
+-- the reason of a stop
+abbrev pub reason_of : Why → Reason
+reason_of why.Entry = reason.Entry
+reason_of why.Pause = reason.Pause
+reason_of why.Limit = reason.Exception
+reason_of (why.Met (met.Exception c)) = reason.Exception
+reason_of (why.Met met.Ebreak) = reason.Breakpoint
+reason_of (why.Met met.Source) = reason.Breakpoint
+reason_of (why.Met met.Instruction) = reason.InstructionBreakpoint
+reason_of (why.Met met.Goal) = reason.Step
+
+-- the name of an exception (RISC-V Privileged ISA, table of `mcause`, whose words these are; a call that there is none
+-- for has its own)
+abbrev pub cause_text : Cause → List ℕ
+cause_text cause.FetchOutside = codes "instruction access fault"
+cause_text cause.Illegal = codes "illegal instruction"
+cause_text cause.JumpMisaligned = codes "instruction address misaligned"
+cause_text cause.LoadMisaligned = codes "load address misaligned"
+cause_text cause.LoadOutside = codes "load access fault"
+cause_text cause.StoreMisaligned = codes "store address misaligned"
+cause_text cause.StoreOutside = codes "store access fault"
+cause_text cause.UnknownCall = codes "unknown environment call"
+
+-- what more there is to say of a stop: of an exception, its name
+abbrev pub text_of : Why → Option (List ℕ)
+text_of why.Entry = None
+text_of why.Pause = None
+text_of why.Limit = Some (codes "instruction limit")
+text_of (why.Met (met.Exception c)) = Some (cause_text c)
+text_of (why.Met met.Ebreak) = None
+text_of (why.Met met.Source) = None
+text_of (why.Met met.Instruction) = None
+text_of (why.Met met.Goal) = None
+
+-- a stop, with the numbers of the breakpoints that made it
+abbrev pub stop_event : Why → List ℕ → Event
+stop_event why ids =
+    event.Stopped (record { hit_breakpoint_ids = ids; reason = reason_of why; text = text_of why })
+
+-- a number that the program printed, in decimal, on a line
+abbrev pub output_event : ℤ → Event
+output_event number = event.Output (record { output = signed_decimal number ++ codes "\n" })
+
+-- the end of the program, with its code
+abbrev pub exit_events : ℤ → List Event
+exit_events code = event.Exited (record { exit_code = code }) ∷ event.Terminated ∷ []

@@ -1,0 +1,448 @@
+//! The program is given time.
+ghost use Rattle.std.specs.Prelude.{◌≡◌, nat_lt, true, ◌++◌, ◌+◌, ◌*◌, ◌<◌, ◌≤◌, ℕ, Some, None, Ok, [], ◌∷◌, IfOk, OnOk, OnErr, Bool};
+ghost use Rattle.session.specs.declared.event.Event.TheVariants as event;
+ghost use Rattle.session.specs.declared.event.Applied.TheVariants as applied;
+ghost use Rattle.debuggee.specs.Programs.{Program as AProgram, entered, next_tick, stays};
+ghost use Rattle.session.specs.declared.slices.Next.TheVariants as a_next;
+ghost use Rattle.session.specs.Effects.{performed};
+ghost use Rattle.session.specs.Kept.{Goes, draft_told, drafted_all, keepings, see_kept};
+ghost use Rattle.session.specs.Phases.{is_active};
+ghost use Rattle.session.specs.Slices as spec;
+ghost use Rattle.session.specs.Telling.{exit_events, output_event, stop_event};
+ghost use Rattle.session.specs.Beats.{moves_of, outcome_events, Decides, IsFree, Moved, Stretches, concluded, owed_of, tick_events};
+
+use crate::draft::Draft;
+use crate::event::{Ending, Sliced};
+use crate::limits::Limits;
+use crate::state::{FULL, State};
+use crate::telling;
+use debuggee::{Advanced, Program, Run, Why};
+use replies::{Event, Message};
+use std::alloc::AllocError;
+use stepping::{Outcome, Tick};
+
+/// What some beats of a slice did.
+#[derive(Clone, Copy, Debug, PartialEq, Eq)]
+pub struct Step {
+    /// How many instructions retired.
+    pub moved: u32,
+    /// What ended the slice, if something did.
+    pub ending: Option<Ending>,
+}
+
+impl Step {
+    fn ends(ending: Ending) -> Step
+        ensures { result ≡ record { moved = 0; ending = Some ending } }
+    {
+        Step {
+            moved: 0,
+            ending: Some(ending),
+        }
+    }
+}
+
+/// Moves of which there is nothing to tell but of the last.
+#[derive(Clone, Copy, Debug, PartialEq, Eq)]
+pub struct Moves {
+    /// How many were made.
+    pub moved: u32,
+    /// What the next one would answer, where it traps or ends the program.
+    pub meets: Option<Tick>,
+}
+
+/// What comes next in a slice.
+#[derive(Clone, Copy, Debug, PartialEq, Eq)]
+pub enum Next {
+    /// What is owed is told.
+    Tell(Tick),
+    /// The slice ends.
+    End(Ending),
+    /// The program stops.
+    Stop(Why),
+    /// The check at the entry is made.
+    Check,
+    /// The program makes moves.
+    Advance,
+}
+
+impl State {
+    /// Gives the program time for so many moves.
+    #[tactic(auto, using(crate::proofs::Slicing::begins_slice, crate::proofs::Slicing::goes_more, crate::proofs::Slicing::has_ended))]
+    pub(crate) fn slice(&mut self, moves: u32) -> Sliced
+        ensures { Goes self.old (event.Slice moves) (Ok (applied.Slice result)) self.new }
+    {
+        let mut moved = 0;
+        for _ in 0..2 * u64::from(moves) + 4 {
+            let step = self.stretch(moves - moved);
+            moved += step.moved;
+            if let Some(ending) = step.ending {
+                return Sliced { moved, ending };
+            }
+        }
+        Sliced {
+            moved,
+            ending: Ending::Spent,
+        }
+    }
+
+    // Some beats of a slice, which has so many moves left to make: as many as have nothing to tell, or
+    // one other.
+    fn stretch(&mut self, left: u32) -> Step
+        ensures few { result.moved ≤ left }
+        ensures stretches { (moved : ℕ) → Stretches (moved + left) moved self.old result self.new }
+    {
+        match self.next(left > 0) {
+            Next::Tell(tick) => self.step_telling(tick),
+            Next::End(ending) => Step::ends(ending),
+            Next::Stop(why) => self.step_stopping(why, left > 0),
+            Next::Check => self.step_checking(left > 0),
+            Next::Advance => self.step_advancing(left),
+        }
+    }
+
+    // What comes next, where the slice has more moves to make, or not.
+    fn next(&self, more: bool) -> Next
+        ensures { Decides result self.now more }
+    {
+        let Some(program) = &self.program else {
+            return Next::End(Ending::Idle);
+        };
+        if let Some(tick) = program.owed() {
+            return Next::Tell(tick);
+        }
+        if !self.is_given_time(program.run()) {
+            return Next::End(Ending::Idle);
+        }
+        if self.buffer.len() > FULL {
+            return Next::End(Ending::Full);
+        }
+        if let Some(mark) = program.mark() {
+            return Next::Stop(mark.why());
+        }
+        if program.is_check_due() {
+            return Next::Check;
+        }
+        if !more {
+            return Next::End(Ending::Spent);
+        }
+        if program.machine().retired() >= self.limits.last_retired {
+            return Next::Stop(Why::Limit);
+        }
+        Next::Advance
+    }
+
+    // What is owed is told.
+    #[tactic(auto, using(crate::proofs::Stretching::tells, crate::proofs::Stretching::lacks_memory))]
+    fn step_telling(&mut self, tick: Tick) -> Step
+        requires { owed_of self.old.now.debuggee.program ≡ Some tick }
+        ensures moved { result.moved ≡ 0 }
+        ensures stretches { (n moved : ℕ) → Stretches n moved self.old result self.new }
+    {
+        match self.tell(tick) {
+            Ok(()) => Step {
+                moved: 0,
+                ending: ending_of(tick.outcome),
+            },
+            Err(_) => Step::ends(Ending::NoMemory),
+        }
+    }
+
+    // The program stops.
+    #[tactic(auto, using(crate::proofs::Stretching::stops_there, crate::proofs::Stretching::lacks_memory))]
+    fn step_stopping(&mut self, why: Why, more: bool) -> Step
+        requires { Decides (a_next.Stop why) self.old more }
+        ensures moved { result.moved ≡ 0 }
+        ensures stretches { (n moved : ℕ) → nat_lt moved n ≡ more → Stretches n moved self.old result self.new }
+    {
+        match self.stop(why) {
+            Ok(()) => Step::ends(Ending::Stopped),
+            Err(_) => Step::ends(Ending::NoMemory),
+        }
+    }
+
+    // The check at the entry is made.
+    #[tactic(auto, using(crate::proofs::Stretching::checks_there))]
+    fn step_checking(&mut self, more: bool) -> Step
+        requires { Decides a_next.Check self.old more }
+        ensures moved { result.moved ≡ 0 }
+        ensures stretches { (n moved : ℕ) → nat_lt moved n ≡ more → Stretches n moved self.old result self.new }
+    {
+        self.check();
+        Step {
+            moved: 0,
+            ending: None,
+        }
+    }
+
+    fn check(&mut self)
+        ensures { (p : AProgram) → self.old.now.debuggee.program ≡ Some p
+            → self.new ≡ performed keepings (spec.becomes self.old.now (entered p) ∷ []) self.old }
+    {
+        if let Some(program) = &mut self.program {
+            program.check_entry();
+        }
+    }
+
+    // The program makes moves, so many at most, until there is something to tell.
+    #[tactic(auto, using(crate::proofs::Advancing::moves_stretch, crate::proofs::Advancing::moves_then, crate::proofs::Advancing::is_before))]
+    fn step_advancing(&mut self, left: u32) -> Step
+        requires free { (p : AProgram) × IsFree p self.old }
+        requires some { 0 < left }
+        ensures moved { result.moved ≤ left }
+        ensures stretches { (moved : ℕ) → Stretches (moved + left) moved self.old result self.new }
+    {
+        let moves = self.advance(left);
+        match moves.meets {
+            None => Step {
+                moved: moves.moved,
+                ending: None,
+            },
+            Some(tick) => {
+                let ending = self.meet(tick);
+                Step {
+                    moved: moves.moved,
+                    ending,
+                }
+            }
+        }
+    }
+
+    // The moves of which there is nothing to tell, and one that is to be told, if one comes.
+    fn advance(&mut self, left: u32) -> Moves
+        requires free { (p : AProgram) × IsFree p self.old }
+        requires some { 0 < left }
+        ensures { Moved left self.old result self.new }
+    {
+        let last = self.limits.last_retired;
+        let Some(program) = &mut self.program else {
+            unreachable!()
+        };
+        let most = most_of(last, program.machine().retired(), left);
+        let advanced = program.advance(most);
+        moves_of(most, advanced)
+    }
+
+    // The instruction that comes next traps, or ends the program: that is made and told.
+    #[tactic(auto, using(crate::proofs::Stretching::meets_next, crate::proofs::Stretching::lacks_memory))]
+    fn meet(&mut self, tick: Tick) -> Option<Ending>
+        requires { (p : AProgram) × (IsFree p self.old × ((next_tick p ≡ tick) × (stays tick.outcome ≡ true))) }
+        ensures stretches { (n moved : ℕ) → nat_lt moved n ≡ true
+            → Stretches n moved self.old (record { moved = 0; ending = result }) self.new }
+        ensures some { result ≡ None → ⊥ }
+    {
+        match self.conclude(tick.outcome) {
+            Ok(()) => ending_of(tick.outcome),
+            Err(_) => Some(Ending::NoMemory),
+        }
+    }
+
+    // Whether a program that runs so is given time.
+    pub(crate) fn is_given_time(&self, run: Run) -> bool
+        ensures { result ≡ spec.is_runnable_by self.now.now.link run }
+    {
+        match self.link {
+            Some(link) => matches!(run, Run::Running) && !link.terms.phase.is_configuring(),
+            None => matches!(run, Run::Running),
+        }
+    }
+
+    // Whether the editor has said all, and is told what the program does.
+    fn is_told(&self) -> bool
+        ensures { result ≡ is_active self.now.now.link }
+    {
+        match self.link {
+            Some(link) => link.terms.phase.is_active(),
+            None => false,
+        }
+    }
+
+    /// What the program owes, if it owes something.
+    pub(crate) fn owed(&self) -> Option<Tick>
+        ensures { result ≡ owed_of self.now.now.debuggee.program }
+    {
+        match &self.program {
+            Some(program) => program.owed(),
+            None => None,
+        }
+    }
+
+    /// What is owed is told: all of it or nothing.
+    #[tactic(auto, using(crate::proofs::Told::tick_tells))]
+    pub(crate) fn tell(&mut self, tick: Tick) -> Result<(), AllocError>
+        ensures ok { OnOk result ((p : AProgram) → self.old.now.debuggee.program ≡ Some p
+            → self.new ≡ performed keepings (spec.telling self.old.now p tick) self.old) }
+        ensures err { OnErr result (self.new ≡ self.old) }
+    {
+        let draft = self.draft_tick(tick)?;
+        self.buffer.push(draft.bytes())?;
+        if let Some(program) = &mut self.program {
+            program.tell();
+            conclude(program, tick.outcome);
+        }
+        self.settle_told(draft.seq());
+        Ok(())
+    }
+
+    // What is told of a tick, written.
+    fn draft_tick(&self, tick: Tick) -> Result<Draft, AllocError>
+        ensures { IfOk result (λ d. (p : AProgram) → self.now.now.debuggee.program ≡ Some p
+            → d ≡ draft_told self.now.now.limits self.now.now.link (tick_events tick p.machine.lists.ids)) }
+    {
+        let mut draft = Draft::new(self.alloc, self.limits, self.link);
+        if !self.is_told() {
+            return Ok(draft);
+        }
+        if let Some(number) = tick.printed {
+            let event = telling::output_event(self.alloc, number)?;
+            draft.add(self.limits, &Message::Event(event))?;
+        }
+        self.add_outcome(&mut draft, tick.outcome)?;
+        Ok(draft)
+    }
+
+    // And what it came to.
+    fn add_outcome(&self, draft: &mut Draft, outcome: Outcome) -> Result<(), AllocError>
+        ensures { OnOk result ((p : AProgram) → self.now.now.debuggee.program ≡ Some p
+            → draft.new ≡ drafted_all self.now.now.limits (outcome_events outcome p.machine.lists.ids) draft.old) }
+    {
+        match outcome {
+            Outcome::Went => Ok(()),
+            Outcome::Stopped(reason) => match &self.program {
+                Some(program) => {
+                    let ids = program.machine().breaks().ids();
+                    let event = telling::stop_event(self.alloc, Why::Met(reason), ids)?;
+                    draft.add(self.limits, &Message::Event(event))
+                }
+                None => Ok(()),
+            },
+            Outcome::Ended(code) => add_exit(draft, self.limits, code),
+        }
+    }
+
+    // The program stops, and the editor is told: both or none.
+    #[tactic(auto, using(crate::proofs::Told::stop_tells))]
+    fn stop(&mut self, why: Why) -> Result<(), AllocError>
+        ensures ok { OnOk result ((p : AProgram) → self.old.now.debuggee.program ≡ Some p
+            → self.new ≡ performed keepings (spec.halts self.old.now p why []) self.old) }
+        ensures err { OnErr result (self.new ≡ self.old) }
+    {
+        let draft = self.draft_stop(why)?;
+        self.buffer.push(draft.bytes())?;
+        if let Some(program) = &mut self.program {
+            program.stop(why);
+        }
+        self.settle_told(draft.seq());
+        Ok(())
+    }
+
+    // A stop that no breakpoint made, written.
+    fn draft_stop(&self, why: Why) -> Result<Draft, AllocError>
+        ensures { IfOk result (λ d. d ≡ draft_told self.now.now.limits self.now.now.link (stop_event why [] ∷ [])) }
+    {
+        let mut draft = Draft::new(self.alloc, self.limits, self.link);
+        if self.is_told() {
+            let event = telling::stop_event(self.alloc, why, &[])?;
+            draft.add(self.limits, &Message::Event(event))?;
+        }
+        Ok(draft)
+    }
+
+    // What the instruction that comes next comes to is made, and the editor is told: both or none.
+    #[tactic(auto, using(crate::proofs::Told::end_tells))]
+    fn conclude(&mut self, outcome: Outcome) -> Result<(), AllocError>
+        requires { stays outcome ≡ true }
+        ensures ok { OnOk result ((p : AProgram) → self.old.now.debuggee.program ≡ Some p
+            → self.new ≡ performed keepings (spec.concludes self.old.now p outcome []) self.old) }
+        ensures err { OnErr result (self.new ≡ self.old) }
+    {
+        let draft = self.draft_outcome(outcome)?;
+        self.buffer.push(draft.bytes())?;
+        if let Some(program) = &mut self.program {
+            conclude(program, outcome);
+        }
+        self.settle_told(draft.seq());
+        Ok(())
+    }
+
+    // It is written, where no breakpoint is named.
+    fn draft_outcome(&self, outcome: Outcome) -> Result<Draft, AllocError>
+        ensures { IfOk result (λ d. d ≡ draft_told self.now.now.limits self.now.now.link (outcome_events outcome [])) }
+    {
+        let mut draft = Draft::new(self.alloc, self.limits, self.link);
+        if !self.is_told() {
+            return Ok(draft);
+        }
+        match outcome {
+            Outcome::Went => {}
+            Outcome::Stopped(reason) => {
+                let event = telling::stop_event(self.alloc, Why::Met(reason), &[])?;
+                draft.add(self.limits, &Message::Event(event))?;
+            }
+            Outcome::Ended(code) => add_exit(&mut draft, self.limits, code)?,
+        }
+        Ok(draft)
+    }
+}
+
+// The end of the program, written.
+fn add_exit(draft: &mut Draft, limits: Limits, code: i32) -> Result<(), AllocError>
+    ensures { OnOk result (draft.new ≡ drafted_all limits (exit_events code) draft.old) }
+{
+    draft.add(limits, &Message::Event(telling::exit_event(code)))?;
+    draft.add(limits, &Message::Event(Event::Terminated))
+}
+
+// How many moves may be made of those that are left, by how many instructions may retire and have.
+fn most_of(last: u64, retired: u64, left: u32) -> u32
+    requires some { 0 < left }
+    requires few { retired < last }
+    ensures some { 1 ≤ result }
+    ensures few { result ≤ left }
+    ensures sum { retired + result ≤ last }
+{
+    let few = last - retired;
+    if few < u64::from(left) {
+        few as u32
+    } else {
+        left
+    }
+}
+
+// What came of moves, so many at most.
+fn moves_of(most: u32, advanced: Advanced) -> Moves
+    ensures { result ≡ moves_of most advanced }
+{
+    match advanced {
+        Advanced::Spent => Moves {
+            moved: most,
+            meets: None,
+        },
+        Advanced::Owes(moved) => Moves { moved, meets: None },
+        Advanced::Meets(moved, tick) => Moves {
+            moved,
+            meets: Some(tick),
+        },
+    }
+}
+
+// How what a tick came to ends a slice.
+fn ending_of(outcome: Outcome) -> Option<Ending>
+    ensures { result ≡ spec.ending_of outcome }
+{
+    match outcome {
+        Outcome::Went => None,
+        Outcome::Stopped(_) => Some(Ending::Stopped),
+        Outcome::Ended(_) => Some(Ending::Ended),
+    }
+}
+
+// What a tick came to is made.
+fn conclude(program: &mut Program, outcome: Outcome)
+    ensures { program.new ≡ concluded outcome program.old }
+{
+    match outcome {
+        Outcome::Went => {}
+        Outcome::Stopped(reason) => program.stop(Why::Met(reason)),
+        Outcome::Ended(code) => program.end(Some(code)),
+    }
+}
