@@ -11,3 +11,4 @@ pub mod Keeps
 pub mod OneMove
 pub mod Candidates
 pub mod Moving
+pub mod Codes

@@ -1,11 +1,14 @@
 -- What holds of every word and of every machine. Each of these statements is the contract of a function of the
 -- module `laws`.
-use Rattle.std.specs.Prelude.{◌≡◌, ℕ, List, Option, slice_index}
+use Rattle.std.specs.Prelude.{◌≡◌, ◌≤ℤ◌, ℕ, ℤ, pos, neg_ℤ, List, Option, Result, Ok, Err, slice_index, ⊤}
+use Rattle.std.specs.declared.alloc.AllocError.{AllocError}
 use Rattle.rv32i.specs.Encoding.{Encodes, IsDecoding}
 use Rattle.rv32i.specs.Machine.{Machine, Effect, IsMove}
 use Rattle.rv32i.specs.Texts.{IsTextOf}
 use Rattle.rv32i.specs.Words.{word_of}
 use Rattle.rv32i.specs.declared.instr.Instr.{Instr}
+use Rattle.rv32i.specs.declared.stepped.Stepped.{Stepped}
+use Rattle.rv32i.specs.declared.stepped.Stepped.TheVariants.{Retired, Printed, Break, Exit, Trap}
 
 -- A word encodes at most one instruction.
 abbrev pub InstructionIsUnique : Type 0
@@ -46,3 +49,20 @@ pub record HasMove (m : Machine) : Type 0 where
 -- Each machine has one.
 abbrev pub EachMachineMoves : Type 0
 EachMachineMoves = (m : Machine) → HasMove m
+
+-- What an exit answers is a code of 32 bits, one of them for its sign.
+pub record IsSignedWord (code : ℤ) : Type 0 where
+  pub least : neg_ℤ (pos 2147483648) ≤ℤ code
+  pub greatest : code ≤ℤ pos 2147483647
+
+abbrev pub HasCode : Result Stepped AllocError → Type 0
+HasCode (Ok (Exit code)) = IsSignedWord code
+HasCode (Ok (Trap cause)) = ⊤
+HasCode (Ok (Printed number)) = ⊤
+HasCode (Ok Retired) = ⊤
+HasCode (Ok Break) = ⊤
+HasCode (Err error) = ⊤
+
+-- The code of an exit is one, whatever the registers hold.
+abbrev pub ExitCodesAreWords : Type 0
+ExitCodesAreWords = (before : Machine) (effect : Effect) → IsMove before effect → HasCode effect.answer

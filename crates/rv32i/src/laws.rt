@@ -1,7 +1,7 @@
 //! What holds of every word and of every move: each law is the contract of a function that does
 //! nothing.
 
-ghost use Rattle.rv32i.specs.Laws.{EachMachineMoves, EachWordIsDecoded, EncodingIsUnique, InstructionIsUnique, MoveIsDeterministic, TextIsUnique, WordIsComputed};
+ghost use Rattle.rv32i.specs.Laws.{EachMachineMoves, EachWordIsDecoded, EncodingIsUnique, ExitCodesAreWords, InstructionIsUnique, MoveIsDeterministic, TextIsUnique, WordIsComputed};
 
 /// A word encodes at most one instruction.
 pub fn instruction_is_unique()
@@ -33,6 +33,11 @@ pub fn each_word_is_decoded()
 /// Each machine has a move, and the move keeps x0 at 0.
 pub fn each_machine_moves()
     ensures { EachMachineMoves }
+{}
+
+/// The code of an exit has 32 bits, one of them for its sign.
+pub fn exit_codes_are_words()
+    ensures { ExitCodesAreWords }
 {}
 
 /// A word at an address has at most one disassembly.

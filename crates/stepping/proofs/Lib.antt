@@ -13,3 +13,4 @@ pub mod Ticking
 pub mod Quiet
 pub mod Existing
 pub mod Loading
+pub mod Exiting
