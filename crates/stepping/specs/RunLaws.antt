@@ -4,8 +4,9 @@
 -- is the check at the entry, and in any other for 1. A tick goes on where no reason to stop applies at its number or at
 -- a lower one. It stops, or says that the program has ended, exactly at the least number at which one applies, and for
 -- the first reason there.
-use Rattle.std.specs.Prelude.{◌≡◌, ℕ, ℤ, zero, suc, ◌+◌, ◌<◌, ◌≤◌, ◌⊎◌, ◌↔◌, if◌then◌else◌, Option, Result, Ok, IsOk}
+use Rattle.std.specs.Prelude.{◌≡◌, ℕ, ℤ, zero, suc, ◌+◌, ◌<◌, ◌≤◌, ◌⊎◌, ◌↔◌, if◌then◌else◌, Option, Result, Ok, IsOk, ⊤}
 use Rattle.std.specs.declared.alloc.AllocError.{AllocError}
+use Rattle.rv32i.specs.Laws.{IsSignedWord}
 use Rattle.stepping.specs.Runs.{IsRun}
 use Rattle.stepping.specs.Stopping.{After, AppliesAt, Leaves, NoneBelow, StopsAt, place}
 use Rattle.stepping.specs.Ticks.{Debugged, IsTick}
@@ -44,6 +45,16 @@ TickIsDeterministic = (before after other : Debugged) (answer another : Result T
 -- No tick lacks memory: all of it was made when the machine was.
 abbrev pub EachTickAnswers : Type 0
 EachTickAnswers = (before after : Debugged) (answer : Result Tick AllocError) → IsTick before answer after → IsOk answer
+
+-- an end has a code that is a signed number of 32 bits
+abbrev pub HasSignedCode : Outcome → Type 0
+HasSignedCode (Ended code) = IsSignedWord code
+HasSignedCode (Stopped reason) = ⊤
+HasSignedCode Went = ⊤
+
+-- A tick that says that the program has ended says so with such a code.
+abbrev pub EndsWithCodes : Type 0
+EndsWithCodes = (before after : Debugged) (tick : Tick) → IsTick before (Ok tick) after → HasSignedCode tick.outcome
 
 -- A machine has a tick: what it answers, and what it leaves.
 pub record HasTick (d : Debugged) : Type 0 where

@@ -3,7 +3,7 @@
 ghost use Rattle.stepping.specs.Laws.{ReturnsKeepCalls, ReturnsKeepDepth};
 ghost use Rattle.stepping.specs.Loading.{LabelsAreNotLoaded, OneIsLoaded, OneIsReloaded};
 ghost use Rattle.stepping.specs.Past.{LoadedRemembersNone, TicksRemember};
-ghost use Rattle.stepping.specs.RunLaws.{CountsAnew, EachMachineTicks, EachTickAnswers, MovesEnd, RunsSayWhere, RunsStopThere, StopIsUnique, TickIsDeterministic, TicksSayWhere};
+ghost use Rattle.stepping.specs.RunLaws.{CountsAnew, EachMachineTicks, EachTickAnswers, EndsWithCodes, MovesEnd, RunsSayWhere, RunsStopThere, StopIsUnique, TickIsDeterministic, TicksSayWhere};
 
 /// Calls that returned leave the depth as it was. Of the calls of before they leave those that were
 /// never forgotten meanwhile, and no other comes back.
@@ -34,6 +34,11 @@ pub fn run_stops_at_one_number()
     ensures unique { StopIsUnique }
     ensures end { MovesEnd }
     ensures anew { CountsAnew }
+{}
+
+/// A tick that says that the program has ended says so with a code of 32 bits, one of them for its sign.
+pub fn programs_end_with_codes()
+    ensures { EndsWithCodes }
 {}
 
 /// Each machine has a tick.
