@@ -1,8 +1,8 @@
 -- What comes next in a slice.
-use Rattle.std.proofs.Common.{◌≡◌, ℕ, ◌<◌, ◌≤◌, Bool, true, false, cond, leb, ltb, List, [], ◌∷◌, length, Option, Some, None, refl, sym, ap, ◌∙◌, arith}
+use Rattle.std.proofs.Common.{◌≡◌, ℕ, ◌<◌, ◌≤◌, Bool, true, false, cond, leb, ltb, List, [], ◌∷◌, length, Option, Some, None, ap, ◌∙◌, arith}
 use Rattle.std.specs.Prelude.{not}
 use Rattle.std.proofs.lemmas.Bool.Decides.{nat_tests}
-use Rattle.debuggee.specs.Programs.{Program, entered, next_tick, why_marked}
+use Rattle.debuggee.specs.Programs.{Program, entered, why_marked}
 use Rattle.debuggee.specs.declared.run.Mark.{Mark}
 use Rattle.debuggee.specs.declared.run.Why.TheVariants as why
 use Rattle.session.specs.declared.event.Ending.TheVariants as ending
@@ -10,7 +10,7 @@ use Rattle.session.specs.declared.slices.Next.TheVariants as next
 use Rattle.session.specs.declared.state.TheConstants.{FULL}
 use Rattle.session.specs.Beats.{Decides, IsFree}
 use Rattle.session.specs.Kept.{Kept, keepings}
-use Rattle.session.specs.Slices.{Beat, beat, beat_by, beat_of, becomes, ends, goes, goes_unless, is_runnable_by, moves, runs, stops}
+use Rattle.session.specs.Slices.{Beat, beat, beat_by, beat_of, becomes, ends, goes, goes_unless, is_runnable_by, moves, stops}
 use Rattle.stepping.specs.declared.tick.Tick.{Tick}
 
 -- where nothing is owed, and the program is given time and room

@@ -5,7 +5,6 @@ use Rattle.debuggee.specs.Programs.{Debuggee}
 use Rattle.replies.specs.declared.event.Event.{Event}
 use Rattle.replies.specs.declared.message.Message.{Message}
 use Rattle.replies.specs.declared.message.Message.TheVariants.{Response, Event as IsEvent}
-use Rattle.replies.specs.declared.response.Outcome.{Outcome}
 use Rattle.session.specs.declared.limits.Limits.{Limits}
 use Rattle.session.specs.declared.link.Link.{Link}
 use Rattle.session.specs.declared.pending.Pending.{Pending}
@@ -13,7 +12,7 @@ use Rattle.session.specs.declared.terms.Terms.{Terms}
 use Rattle.session.specs.declared.answer.Change.{Change}
 use Rattle.session.specs.declared.prepared.Prepared.{Prepared}
 use Rattle.session.specs.Preparing.{IsPrepared, draft_of}
-use Rattle.session.specs.Acts.{Act, Answering, Become, Now, Tell, agreed, numbered}
+use Rattle.session.specs.Acts.{Act, Answering, Now, Tell, agreed, numbered}
 use Rattle.session.specs.Arrivals.{first_pending, others_pending}
 use Rattle.session.specs.Effects.{performed}
 use Rattle.session.specs.Outcomes.{answering, closing, needs_memory, next_turn}

@@ -1,5 +1,5 @@
 -- So many beats end each slice.
-use Rattle.std.proofs.Common.{◌≡◌, ℕ, zero, suc, ◌+◌, ◌-◌, ◌*◌, ◌<◌, ◌≤◌, Bool, true, false, cond, leb, ltb, List, [], ◌∷◌, length, Option, Some, None, refl, sym, ap, ◌∙◌, subst, arith}
+use Rattle.std.proofs.Common.{◌≡◌, ℕ, zero, suc, ◌+◌, ◌-◌, ◌*◌, ◌<◌, ◌≤◌, Bool, true, false, leb, ltb, List, [], ◌∷◌, length, Option, Some, None, refl, sym, ap, ◌∙◌, subst, arith}
 use Rattle.std.specs.Prelude.{not}
 use Rattle.std.proofs.lemmas.Bool.Decides.{nat_tests}
 use Rattle.debuggee.specs.Programs.{Program, entered, moved, next_tick, stays, told, why_marked}
@@ -11,17 +11,15 @@ use Rattle.session.specs.declared.link.Link.{Link}
 use Rattle.session.specs.declared.pending.Pending.{Pending}
 use Rattle.session.specs.declared.state.TheConstants.{FULL}
 use Rattle.session.specs.Acts.{Now}
-use Rattle.session.specs.Beats.{concluded, going, tick_events}
-use Rattle.session.specs.Effects.{Slicing, after_beat, beats, beats_on, enough, from_here, next_beat, next_by, sliced}
-use Rattle.session.specs.Kept.{Drafted, Kept, draft_told, keepings, settled}
-use Rattle.session.specs.Slices.{Beat, beat, beat_by, beat_of, becomes, ending_of, ends, goes, goes_unless, is_runnable_by, moves, moves_by, retires, runs, stops, telling}
+use Rattle.session.specs.Beats.{concluded}
+use Rattle.session.specs.Effects.{Slicing, after_beat, beats, enough, next_beat, next_by, sliced}
+use Rattle.session.specs.Kept.{Kept, keepings, settled}
+use Rattle.session.specs.Slices.{Beat, beat, beat_by, beat_of, becomes, ending_of, ends, goes, goes_unless, is_runnable_by, moves_by, retires, runs, stops, telling}
 use Rattle.stepping.specs.declared.tick.Outcome.{Outcome}
 use Rattle.stepping.specs.declared.tick.Outcome.TheVariants.{Went, Stopped, Ended}
-use Rattle.stepping.specs.declared.tick.Reason.{Reason}
 use Rattle.stepping.specs.declared.tick.Reason.TheVariants as met
 use Rattle.stepping.specs.declared.tick.Tick.{Tick}
 use Rattle.session.proofs.Advancing.{move_retires}
-use Rattle.session.proofs.Drafting.{settling}
 use Rattle.session.proofs.Reaching.{if_keeps}
 use Rattle.session.proofs.Told.{tick_tells, with_one}
 

@@ -1,5 +1,5 @@
 -- An image of a text can be loaded, and is the one that the text has.
-use Rattle.std.proofs.Common.{◌≡◌, ℕ, Bool, List, true, false, [], ◌∷◌, Option, Some, None, Result, Ok, Err, IfOk, sym, ap, ◌∙◌}
+use Rattle.std.proofs.Common.{◌≡◌, ℕ, Bool, List, true, false, [], ◌∷◌, Some, None, Result, Ok, Err, IfOk, sym, ap, ◌∙◌}
 use Rattle.image.specs.declared.Image.{Image}
 use Rattle.assembler.specs.Assembled.{assembled}
 use Rattle.assembler.specs.Placed.{Placed, error_of}

@@ -17,6 +17,7 @@ pub mod Waiting
 pub mod Joining
 pub mod Order
 pub mod Cuts
+pub mod Orderly
 pub mod Turning
 pub mod Serving
 pub mod Once

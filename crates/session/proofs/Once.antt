@@ -15,7 +15,7 @@ use Rattle.session.specs.declared.pending.Pending.{Pending}
 use Rattle.session.specs.declared.phase.Phase.{Phase}
 use Rattle.session.specs.declared.phase.Phase.TheVariants.{Fresh, Initialized, Configuring, Active, Left}
 use Rattle.session.specs.declared.terms.Terms.{Terms}
-use Rattle.session.specs.Acts.{Act, Answering, Now, Tell}
+use Rattle.session.specs.Acts.{Answering, Now, Tell}
 use Rattle.session.specs.Effects.{performed}
 use Rattle.session.specs.Launch.{assembles}
 use Rattle.session.specs.Laws.{initializes, initializes_by, times_initialized, InitializesOnce}
@@ -25,7 +25,7 @@ use Rattle.session.specs.Refusals.{answer_to, response_to}
 use Rattle.session.specs.Requests.{is_taken_in, success_of}
 use Rattle.session.specs.Sessions.{Beginning, Session, Life, Said, said_next, said_on, replied_on, hung_on, performed_on, histories, After}
 use Rattle.session.proofs.Serving.{of_answer, not_taken}
-use Rattle.session.proofs.Reaching.{if_keeps, each_life}
+use Rattle.session.proofs.Reaching.{if_keeps, each_life, performed_append}
 use Rattle.session.proofs.ByForms.{on, on_with}
 use Rattle.session.proofs.Turning.{KeptByEvents, reached_by_events}
 
@@ -123,10 +123,6 @@ closes_more : (closes : Bool) (s : Session) → OnceWith 0 s → OnceWith 0 (per
 closes_more true s h = hangs s.now.link s h
 closes_more false s h = h
 
-performed_append : (xs ys : List Act) (s : Session) → performed histories (xs ++ ys) s ≡ performed histories ys (performed histories xs s)
-performed_append [] ys s = refl
-performed_append (x ∷ xs) ys s = performed_append xs ys (performed_on x s)
-
 answer_keeps : (l : Link) (p : Pending) (rest : List Pending) (s : Session) (a : Answering) → Fits (times_initialized s.life.said) a → OnceWith 0 (on_with (Some l) (p ∷ rest) s) → OnceWith 0 (performed histories (answering a) (on_with (Some l) (p ∷ rest) s))
 answer_keeps l p rest s a fits h =
     let t : Session = record s { now = record s.now { debuggee = a.debuggee } } in
@@ -167,7 +163,7 @@ once = record {
   closes = λ s h. record { before = h.before; present = h.present; suits = tt };
   accepts = λ l piece s e h. record { before = h.before; present = h.present; suits = h.suits };
   becomes = λ d s h. record { before = h.before; present = h.present; suits = h.suits };
-  tells = λ l event s few h. record {
+  tells = λ l event s _ few h. record {
     before = h.before;
     present = subst (λ n. n ≤ 1) (let e = times_more s.life.said (said_next s.now l (IsEvent event)) in cc) h.present;
     suits = subst (Suits l.terms.phase) (let e = times_more s.life.said (said_next s.now l (IsEvent event)) in cc) h.suits;

@@ -1,11 +1,13 @@
 -- Each answer is proper.
-use Rattle.std.proofs.Common.{◌≡◌, ℕ, ◌<◌, ◌≤◌, true, false, ltb, List, [], ◌∷◌, ◌++◌, map, Option, Some, None, Result, Ok, Err, inl, inr, refl, sym, ap, ◌∙◌, subst, arith}
+use Rattle.std.proofs.Common.{◌≡◌, ℕ, ◌+◌, ◌<◌, ◌≤◌, Bool, true, false, eqb, ltb, List, [], ◌∷◌, ◌++◌, map, Option, Some, None, Result, Ok, Err, inl, inr, refl, sym, ap, ◌∙◌, subst, arith}
 use Rattle.std.specs.Prelude.{All}
 use Rattle.std.proofs.lemmas.List.{map-id}
 use Rattle.std.proofs.lemmas.List.Elements.{All-push, All-nil}
+use Rattle.assembler.specs.Placed.{error_of}
+use Rattle.assembler.specs.declared.error.AsmError.{AsmError}
 use Rattle.protocol.proofs.Meanings.{IsSound, IsOfNameOrArguments, incoming_of-sound}
 use Rattle.protocol.specs.declared.command.Command.{Command}
-use Rattle.protocol.specs.declared.command.Command.TheVariants.{Initialize, Threads, Cancel, Disconnect}
+use Rattle.protocol.specs.declared.command.Command.TheVariants.{Initialize, Launch, ConfigurationDone, Threads, Cancel, Restart, Terminate, Disconnect, SetExceptionBreakpoints, Continue, Next, StepIn, StepOut, Pause}
 use Rattle.protocol.specs.declared.refusal.Refusal.{Refusal}
 use Rattle.protocol.specs.declared.request.Incoming.{Incoming}
 use Rattle.protocol.specs.declared.request.Incoming.TheVariants.{Request as IsRequest, Bad as IsBad, Ignored}
@@ -13,28 +15,30 @@ use Rattle.protocol.specs.declared.request.MessageError.{MessageError}
 use Rattle.protocol.specs.Commands.{name_of}
 use Rattle.protocol.specs.Refusals.{has_text}
 use Rattle.protocol.specs.Reading.{incoming_of}
+use Rattle.replies.specs.Events.{IsProperEvent}
 use Rattle.replies.specs.Messages.{IsProper}
 use Rattle.replies.specs.Responses.{IsOutcomeOf}
-use Rattle.replies.specs.declared.message.Message.TheVariants.{Response}
+use Rattle.replies.specs.declared.event.Event.{Event as Told}
+use Rattle.replies.specs.declared.message.Message.TheVariants.{Response, Event as IsEvent}
 use Rattle.replies.specs.declared.response.Outcome.{Outcome}
 use Rattle.session.specs.declared.event.Event.{Event}
 use Rattle.session.specs.declared.link.Link.{Link}
 use Rattle.session.specs.declared.pending.Ask.{Ask}
 use Rattle.session.specs.declared.pending.Ask.TheVariants.{Request, Bad}
 use Rattle.session.specs.declared.pending.Pending.{Pending}
-use Rattle.session.specs.declared.phase.Phase.{Phase}
-use Rattle.session.specs.declared.phase.Phase.TheVariants.{Initialized, Left}
-use Rattle.session.specs.Acts.{read_on}
+use Rattle.session.specs.declared.terms.Terms.{Terms}
+use Rattle.session.specs.Acts.{Answering, Now, Tell, read_on}
 use Rattle.session.specs.Arrivals.{number_of, name_asked, asks_in, asks_of}
 use Rattle.session.specs.Effects.{performed}
+use Rattle.session.specs.Launch.{assembles}
 use Rattle.session.specs.Laws.{AnswersAreProper}
-use Rattle.session.specs.Outcomes.{answering}
-use Rattle.session.specs.Refusals.{refused, answer_to, response_to}
+use Rattle.session.specs.Outcomes.{answering, closing}
+use Rattle.session.specs.Refusals.{answer_to, response_to}
 use Rattle.session.specs.Requests.{is_taken_in, success_of}
-use Rattle.session.specs.Sessions.{Beginning, Session, Life, Said, said_next, replied_on, hung_on, histories, After}
+use Rattle.session.specs.Sessions.{Beginning, Session, Life, Said, said_next, said_on, replied_on, hung_on, performed_on, histories, After}
 use Rattle.session.proofs.Joining.{seen_as, all_joined_as}
-use Rattle.session.proofs.Reaching.{if_keeps, each_life}
-use Rattle.session.proofs.ByForms.{on, on_with}
+use Rattle.session.proofs.Reaching.{if_keeps, each_life, performed_append}
+use Rattle.session.proofs.ByForms.{on, on_with, saying}
 use Rattle.session.proofs.Turning.{KeptByEvents, reached_by_events}
 use Rattle.session.proofs.Serving.{IsRefusalOf, of_answer, not_taken}
 
@@ -43,13 +47,36 @@ use Rattle.session.proofs.Serving.{IsRefusalOf, of_answer, not_taken}
 within : (n : ℕ) → n ≤ 2147483647 → n < 4294967296
 within n h = omega (arith, h)
 
+-- what is told after an answer
+abbrev AllTold : List Told → Type 0
+AllTold [] = Unit {0}
+AllTold (e ∷ es) = IsProperEvent e × AllTold es
+
+record Fits (command : List ℕ) (a : Answering) : Type 0 where
+  outcome : IsOutcomeOf command a.outcome
+  events : AllTold a.events
+
 -- the body of a success is that of its request
-success_is_proper : (phase : Phase) (command : Command) → is_taken_in phase command ≡ true → IsOutcomeOf (name_of command) (success_of command).outcome
-success_is_proper phase (Initialize arguments) taken = (refl, refl)
-success_is_proper phase Threads taken = (refl, refl)
-success_is_proper phase (Cancel arguments) taken = (refl, refl)
-success_is_proper phase (Disconnect arguments) taken = (refl, refl)
-success_is_proper phase command taken = absurd (not_taken taken)
+success_fits : (now : Now) (terms : Terms) (file : Option (List ℕ)) (command : Command) → is_taken_in terms.phase command ≡ true → Fits (name_of command) (success_of now terms file command)
+success_fits now terms file (Initialize arguments) taken = record { outcome = (refl, refl); events = tt }
+success_fits now terms None (Launch arguments) taken = record { outcome = refl; events = tt }
+success_fits now terms (Some text) (Launch arguments) taken = by (error_of text now.size) where
+  by : (error : Option AsmError) → Fits (name_of (Launch arguments)) (assembles now terms arguments text error)
+  by None = record { outcome = (refl, refl); events = (refl, tt) }
+  by (Some e) = record { outcome = refl; events = tt }
+success_fits now terms file ConfigurationDone taken = record { outcome = (refl, refl); events = tt }
+success_fits now terms file Threads taken = record { outcome = (refl, refl); events = tt }
+success_fits now terms file (Cancel arguments) taken = record { outcome = (refl, refl); events = tt }
+success_fits now terms file Restart taken = record { outcome = (refl, refl); events = tt }
+success_fits now terms file Terminate taken = record { outcome = (refl, refl); events = (refl, tt) }
+success_fits now terms file (Disconnect arguments) taken = record { outcome = (refl, refl); events = tt }
+success_fits now terms file SetExceptionBreakpoints taken = record { outcome = (refl, refl); events = tt }
+success_fits now terms file (Continue arguments) taken = record { outcome = (refl, refl); events = tt }
+success_fits now terms file (Next arguments) taken = record { outcome = (refl, refl); events = tt }
+success_fits now terms file (StepIn arguments) taken = record { outcome = (refl, refl); events = tt }
+success_fits now terms file (StepOut arguments) taken = record { outcome = (refl, refl); events = tt }
+success_fits now terms file (Pause arguments) taken = record { outcome = (refl, refl); events = tt }
+success_fits now terms file command taken = absurd (not_taken taken)
 
 -- ---- requests as they come: with a number that a request may have, and no refusal that has a text of its own
 
@@ -66,11 +93,11 @@ has_no_text ask refusal h (inr e) = e
 has_no_text (Request r) refusal h (inl e) = absurd (let none : None ≡ Some refusal = e in cc)
 has_no_text (Bad seq command why) refusal h (inl e) = ap has_text (let same : refusal ≡ why = cc in same) ∙ h.1
 
-outcome_is_proper : (phase : Phase) (p : Pending) → IsRead p.ask → IsOutcomeOf (name_asked p.ask) (answer_to phase p).outcome
-outcome_is_proper phase p h =
-    of_answer (λ ask answer. IsOutcomeOf (name_asked ask) answer.outcome) phase p.ask p.fate
-    (λ refusal is. sym (has_no_text p.ask refusal h is))
-    (λ r taken. success_is_proper phase r.command taken)
+answer_fits : (now : Now) (terms : Terms) (file : Option (List ℕ)) (p : Pending) → IsRead p.ask → Fits (name_asked p.ask) (answer_to now terms file p)
+answer_fits now terms file p h =
+    of_answer (λ ask answer. Fits (name_asked ask) answer) now terms file p.ask p.fate
+    (λ refusal is. record { outcome = sym (has_no_text p.ask refusal h is); events = tt })
+    (λ r taken. success_fits now terms file r.command taken)
 
 abbrev AreRead : List Ask → Type 0
 AreRead [] = Unit {0}
@@ -100,6 +127,11 @@ asks_that_wait pending = seen_as (λ ask. ask) pending
 
 -- ---- every session
 
+-- an outcome is of the first that waits, if one does
+abbrev FitsFirst : List Pending → Outcome → Type 0
+FitsFirst [] outcome = Unit {0}
+FitsFirst (p ∷ rest) outcome = IsOutcomeOf (name_asked p.ask) outcome
+
 abbrev AllProper : Life → Type 0
 AllProper life = All (λ (m : Said). IsProper m.message) life.said
 
@@ -109,8 +141,10 @@ record Proper (s : Session) : Type 0 where
   pending : AreRead (asks_that_wait s.now.arrivals.pending)
 
 -- an answer to the first that waits
-replies : (l : Link) (p : Pending) (rest : List Pending) (outcome : Outcome) (s : Session) → IsOutcomeOf (name_asked p.ask) outcome → Proper (on_with (Some l) (p ∷ rest) s) → Proper (replied_on (p ∷ rest) outcome (on_with (Some l) (p ∷ rest) s))
-replies l p rest outcome s fits h =
+replies : (l : Option Link) (pending : List Pending) (outcome : Outcome) (s : Session) → FitsFirst pending outcome → Proper (on_with l pending s) → Proper (replied_on pending outcome (on_with l pending s))
+replies l [] outcome s fits h = h
+replies None (p ∷ rest) outcome s fits h = h
+replies (Some l) (p ∷ rest) outcome s fits h =
     let m : Said = said_next s.now l (Response (response_to p.ask outcome)) in
     if_keeps Proper (ltb l.seq s.now.limits.last_seq) _ _
     (λ _. record {
@@ -120,19 +154,37 @@ replies l p rest outcome s fits h =
     })
     (λ _. h)
 
+-- an event is told
+says : (l : Link) (event : Told) (s : Session) → IsProperEvent event → Proper (on (Some l) s) → Proper (saying l (IsEvent event) s.now.arrivals.pending (on (Some l) s))
+says l event s proper h = record {
+  before = h.before;
+  present = All-push (λ (m : Said). IsProper m.message) s.life.said (said_next s.now l (IsEvent event)) h.present proper;
+  pending = if_keeps (λ (x : List Pending). AreRead (asks_that_wait x)) (eqb (l.seq + 1) s.now.limits.last_seq) [] s.now.arrivals.pending (λ _. tt) (λ _. h.pending);
+}
+
+tells : (l : Option Link) (event : Told) (s : Session) → IsProperEvent event → Proper (on l s) → Proper (said_on l (IsEvent event) s.now.arrivals.pending (on l s))
+tells None event s proper h = h
+tells (Some l) event s proper h = if_keeps Proper (ltb l.seq s.now.limits.last_seq) _ _ (λ _. says l event s proper h) (λ _. h)
+
+tells_all : (events : List Told) (s : Session) → AllTold events → Proper s → Proper (performed histories (map Tell events) s)
+tells_all [] s told h = h
+tells_all (e ∷ es) s told h = tells_all es (performed_on (Tell e) s) told.1 (tells s.now.link e s told.0 h)
+
 hangs : (l : Option Link) (s : Session) → Proper (on l s) → Proper (hung_on l (on l s))
 hangs None s h = h
 hangs (Some l) s h = record { before = h.before; present = h.present; pending = h.pending }
 
-taken_keeps : (l : Link) (p : Pending) (rest : List Pending) (s : Session) (command : Command) (phase : Phase) → is_taken_in phase command ≡ true → IsOutcomeOf (name_asked p.ask) (success_of command).outcome → Proper (on_with (Some l) (p ∷ rest) s)
-    → Proper (performed histories (answering (success_of command)) (on_with (Some l) (p ∷ rest) s))
-taken_keeps l p rest s (Initialize arguments) phase taken fits h = replies (record l { phase = Initialized }) p rest (success_of (Initialize arguments)).outcome s fits (record { before = h.before; present = h.present; pending = h.pending })
-taken_keeps l p rest s Threads phase taken fits h = replies l p rest (success_of Threads).outcome s fits h
-taken_keeps l p rest s (Cancel arguments) phase taken fits h = replies l p rest (success_of (Cancel arguments)).outcome s fits h
-taken_keeps l p rest s (Disconnect arguments) phase taken fits h =
-    let t = replied_on (p ∷ rest) (success_of (Disconnect arguments)).outcome (on_with (Some (record l { phase = Left })) (p ∷ rest) s) in
-    hangs t.now.link t (replies (record l { phase = Left }) p rest (success_of (Disconnect arguments)).outcome s fits (record { before = h.before; present = h.present; pending = h.pending }))
-taken_keeps l p rest s command phase taken fits h = absurd (not_taken taken)
+closes_after : (closes : Bool) (s : Session) → Proper s → Proper (performed histories (closing closes) s)
+closes_after true s h = hangs s.now.link s h
+closes_after false s h = h
+
+answer_keeps : (l : Link) (p : Pending) (rest : List Pending) (s : Session) (a : Answering) → Fits (name_asked p.ask) a → Proper (on_with (Some l) (p ∷ rest) s) → Proper (performed histories (answering a) (on_with (Some l) (p ∷ rest) s))
+answer_keeps l p rest s a fits h =
+    let t : Session = record s { now = record s.now { debuggee = a.debuggee } } in
+    let replied = replied_on (p ∷ rest) a.outcome (on_with (Some (record l { terms = a.terms })) (p ∷ rest) t) in
+    let after : Proper replied = replies (Some (record l { terms = a.terms })) (p ∷ rest) a.outcome t fits.outcome (record { before = h.before; present = h.present; pending = h.pending }) in
+    subst Proper (sym (performed_append (map Tell a.events) (closing a.closes) replied))
+    (closes_after a.closes (performed histories (map Tell a.events) replied) (tells_all a.events replied fits.events after))
 
 proper : KeptByEvents Proper
 proper = record {
@@ -146,10 +198,11 @@ proper = record {
         pending = subst AreRead (sym (all_joined_as (λ ask. ask) asks s.now.arrivals ∙ ap (λ l. asks_that_wait s.now.arrivals.pending ++ l) (map-id asks)))
             (AreRead-append (asks_that_wait s.now.arrivals.pending) asks h.pending (asks_are_read (read_on s.now piece).bodies));
       };
-  answers = λ l p rest s h.
-      (of_answer (λ ask answer. IsOutcomeOf (name_asked p.ask) answer.outcome → Proper (performed histories (answering answer) (on_with (Some l) (p ∷ rest) s))) l.phase p.ask p.fate
-      (λ refusal _ fits. replies l p rest (refused refusal).outcome s fits h)
-      (λ r taken fits. taken_keeps l p rest s r.command l.phase taken fits h)) (outcome_is_proper l.phase p h.pending.0);
+  becomes = λ d s h. record { before = h.before; present = h.present; pending = h.pending };
+  tells = λ l event s proper few h. says l event s proper h;
+  answers = λ l p rest file s h.
+      let t = on_with (Some l) (p ∷ rest) s in
+      answer_keeps l p rest s (answer_to t.now l.terms file p) (answer_fits t.now l.terms file p h.pending.0) h;
   takes = λ n s h. record { before = h.before; present = h.present; pending = h.pending };
 }
 

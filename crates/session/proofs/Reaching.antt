@@ -1,11 +1,9 @@
 -- What holds at the start, and is kept by each event, holds after any list of events; and what each act keeps, each event does.
-use Rattle.std.proofs.Common.{◌≡◌, ℕ, zero, suc, Bool, true, false, cond, ltb, List, [], ◌∷◌, Option, Some, None, get_or, refl}
+use Rattle.std.proofs.Common.{◌≡◌, ℕ, zero, suc, Bool, true, false, cond, ltb, List, [], ◌∷◌, ◌++◌, Option, Some, None, get_or, refl}
 use Rattle.std.specs.Prelude.{All}
 use Rattle.std.proofs.lemmas.List.Elements.{All-push, All-head, All-tail}
 use Rattle.session.specs.declared.event.Event.{Event}
-use Rattle.session.specs.declared.limits.Limits.{Limits}
 use Rattle.session.specs.Acts.{Act}
-use Rattle.debuggee.specs.Programs.{Program}
 use Rattle.session.specs.declared.event.Ending.{Ending}
 use Rattle.session.specs.declared.event.Event.TheVariants.{Connect, Recv, Turn, Slice, Hold, Sent, DropConnection}
 use Rattle.session.specs.Slices.{beat}
@@ -25,6 +23,11 @@ module _ (P : Session → Type 0) (by_event : (e : Event) (s : Session) → P s 
 
   pub reached : (from : Beginning) → P (start from) → (events : List Event) → P (After from events)
   reached from h events = all_keep events (start from) h
+
+-- acts, one after the other
+pub performed_append : (xs ys : List Act) (s : Session) → performed histories (xs ++ ys) s ≡ performed histories ys (performed histories xs s)
+performed_append [] ys s = refl
+performed_append (x ∷ xs) ys s = performed_append xs ys (performed_on x s)
 
 -- ---- what each act keeps, in every state
 

@@ -6,16 +6,16 @@ use Rattle.std.proofs.lemmas.List.Concat.{flat_map-append}
 use Rattle.replies.specs.declared.message.Message.{Message}
 use Rattle.replies.specs.declared.message.Message.TheVariants.{Response, Event as IsEvent}
 use Rattle.replies.specs.declared.response.Outcome.{Outcome}
-use Rattle.session.specs.declared.limits.Limits.{Limits}
 use Rattle.session.specs.declared.link.Link.{Link}
 use Rattle.session.specs.declared.pending.Pending.{Pending}
 use Rattle.session.specs.declared.terms.Terms.{Terms}
 use Rattle.debuggee.specs.Programs.{Program}
 use Rattle.session.specs.Acts.{Now, Act, Open, Close, Accept, Agree, Become, Reply, Tell, HangUp, Take, closed}
+use Rattle.session.specs.Config.{first_program}
 use Rattle.session.specs.Kept.{Kept, Stands, kept_said, kept_replied, kept_accepted, kept_agreed, kept_opened, kept_hung, kept_performed, keepings, nothing_kept}
 use Rattle.session.specs.Prefixes.{IsPrefixOf}
 use Rattle.session.specs.Refusals.{response_to}
-use Rattle.session.specs.Sessions.{Beginning, Session, Said, bytes_of, frame_said, not_taken, waiting_of, said_on, said_next, replied_on, accepted_on, agreed_on, opened_on, hung_on, performed_on, histories, start}
+use Rattle.session.specs.Sessions.{Beginning, Session, Said, bytes_of, nothing_with, frame_said, not_taken, waiting_of, said_on, said_next, replied_on, accepted_on, agreed_on, opened_on, hung_on, performed_on, histories, start}
 use Rattle.session.proofs.Simulation.{Simulates}
 
 -- ---- prefixes
@@ -128,5 +128,9 @@ act_stands (Take n) k s h = record {
 pub standing : Simulates keepings histories Stands
 standing = record { sees = sees; acts = act_stands }
 
-pub begins : (from : Beginning) → Stands (nothing_kept from) (start from)
-begins from = record { now = refl; waiting = refl; taken = ([], refl) }
+pub begins : (from : Beginning) (program : Option Program) → program ≡ first_program from.program from.size → Stands (nothing_kept from.limits from.size program) (start from)
+begins from program e = record {
+  now = ap (nothing_with from.limits from.size) e;
+  waiting = refl;
+  taken = ([], refl);
+}

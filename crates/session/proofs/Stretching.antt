@@ -1,19 +1,15 @@
 -- Beats of a slice: one, or many of which there is nothing to tell.
-use Rattle.std.proofs.Common.{◌≡◌, ℕ, ℤ, zero, suc, ◌+◌, ◌<◌, ◌≤◌, Bool, true, false, cond, leb, ltb, List, [], ◌∷◌, length, Option, Some, None, refl, sym, ap, ◌∙◌, subst, arith}
+use Rattle.std.proofs.Common.{◌≡◌, ℕ, ◌+◌, Bool, true, false, ltb, [], ◌∷◌, Option, Some, None, refl, sym, ap, ◌∙◌, arith}
 use Rattle.std.proofs.lemmas.Bool.Decides.{nat_tests}
 use Rattle.debuggee.specs.Programs.{Program, entered, next_tick, stays}
 use Rattle.debuggee.specs.declared.run.Why.{Why}
 use Rattle.session.specs.declared.event.Ending.{Ending}
 use Rattle.session.specs.declared.event.Ending.TheVariants as ending
 use Rattle.session.specs.declared.slices.Next.TheVariants as next
-use Rattle.session.specs.declared.slices.Step.{Step}
-use Rattle.session.specs.declared.state.TheConstants.{FULL}
-use Rattle.session.specs.Acts.{Seen}
 use Rattle.session.specs.Beats.{Decides, IsFree, Stretches, going, owed_of, unless_memory}
-use Rattle.session.specs.Effects.{Slicing, after_beat, beats_on, next_beat, performed}
+use Rattle.session.specs.Effects.{Slicing, after_beat, beats_on, performed}
 use Rattle.session.specs.Kept.{Kept, keepings}
-use Rattle.session.specs.Slices.{Beat, beat, beat_by, beat_of, becomes, concludes, ending_of, ends, halts, moves, moves_by, stops, telling}
-use Rattle.stepping.specs.Plain.{plain_tick}
+use Rattle.session.specs.Slices.{Beat, beat, beat_by, beat_of, becomes, concludes, ending_of, ends, halts, moves_by, stops, telling}
 use Rattle.stepping.specs.declared.tick.Outcome.{Outcome}
 use Rattle.stepping.specs.declared.tick.Outcome.TheVariants.{Went, Stopped, Ended}
 use Rattle.stepping.specs.declared.tick.Reason.TheVariants as met

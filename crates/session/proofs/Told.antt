@@ -1,5 +1,5 @@
 -- What a beat tells is written first, and numbered at once.
-use Rattle.std.proofs.Common.{◌≡◌, ℕ, ℤ, Bool, true, false, cond, ltb, List, [], ◌∷◌, ◌++◌, map, Option, Some, None, refl, sym, ap, ◌∙◌, subst, append-nil}
+use Rattle.std.proofs.Common.{◌≡◌, ℕ, ℤ, Bool, true, false, cond, ltb, List, [], ◌∷◌, ◌++◌, map, Option, Some, None, refl, sym, ap, ◌∙◌, append-nil}
 use Rattle.debuggee.specs.Programs.{Debuggee, Program, ended, stays, stopped, told}
 use Rattle.debuggee.specs.declared.run.Why.{Why}
 use Rattle.debuggee.specs.declared.run.Why.TheVariants as why
@@ -11,9 +11,9 @@ use Rattle.session.specs.declared.pending.Pending.{Pending}
 use Rattle.session.specs.Acts.{Act, Become, Tell}
 use Rattle.session.specs.Beats.{concluded, outcome_events, printed_events, tick_events}
 use Rattle.session.specs.Effects.{performed}
-use Rattle.session.specs.Kept.{Kept, draft_told, keepings, kept_said, settled}
+use Rattle.session.specs.Kept.{Kept, draft_told, keepings, kept_said}
 use Rattle.session.specs.Phases.{is_active}
-use Rattle.session.specs.Slices.{becomes, concludes, exits, halts, prints, telling, tells}
+use Rattle.session.specs.Slices.{concludes, halts, prints, telling}
 use Rattle.session.specs.Telling.{exit_events, stop_event}
 use Rattle.stepping.specs.declared.tick.Outcome.{Outcome}
 use Rattle.stepping.specs.declared.tick.Outcome.TheVariants.{Went, Stopped, Ended}

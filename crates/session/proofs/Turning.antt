@@ -1,180 +1,291 @@
 -- What is kept by each event, where answers are looked at whole.
-use Rattle.std.proofs.Common.{◌≡◌, ℕ, ℤ, zero, suc, ◌<◌, Bool, true, false, ltb, leb, eqb, List, [], ◌∷◌, ◌++◌, map, length, Option, Some, None, refl, ltb-true}
+use Rattle.std.proofs.Common.{◌≡◌, ℕ, ℤ, zero, suc, ◌<◌, Bool, true, false, ltb, leb, eqb, List, [], ◌∷◌, ◌++◌, map, length, Option, Some, None, refl, sym, subst, ltb-true}
 use Rattle.std.specs.Prelude.{not}
-use Rattle.debuggee.specs.Programs.{Debuggee, Program, entered, next_tick, told, why_marked}
+use Rattle.assembler.specs.Assembled.{assembled}
+use Rattle.assembler.specs.Placed.{error_of}
+use Rattle.assembler.specs.declared.error.AsmError.{AsmError}
+use Rattle.debuggee.specs.Programs.{Debuggee, Program, ended, first_run, left, marked, next_tick, restarted, resumed, told, why_marked}
 use Rattle.debuggee.specs.declared.run.Mark.{Mark}
+use Rattle.debuggee.specs.declared.run.Mark.TheVariants as mark
 use Rattle.debuggee.specs.declared.run.Why.{Why}
 use Rattle.debuggee.specs.declared.run.Why.TheVariants as why
+use Rattle.protocol.specs.declared.command.Command.{Command}
+use Rattle.protocol.specs.declared.command.Command.TheVariants.{Initialize, Launch, ConfigurationDone, Threads, Cancel, Restart, Terminate, Disconnect, SetExceptionBreakpoints, Continue, Next, StepIn, StepOut, Pause}
+use Rattle.replies.specs.Events.{IsProperEvent}
 use Rattle.replies.specs.declared.event.Event.{Event as Told}
-use Rattle.replies.specs.declared.message.Message.TheVariants.{Event as IsEvent}
+use Rattle.replies.specs.declared.message.Message.{Message}
+use Rattle.replies.specs.declared.message.Message.TheVariants.{Response as IsResponse, Event as IsEvent}
+use Rattle.replies.specs.declared.response.Outcome.{Outcome as Answered}
+use Rattle.rv32i.specs.Laws.{IsSignedWord}
 use Rattle.session.specs.declared.state.TheConstants.{MOST_PIECE, MOST_PENDING, FULL, LAST_CONNECTION}
 use Rattle.session.specs.declared.event.Ending.{Ending}
 use Rattle.session.specs.declared.event.Event.{Event}
 use Rattle.session.specs.declared.event.Event.TheVariants.{Connect, Recv, Turn, Slice, Hold, Sent, DropConnection}
 use Rattle.session.specs.declared.link.Link.{Link}
 use Rattle.session.specs.declared.pending.Pending.{Pending}
-use Rattle.session.specs.Acts.{Act, Now, Seen, Open, Close, Become, Tell, Take}
+use Rattle.session.specs.declared.terms.Terms.{Terms}
+use Rattle.session.specs.Acts.{Act, Answering, Now, Seen, Open, Close, Agree, Become, Reply, Tell, Take}
+use Rattle.session.specs.Config.{first_program}
+use Rattle.session.specs.Disconnect.{departed, is_to_end, is_to_stand}
 use Rattle.session.specs.Effects.{performed, beats, enough, next_by}
-use Rattle.session.specs.Outcomes.{Outcome, outcome_at, answers_next, next_turn, answering, turn_by, turn_of}
+use Rattle.session.specs.Launch.{assembles}
+use Rattle.session.specs.Outcomes.{Outcome, outcome_at, answers_next, closing, holding, leaving, next_turn, answering, turn_by, turn_of}
 use Rattle.session.specs.Phases.{is_active}
-use Rattle.session.specs.Refusals.{answer_to}
-use Rattle.session.specs.Sessions.{Beginning, Session, After, Effect, histories, performed_on, said_on, start, waiting_of}
-use Rattle.session.specs.Slices.{Beat, beat, beat_by, beat_of, concludes, goes, goes_unless, is_runnable_by, moves_by, prints, runs, telling, tells}
+use Rattle.session.specs.Refusals.{answer_to, response_to}
+use Rattle.session.specs.Requests.{is_taken_in, success_of}
+use Rattle.session.specs.Sessions.{Beginning, Session, After, Effect, histories, agreed_on, hung_on, performed_on, replied_on, said_on, start, waiting_of}
+use Rattle.session.specs.Slices.{Beat, beat, beat_by, beat_of, concludes, exits, goes, goes_unless, halts, is_runnable_by, moves_by, prints, retires, telling, tells}
+use Rattle.session.specs.Stepping.{granularity_of}
 use Rattle.session.specs.Telling.{exit_events, output_event, stop_event}
+use Rattle.stepping.specs.RunLaws.{HasSignedCode}
+use Rattle.stepping.specs.declared.goal.Goal.TheVariants as goal
 use Rattle.stepping.specs.declared.tick.Outcome.{Outcome as CameTo}
 use Rattle.stepping.specs.declared.tick.Outcome.TheVariants.{Went, Stopped, Ended}
-use Rattle.stepping.specs.declared.tick.Reason.{Reason}
 use Rattle.stepping.specs.declared.tick.Reason.TheVariants as met
 use Rattle.stepping.specs.declared.tick.Tick.{Tick}
-use Rattle.session.proofs.Reaching.{if_keeps, reached}
+use Rattle.session.proofs.Reaching.{if_keeps, performed_append, reached}
 use Rattle.session.proofs.ByForms.{on, on_with, accepting, saying}
+use Rattle.session.proofs.Serving.{of_answer, not_taken}
+use Rattle.session.proofs.Orderly.{AreWords, Orderly, OrderlyIn, OrderlyOf, departed_orderly, ended_orderly, entered_orderly, exit_is_proper, first_run_orderly, ids_are_words, left_orderly, loaded_orderly, marked_orderly, moved_orderly, next_fits, output_is_proper, owed_fits, restarted_orderly, resumed_orderly, stop_is_proper, stopped_orderly, told_orderly, with_orderly}
 
+-- What is debugged is orderly in each state, and each event that is told is proper: what is kept may stand on both.
 pub record KeptByEvents (P : Session → Type 0) : Type 0 where
   pub opens : (s : Session) → P (on None s) → P (performed_on Open (on None s))
   pub closes : (s : Session) → P s → P (performed_on Close s)
   pub accepts : (l : Link) (piece : List ℕ) (s : Session) → l.is_closing ≡ false → P (on (Some l) s) → P (accepting l piece (on (Some l) s))
   pub becomes : (d : Debuggee) (s : Session) → P s → P (performed_on (Become d) s)
-  pub tells : (l : Link) (event : Told) (s : Session) → l.seq < s.now.limits.last_seq → P (on (Some l) s) → P (saying l (IsEvent event) s.now.arrivals.pending (on (Some l) s))
+  pub tells : (l : Link) (event : Told) (s : Session) → IsProperEvent event → l.seq < s.now.limits.last_seq → P (on (Some l) s) → P (saying l (IsEvent event) s.now.arrivals.pending (on (Some l) s))
   pub answers : (l : Link) (p : Pending) (rest : List Pending) (file : Option (List ℕ)) (s : Session) → let t = on_with (Some l) (p ∷ rest) s in P t → P (performed histories (answering (answer_to t.now l.terms file p)) t)
   pub takes : (n : ℕ) (s : Session) → P s → P (performed_on (Take n) s)
 
 -- acts that change the program, or tell something
-is_quiet : Act → Bool
-is_quiet (Become d) = true
-is_quiet (Tell event) = true
-is_quiet act = false
+Quiet : Act → Type 0
+Quiet (Become d) = OrderlyIn d
+Quiet (Tell event) = IsProperEvent event
+Quiet act = ⊥
 
 abbrev AllQuiet : List Act → Type 0
 AllQuiet [] = Unit {0}
-AllQuiet (act ∷ acts) = (is_quiet act ≡ true) × AllQuiet acts
+AllQuiet (act ∷ acts) = Quiet act × AllQuiet acts
 
 quiet_append : (xs ys : List Act) → AllQuiet xs → AllQuiet ys → AllQuiet (xs ++ ys)
 quiet_append [] ys a b = b
 quiet_append (x ∷ xs) ys a b = (a.0, quiet_append xs ys a.1 b)
 
-told_quiet : (events : List Told) → AllQuiet (map Tell events)
-unfolding is_quiet
-told_quiet [] = tt
-told_quiet (e ∷ es) = (refl, told_quiet es)
+abbrev AllProper : List Told → Type 0
+AllProper [] = Unit {0}
+AllProper (e ∷ es) = IsProperEvent e × AllProper es
 
-tells_quiet : (now : Now) (events : List Told) → AllQuiet (tells now events)
-tells_quiet now events = if_keeps AllQuiet (is_active now.link) _ [] (λ _. told_quiet events) (λ _. tt)
+told_quiet : (events : List Told) → AllProper events → AllQuiet (map Tell events)
+unfolding Quiet
+told_quiet [] h = tt
+told_quiet (e ∷ es) h = (h.0, told_quiet es h.1)
+
+tells_quiet : (now : Now) (events : List Told) → AllProper events → AllQuiet (tells now events)
+tells_quiet now events h = if_keeps AllQuiet (is_active now.link) _ [] (λ _. told_quiet events h) (λ _. tt)
 
 prints_quiet : (now : Now) (printed : Option ℤ) → AllQuiet (prints now printed)
 prints_quiet now None = tt
-prints_quiet now (Some number) = tells_quiet now (output_event number ∷ [])
+prints_quiet now (Some number) = tells_quiet now (output_event number ∷ []) (output_is_proper number, tt)
 
-concludes_quiet : (now : Now) (p : Program) (outcome : CameTo) (ids : List ℕ) → AllQuiet (concludes now p outcome ids)
-unfolding is_quiet
-concludes_quiet now p Went ids = tt
-concludes_quiet now p (Stopped reason) ids = (refl, tells_quiet now (stop_event (why.Met reason) ids ∷ []))
-concludes_quiet now p (Ended code) ids = (refl, tells_quiet now (exit_events code))
+halts_quiet : (now : Now) (p : Program) (reason : Why) (ids : List ℕ) → Orderly p → AreWords ids → AllQuiet (halts now p reason ids)
+unfolding Quiet
+halts_quiet now p reason ids h w = (stopped_orderly reason p h, tells_quiet now (stop_event reason ids ∷ []) (stop_is_proper reason ids w, tt))
 
-telling_quiet : (now : Now) (p : Program) (tick : Tick) → AllQuiet (telling now p tick)
-unfolding is_quiet
-telling_quiet now p tick = (refl, quiet_append (prints now tick.printed) _ (prints_quiet now tick.printed) (concludes_quiet now (told p) tick.outcome p.machine.lists.ids))
+exits_quiet : (now : Now) (p : Program) (code : ℤ) → Orderly p → IsSignedWord code → AllQuiet (exits now p code)
+unfolding Quiet
+exits_quiet now p code h w = (ended_orderly (Some code) p h, tells_quiet now (exit_events code) (exit_is_proper code w, (refl, tt)))
+
+concludes_quiet : (now : Now) (p : Program) (outcome : CameTo) (ids : List ℕ) → Orderly p → HasSignedCode outcome → AreWords ids → AllQuiet (concludes now p outcome ids)
+concludes_quiet now p Went ids h c w = tt
+concludes_quiet now p (Stopped reason) ids h c w = halts_quiet now p (why.Met reason) ids h w
+concludes_quiet now p (Ended code) ids h c w = exits_quiet now p code h c
+
+telling_quiet : (now : Now) (p : Program) (tick : Tick) → Orderly p → HasSignedCode tick.outcome → AllQuiet (telling now p tick)
+unfolding Quiet
+telling_quiet now p tick h c = (told_orderly p h, quiet_append (prints now tick.printed) _ (prints_quiet now tick.printed) (concludes_quiet now (told p) tick.outcome p.machine.lists.ids (told_orderly p h) c (ids_are_words p h)))
 
 abbrev QuietBeat : Beat → Type 0
 QuietBeat b = AllQuiet b.acts
 
-moves_quiet : (now : Now) (p : Program) (outcome : CameTo) → QuietBeat (moves_by now p outcome)
-unfolding is_quiet
-moves_quiet now p Went = (refl, tt)
-moves_quiet now p (Stopped (met.Exception cause)) = (refl, tells_quiet now (stop_event (why.Met (met.Exception cause)) [] ∷ []))
-moves_quiet now p (Stopped met.Ebreak) = (refl, tt)
-moves_quiet now p (Stopped met.Source) = (refl, tt)
-moves_quiet now p (Stopped met.Instruction) = (refl, tt)
-moves_quiet now p (Stopped met.Goal) = (refl, tt)
-moves_quiet now p (Ended code) = (refl, tells_quiet now (exit_events code))
+retires_quiet : (now : Now) (p : Program) → Orderly p → QuietBeat (retires now p)
+unfolding Quiet
+retires_quiet now p h = (moved_orderly p h, tt)
 
-goes_quiet : (now : Now) (p : Program) (more : Bool) → QuietBeat (goes now p more)
-unfolding is_quiet
-goes_quiet now p more =
-    if_keeps QuietBeat p.machine.check_due _ _ (λ _. (refl, tt))
+moves_quiet : (now : Now) (p : Program) (outcome : CameTo) → Orderly p → HasSignedCode outcome → QuietBeat (moves_by now p outcome)
+moves_quiet now p Went h c = retires_quiet now p h
+moves_quiet now p (Stopped (met.Exception cause)) h c = halts_quiet now p (why.Met (met.Exception cause)) [] h tt
+moves_quiet now p (Stopped met.Ebreak) h c = retires_quiet now p h
+moves_quiet now p (Stopped met.Source) h c = retires_quiet now p h
+moves_quiet now p (Stopped met.Instruction) h c = retires_quiet now p h
+moves_quiet now p (Stopped met.Goal) h c = retires_quiet now p h
+moves_quiet now p (Ended code) h c = exits_quiet now p code h c
+
+goes_quiet : (now : Now) (p : Program) (more : Bool) → Orderly p → QuietBeat (goes now p more)
+unfolding Quiet
+goes_quiet now p more h =
+    if_keeps QuietBeat p.machine.check_due _ _ (λ _. (entered_orderly p h, tt))
     (λ _. if_keeps QuietBeat (not more) _ _ (λ _. tt)
-    (λ _. if_keeps QuietBeat (leb now.limits.last_retired p.machine.retired) _ _ (λ _. (refl, tells_quiet now (stop_event why.Limit [] ∷ []))) (λ _. moves_quiet now p (next_tick p).outcome)))
+    (λ _. if_keeps QuietBeat (leb now.limits.last_retired p.machine.retired) _ _ (λ _. halts_quiet now p why.Limit [] h tt) (λ _. moves_quiet now p (next_tick p).outcome h (next_fits p))))
 
-unless_quiet : (mark : Option Mark) (now : Now) (p : Program) (more : Bool) → QuietBeat (goes_unless mark now p more)
-unfolding is_quiet
-unless_quiet (Some mark) now p more = (refl, tells_quiet now (stop_event (why_marked mark) [] ∷ []))
-unless_quiet None now p more = goes_quiet now p more
+unless_quiet : (mark : Option Mark) (now : Now) (p : Program) (more : Bool) → Orderly p → QuietBeat (goes_unless mark now p more)
+unless_quiet (Some mark) now p more h = halts_quiet now p (why_marked mark) [] h tt
+unless_quiet None now p more h = goes_quiet now p more h
 
-owed_quiet : (owed : Option Tick) (seen : Seen) (p : Program) (more : Bool) → QuietBeat (beat_by owed seen p more)
-owed_quiet (Some tick) seen p more = telling_quiet seen.now p tick
-owed_quiet None seen p more =
+owed_quiet : (owed : Option Tick) (seen : Seen) (p : Program) (more : Bool) → p.owed ≡ owed → Orderly p → QuietBeat (beat_by owed seen p more)
+owed_quiet (Some tick) seen p more e h = telling_quiet seen.now p tick h (owed_fits p tick e h)
+owed_quiet None seen p more e h =
     if_keeps QuietBeat (not (is_runnable_by seen.now.link p.run)) _ _ (λ _. tt)
-    (λ _. if_keeps QuietBeat (ltb FULL seen.waits) _ _ (λ _. tt) (λ _. unless_quiet p.mark seen.now p more))
+    (λ _. if_keeps QuietBeat (ltb FULL seen.waits) _ _ (λ _. tt) (λ _. unless_quiet p.mark seen.now p more h))
 
-program_quiet : (program : Option Program) (seen : Seen) (more : Bool) → QuietBeat (beat_of program seen more)
-program_quiet None seen more = tt
-program_quiet (Some p) seen more = owed_quiet p.owed seen p more
+program_quiet : (program : Option Program) (seen : Seen) (more : Bool) → OrderlyOf program → QuietBeat (beat_of program seen more)
+program_quiet None seen more h = tt
+program_quiet (Some p) seen more h = owed_quiet p.owed seen p more refl h
+
+-- ---- an answer leaves an orderly program
+
+command_orderly : (now : Now) (terms : Terms) (file : Option (List ℕ)) (command : Command) → is_taken_in terms.phase command ≡ true → OrderlyIn now.debuggee → OrderlyIn (success_of now terms file command).debuggee
+command_orderly now terms file (Initialize arguments) taken h = h
+command_orderly now terms None (Launch arguments) taken h = h
+command_orderly now terms (Some text) (Launch arguments) taken h = by (error_of text now.size) where
+  by : (error : Option AsmError) → OrderlyIn (assembles now terms arguments text error).debuggee
+  by None = loaded_orderly (assembled text) arguments.program arguments.stop_on_entry now.size
+  by (Some e) = h
+command_orderly now terms file ConfigurationDone taken h = with_orderly first_run first_run_orderly now.debuggee.program h
+command_orderly now terms file Threads taken h = h
+command_orderly now terms file (Cancel arguments) taken h = h
+command_orderly now terms file Restart taken h = with_orderly (λ p. first_run (restarted p)) (λ p o. first_run_orderly (restarted p) (restarted_orderly p o)) now.debuggee.program h
+command_orderly now terms file Terminate taken h = with_orderly (ended None) (ended_orderly None) now.debuggee.program h
+command_orderly now terms file (Disconnect arguments) taken h =
+    with_orderly (λ p. departed (is_to_end terms arguments) (is_to_stand terms arguments) (left p))
+    (λ p o. departed_orderly (is_to_end terms arguments) (is_to_stand terms arguments) (left p) (left_orderly p o)) now.debuggee.program h
+command_orderly now terms file SetExceptionBreakpoints taken h = h
+command_orderly now terms file (Continue arguments) taken h = with_orderly (resumed goal.Go) (resumed_orderly goal.Go) now.debuggee.program h
+command_orderly now terms file (Next arguments) taken h = let g = goal.Over (granularity_of arguments.granularity) in with_orderly (resumed g) (resumed_orderly g) now.debuggee.program h
+command_orderly now terms file (StepIn arguments) taken h = let g = goal.In (granularity_of arguments.granularity) in with_orderly (resumed g) (resumed_orderly g) now.debuggee.program h
+command_orderly now terms file (StepOut arguments) taken h = let g = goal.Out (granularity_of arguments.granularity) in with_orderly (resumed g) (resumed_orderly g) now.debuggee.program h
+command_orderly now terms file (Pause arguments) taken h = with_orderly (marked mark.Pause) (marked_orderly mark.Pause) now.debuggee.program h
+command_orderly now terms file command taken h = absurd (not_taken taken)
+
+answer_orderly : (now : Now) (terms : Terms) (file : Option (List ℕ)) (p : Pending) → OrderlyIn now.debuggee → OrderlyIn (answer_to now terms file p).debuggee
+answer_orderly now terms file p h =
+    of_answer (λ ask answer. OrderlyIn answer.debuggee) now terms file p.ask p.fate (λ refusal _. h) (λ r taken. command_orderly now terms file r.command taken h)
+
+-- ---- what changes no program
+
+abbrev StaysOrderly : Session → Type 0
+StaysOrderly s = OrderlyIn s.now.debuggee
+
+agreed_stays : (l : Option Link) (terms : Terms) (s : Session) → StaysOrderly (on l s) → StaysOrderly (agreed_on l terms (on l s))
+agreed_stays None terms s h = h
+agreed_stays (Some l) terms s h = h
+
+said_stays : (l : Option Link) (m : Message) (rest : List Pending) (s : Session) → StaysOrderly (on l s) → StaysOrderly (said_on l m rest (on l s))
+said_stays None m rest s h = h
+said_stays (Some l) m rest s h = if_keeps StaysOrderly (ltb l.seq s.now.limits.last_seq) _ _ (λ _. h) (λ _. h)
+
+replied_stays : (pending : List Pending) (outcome : Answered) (s : Session) → StaysOrderly s → StaysOrderly (replied_on pending outcome s)
+replied_stays [] outcome s h = h
+replied_stays (p ∷ rest) outcome s h = said_stays s.now.link (IsResponse (response_to p.ask outcome)) rest s h
+
+told_stays : (events : List Told) (s : Session) → StaysOrderly s → StaysOrderly (performed histories (map Tell events) s)
+told_stays [] s h = h
+told_stays (e ∷ es) s h = told_stays es (performed_on (Tell e) s) (said_stays s.now.link (IsEvent e) s.now.arrivals.pending s h)
+
+hung_stays : (l : Option Link) (s : Session) → StaysOrderly (on l s) → StaysOrderly (hung_on l (on l s))
+hung_stays None s h = h
+hung_stays (Some l) s h = h
+
+closed_stays : (closes : Bool) (s : Session) → StaysOrderly s → StaysOrderly (performed histories (closing closes) s)
+closed_stays true s h = hung_stays s.now.link s h
+closed_stays false s h = h
+
+answering_stays : (a : Answering) (s : Session) → OrderlyIn a.debuggee → StaysOrderly (performed histories (answering a) s)
+answering_stays a s h =
+    let t : Session = performed_on (Become a.debuggee) s in
+    let u : Session = performed_on (Agree a.terms) t in
+    let v : Session = performed_on (Reply a.outcome) u in
+    let replied : StaysOrderly v = replied_stays u.now.arrivals.pending a.outcome u (agreed_stays t.now.link a.terms t h) in
+    subst StaysOrderly (sym (performed_append (map Tell a.events) (closing a.closes) v))
+    (closed_stays a.closes (performed histories (map Tell a.events) v) (told_stays a.events v replied))
+
+begins_orderly : (given : Option (List ℕ × List ℕ)) (size : ℕ) → OrderlyOf (first_program given size)
+begins_orderly None size = tt
+begins_orderly (Some g) size = loaded_orderly (assembled g.1) g.0 false size
 
 module _ (P : Session → Type 0) (k : KeptByEvents P) where
-  tells_by : (l : Option Link) (event : Told) (s : Session) → P (on l s) → P (said_on l (IsEvent event) s.now.arrivals.pending (on l s))
-  tells_by None event s h = h
-  tells_by (Some l) event s h = if_keeps P (ltb l.seq s.now.limits.last_seq) _ _ (λ e. k.tells l event s (ltb-true l.seq s.now.limits.last_seq e) h) (λ _. h)
+  abbrev Both : Session → Type 0
+  Both s = P s × StaysOrderly s
 
-  pub told_keep : (events : List Told) (s : Session) → P s → P (performed histories (map Tell events) s)
-  told_keep [] s h = h
-  told_keep (e ∷ es) s h = told_keep es (performed_on (Tell e) s) (tells_by s.now.link e s h)
+  tells_by : (l : Option Link) (event : Told) (s : Session) → IsProperEvent event → Both (on l s) → Both (said_on l (IsEvent event) s.now.arrivals.pending (on l s))
+  tells_by None event s proper h = h
+  tells_by (Some l) event s proper h = if_keeps Both (ltb l.seq s.now.limits.last_seq) _ _ (λ e. (k.tells l event s proper (ltb-true l.seq s.now.limits.last_seq e) h.0, h.1)) (λ _. h)
 
-  quiet_keeps : (acts : List Act) (s : Session) → AllQuiet acts → P s → P (performed histories acts s)
-  unfolding is_quiet
+  quiet_keeps : (acts : List Act) (s : Session) → AllQuiet acts → Both s → Both (performed histories acts s)
+  unfolding Quiet
   quiet_keeps [] s q h = h
-  quiet_keeps (Become d ∷ acts) s q h = quiet_keeps acts (performed_on (Become d) s) q.1 (k.becomes d s h)
-  quiet_keeps (Tell e ∷ acts) s q h = quiet_keeps acts (performed_on (Tell e) s) q.1 (tells_by s.now.link e s h)
-  quiet_keeps (act ∷ acts) s q h = absurd (let never : false ≡ true = q.0 in cc)
+  quiet_keeps (Become d ∷ acts) s q h = quiet_keeps acts (performed_on (Become d) s) q.1 (k.becomes d s h.0, q.0)
+  quiet_keeps (Tell e ∷ acts) s q h = quiet_keeps acts (performed_on (Tell e) s) q.1 (tells_by s.now.link e s q.0 h)
+  quiet_keeps (act ∷ acts) s q h = absurd q.0
 
-  turn_keeps : (l : Link) (file : Option (List ℕ)) (pending : List Pending) (s : Session) → let t = on_with (Some l) pending s in P t → P (performed histories (next_turn t.now l.terms file pending).acts t)
+  turn_keeps : (l : Link) (file : Option (List ℕ)) (pending : List Pending) (s : Session) → let t = on_with (Some l) pending s in Both t → Both (performed histories (next_turn t.now l.terms file pending).acts t)
   turn_keeps l file [] s h = h
-  turn_keeps l file (p ∷ rest) s h = k.answers l p rest file s h
+  turn_keeps l file (p ∷ rest) s h =
+      let t = on_with (Some l) (p ∷ rest) s in
+      (k.answers l p rest file s h.0, answering_stays (answer_to t.now l.terms file p) t (answer_orderly t.now l.terms file p h.1))
 
-  piece_keeps : (l : Link) (piece : List ℕ) (s : Session) → P (on (Some l) s) → P (performed histories (outcome_at (histories.see (on (Some l) s)) (Some l) (Recv piece)).acts (on (Some l) s))
+  piece_keeps : (l : Link) (piece : List ℕ) (s : Session) → Both (on (Some l) s) → Both (performed histories (outcome_at (histories.see (on (Some l) s)) (Some l) (Recv piece)).acts (on (Some l) s))
   piece_keeps l piece s h =
-      if_keeps (λ (o : Outcome). P (performed histories o.acts (on (Some l) s))) l.is_closing _ _ (λ _. h)
-      (λ _. if_keeps (λ (o : Outcome). P (performed histories o.acts (on (Some l) s))) (ltb MOST_PIECE (length piece)) _ _ (λ _. h)
-      (λ _. if_keeps (λ (o : Outcome). P (performed histories o.acts (on (Some l) s))) (leb MOST_PENDING (length s.now.arrivals.pending)) _ _ (λ _. h)
-      (λ _. if_keeps P l.is_closing _ _ (λ _. h) (λ e. k.accepts l piece s e h))))
+      if_keeps (λ (o : Outcome). Both (performed histories o.acts (on (Some l) s))) l.is_closing _ _ (λ _. h)
+      (λ _. if_keeps (λ (o : Outcome). Both (performed histories o.acts (on (Some l) s))) (ltb MOST_PIECE (length piece)) _ _ (λ _. h)
+      (λ _. if_keeps (λ (o : Outcome). Both (performed histories o.acts (on (Some l) s))) (leb MOST_PENDING (length s.now.arrivals.pending)) _ _ (λ _. h)
+      (λ _. if_keeps Both l.is_closing _ _ (λ _. h) (λ e. (k.accepts l piece s e h.0, h.1)))))
 
-  answers_keep : (l : Link) (file : Option (List ℕ)) (s : Session) → P (on (Some l) s) → P (performed histories (answers_next (histories.see (on (Some l) s)) l file).acts (on (Some l) s))
-  answers_keep l file s h = if_keeps (λ (o : Outcome). P (performed histories o.acts (on (Some l) s))) (ltb FULL (length (waiting_of (on (Some l) s)))) _ _ (λ _. h) (λ _. turn_keeps l file s.now.arrivals.pending s h)
+  answers_keep : (l : Link) (file : Option (List ℕ)) (s : Session) → Both (on (Some l) s) → Both (performed histories (answers_next (histories.see (on (Some l) s)) l file).acts (on (Some l) s))
+  answers_keep l file s h = if_keeps (λ (o : Outcome). Both (performed histories o.acts (on (Some l) s))) (ltb FULL (length (waiting_of (on (Some l) s)))) _ _ (λ _. h) (λ _. turn_keeps l file s.now.arrivals.pending s h)
 
-  owed_keeps : (owed : Option Tick) (l : Link) (file : Option (List ℕ)) (p : Program) (s : Session) → P (on (Some l) s) → P (performed histories (turn_by owed (histories.see (on (Some l) s)) l p file).acts (on (Some l) s))
-  owed_keeps None l file p s h = answers_keep l file s h
-  owed_keeps (Some tick) l file p s h = quiet_keeps (telling (on (Some l) s).now p tick) (on (Some l) s) (telling_quiet (on (Some l) s).now p tick) h
+  owed_keeps : (owed : Option Tick) (l : Link) (file : Option (List ℕ)) (p : Program) (s : Session) → p.owed ≡ owed → Orderly p → Both (on (Some l) s) → Both (performed histories (turn_by owed (histories.see (on (Some l) s)) l p file).acts (on (Some l) s))
+  owed_keeps None l file p s e o h = answers_keep l file s h
+  owed_keeps (Some tick) l file p s e o h = quiet_keeps (telling (on (Some l) s).now p tick) (on (Some l) s) (telling_quiet (on (Some l) s).now p tick o (owed_fits p tick e o)) h
 
-  program_keeps : (program : Option Program) (l : Link) (file : Option (List ℕ)) (s : Session) → P (on (Some l) s) → P (performed histories (turn_of program (histories.see (on (Some l) s)) l file).acts (on (Some l) s))
-  program_keeps None l file s h = answers_keep l file s h
-  program_keeps (Some p) l file s h = owed_keeps p.owed l file p s h
+  program_keeps : (program : Option Program) (l : Link) (file : Option (List ℕ)) (s : Session) → OrderlyOf program → Both (on (Some l) s) → Both (performed histories (turn_of program (histories.see (on (Some l) s)) l file).acts (on (Some l) s))
+  program_keeps None l file s o h = answers_keep l file s h
+  program_keeps (Some p) l file s o h = owed_keeps p.owed l file p s refl o h
 
-  pub outcome_keeps : (l : Option Link) (e : Event) (s : Session) → P (on l s) → P (performed histories (outcome_at (histories.see (on l s)) l e).acts (on l s))
+  hold_keeps : (s : Session) → Both s → Both (performed histories (holding s.now) s)
+  hold_keeps s h = (k.becomes _ s h.0, with_orderly (marked mark.Hold) (marked_orderly mark.Hold) s.now.debuggee.program h.1)
+
+  drop_keeps : (s : Session) → Both s → Both (performed histories (leaving s.now) s)
+  drop_keeps s h = (k.closes _ (k.becomes _ s h.0), with_orderly left left_orderly s.now.debuggee.program h.1)
+
+  outcome_keeps : (l : Option Link) (e : Event) (s : Session) → Both (on l s) → Both (performed histories (outcome_at (histories.see (on l s)) l e).acts (on l s))
   outcome_keeps None Connect s h =
-      if_keeps (λ (o : Outcome). P (performed histories o.acts (on None s))) (eqb s.now.connections LAST_CONNECTION) _ _ (λ _. h) (λ _. k.opens s h)
+      if_keeps (λ (o : Outcome). Both (performed histories o.acts (on None s))) (eqb s.now.connections LAST_CONNECTION) _ _ (λ _. h) (λ _. (k.opens s h.0, h.1))
   outcome_keeps None (Recv piece) s h = h
   outcome_keeps None (Turn file) s h = h
   outcome_keeps None (Slice n) s h = h
-  outcome_keeps None Hold s h = k.becomes _ (on None s) h
+  outcome_keeps None Hold s h = hold_keeps (on None s) h
   outcome_keeps None (Sent n) s h = h
   outcome_keeps None DropConnection s h = h
   outcome_keeps (Some l) Connect s h = h
   outcome_keeps (Some l) (Recv piece) s h = piece_keeps l piece s h
-  outcome_keeps (Some l) (Turn file) s h = program_keeps s.now.debuggee.program l file s h
+  outcome_keeps (Some l) (Turn file) s h = program_keeps s.now.debuggee.program l file s h.1 h
   outcome_keeps (Some l) (Slice n) s h = h
-  outcome_keeps (Some l) Hold s h = k.becomes _ (on (Some l) s) h
+  outcome_keeps (Some l) Hold s h = hold_keeps (on (Some l) s) h
   outcome_keeps (Some l) (Sent n) s h =
-      if_keeps (λ (o : Outcome). P (performed histories o.acts (on (Some l) s))) (ltb (length (waiting_of (on (Some l) s))) n) _ _ (λ _. h) (λ _. k.takes n (on (Some l) s) h)
-  outcome_keeps (Some l) DropConnection s h = k.closes _ (k.becomes _ (on (Some l) s) h)
+      if_keeps (λ (o : Outcome). Both (performed histories o.acts (on (Some l) s))) (ltb (length (waiting_of (on (Some l) s))) n) _ _ (λ _. h) (λ _. (k.takes n (on (Some l) s) h.0, h.1))
+  outcome_keeps (Some l) DropConnection s h = drop_keeps (on (Some l) s) h
 
-  beats_keep : (n i : ℕ) (s : Session) → P s → P (beats histories n i s).state
+  beats_keep : (n i : ℕ) (s : Session) → Both s → Both (beats histories n i s).state
   beats_keep n zero s h = h
   beats_keep n (suc i) s h = by (beats histories n i s).ending (beats_keep n i s h) where
-    by : (e : Option Ending) → P (beats histories n i s).state → P (next_by histories n e (beats histories n i s)).state
+    by : (e : Option Ending) → Both (beats histories n i s).state → Both (next_by histories n e (beats histories n i s)).state
     by (Some e) x = x
     by None x =
         let t = (beats histories n i s).state in
-        quiet_keeps (beat (histories.see t) (ltb (beats histories n i s).moved n)).acts t (program_quiet t.now.debuggee.program (histories.see t) (ltb (beats histories n i s).moved n)) x
+        quiet_keeps (beat (histories.see t) (ltb (beats histories n i s).moved n)).acts t (program_quiet t.now.debuggee.program (histories.see t) (ltb (beats histories n i s).moved n) x.1) x
 
-  pub event_keeps : (e : Event) (s : Session) → P s → P (Effect s e)
+  event_keeps : (e : Event) (s : Session) → Both s → Both (Effect s e)
   event_keeps Connect s h = outcome_keeps s.now.link Connect s h
   event_keeps (Recv piece) s h = outcome_keeps s.now.link (Recv piece) s h
   event_keeps (Turn file) s h = outcome_keeps s.now.link (Turn file) s h
@@ -184,4 +295,4 @@ module _ (P : Session → Type 0) (k : KeptByEvents P) where
   event_keeps DropConnection s h = outcome_keeps s.now.link DropConnection s h
 
   pub reached_by_events : (from : Beginning) → P (start from) → (events : List Event) → P (After from events)
-  reached_by_events from h events = reached P event_keeps from h events
+  reached_by_events from h events = (reached Both event_keeps from (h, begins_orderly from.program from.size) events).0

@@ -1,9 +1,8 @@
 -- For private clauses alone: what comes next in a slice, and many beats at once.
 use Rattle.std.specs.Prelude.{◌≡◌, ℕ, ℤ, ◌+◌, ◌<◌, ◌≤◌, nat_lt, nat_le, Bool, true, false, List, [], ◌∷◌, ◌++◌, length, Option, Some, None}
-use Rattle.debuggee.specs.Programs.{Debuggee, Program, ended, entered, is_running, next_tick, stays, stopped}
+use Rattle.debuggee.specs.Programs.{Program, ended, entered, next_tick, stays, stopped}
 use Rattle.debuggee.specs.declared.program.Advanced.{Advanced}
 use Rattle.debuggee.specs.declared.program.Advanced.TheVariants as advanced
-use Rattle.debuggee.specs.declared.run.Why.{Why}
 use Rattle.debuggee.specs.declared.run.Why.TheVariants as why
 use Rattle.replies.specs.declared.event.Event.{Event}
 use Rattle.session.specs.declared.event.Ending.{Ending}
@@ -13,10 +12,9 @@ use Rattle.session.specs.declared.slices.Next.{Next}
 use Rattle.session.specs.declared.slices.Next.TheVariants as next
 use Rattle.session.specs.declared.slices.Step.{Step}
 use Rattle.session.specs.declared.state.TheConstants.{FULL}
-use Rattle.session.specs.Acts.{Now, Seen}
 use Rattle.session.specs.Effects.{Slicing, beats, beats_on}
 use Rattle.session.specs.Kept.{Kept, keepings}
-use Rattle.session.specs.Slices.{Beat, beat, ends, is_runnable_by, stops, becomes}
+use Rattle.session.specs.Slices.{beat, ends, is_runnable_by, stops, becomes}
 use Rattle.session.specs.Telling.{exit_events, output_event, stop_event}
 use Rattle.stepping.specs.declared.tick.Outcome.{Outcome}
 use Rattle.stepping.specs.declared.tick.Outcome.TheVariants.{Went, Stopped, Ended}

@@ -1,12 +1,10 @@
 -- What a session is at first, and why there is none.
-use Rattle.std.specs.Prelude.{◌≡◌, false, true, Option, Some, None, Result, Ok, Err}
-use Rattle.assembler.specs.Placed.{error_of}
-use Rattle.debuggee.specs.Programs.{Program}
+use Rattle.std.specs.Prelude.{◌≡◌, false, true, Result, Ok, Err}
 use Rattle.session.specs.declared.config.Config.{Config}
 use Rattle.session.specs.declared.config.ConfigError.{ConfigError}
 use Rattle.session.specs.declared.config.ConfigError.TheVariants.{BadMemorySize, BadLimit, Assembly, NoMemory}
 use Rattle.session.specs.declared.limits.Limits.{Limits}
-use Rattle.session.specs.Config.{Loads, is_size}
+use Rattle.session.specs.Config.{HasError, HasImage, is_size}
 use Rattle.session.specs.Kept.{Kept, Stands}
 use Rattle.session.specs.Limits.{are_limits}
 use Rattle.session.specs.Sessions.{start}
@@ -18,11 +16,10 @@ pub record AreRight (config : Config) (limits : Limits) : Type 0 where
 
 -- A session is made of it, or the first error that applies is answered.
 abbrev pub Begins : Config → Limits → Result Kept ConfigError → Type 0
-Begins config limits (Ok k) = AreRight config limits
-    × ((program : Option Program) × (Loads config.program config.memory_size (Ok program)
-    × Stands k (start (record { limits = limits; size = config.memory_size; program = program }))))
+Begins config limits (Ok k) = AreRight config limits × (HasImage config.program config.memory_size
+    × Stands k (start (record { limits = limits; size = config.memory_size; program = config.program })))
 Begins config limits (Err BadMemorySize) = is_size config.memory_size ≡ false
 Begins config limits (Err BadLimit) = (is_size config.memory_size ≡ true) × (are_limits limits ≡ false)
 Begins config limits (Err (Assembly error)) =
-    AreRight config limits × Loads config.program config.memory_size (Err (Assembly error))
+    AreRight config limits × HasError config.program config.memory_size error
 Begins config limits (Err NoMemory) = AreRight config limits

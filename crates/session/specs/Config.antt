@@ -1,7 +1,8 @@
 -- What a session is made of: how much memory a machine gets, and the program that is there from the beginning.
-use Rattle.std.specs.Prelude.{◌≡◌, ℕ, ◌%◌, ◌==◌, ◌≤◌, nat_le, Bool, true, false, ◌&&◌, List, Option, Some, None, Result, Ok, Err, ⊤}
+use Rattle.std.specs.Prelude.{◌≡◌, ℕ, ◌%◌, ◌==◌, ◌≤◌, nat_le, Bool, false, ◌&&◌, List, Option, Some, None, Result, Ok, Err, ⊤}
 use Rattle.assembler.specs.Assembled.{assembled}
 use Rattle.assembler.specs.Placed.{error_of}
+use Rattle.assembler.specs.declared.error.AsmError.{AsmError}
 use Rattle.debuggee.specs.Programs.{Program, just_loaded}
 use Rattle.session.specs.declared.config.ConfigError.{ConfigError}
 use Rattle.session.specs.declared.config.ConfigError.TheVariants.{BadMemorySize, BadLimit, Assembly, NoMemory}
@@ -17,9 +18,24 @@ is_size size = (size % 4096 == 0) && nat_le 4096 size && nat_le size 16777216
 
 -- ---- the program that is there from the beginning
 
--- it is loaded, and stands still at its entry
+-- it is loaded, and stands still at its entry: of the path of its file, and what that holds
 abbrev pub given : List ℕ → List ℕ → ℕ → Program
 given path text size = just_loaded (assembled text) path false size
+
+-- the program, if one is given
+abbrev pub first_program : Option (List ℕ × List ℕ) → ℕ → Option Program
+first_program None size = None
+first_program (Some program) size = Some (given program.0 program.1 size)
+
+-- it has an image
+abbrev pub HasImage : Option (List ℕ × List ℕ) → ℕ → Type 0
+HasImage None size = ⊤
+HasImage (Some program) size = error_of program.1 size ≡ None
+
+-- what is wrong with it
+abbrev pub HasError : Option (List ℕ × List ℕ) → ℕ → AsmError → Type 0
+HasError None size error = ⊥
+HasError (Some program) size error = error_of program.1 size ≡ Some error
 
 -- A program is loaded exactly where its text has no error; else the error is what is wrong with it, or that no memory
 -- was left.
@@ -32,7 +48,8 @@ LoadsOne path text size (Err BadLimit) = ⊥
 
 -- the same of the program, if one is given
 abbrev pub Loads : Option (List ℕ × List ℕ) → ℕ → Result (Option Program) ConfigError → Type 0
-Loads None size result = result ≡ Ok None
-Loads (Some program) size (Ok None) = ⊥
-Loads (Some program) size (Ok (Some p)) = LoadsOne program.0 program.1 size (Ok p)
-Loads (Some program) size (Err error) = LoadsOne program.0 program.1 size (Err error)
+Loads program size (Ok loaded) = HasImage program size × (loaded ≡ first_program program size)
+Loads program size (Err (Assembly error)) = HasError program size error
+Loads program size (Err NoMemory) = ⊤
+Loads program size (Err BadMemorySize) = ⊥
+Loads program size (Err BadLimit) = ⊥

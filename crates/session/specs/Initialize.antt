@@ -1,6 +1,6 @@
 -- `initialize`: taken until one was answered with success, and not again (DAP specification, `InitializeRequest`). It
 -- says how the editor counts lines and columns.
-use Rattle.std.specs.Prelude.{Bool, []}
+use Rattle.std.specs.Prelude.{Bool}
 use Rattle.protocol.specs.declared.initialize.InitializeArguments.{InitializeArguments}
 use Rattle.replies.specs.declared.response.ResponseBody.TheVariants as body
 use Rattle.session.specs.declared.phase.Phase.{Phase}

@@ -23,7 +23,7 @@ use Rattle.session.specs.Effects.{World, Ends}
 use Rattle.session.specs.Phases.{is_active}
 use Rattle.session.specs.Prefixes.{IsPrefixOf}
 use Rattle.session.specs.Refusals.{response_to}
-use Rattle.session.specs.Sessions.{Beginning, Session, bytes_of, waiting_of, histories, nothing_yet}
+use Rattle.session.specs.Sessions.{Session, bytes_of, waiting_of, histories, nothing_with}
 use Rattle.session.specs.Writing.{frame_of}
 
 -- what the session is now, and the bytes that wait
@@ -81,8 +81,8 @@ abbrev pub see_kept : Kept → Seen
 see_kept k = keepings.see k
 
 -- before anything happened
-abbrev pub nothing_kept : Beginning → Kept
-nothing_kept from = record { now = nothing_yet from; waiting = [] }
+abbrev pub nothing_kept : Limits → ℕ → Option Program → Kept
+nothing_kept limits size program = record { now = nothing_with limits size program; waiting = [] }
 
 -- ---- for private clauses alone: an answer, and messages that are written before any of them is queued
 

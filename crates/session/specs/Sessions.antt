@@ -25,6 +25,7 @@ use Rattle.session.specs.Acts.{Now, Act, Open, Close, Accept, Agree, Become, Rep
 use Rattle.session.specs.Acts.{agreed, hung}
 use Rattle.session.specs.Acts.{numbered, accepted, read_on, fault_of_reading}
 use Rattle.session.specs.Arrivals.{no_arrivals, asks_of}
+use Rattle.session.specs.Config.{first_program}
 use Rattle.session.specs.Effects.{World, effect, answer, after_all}
 use Rattle.session.specs.Refusals.{response_to}
 use Rattle.session.specs.Writing.{frame_of}
@@ -169,24 +170,28 @@ Effect s e = effect histories e s
 abbrev pub Answer : Session → Event → Result Applied EventError
 Answer s e = answer histories e s
 
--- what a session begins with: its limits, how much memory a machine gets, and a program, if one was given
+-- what a session begins with: its limits, how much memory a machine gets, and a program, if one is given: the path of
+-- its file, and what that holds
 pub record Beginning : Type 0 where
   pub limits : Limits
   pub size : ℕ
-  pub program : Option Program
+  pub program : Option (List ℕ × List ℕ)
 
--- what a session is before anything happened
-abbrev pub nothing_yet : Beginning → Now
-nothing_yet from = record {
-  limits = from.limits;
-  size = from.size;
+-- what a session is before anything happened, by the program that is debugged then
+abbrev pub nothing_with : Limits → ℕ → Option Program → Now
+nothing_with limits size program = record {
+  limits = limits;
+  size = size;
   connections = 0;
   link = None;
   arrivals = no_arrivals;
   tail = Partial [];
   fault = None;
-  debuggee = record { program = from.program; last_break = 0 };
+  debuggee = record { program = program; last_break = 0 };
 }
+
+abbrev pub nothing_yet : Beginning → Now
+nothing_yet from = nothing_with from.limits from.size (first_program from.program from.size)
 
 -- a session to which nothing happened
 abbrev pub start : Beginning → Session

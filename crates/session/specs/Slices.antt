@@ -10,9 +10,9 @@
 -- the program, does not: the stop or the end is made and told at once.
 --
 -- Only an editor that has said all is told.
-use Rattle.std.specs.Prelude.{ℕ, ℤ, ◌+◌, nat_lt, nat_le, Bool, true, false, ◌&&◌, not, if◌then◌else◌, List, [], ◌∷◌}
+use Rattle.std.specs.Prelude.{ℕ, ℤ, nat_lt, nat_le, Bool, false, ◌&&◌, not, if◌then◌else◌, List, [], ◌∷◌}
 use Rattle.std.specs.Prelude.{◌++◌, map, Option, Some, None}
-use Rattle.debuggee.specs.Programs.{Debuggee, Program, ended, entered, is_running, moved, next_tick, stopped, told}
+use Rattle.debuggee.specs.Programs.{Program, ended, entered, is_running, moved, next_tick, stopped, told}
 use Rattle.debuggee.specs.Programs.{why_marked}
 use Rattle.debuggee.specs.declared.run.Mark.{Mark}
 use Rattle.debuggee.specs.declared.run.Run.{Run}
@@ -28,7 +28,6 @@ use Rattle.session.specs.Phases.{is_active, is_configuring}
 use Rattle.session.specs.Telling.{exit_events, output_event, stop_event}
 use Rattle.stepping.specs.declared.tick.Outcome.{Outcome}
 use Rattle.stepping.specs.declared.tick.Outcome.TheVariants.{Went, Stopped, Ended}
-use Rattle.stepping.specs.declared.tick.Reason.{Reason}
 use Rattle.stepping.specs.declared.tick.Reason.TheVariants as met
 use Rattle.stepping.specs.declared.tick.Tick.{Tick}
 

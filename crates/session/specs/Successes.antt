@@ -1,5 +1,5 @@
 -- The successes of requests, in a few kinds.
-use Rattle.std.specs.Prelude.{ℕ, List, [], false, Option, None}
+use Rattle.std.specs.Prelude.{ℕ, List, [], false, Option}
 use Rattle.protocol.specs.declared.refusal.Refusal.{Refusal}
 use Rattle.debuggee.specs.Programs.{Program, with_program}
 use Rattle.replies.specs.declared.response.Outcome.TheVariants.{Done, Refused}

@@ -103,7 +103,7 @@ impl State {
     pub(crate) fn new(alloc: Global, limits: Limits, size: u32, program: Option<Program>) -> State
         requires size { IsSize size }
         requires few { limits.last_retired ≤ 2 ^ 62 }
-        ensures { result ≡ nothing_kept (record { limits = limits; size = size; program = program }) }
+        ensures { result ≡ nothing_kept limits size program }
     {
         State {
             alloc,

@@ -12,7 +12,7 @@ use Rattle.stepping.specs.RunLaws.{EndsWithCodes, HasSignedCode}
 use Rattle.stepping.specs.Ticks.{Debugged, Moves, Settles, entry_checked, entry_tick, hit_at_pc, moved_as, outcome_of, tick_of}
 use Rattle.stepping.specs.declared.tick.Tick.{Tick}
 
-no_end : (hit : Hit) (met : Bool) → HasSignedCode (outcome_of hit met)
+pub no_end : (hit : Hit) (met : Bool) → HasSignedCode (outcome_of hit met)
 no_end hit met = by hit.source hit.instruction met where
   by : (source instruction met : Bool) → HasSignedCode (outcome_of (record { source = source; instruction = instruction }) met)
   by true instruction met = tt

@@ -1,0 +1,233 @@
+-- What the editor is told of the program has numbers of 32 bits: breakpoints have such numbers, and so has an end.
+use Rattle.std.proofs.Common.{◌≡◌, ℕ, ℤ, Bool, true, false, List, [], ◌∷◌, ◌++◌, map, filter, Option, Some, None, Result, Ok, Err, MatchBool, refl, sym, ap, ◌∙◌, subst, arith}
+use Rattle.std.specs.Prelude.{◌&&◌, ◌≤ℤ◌, not, int_le, pos, neg_ℤ}
+use Rattle.std.specs.List.{list_all}
+use Rattle.std.specs.declared.alloc.AllocError.{AllocError}
+use Rattle.std.proofs.lemmas.Int.{ints}
+use Rattle.breakpoints.specs.Stops.{Lists, checked, counted, is_hit, reset, stops, stopping_ids}
+use Rattle.breakpoints.specs.declared.breakpoint.Breakpoint.{Breakpoint}
+use Rattle.debuggee.specs.Programs.{Debuggee, Program, ended, entered, first_run, is_ended, is_running, just_loaded, left, marked, marked_by, moved, next_tick, on_program, owing_by, restarted, resumed, stopped, told}
+use Rattle.debuggee.specs.declared.run.Mark.{Mark}
+use Rattle.debuggee.specs.declared.run.Run.{Run}
+use Rattle.debuggee.specs.declared.run.Run.TheVariants as run
+use Rattle.debuggee.specs.declared.run.Why.{Why}
+use Rattle.debuggee.specs.declared.run.Why.TheVariants as why
+use Rattle.image.specs.declared.Image.{Image}
+use Rattle.stepping.specs.declared.goal.Goal.{Goal}
+use Rattle.replies.specs.Events.{IsProperEvent}
+use Rattle.replies.specs.Forms.{is_signed_word, is_word}
+use Rattle.replies.specs.declared.event.Event.TheVariants as event
+use Rattle.replies.specs.declared.stopped.Reason.{Reason as AReason}
+use Rattle.rv32i.specs.Laws.{IsSignedWord}
+use Rattle.rv32i.specs.declared.hart.Hart.{Hart}
+use Rattle.rv32i.specs.declared.instr.Instr.{Instr}
+use Rattle.rv32i.specs.declared.stepped.Stepped.{Stepped}
+use Rattle.rv32i.specs.declared.stepped.Stepped.TheVariants as stepped
+use Rattle.stepping.specs.RunLaws.{HasSignedCode}
+use Rattle.stepping.specs.Ticks.{Debugged, IsTick, Moves, Settles, entry_checked, entry_tick, hit_at_pc, moved_as, settled}
+use Rattle.stepping.specs.declared.tick.Outcome.{Outcome}
+use Rattle.stepping.specs.declared.tick.Outcome.TheVariants.{Went, Stopped, Ended}
+use Rattle.stepping.specs.declared.tick.Tick.{Tick}
+use Rattle.stepping.proofs.Existing.{the_tick}
+use Rattle.stepping.proofs.Exiting.{ends_with_codes, no_end}
+use Rattle.session.specs.Disconnect.{departed}
+use Rattle.session.specs.Telling.{output_event, stop_event, text_of, reason_of}
+use Rattle.session.proofs.Reaching.{if_keeps}
+
+-- ---- numbers
+
+abbrev pub AreWords : List ℕ → Type 0
+AreWords [] = Unit {0}
+AreWords (n ∷ rest) = (is_word n ≡ true) × AreWords rest
+
+words_append : (xs ys : List ℕ) → AreWords xs → AreWords ys → AreWords (xs ++ ys)
+words_append [] ys a b = b
+words_append (x ∷ xs) ys a b = (a.0, words_append xs ys a.1 b)
+
+all_words : (ids : List ℕ) → AreWords ids → list_all is_word ids ≡ true
+all_words [] h = refl
+all_words (n ∷ ids) h = ap (λ b. b && list_all is_word ids) h.0 ∙ all_words ids h.1
+
+-- ---- breakpoints
+
+abbrev pub AreNumbered : List Breakpoint → Type 0
+AreNumbered [] = Unit {0}
+AreNumbered (b ∷ rest) = (is_word b.id ≡ true) × AreNumbered rest
+
+map_numbered : (f : Breakpoint → Breakpoint) → ((b : Breakpoint) → (f b).id ≡ b.id) → (list : List Breakpoint) → AreNumbered list → AreNumbered (map f list)
+map_numbered f same [] h = tt
+map_numbered f same (b ∷ list) h = (ap is_word (same b) ∙ h.0, map_numbered f same list h.1)
+
+filter_words : (f : Breakpoint → Bool) (list : List Breakpoint) → AreNumbered list → AreWords (map (λ b. b.id) (filter f list))
+filter_words f [] h = tt
+filter_words f (b ∷ list) h = if_keeps (λ (l : List Breakpoint). AreWords (map (λ b. b.id) l)) (f b) _ _ (λ _. (h.0, filter_words f list h.1)) (λ _. filter_words f list h.1)
+
+counted_id : (pc : ℕ) (hart : Hart) (memory : List ℕ) (b : Breakpoint) → (counted pc hart memory b).id ≡ b.id
+counted_id pc hart memory b = if_keeps (λ (x : Breakpoint). x.id ≡ b.id) (is_hit pc hart memory b) _ _ (λ _. refl) (λ _. refl)
+
+pub record AreOrderly (lists : Lists) : Type 0 where
+  pub source : AreNumbered lists.source
+  pub instructions : AreNumbered lists.instructions
+  pub ids : AreWords lists.ids
+
+checked_orderly : (pc : ℕ) (hart : Hart) (memory : List ℕ) (lists : Lists) → AreOrderly lists → AreOrderly (checked pc hart memory lists)
+checked_orderly pc hart memory lists h = record {
+  source = map_numbered (counted pc hart memory) (counted_id pc hart memory) lists.source h.source;
+  instructions = map_numbered (counted pc hart memory) (counted_id pc hart memory) lists.instructions h.instructions;
+  ids = words_append (stopping_ids pc hart memory lists.source) (stopping_ids pc hart memory lists.instructions)
+      (filter_words (stops pc hart memory) lists.source h.source) (filter_words (stops pc hart memory) lists.instructions h.instructions);
+}
+
+none_named : (lists : Lists) → AreOrderly lists → AreOrderly (record lists { ids = [] })
+none_named lists h = record { source = h.source; instructions = h.instructions; ids = tt }
+
+reset_orderly : (lists : Lists) → AreOrderly lists → AreOrderly (record lists { source = map reset lists.source; instructions = map reset lists.instructions })
+reset_orderly lists h = record {
+  source = map_numbered reset (λ b. refl) lists.source h.source;
+  instructions = map_numbered reset (λ b. refl) lists.instructions h.instructions;
+  ids = h.ids;
+}
+
+-- ---- a tick
+
+settled_orderly : (s : Stepped) (instr : Option Instr) (pc : ℕ) (d : Debugged) → AreOrderly d.lists → AreOrderly (settled s instr pc d).lists
+settled_orderly stepped.Retired instr pc d h = checked_orderly d.hart.pc d.hart d.memory d.lists h
+settled_orderly (stepped.Printed number) instr pc d h = checked_orderly d.hart.pc d.hart d.memory d.lists h
+settled_orderly stepped.Break instr pc d h = checked_orderly d.hart.pc d.hart d.memory d.lists h
+settled_orderly (stepped.Exit code) instr pc d h = none_named d.lists h
+settled_orderly (stepped.Trap cause) instr pc d h = none_named d.lists h
+
+answer_orderly : (s : Result Stepped AllocError) (before after : Debugged) (instr : Option Instr) (answer : Result Tick AllocError) → Settles before instr s answer after → AreOrderly before.lists → AreOrderly after.lists
+answer_orderly (Ok s) before after instr answer e h =
+    subst (λ (d : Debugged). AreOrderly d.lists) (sym e.1) (settled_orderly s instr before.hart.pc (moved_as before after) h)
+answer_orderly (Err error) before after instr answer e h = subst (λ (d : Debugged). AreOrderly d.lists) (sym e.1) h
+
+tick_orderly : (before after : Debugged) (answer : Result Tick AllocError) → IsTick before answer after → AreOrderly before.lists → AreOrderly after.lists
+tick_orderly before after answer t h = go before.check_due t where
+  go : (due : Bool) → MatchBool due ((answer ≡ Ok (entry_tick before)) × (after ≡ entry_checked before)) (Moves before answer after) → AreOrderly after.lists
+  go true e = subst (λ (d : Debugged). AreOrderly d.lists) (sym e.1) (checked_orderly before.hart.pc before.hart before.memory before.lists h)
+  go false m = answer_orderly m.stepped before after m.instr answer m.settles h
+
+-- ---- the program
+
+abbrev pub FitsOwed : Option Tick → Type 0
+FitsOwed None = Unit {0}
+FitsOwed (Some tick) = HasSignedCode tick.outcome
+
+pub record Orderly (p : Program) : Type 0 where
+  pub lists : AreOrderly p.machine.lists
+  pub owed : FitsOwed p.owed
+
+-- the same of the program that is debugged, if there is one
+abbrev pub OrderlyOf : Option Program → Type 0
+OrderlyOf None = Unit {0}
+OrderlyOf (Some p) = Orderly p
+
+abbrev pub OrderlyIn : Debuggee → Type 0
+OrderlyIn d = OrderlyOf d.program
+
+pub ids_are_words : (p : Program) → Orderly p → AreWords p.machine.lists.ids
+ids_are_words p h = h.lists.ids
+
+pub owed_fits : (p : Program) (tick : Tick) → p.owed ≡ Some tick → Orderly p → HasSignedCode tick.outcome
+owed_fits p tick e h = subst FitsOwed e h.owed
+
+-- the same machine and nothing else owed
+same_orderly : (p q : Program) → q.machine.lists ≡ p.machine.lists → q.owed ≡ p.owed → Orderly p → Orderly q
+same_orderly p q l o h = record { lists = subst AreOrderly (sym l) h.lists; owed = subst FitsOwed (sym o) h.owed }
+
+pub stopped_orderly : (why : Why) (p : Program) → Orderly p → Orderly (stopped why p)
+stopped_orderly why p h = record { lists = h.lists; owed = h.owed }
+
+pub ended_orderly : (code : Option ℤ) (p : Program) → Orderly p → Orderly (ended code p)
+ended_orderly code p h = record { lists = h.lists; owed = h.owed }
+
+pub told_orderly : (p : Program) → Orderly p → Orderly (told p)
+told_orderly p h = record { lists = none_named p.machine.lists h.lists; owed = tt }
+
+pub left_orderly : (p : Program) → Orderly p → Orderly (left p)
+left_orderly p h = record { lists = record { source = tt; instructions = tt; ids = tt }; owed = tt }
+
+owing_fits : (printed : Option ℤ) (outcome : Outcome) → HasSignedCode outcome → FitsOwed (owing_by printed outcome)
+owing_fits None Went h = tt
+owing_fits (Some number) Went h = h
+owing_fits None (Stopped reason) h = h
+owing_fits (Some number) (Stopped reason) h = h
+owing_fits None (Ended code) h = h
+owing_fits (Some number) (Ended code) h = h
+
+pub entered_orderly : (p : Program) → Orderly p → Orderly (entered p)
+entered_orderly p h =
+    let d = p.machine in
+    record {
+      lists = checked_orderly d.hart.pc d.hart d.memory d.lists h.lists;
+      owed = owing_fits None (entry_tick d).outcome (no_end (hit_at_pc d) false);
+    }
+
+pub next_fits : (p : Program) → HasSignedCode (next_tick p).outcome
+next_fits p = let t = the_tick p.machine in ends_with_codes p.machine t.after t.tick t.is
+
+pub moved_orderly : (p : Program) → Orderly p → Orderly (moved p)
+moved_orderly p h =
+    let t = the_tick p.machine in
+    record {
+      lists = tick_orderly p.machine t.after (Ok t.tick) t.is h.lists;
+      owed = owing_fits (next_tick p).printed (next_tick p).outcome (next_fits p);
+    }
+
+marked_by_orderly : (r : Run) (mark : Mark) (p : Program) → Orderly p → Orderly (marked_by r mark p)
+marked_by_orderly run.Running mark p h = record { lists = h.lists; owed = h.owed }
+marked_by_orderly (run.Stopped why) mark p h = h
+marked_by_orderly (run.Ended code) mark p h = h
+
+pub marked_orderly : (mark : Mark) (p : Program) → Orderly p → Orderly (marked mark p)
+marked_orderly mark p h = marked_by_orderly p.run mark p h
+
+pub resumed_orderly : (goal : Goal) (p : Program) → Orderly p → Orderly (resumed goal p)
+resumed_orderly goal p h = record { lists = h.lists; owed = h.owed }
+
+pub first_run_orderly : (p : Program) → Orderly p → Orderly (first_run p)
+first_run_orderly p h = record { lists = h.lists; owed = h.owed }
+
+pub restarted_orderly : (p : Program) → Orderly p → Orderly (restarted p)
+restarted_orderly p h = record { lists = reset_orderly p.machine.lists h.lists; owed = h.owed }
+
+pub departed_orderly : (ends stands : Bool) (p : Program) → Orderly p → Orderly (departed ends stands p)
+departed_orderly ends stands p h =
+    if_keeps Orderly (ends && not (is_ended p.run)) _ _ (λ _. ended_orderly None p h)
+    (λ _. if_keeps Orderly (stands && is_running p.run) _ _ (λ _. stopped_orderly why.Pause p h) (λ _. h))
+
+pub loaded_orderly : (image : Image) (path : List ℕ) (stop_on_entry : Bool) (size : ℕ) → Orderly (just_loaded image path stop_on_entry size)
+loaded_orderly image path stop_on_entry size = record { lists = record { source = tt; instructions = tt; ids = tt }; owed = tt }
+
+pub with_orderly : (f : Program → Program) → ((p : Program) → Orderly p → Orderly (f p)) → (program : Option Program) → OrderlyOf program → OrderlyOf (on_program f program)
+with_orderly f keeps None h = tt
+with_orderly f keeps (Some p) h = keeps p h
+
+-- ---- events
+
+stop_with : (ids : List ℕ) (reason : AReason) (text : Option (List ℕ)) → AreWords ids → IsProperEvent (event.Stopped (record { hit_breakpoint_ids = ids; reason = reason; text = text }))
+stop_with ids reason None h = ap (λ b. b && true) (all_words ids h)
+stop_with ids reason (Some text) h = ap (λ b. b && true) (all_words ids h)
+
+pub stop_is_proper : (why : Why) (ids : List ℕ) → AreWords ids → IsProperEvent (stop_event why ids)
+stop_is_proper why ids h = stop_with ids (reason_of why) (text_of why) h
+
+pub output_is_proper : (number : ℤ) → IsProperEvent (output_event number)
+output_is_proper number = refl
+
+at_most : (a b : ℤ) → a ≤ℤ b → int_le a b ≡ true
+at_most a b h = by (int_le a b) refl where
+  by : (t : Bool) → int_le a b ≡ t → int_le a b ≡ true
+  by true e = e
+  by false e = absurd (omega (arith, ints, h, e))
+
+both_true : (a b : Bool) → a ≡ true → b ≡ true → (a && b) ≡ true
+both_true true true x y = refl
+both_true true false x y = y
+both_true false b x y = x
+
+pub exit_is_proper : (code : ℤ) → IsSignedWord code → IsProperEvent (event.Exited (record { exit_code = code }))
+exit_is_proper code h =
+    let fits : is_signed_word code ≡ true = both_true _ _ (at_most (neg_ℤ (pos 2147483648)) code h.least) (at_most code (pos 2147483647) h.greatest) in
+    ap (λ b. b && true) fits
