@@ -71,11 +71,36 @@ def the_example_of_a_late_cancel_is_answered_that_the_request_is_gone():
     expect((played.stdout, played.stderr, played.returncode), (wanted, b"", 0), "what examples/play prints")
 
 
+def the_example_of_steps_debugs_a_program():
+    def done(command, request_seq, seq, body=""):
+        return '{%s"command":"%s","request_seq":%d,"seq":%d,"success":true,"type":"response"}' % (body, command, request_seq, seq)
+
+    def stopped(reason, seq):
+        return '{"body":{"allThreadsStopped":true,"reason":"%s","threadId":1},"event":"stopped","seq":%d,"type":"event"}' % (reason, seq)
+
+    answers = [
+        [CAPABILITIES % (1, 1)],
+        [done("launch", 2, 2), '{"event":"initialized","seq":3,"type":"event"}'],
+        [done("configurationDone", 3, 4), stopped("entry", 5)],
+        [done("next", 4, 6), stopped("step", 7)],
+        [done("stepIn", 5, 8), stopped("step", 9)],
+        [done("stepOut", 6, 10), stopped("step", 11)],
+        [done("continue", 7, 12, '"body":{"allThreadsContinued":true},'), '{"body":{"exitCode":6},"event":"exited","seq":13,"type":"event"}',
+         '{"event":"terminated","seq":14,"type":"event"}'],
+        [done("disconnect", 8, 15)],
+    ]
+    path = os.path.join(TOP, "examples", "steps")
+    played = subprocess.run([os.path.join(TOP, "examples", "play"), path, PROGRAM], capture_output=True, timeout=20, cwd=TOP)
+    lines = open(path, "rb").read().decode().splitlines()
+    wanted = "".join("\n".join([line] + told) + "\n" for line, told in zip(lines, answers, strict=True))
+    expect((played.stdout.decode(), played.stderr, played.returncode), (wanted, b"", 0), "what examples/play prints")
+
+
 def the_examples_are_valid_by_the_published_schema():
-    for name in ("first-session", "late-cancel"):
+    for name in ("first-session", "late-cancel", "steps"):
         with tempfile.NamedTemporaryFile() as transcript:
             subprocess.run([os.path.join(TOP, "examples", "play"), os.path.join(TOP, "examples", name), PROGRAM],
-                           stdout=transcript, check=True, timeout=20)
+                           stdout=transcript, check=True, timeout=20, cwd=TOP)
             checked = subprocess.run([VALIDATOR, "--strict", transcript.name], capture_output=True, text=True, timeout=60)
             expect(checked.returncode, 0, "the schema's checker on %s: %s" % (name, checked.stdout + checked.stderr))
 
