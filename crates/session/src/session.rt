@@ -19,9 +19,9 @@ use std::marker::Model;
 
 /// A debug session: at most one editor is connected at a time, one after the other.
 ///
-/// Whatever happens to it is one event: a call of `connect`, `recv`, `turn`, `sent` or
+/// Whatever happens to it is one event: a call of `connect`, `recv`, `turn`, `slice`, `hold`, `sent` or
 /// `drop_connection`. An event that is refused changes nothing, and neither does one that finds no
-/// memory, so that it can be given again. A contract sees what the session is now and the bytes that
+/// memory, so that it can be given again; a slice says how far it went. A contract sees what the session is now and the bytes that
 /// wait; what it stands for is a session with all of its past.
 #[derive(Drop)]
 pub struct Session {
