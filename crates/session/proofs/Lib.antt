@@ -22,6 +22,7 @@ pub mod Turning
 pub mod Serving
 pub mod Once
 pub mod Proper
+pub mod Runs
 pub mod Reading
 pub mod Refusing
 pub mod Wanting

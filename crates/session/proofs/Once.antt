@@ -163,7 +163,7 @@ once = record {
   closes = λ s h. record { before = h.before; present = h.present; suits = tt };
   accepts = λ l piece s e h. record { before = h.before; present = h.present; suits = h.suits };
   becomes = λ d s h. record { before = h.before; present = h.present; suits = h.suits };
-  tells = λ l event s _ few h. record {
+  tells = λ l event s _ _ few h. record {
     before = h.before;
     present = subst (λ n. n ≤ 1) (let e = times_more s.life.said (said_next s.now l (IsEvent event)) in cc) h.present;
     suits = subst (Suits l.terms.phase) (let e = times_more s.life.said (said_next s.now l (IsEvent event)) in cc) h.suits;
@@ -171,7 +171,7 @@ once = record {
   answers = λ l p rest file s h. answer_keeps l p rest s (answer_to (on_with (Some l) (p ∷ rest) s).now l.terms file p)
       (of_answer (λ ask answer. Fits (times_initialized s.life.said) answer) (on_with (Some l) (p ∷ rest) s).now l.terms file p.ask p.fate
       (λ refusal _. (h.present, h.suits))
-      (λ r taken. command_fits (on_with (Some l) (p ∷ rest) s).now l.terms file r.command (times_initialized s.life.said) taken h.present h.suits)) h;
+      (λ r taken _. command_fits (on_with (Some l) (p ∷ rest) s).now l.terms file r.command (times_initialized s.life.said) taken h.present h.suits)) h;
   takes = λ n s h. record { before = h.before; present = h.present; suits = h.suits };
 }
 

@@ -97,7 +97,7 @@ answer_fits : (now : Now) (terms : Terms) (file : Option (List ℕ)) (p : Pendin
 answer_fits now terms file p h =
     of_answer (λ ask answer. Fits (name_asked ask) answer) now terms file p.ask p.fate
     (λ refusal is. record { outcome = sym (has_no_text p.ask refusal h is); events = tt })
-    (λ r taken. success_fits now terms file r.command taken)
+    (λ r taken _. success_fits now terms file r.command taken)
 
 abbrev AreRead : List Ask → Type 0
 AreRead [] = Unit {0}
@@ -199,7 +199,7 @@ proper = record {
             (AreRead-append (asks_that_wait s.now.arrivals.pending) asks h.pending (asks_are_read (read_on s.now piece).bodies));
       };
   becomes = λ d s h. record { before = h.before; present = h.present; pending = h.pending };
-  tells = λ l event s proper few h. says l event s proper h;
+  tells = λ l event s proper _ few h. says l event s proper h;
   answers = λ l p rest file s h.
       let t = on_with (Some l) (p ∷ rest) s in
       answer_keeps l p rest s (answer_to t.now l.terms file p) (answer_fits t.now l.terms file p h.pending.0) h;

@@ -1,10 +1,10 @@
 -- What is kept by each event, where answers are looked at whole.
-use Rattle.std.proofs.Common.{◌≡◌, ℕ, ℤ, zero, suc, ◌<◌, Bool, true, false, ltb, leb, eqb, List, [], ◌∷◌, ◌++◌, map, length, Option, Some, None, refl, sym, subst, ltb-true}
+use Rattle.std.proofs.Common.{◌≡◌, ℕ, ℤ, zero, suc, ◌<◌, Bool, true, false, ltb, leb, eqb, List, [], ◌∷◌, ◌++◌, map, length, Option, Some, None, refl, sym, subst, append-nil, ltb-true}
 use Rattle.std.specs.Prelude.{not}
 use Rattle.assembler.specs.Assembled.{assembled}
 use Rattle.assembler.specs.Placed.{error_of}
 use Rattle.assembler.specs.declared.error.AsmError.{AsmError}
-use Rattle.debuggee.specs.Programs.{Debuggee, Program, ended, first_run, left, marked, next_tick, restarted, resumed, told, why_marked}
+use Rattle.debuggee.specs.Programs.{Debuggee, Program, ended, first_run, left, marked, next_tick, restarted, resumed, stopped, told, why_marked}
 use Rattle.debuggee.specs.declared.run.Mark.{Mark}
 use Rattle.debuggee.specs.declared.run.Mark.TheVariants as mark
 use Rattle.debuggee.specs.declared.run.Why.{Why}
@@ -19,6 +19,7 @@ use Rattle.replies.specs.declared.response.Outcome.{Outcome as Answered}
 use Rattle.rv32i.specs.Laws.{IsSignedWord}
 use Rattle.session.specs.declared.state.TheConstants.{MOST_PIECE, MOST_PENDING, FULL, LAST_CONNECTION}
 use Rattle.session.specs.declared.event.Ending.{Ending}
+use Rattle.session.specs.declared.event.Ending.TheVariants as ending
 use Rattle.session.specs.declared.event.Event.{Event}
 use Rattle.session.specs.declared.event.Event.TheVariants.{Connect, Recv, Turn, Slice, Hold, Sent, DropConnection}
 use Rattle.session.specs.declared.link.Link.{Link}
@@ -29,12 +30,13 @@ use Rattle.session.specs.Config.{first_program}
 use Rattle.session.specs.Disconnect.{departed, is_to_end, is_to_stand}
 use Rattle.session.specs.Effects.{performed, beats, enough, next_by}
 use Rattle.session.specs.Launch.{assembles}
+use Rattle.session.specs.Laws.{SaysItsRun}
 use Rattle.session.specs.Outcomes.{Outcome, outcome_at, answers_next, closing, holding, leaving, next_turn, answering, turn_by, turn_of}
 use Rattle.session.specs.Phases.{is_active}
 use Rattle.session.specs.Refusals.{answer_to, response_to}
 use Rattle.session.specs.Requests.{is_taken_in, success_of}
 use Rattle.session.specs.Sessions.{Beginning, Session, After, Effect, histories, agreed_on, hung_on, performed_on, replied_on, said_on, start, waiting_of}
-use Rattle.session.specs.Slices.{Beat, beat, beat_by, beat_of, concludes, exits, goes, goes_unless, halts, is_runnable_by, moves_by, prints, retires, telling, tells}
+use Rattle.session.specs.Slices.{Beat, beat, beat_by, beat_of, concludes, ends, exits, goes, goes_unless, halts, is_runnable_by, moves_by, prints, retires, telling, tells}
 use Rattle.session.specs.Stepping.{granularity_of}
 use Rattle.session.specs.Telling.{exit_events, output_event, stop_event}
 use Rattle.stepping.specs.RunLaws.{HasSignedCode}
@@ -54,92 +56,107 @@ pub record KeptByEvents (P : Session → Type 0) : Type 0 where
   pub closes : (s : Session) → P s → P (performed_on Close s)
   pub accepts : (l : Link) (piece : List ℕ) (s : Session) → l.is_closing ≡ false → P (on (Some l) s) → P (accepting l piece (on (Some l) s))
   pub becomes : (d : Debuggee) (s : Session) → P s → P (performed_on (Become d) s)
-  pub tells : (l : Link) (event : Told) (s : Session) → IsProperEvent event → l.seq < s.now.limits.last_seq → P (on (Some l) s) → P (saying l (IsEvent event) s.now.arrivals.pending (on (Some l) s))
+  pub tells : (l : Link) (event : Told) (s : Session) → IsProperEvent event → SaysItsRun (IsEvent event) s.now.debuggee → l.seq < s.now.limits.last_seq → P (on (Some l) s) → P (saying l (IsEvent event) s.now.arrivals.pending (on (Some l) s))
   pub answers : (l : Link) (p : Pending) (rest : List Pending) (file : Option (List ℕ)) (s : Session) → let t = on_with (Some l) (p ∷ rest) s in P t → P (performed histories (answering (answer_to t.now l.terms file p)) t)
   pub takes : (n : ℕ) (s : Session) → P s → P (performed_on (Take n) s)
 
--- acts that change the program, or tell something
-Quiet : Act → Type 0
-Quiet (Become d) = OrderlyIn d
-Quiet (Tell event) = IsProperEvent event
-Quiet act = ⊥
+-- an event that may be told of that program
+Tellable : Debuggee → Told → Type 0
+Tellable d event = IsProperEvent event × SaysItsRun (IsEvent event) d
 
-abbrev AllQuiet : List Act → Type 0
-AllQuiet [] = Unit {0}
-AllQuiet (act ∷ acts) = Quiet act × AllQuiet acts
+-- acts that change the program, or tell something of it as it is then
+AllQuiet : Debuggee → List Act → Type 0
+AllQuiet d [] = Unit {0}
+AllQuiet d (Become e ∷ acts) = OrderlyIn e × AllQuiet e acts
+AllQuiet d (Tell event ∷ acts) = Tellable d event × AllQuiet d acts
+AllQuiet d (act ∷ acts) = ⊥
 
-quiet_append : (xs ys : List Act) → AllQuiet xs → AllQuiet ys → AllQuiet (xs ++ ys)
-quiet_append [] ys a b = b
-quiet_append (x ∷ xs) ys a b = (a.0, quiet_append xs ys a.1 b)
+abbrev AllTellable : Debuggee → List Told → Type 0
+AllTellable d [] = Unit {0}
+AllTellable d (e ∷ es) = Tellable d e × AllTellable d es
 
-abbrev AllProper : List Told → Type 0
-AllProper [] = Unit {0}
-AllProper (e ∷ es) = IsProperEvent e × AllProper es
+told_quiet : (d : Debuggee) (events : List Told) (acts : List Act) → AllTellable d events → AllQuiet d acts → AllQuiet d (map Tell events ++ acts)
+unfolding AllQuiet
+told_quiet d [] acts h q = q
+told_quiet d (e ∷ es) acts h q = (h.0, told_quiet d es acts h.1 q)
 
-told_quiet : (events : List Told) → AllProper events → AllQuiet (map Tell events)
-unfolding Quiet
-told_quiet [] h = tt
-told_quiet (e ∷ es) h = (h.0, told_quiet es h.1)
+-- what is told, and then other such acts
+tells_before : (now : Now) (d : Debuggee) (events : List Told) (acts : List Act) → AllTellable d events → AllQuiet d acts → AllQuiet d (tells now events ++ acts)
+tells_before now d events acts h q = if_keeps (λ (x : List Act). AllQuiet d (x ++ acts)) (is_active now.link) _ [] (λ _. told_quiet d events acts h q) (λ _. q)
 
-tells_quiet : (now : Now) (events : List Told) → AllProper events → AllQuiet (tells now events)
-tells_quiet now events h = if_keeps AllQuiet (is_active now.link) _ [] (λ _. told_quiet events h) (λ _. tt)
+tells_quiet : (now : Now) (d : Debuggee) (events : List Told) → AllTellable d events → AllQuiet d (tells now events)
+unfolding AllQuiet
+tells_quiet now d events h = subst (AllQuiet d) (append-nil (tells now events)) (tells_before now d events [] h tt)
 
-prints_quiet : (now : Now) (printed : Option ℤ) → AllQuiet (prints now printed)
-prints_quiet now None = tt
-prints_quiet now (Some number) = tells_quiet now (output_event number ∷ []) (output_is_proper number, tt)
+prints_before : (now : Now) (d : Debuggee) (printed : Option ℤ) (acts : List Act) → AllQuiet d acts → AllQuiet d (prints now printed ++ acts)
+unfolding Tellable
+prints_before now d None acts q = q
+prints_before now d (Some number) acts q = tells_before now d (output_event number ∷ []) acts ((output_is_proper number, tt), tt) q
 
-halts_quiet : (now : Now) (p : Program) (reason : Why) (ids : List ℕ) → Orderly p → AreWords ids → AllQuiet (halts now p reason ids)
-unfolding Quiet
-halts_quiet now p reason ids h w = (stopped_orderly reason p h, tells_quiet now (stop_event reason ids ∷ []) (stop_is_proper reason ids w, tt))
+-- the program that is debugged, if it is this
+abbrev debugging : Now → Program → Debuggee
+debugging now p = record now.debuggee { program = Some p }
 
-exits_quiet : (now : Now) (p : Program) (code : ℤ) → Orderly p → IsSignedWord code → AllQuiet (exits now p code)
-unfolding Quiet
-exits_quiet now p code h w = (ended_orderly (Some code) p h, tells_quiet now (exit_events code) (exit_is_proper code w, (refl, tt)))
+halts_quiet : (now : Now) (d : Debuggee) (p : Program) (reason : Why) (ids : List ℕ) → Orderly p → AreWords ids → AllQuiet d (halts now p reason ids)
+unfolding AllQuiet Tellable
+halts_quiet now d p reason ids h w =
+    (stopped_orderly reason p h, tells_quiet now (debugging now (stopped reason p)) (stop_event reason ids ∷ []) ((stop_is_proper reason ids w, (refl, refl)), tt))
 
-concludes_quiet : (now : Now) (p : Program) (outcome : CameTo) (ids : List ℕ) → Orderly p → HasSignedCode outcome → AreWords ids → AllQuiet (concludes now p outcome ids)
-concludes_quiet now p Went ids h c w = tt
-concludes_quiet now p (Stopped reason) ids h c w = halts_quiet now p (why.Met reason) ids h w
-concludes_quiet now p (Ended code) ids h c w = exits_quiet now p code h c
+exits_quiet : (now : Now) (d : Debuggee) (p : Program) (code : ℤ) → Orderly p → IsSignedWord code → AllQuiet d (exits now p code)
+unfolding AllQuiet Tellable
+exits_quiet now d p code h w =
+    (ended_orderly (Some code) p h, tells_quiet now (debugging now (ended (Some code) p)) (exit_events code) ((exit_is_proper code w, refl), ((refl, refl), tt)))
 
-telling_quiet : (now : Now) (p : Program) (tick : Tick) → Orderly p → HasSignedCode tick.outcome → AllQuiet (telling now p tick)
-unfolding Quiet
-telling_quiet now p tick h c = (told_orderly p h, quiet_append (prints now tick.printed) _ (prints_quiet now tick.printed) (concludes_quiet now (told p) tick.outcome p.machine.lists.ids (told_orderly p h) c (ids_are_words p h)))
+concludes_quiet : (now : Now) (d : Debuggee) (p : Program) (outcome : CameTo) (ids : List ℕ) → Orderly p → HasSignedCode outcome → AreWords ids → AllQuiet d (concludes now p outcome ids)
+unfolding AllQuiet
+concludes_quiet now d p Went ids h c w = tt
+concludes_quiet now d p (Stopped reason) ids h c w = halts_quiet now d p (why.Met reason) ids h w
+concludes_quiet now d p (Ended code) ids h c w = exits_quiet now d p code h c
 
+telling_quiet : (now : Now) (d : Debuggee) (p : Program) (tick : Tick) → Orderly p → HasSignedCode tick.outcome → AllQuiet d (telling now p tick)
+unfolding AllQuiet
+telling_quiet now d p tick h c = (told_orderly p h, prints_before now (debugging now (told p)) tick.printed _ (concludes_quiet now (debugging now (told p)) (told p) tick.outcome p.machine.lists.ids (told_orderly p h) c (ids_are_words p h)))
+
+-- the acts of a beat are such, whatever the program was before
 abbrev QuietBeat : Beat → Type 0
-QuietBeat b = AllQuiet b.acts
+QuietBeat b = (d : Debuggee) → AllQuiet d b.acts
 
 retires_quiet : (now : Now) (p : Program) → Orderly p → QuietBeat (retires now p)
-unfolding Quiet
-retires_quiet now p h = (moved_orderly p h, tt)
+unfolding AllQuiet
+retires_quiet now p h d = (moved_orderly p h, tt)
+
+ends_quiet : (e : Ending) → QuietBeat (ends e)
+unfolding AllQuiet
+ends_quiet e d = tt
 
 moves_quiet : (now : Now) (p : Program) (outcome : CameTo) → Orderly p → HasSignedCode outcome → QuietBeat (moves_by now p outcome)
 moves_quiet now p Went h c = retires_quiet now p h
-moves_quiet now p (Stopped (met.Exception cause)) h c = halts_quiet now p (why.Met (met.Exception cause)) [] h tt
+moves_quiet now p (Stopped (met.Exception cause)) h c = λ d. halts_quiet now d p (why.Met (met.Exception cause)) [] h tt
 moves_quiet now p (Stopped met.Ebreak) h c = retires_quiet now p h
 moves_quiet now p (Stopped met.Source) h c = retires_quiet now p h
 moves_quiet now p (Stopped met.Instruction) h c = retires_quiet now p h
 moves_quiet now p (Stopped met.Goal) h c = retires_quiet now p h
-moves_quiet now p (Ended code) h c = exits_quiet now p code h c
+moves_quiet now p (Ended code) h c = λ d. exits_quiet now d p code h c
 
 goes_quiet : (now : Now) (p : Program) (more : Bool) → Orderly p → QuietBeat (goes now p more)
-unfolding Quiet
+unfolding AllQuiet
 goes_quiet now p more h =
-    if_keeps QuietBeat p.machine.check_due _ _ (λ _. (entered_orderly p h, tt))
-    (λ _. if_keeps QuietBeat (not more) _ _ (λ _. tt)
-    (λ _. if_keeps QuietBeat (leb now.limits.last_retired p.machine.retired) _ _ (λ _. halts_quiet now p why.Limit [] h tt) (λ _. moves_quiet now p (next_tick p).outcome h (next_fits p))))
+    if_keeps QuietBeat p.machine.check_due _ _ (λ _ d. (entered_orderly p h, tt))
+    (λ _. if_keeps QuietBeat (not more) _ _ (λ _. ends_quiet ending.Spent)
+    (λ _. if_keeps QuietBeat (leb now.limits.last_retired p.machine.retired) _ _ (λ _ d. halts_quiet now d p why.Limit [] h tt) (λ _. moves_quiet now p (next_tick p).outcome h (next_fits p))))
 
 unless_quiet : (mark : Option Mark) (now : Now) (p : Program) (more : Bool) → Orderly p → QuietBeat (goes_unless mark now p more)
-unless_quiet (Some mark) now p more h = halts_quiet now p (why_marked mark) [] h tt
+unless_quiet (Some mark) now p more h = λ d. halts_quiet now d p (why_marked mark) [] h tt
 unless_quiet None now p more h = goes_quiet now p more h
 
 owed_quiet : (owed : Option Tick) (seen : Seen) (p : Program) (more : Bool) → p.owed ≡ owed → Orderly p → QuietBeat (beat_by owed seen p more)
-owed_quiet (Some tick) seen p more e h = telling_quiet seen.now p tick h (owed_fits p tick e h)
+owed_quiet (Some tick) seen p more e h = λ d. telling_quiet seen.now d p tick h (owed_fits p tick e h)
 owed_quiet None seen p more e h =
-    if_keeps QuietBeat (not (is_runnable_by seen.now.link p.run)) _ _ (λ _. tt)
-    (λ _. if_keeps QuietBeat (ltb FULL seen.waits) _ _ (λ _. tt) (λ _. unless_quiet p.mark seen.now p more h))
+    if_keeps QuietBeat (not (is_runnable_by seen.now.link p.run)) _ _ (λ _. ends_quiet ending.Idle)
+    (λ _. if_keeps QuietBeat (ltb FULL seen.waits) _ _ (λ _. ends_quiet ending.Full) (λ _. unless_quiet p.mark seen.now p more h))
 
 program_quiet : (program : Option Program) (seen : Seen) (more : Bool) → OrderlyOf program → QuietBeat (beat_of program seen more)
-program_quiet None seen more h = tt
+program_quiet None seen more h = ends_quiet ending.Idle
 program_quiet (Some p) seen more h = owed_quiet p.owed seen p more refl h
 
 -- ---- an answer leaves an orderly program
@@ -169,7 +186,7 @@ command_orderly now terms file command taken h = absurd (not_taken taken)
 
 answer_orderly : (now : Now) (terms : Terms) (file : Option (List ℕ)) (p : Pending) → OrderlyIn now.debuggee → OrderlyIn (answer_to now terms file p).debuggee
 answer_orderly now terms file p h =
-    of_answer (λ ask answer. OrderlyIn answer.debuggee) now terms file p.ask p.fate (λ refusal _. h) (λ r taken. command_orderly now terms file r.command taken h)
+    of_answer (λ ask answer. OrderlyIn answer.debuggee) now terms file p.ask p.fate (λ refusal _. h) (λ r taken _. command_orderly now terms file r.command taken h)
 
 -- ---- what changes no program
 
@@ -187,6 +204,11 @@ said_stays (Some l) m rest s h = if_keeps StaysOrderly (ltb l.seq s.now.limits.l
 replied_stays : (pending : List Pending) (outcome : Answered) (s : Session) → StaysOrderly s → StaysOrderly (replied_on pending outcome s)
 replied_stays [] outcome s h = h
 replied_stays (p ∷ rest) outcome s h = said_stays s.now.link (IsResponse (response_to p.ask outcome)) rest s h
+
+-- what is told changes no program
+pub said_debuggee : (l : Option Link) (m : Message) (rest : List Pending) (s : Session) → (said_on l m rest (on l s)).now.debuggee ≡ s.now.debuggee
+said_debuggee None m rest s = refl
+said_debuggee (Some l) m rest s = if_keeps (λ (x : Session). x.now.debuggee ≡ s.now.debuggee) (ltb l.seq s.now.limits.last_seq) _ _ (λ _. refl) (λ _. refl)
 
 told_stays : (events : List Told) (s : Session) → StaysOrderly s → StaysOrderly (performed histories (map Tell events) s)
 told_stays [] s h = h
@@ -217,16 +239,18 @@ module _ (P : Session → Type 0) (k : KeptByEvents P) where
   abbrev Both : Session → Type 0
   Both s = P s × StaysOrderly s
 
-  tells_by : (l : Option Link) (event : Told) (s : Session) → IsProperEvent event → Both (on l s) → Both (said_on l (IsEvent event) s.now.arrivals.pending (on l s))
-  tells_by None event s proper h = h
-  tells_by (Some l) event s proper h = if_keeps Both (ltb l.seq s.now.limits.last_seq) _ _ (λ e. (k.tells l event s proper (ltb-true l.seq s.now.limits.last_seq e) h.0, h.1)) (λ _. h)
+  tells_by : (l : Option Link) (event : Told) (s : Session) → Tellable s.now.debuggee event → Both (on l s) → Both (said_on l (IsEvent event) s.now.arrivals.pending (on l s))
+  unfolding Tellable
+  tells_by None event s t h = h
+  tells_by (Some l) event s t h = if_keeps Both (ltb l.seq s.now.limits.last_seq) _ _ (λ e. (k.tells l event s t.0 t.1 (ltb-true l.seq s.now.limits.last_seq e) h.0, h.1)) (λ _. h)
 
-  quiet_keeps : (acts : List Act) (s : Session) → AllQuiet acts → Both s → Both (performed histories acts s)
-  unfolding Quiet
+  quiet_keeps : (acts : List Act) (s : Session) → AllQuiet s.now.debuggee acts → Both s → Both (performed histories acts s)
+  unfolding AllQuiet
   quiet_keeps [] s q h = h
   quiet_keeps (Become d ∷ acts) s q h = quiet_keeps acts (performed_on (Become d) s) q.1 (k.becomes d s h.0, q.0)
-  quiet_keeps (Tell e ∷ acts) s q h = quiet_keeps acts (performed_on (Tell e) s) q.1 (tells_by s.now.link e s q.0 h)
-  quiet_keeps (act ∷ acts) s q h = absurd q.0
+  quiet_keeps (Tell e ∷ acts) s q h =
+      quiet_keeps acts (performed_on (Tell e) s) (subst (λ (d : Debuggee). AllQuiet d acts) (sym (said_debuggee s.now.link (IsEvent e) s.now.arrivals.pending s)) q.1) (tells_by s.now.link e s q.0 h)
+  quiet_keeps (act ∷ acts) s q h = absurd q
 
   turn_keeps : (l : Link) (file : Option (List ℕ)) (pending : List Pending) (s : Session) → let t = on_with (Some l) pending s in Both t → Both (performed histories (next_turn t.now l.terms file pending).acts t)
   turn_keeps l file [] s h = h
@@ -246,7 +270,7 @@ module _ (P : Session → Type 0) (k : KeptByEvents P) where
 
   owed_keeps : (owed : Option Tick) (l : Link) (file : Option (List ℕ)) (p : Program) (s : Session) → p.owed ≡ owed → Orderly p → Both (on (Some l) s) → Both (performed histories (turn_by owed (histories.see (on (Some l) s)) l p file).acts (on (Some l) s))
   owed_keeps None l file p s e o h = answers_keep l file s h
-  owed_keeps (Some tick) l file p s e o h = quiet_keeps (telling (on (Some l) s).now p tick) (on (Some l) s) (telling_quiet (on (Some l) s).now p tick o (owed_fits p tick e o)) h
+  owed_keeps (Some tick) l file p s e o h = quiet_keeps (telling (on (Some l) s).now p tick) (on (Some l) s) (telling_quiet (on (Some l) s).now s.now.debuggee p tick o (owed_fits p tick e o)) h
 
   program_keeps : (program : Option Program) (l : Link) (file : Option (List ℕ)) (s : Session) → OrderlyOf program → Both (on (Some l) s) → Both (performed histories (turn_of program (histories.see (on (Some l) s)) l file).acts (on (Some l) s))
   program_keeps None l file s o h = answers_keep l file s h
@@ -283,7 +307,7 @@ module _ (P : Session → Type 0) (k : KeptByEvents P) where
     by (Some e) x = x
     by None x =
         let t = (beats histories n i s).state in
-        quiet_keeps (beat (histories.see t) (ltb (beats histories n i s).moved n)).acts t (program_quiet t.now.debuggee.program (histories.see t) (ltb (beats histories n i s).moved n) x.1) x
+        quiet_keeps (beat (histories.see t) (ltb (beats histories n i s).moved n)).acts t (program_quiet t.now.debuggee.program (histories.see t) (ltb (beats histories n i s).moved n) x.1 t.now.debuggee) x
 
   event_keeps : (e : Event) (s : Session) → Both s → Both (Effect s e)
   event_keeps Connect s h = outcome_keeps s.now.link Connect s h

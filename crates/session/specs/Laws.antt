@@ -3,12 +3,26 @@
 -- A list of events is any: requests cut anywhere, repeated or cancelled, turns and bytes taken in between, connections
 -- that end and others that follow, and events that are refused.
 use Rattle.std.specs.Prelude.{◌≡◌, ℕ, ◌+◌, ◌<◌, ◌≤◌, List, [], ◌∷◌, ◌++◌, map, flat_map, All, Some, Ok, Err}
-use Rattle.std.specs.Prelude.{◌⊎◌}
+use Rattle.std.specs.Prelude.{◌⊎◌, ◌&&◌, Bool, true, false, None, MatchOption, bytes_eq, ⊤}
+use Rattle.std.specs.List.{list_any}
+use Rattle.debuggee.specs.Programs.{Debuggee, is_ended, is_running}
+use Rattle.debuggee.specs.declared.run.Run.{Run}
+use Rattle.debuggee.specs.declared.run.Run.TheVariants.{Running, Stopped as StandsStill, Ended}
+use Rattle.protocol.specs.declared.continue_.TheConstants.{NAME as CONTINUE}
+use Rattle.protocol.specs.declared.next.TheConstants.{NAME as NEXT}
+use Rattle.protocol.specs.declared.step_in.TheConstants.{NAME as STEP_IN}
+use Rattle.protocol.specs.declared.step_out.TheConstants.{NAME as STEP_OUT}
+use Rattle.protocol.specs.declared.restart.TheConstants.{NAME as RESTART}
+use Rattle.replies.specs.declared.event.Event.TheVariants as event
+use Rattle.replies.specs.declared.exited.Exited.{Exited}
+use Rattle.replies.specs.declared.stopped.Stopped.{Stopped}
+use Rattle.replies.specs.declared.response.Response.{Response}
+use Rattle.session.specs.Telling.{reason_of, text_of}
 use Rattle.framing.specs.Reading.{reading_of}
 use Rattle.replies.specs.declared.message.Message.{Message}
 use Rattle.replies.specs.declared.message.Message.TheVariants.{Response as IsResponse, Event as IsEvent}
 use Rattle.replies.specs.declared.response.Outcome.{Outcome}
-use Rattle.replies.specs.declared.response.Outcome.TheVariants.{Done}
+use Rattle.replies.specs.declared.response.Outcome.TheVariants.{Done, Refused}
 use Rattle.replies.specs.declared.response.ResponseBody.TheVariants.{Initialize}
 use Rattle.replies.specs.Messages.{IsProper}
 use Rattle.session.specs.declared.TheConstants.{BODY_LIMIT}
@@ -135,3 +149,50 @@ times_initialized (m ∷ messages) = initializes_by m.message + times_initialize
 -- `initialize` succeeds once at most on a connection (`InitializeRequest`).
 abbrev pub InitializesOnce : Session → Type 0
 InitializesOnce s = (c : ℕ) → times_initialized (life_of c s).said ≤ 1
+
+-- ---- what is told of the program
+
+abbrev pub is_success : Outcome → Bool
+is_success (Done body) = true
+is_success (Refused refusal text) = false
+
+-- a stop gives the reason for which the program stands still
+abbrev pub IsStop : Stopped → Run → Type 0
+IsStop stop (StandsStill why) = (stop.reason ≡ reason_of why) × (stop.text ≡ text_of why)
+IsStop stop Running = ⊥
+IsStop stop (Ended code) = ⊥
+
+-- an exit gives the code with which it has ended
+abbrev pub IsExit : Exited → Run → Type 0
+IsExit exit (Ended (Some code)) = exit.exit_code ≡ code
+IsExit exit (Ended None) = ⊥
+IsExit exit Running = ⊥
+IsExit exit (StandsStill why) = ⊥
+
+-- there is a program, and it runs so
+abbrev pub RunsAs : (Run → Type 0) → Debuggee → Type 0
+RunsAs P d = MatchOption d.program ⊥ (λ p. P p.run)
+
+-- whether a request of that name lets the program run, and does nothing else
+abbrev pub is_resume : List ℕ → Bool
+is_resume name =
+    list_any (bytes_eq name) (CONTINUE.now ∷ NEXT.now ∷ STEP_IN.now ∷ STEP_OUT.now ∷ RESTART.now ∷ [])
+
+-- a success of one
+abbrev pub resumes : Response → Bool
+resumes r = is_success r.outcome && is_resume r.command
+
+-- What a message says of the program's run is so of this program: that it stands still, and why; that it goes on; that
+-- it has ended, and with which code.
+abbrev pub SaysItsRun : Message → Debuggee → Type 0
+SaysItsRun (IsResponse r) d = resumes r ≡ true → RunsAs (λ run. is_running run ≡ true) d
+SaysItsRun (IsEvent (event.Stopped stop)) d = RunsAs (IsStop stop) d
+SaysItsRun (IsEvent event.Continued) d = RunsAs (λ run. is_running run ≡ true) d
+SaysItsRun (IsEvent (event.Exited exit)) d = RunsAs (IsExit exit) d
+SaysItsRun (IsEvent event.Terminated) d = RunsAs (λ run. is_ended run ≡ true) d
+SaysItsRun (IsEvent event.Initialized) d = ⊤
+SaysItsRun (IsEvent (event.Output output)) d = ⊤
+
+-- Each message says of the program's run what is so of the program as it was when the message was queued.
+abbrev pub RunsAreTold : Session → Type 0
+RunsAreTold s = (c : ℕ) → All (λ (m : Said). SaysItsRun m.message m.snapshot) (life_of c s).said

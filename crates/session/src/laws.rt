@@ -58,3 +58,10 @@ pub fn answers_are_proper()
 pub fn initializes_once()
     ensures { (from : ABeginning) (events : List AnEvent) → law.InitializesOnce (After from events) }
 {}
+
+/// Whatever happens, each message says of the program's run what was so of the program when it was queued: a stop that
+/// it stood still, and why; a success of `continue`, of a step and of `restart` that it ran; an exit with which code it
+/// had ended.
+pub fn runs_are_told()
+    ensures { (from : ABeginning) (events : List AnEvent) → law.RunsAreTold (After from events) }
+{}
