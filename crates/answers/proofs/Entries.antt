@@ -7,7 +7,8 @@ use Rattle.protocol.specs.declared.refusal.Refusal.TheVariants.{TooMuch}
 use Rattle.replies.specs.declared.response.ResponseBody.TheVariants.{SetInstructionBreakpoints}
 use Rattle.protocol.specs.declared.set_breakpoints.SourceBreakpoint.{SourceBreakpoint}
 use Rattle.protocol.specs.declared.set_instruction_breakpoints.InstructionBreakpoint.{InstructionBreakpoint}
-use Rattle.answers.specs.Breakpoints.{Answer, Wanted, entries_of, followed_by, list_of, next_after}
+use Rattle.breakpoints.specs.Stops.{Wanted}
+use Rattle.answers.specs.Breakpoints.{Answer, entries_of, followed_by, list_of, next_after}
 use Rattle.answers.specs.Laws.{EachHasItsEntry, EntriesTellTheList, NumbersFollowEachOther, entries_in, set_at_instructions, set_at_lines, set_by_body, those_set}
 use Rattle.answers.specs.SetBreakpoints as source
 use Rattle.answers.specs.SetInstructionBreakpoints as instruction

@@ -1,6 +1,7 @@
 -- Entries and lists, one breakpoint further.
 use Rattle.std.proofs.Common.{◌≡◌, ℕ, suc, ◌+◌, ◌<◌, ◌≤◌, List, [], ◌∷◌, ◌++◌, length, drop, get_or, Result, Ok, Err, refl, sym, ap, ◌∙◌, arith, add-one, append_assoc, drop-cons}
-use Rattle.answers.specs.Breakpoints.{Wanted, entries_of, followed_by, list_of, next_after}
+use Rattle.breakpoints.specs.Stops.{Wanted}
+use Rattle.answers.specs.Breakpoints.{entries_of, followed_by, list_of, next_after}
 use Rattle.answers.specs.declared.problem.Problem.{Problem}
 
 -- what is left begins with the item that is read

@@ -8,7 +8,7 @@ use Rattle.protocol.specs.declared.refusal.Refusal.TheVariants.{TooMuch}
 use Rattle.replies.specs.declared.response.ResponseBody.TheVariants.{SetInstructionBreakpoints}
 use Rattle.answers.specs.declared.problem.Problem.TheVariants.{BadHitCondition}
 use Rattle.std.proofs.lemmas.List.Elements.{All-cons, All-nil, All-head, All-tail}
-use Rattle.breakpoints.specs.Stops.{CanBeSet}
+use Rattle.breakpoints.specs.Stops.{CanBeSet, Wanted, wanted_by}
 use Rattle.breakpoints.specs.declared.breakpoint.BreakSpec.{BreakSpec}
 use Rattle.expressions.specs.Trees.{Tree}
 use Rattle.image.specs.Lines.{Table, bind}
@@ -19,7 +19,7 @@ use Rattle.protocol.specs.declared.set_breakpoints.SetBreakpointsArguments.{SetB
 use Rattle.protocol.specs.declared.set_instruction_breakpoints.InstructionBreakpoint.{InstructionBreakpoint}
 use Rattle.protocol.specs.declared.set_instruction_breakpoints.SetInstructionBreakpointsArguments as given
 use Rattle.answers.specs.Answers.{answer_by}
-use Rattle.answers.specs.Breakpoints.{Answer, Wanted, entries_of, followed_by, list_of, next_after, wanted_by}
+use Rattle.answers.specs.Breakpoints.{Answer, entries_of, followed_by, list_of, next_after}
 use Rattle.answers.specs.SetBreakpoints as source
 use Rattle.answers.specs.SetInstructionBreakpoints as instruction
 use Rattle.answers.specs.Spaces.{said}

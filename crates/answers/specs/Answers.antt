@@ -7,7 +7,8 @@ use Rattle.image.specs.Lines.{Table}
 use Rattle.protocol.specs.declared.command.Command.{Command}
 use Rattle.protocol.specs.declared.command.Command.TheVariants.{SetBreakpoints, SetInstructionBreakpoints}
 use Rattle.replies.specs.declared.response.ResponseBody.TheVariants.{Empty}
-use Rattle.answers.specs.Breakpoints.{Answer, wanted_by}
+use Rattle.breakpoints.specs.Stops.{wanted_by}
+use Rattle.answers.specs.Breakpoints.{Answer}
 use Rattle.answers.specs.SetBreakpoints.{set_breakpoints}
 use Rattle.answers.specs.SetInstructionBreakpoints.{set_instruction_breakpoints}
 use Rattle.answers.specs.declared.breaks.BreakAnswer.{BreakAnswer}

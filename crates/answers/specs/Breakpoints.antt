@@ -3,10 +3,8 @@
 -- Each breakpoint is looked at by itself: either it can be set, or there is a problem with it. Those that can be set
 -- get numbers, one after the other in the order in which they were asked for. The answer has an entry for each, the
 -- list that is set has those that can be set.
-use Rattle.std.specs.Prelude.{ℕ, ◌+◌, List, [], ◌∷◌, Option, Result, Ok, Err, option_map, codes}
-use Rattle.breakpoints.specs.declared.breakpoint.BreakSpec.{BreakSpec}
-use Rattle.expressions.specs.Nodes.{tree_of}
-use Rattle.expressions.specs.Trees.{Tree}
+use Rattle.std.specs.Prelude.{ℕ, ◌+◌, List, [], ◌∷◌, Option, Result, Ok, Err, codes}
+use Rattle.breakpoints.specs.Stops.{Wanted}
 use Rattle.replies.specs.declared.response.ResponseBody.{ResponseBody}
 use Rattle.protocol.specs.declared.refusal.Refusal.{Refusal}
 use Rattle.answers.specs.declared.problem.Problem.{Problem}
@@ -20,18 +18,6 @@ message_of BadCondition = codes "bad condition"
 message_of BadHitCondition = codes "bad hit condition"
 message_of NoCode = codes "no code at or after this line"
 message_of BadAddress = codes "bad address"
-
--- a breakpoint to be set: its number and address, the condition under which it is hit, and from which hit on it stops
-pub record Wanted : Type 0 where
-  pub id : ℕ
-  pub address : ℕ
-  pub condition : Option Tree
-  pub hit : ℕ
-
--- the code's, whose condition keeps where its parts lie
-abbrev pub wanted_by : BreakSpec → Wanted
-wanted_by spec =
-    record { id = spec.id; address = spec.address; condition = option_map tree_of spec.condition; hit = spec.hit }
 
 -- What an answer says, and the list that replaces the one that is set; None: no list is replaced.
 pub record Answer : Type 0 where

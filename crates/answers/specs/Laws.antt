@@ -17,7 +17,7 @@ use Rattle.replies.specs.declared.set_breakpoints.SourceBreakpoint.TheVariants a
 use Rattle.replies.specs.declared.set_instruction_breakpoints.InstructionBreakpoint as at_instruction
 use Rattle.replies.specs.declared.set_instruction_breakpoints.InstructionBreakpoint.TheVariants as instruction
 use Rattle.answers.specs.Answers.{breaks_answer, count_asked, sets_breakpoints}
-use Rattle.answers.specs.Breakpoints.{Wanted}
+use Rattle.breakpoints.specs.Stops.{Wanted}
 use Rattle.answers.specs.Expressions.{IsExpression, expression_of}
 use Rattle.answers.specs.declared.view.View.{View}
 

@@ -13,7 +13,8 @@ use Rattle.protocol.specs.declared.refusal.Refusal.TheVariants.{TooMuch}
 use Rattle.replies.specs.declared.response.ResponseBody.TheVariants.{SetBreakpoints}
 use Rattle.replies.specs.declared.set_breakpoints.SourceBreakpoint as replied
 use Rattle.replies.specs.declared.set_breakpoints.SourceBreakpoint.TheVariants.{Verified, Unverified}
-use Rattle.answers.specs.Breakpoints.{Answer, Wanted, entries_of, list_of, message_of}
+use Rattle.breakpoints.specs.Stops.{Wanted}
+use Rattle.answers.specs.Breakpoints.{Answer, entries_of, list_of, message_of}
 use Rattle.answers.specs.Terms.{Terms, terms_of}
 use Rattle.answers.specs.declared.problem.Problem.{Problem}
 use Rattle.answers.specs.declared.problem.Problem.TheVariants.{UnknownSource, NoCode}

@@ -11,7 +11,8 @@ use Rattle.protocol.specs.declared.refusal.Refusal.TheVariants.{TooMuch}
 use Rattle.replies.specs.declared.response.ResponseBody.TheVariants.{SetInstructionBreakpoints}
 use Rattle.replies.specs.declared.set_instruction_breakpoints.InstructionBreakpoint as replied
 use Rattle.replies.specs.declared.set_instruction_breakpoints.InstructionBreakpoint.TheVariants.{Verified, Unverified}
-use Rattle.answers.specs.Breakpoints.{Answer, Wanted, entries_of, list_of, message_of}
+use Rattle.breakpoints.specs.Stops.{Wanted}
+use Rattle.answers.specs.Breakpoints.{Answer, entries_of, list_of, message_of}
 use Rattle.answers.specs.References.{address_in}
 use Rattle.answers.specs.Terms.{Terms, terms_of}
 use Rattle.answers.specs.declared.problem.Problem.{Problem}

@@ -3,7 +3,8 @@ use Rattle.std.specs.Prelude.{◌≡◌, ℕ, ◌++◌, List, [], Option, Result
 use Rattle.expressions.specs.Nodes.{tree_of}
 use Rattle.expressions.specs.Trees.{Tree}
 use Rattle.expressions.specs.declared.node.Node.{Node}
-use Rattle.answers.specs.Breakpoints.{Wanted, followed_by, next_after, wanted_by}
+use Rattle.breakpoints.specs.Stops.{Wanted, wanted_by}
+use Rattle.answers.specs.Breakpoints.{followed_by, next_after}
 use Rattle.answers.specs.Terms.{Terms}
 use Rattle.answers.specs.SetBreakpoints as source
 use Rattle.answers.specs.SetInstructionBreakpoints as instruction

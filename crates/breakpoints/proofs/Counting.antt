@@ -2,10 +2,9 @@
 use Rattle.std.proofs.Common.{◌≡◌, ℕ, ◌+◌, ◌≤◌, Bool, true, false, cond, ◌&&◌, leb, min, List, [], ◌∷◌, refl, ap, ◌∙◌, arith}
 use Rattle.std.proofs.lemmas.Bool.{le-leb, leb-false, leb-true, lt-leb}
 use Rattle.breakpoints.specs.Laws.{Check, StopsFromItsHit, after_checks, hits_among}
-use Rattle.breakpoints.specs.Stops.{counted, fresh, is_hit, stops, with_hit}
-use Rattle.breakpoints.specs.declared.breakpoint.Breakpoint.{Breakpoint}
+use Rattle.breakpoints.specs.Stops.{counted, fresh, is_hit, Placed, stops, with_hit}
 
-abbrev with_hits : ℕ → Breakpoint → Breakpoint
+abbrev with_hits : ℕ → Placed → Placed
 with_hits n b = record b { hits = n }
 
 most : (a b : ℕ) → min (min a 4294967295 + b) 4294967295 ≡ min (a + b) 4294967295
@@ -14,18 +13,18 @@ most a b = omega arith
 least : (a : ℕ) → a ≤ 4294967295 → min a 4294967295 ≡ a
 least a h = omega (arith, h)
 
-one_check : (c : Check) (b : Breakpoint) → b.hits ≤ 4294967295 → counted c.pc c.hart c.memory b ≡ with_hits (min (b.hits + cond (is_hit c.pc c.hart c.memory b) 1 0) 4294967295) b
+one_check : (c : Check) (b : Placed) → b.hits ≤ 4294967295 → counted c.pc c.hart c.memory b ≡ with_hits (min (b.hits + cond (is_hit c.pc c.hart c.memory b) 1 0) 4294967295) b
 one_check c b h = go (is_hit c.pc c.hart c.memory b) where
   go : (t : Bool) → cond t (with_hit b) b ≡ with_hits (min (b.hits + cond t 1 0) 4294967295) b
   go true = refl
   go false = let e : b.hits ≡ min (b.hits + 0) 4294967295 = omega (arith, h) in ap (λ n. with_hits n b) e
 
 -- only the count changes, so the hits among later checks are those that they would be
-same_hits : (checks : List Check) (n : ℕ) (b : Breakpoint) → hits_among checks (with_hits n b) ≡ hits_among checks b
+same_hits : (checks : List Check) (n : ℕ) (b : Placed) → hits_among checks (with_hits n b) ≡ hits_among checks b
 same_hits [] n b = refl
 same_hits (c ∷ checks) n b = ap (λ k. cond (is_hit c.pc c.hart c.memory b) 1 0 + k) (same_hits checks n b)
 
-pub counts : (checks : List Check) (b : Breakpoint) → b.hits ≤ 4294967295 → after_checks checks b ≡ with_hits (min (b.hits + hits_among checks b) 4294967295) b
+pub counts : (checks : List Check) (b : Placed) → b.hits ≤ 4294967295 → after_checks checks b ≡ with_hits (min (b.hits + hits_among checks b) 4294967295) b
 counts [] b h = let e : b.hits ≡ min (b.hits + 0) 4294967295 = omega (arith, h) in ap (λ n. with_hits n b) e
 counts (c ∷ checks) b h =
     let one : ℕ = cond (is_hit c.pc c.hart c.memory b) 1 0 in

@@ -6,7 +6,7 @@ use Rattle.std.specs.Prelude.{◌≡◌, ℕ, ◌+◌, ◌/◌, ◌%◌, ◌≤�
 use Rattle.std.specs.Prelude.{All}
 use Rattle.std.specs.List.{list_any}
 use Rattle.std.specs.List.Sorted.{IsNonDecreasing}
-use Rattle.breakpoints.specs.declared.breakpoint.Breakpoint.{Breakpoint}
+use Rattle.breakpoints.specs.Stops.{Placed}
 
 abbrev pub has_place : ℕ → List ℕ → Bool
 has_place address places = list_any (λ place. place == address) places
@@ -24,16 +24,16 @@ pub record IsIndexed (marks : List Bool) (addresses : List ℕ) : Type 0 where
   pub rise : IsNonDecreasing addresses
 
 -- whether a breakpoint of either list is at an address
-abbrev pub is_at : ℕ → Breakpoint → Bool
+abbrev pub is_at : ℕ → Placed → Bool
 is_at address b = b.address == address
 
 -- the addresses are those of the breakpoints of both lists
-abbrev pub Covers : List ℕ → List Breakpoint → List Breakpoint → Type 0
+abbrev pub Covers : List ℕ → List Placed → List Placed → Type 0
 Covers places source instructions =
     (address : ℕ) → has_place address places
     ≡ (list_any (is_at address) source || list_any (is_at address) instructions)
 
 -- and there is room for the ids of all
-pub record IsKept (places : List ℕ) (source instructions : List Breakpoint) (room : ℕ) : Type 0 where
+pub record IsKept (places : List ℕ) (source instructions : List Placed) (room : ℕ) : Type 0 where
   pub covers : Covers places source instructions
   pub fits : length source + length instructions ≤ room

@@ -6,52 +6,72 @@
 -- or has no value: then its count goes up by one, and stays at 4,294,967,295. It stops where it is hit and its count,
 -- this hit among it, has reached the number that it was set with.
 use Rattle.std.specs.Prelude.{ℕ, ◌+◌, ◌≤◌, Bool, true, ◌==◌, nat_le, ◌&&◌, if◌then◌else◌, min, List, ◌++◌, length}
-use Rattle.std.specs.Prelude.{map, filter, All, Option, Some, None, Ok, Err}
+use Rattle.std.specs.Prelude.{map, filter, All, Option, Some, None, Ok, Err, option_map}
 use Rattle.std.specs.List.{list_any}
 use Rattle.rv32i.specs.declared.hart.Hart.{Hart}
 use Rattle.expressions.specs.Nodes.{tree_of}
+use Rattle.expressions.specs.Trees.{Tree}
 use Rattle.expressions.specs.Values.{Valued, is_true, value_of}
-use Rattle.expressions.specs.declared.node.Node.{Node}
 use Rattle.breakpoints.specs.declared.breakpoint.BreakSpec.{BreakSpec}
-use Rattle.breakpoints.specs.declared.breakpoint.Breakpoint.{Breakpoint}
 use Rattle.breakpoints.specs.declared.breakpoint.Hit.{Hit}
+
+-- a breakpoint to be set: its number and address, the condition under which it is hit, and from which hit on it stops
+pub record Wanted : Type 0 where
+  pub id : ℕ
+  pub address : ℕ
+  pub condition : Option Tree
+  pub hit : ℕ
+
+-- the code's, whose condition keeps where its parts lie
+abbrev pub wanted_by : BreakSpec → Wanted
+wanted_by spec =
+    record { id = spec.id; address = spec.address; condition = option_map tree_of spec.condition; hit = spec.hit }
+
+-- one that is set, and how often it was hit
+pub record Placed : Type 0 where
+  pub id : ℕ
+  pub address : ℕ
+  pub condition : Option Tree
+  pub hit : ℕ
+  pub hits : ℕ
 
 -- the two lists, and the ids of those that stopped at the last check, the source list's first
 pub record Lists : Type 0 where
-  pub source : List Breakpoint
-  pub instructions : List Breakpoint
+  pub source : List Placed
+  pub instructions : List Placed
   pub ids : List ℕ
 
 -- a breakpoint as it is set: it was not hit yet
-abbrev pub fresh : BreakSpec → Breakpoint
-fresh spec = record { id = spec.id; address = spec.address; condition = spec.condition; hit = spec.hit; hits = 0 }
+abbrev pub fresh : Wanted → Placed
+fresh wanted =
+    record { id = wanted.id; address = wanted.address; condition = wanted.condition; hit = wanted.hit; hits = 0 }
 
 abbrev pub is_no_zero : Valued → Bool
 is_no_zero (Ok v) = is_true v
 is_no_zero (Err fault) = true
 
 -- a condition is absent, not 0, or has no value
-abbrev pub holds : Option Node → Hart → List ℕ → Bool
+abbrev pub holds : Option Tree → Hart → List ℕ → Bool
 holds None hart memory = true
-holds (Some condition) hart memory = is_no_zero (value_of (tree_of condition) hart memory)
+holds (Some condition) hart memory = is_no_zero (value_of condition hart memory)
 
 -- a breakpoint is hit
-abbrev pub is_hit : ℕ → Hart → List ℕ → Breakpoint → Bool
+abbrev pub is_hit : ℕ → Hart → List ℕ → Placed → Bool
 is_hit pc hart memory b = (b.address == pc) && holds b.condition hart memory
 
 -- it with this check counted
-abbrev pub with_hit : Breakpoint → Breakpoint
+abbrev pub with_hit : Placed → Placed
 with_hit b = record b { hits = min (b.hits + 1) 4294967295 }
 
-abbrev pub counted : ℕ → Hart → List ℕ → Breakpoint → Breakpoint
+abbrev pub counted : ℕ → Hart → List ℕ → Placed → Placed
 counted pc hart memory b = if is_hit pc hart memory b then with_hit b else b
 
 -- it stops
-abbrev pub stops : ℕ → Hart → List ℕ → Breakpoint → Bool
+abbrev pub stops : ℕ → Hart → List ℕ → Placed → Bool
 stops pc hart memory b = is_hit pc hart memory b && nat_le b.hit (with_hit b).hits
 
 -- the ids of those that stop, in order
-abbrev pub stopping_ids : ℕ → Hart → List ℕ → List Breakpoint → List ℕ
+abbrev pub stopping_ids : ℕ → Hart → List ℕ → List Placed → List ℕ
 stopping_ids pc hart memory list = map (λ b. b.id) (filter (stops pc hart memory) list)
 
 -- the lists after a check, and what it answers
@@ -74,5 +94,5 @@ pub record CanBeSet (specs : List BreakSpec) : Type 0 where
   pub reachable : All (λ spec. 1 ≤ spec.hit) specs
 
 -- each count as at first
-abbrev pub reset : Breakpoint → Breakpoint
+abbrev pub reset : Placed → Placed
 reset b = record b { hits = 0 }

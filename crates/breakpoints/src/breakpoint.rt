@@ -1,11 +1,12 @@
 //! A breakpoint.
 
 ghost use Rattle.std.specs.Prelude.{◌≡◌};
-ghost use Rattle.breakpoints.specs.Stops.{counted, fresh, holds, stops};
+ghost use Rattle.breakpoints.specs.Stops.{counted, fresh, holds, reset, stops, wanted_by};
 
 use expressions::Expr;
 use image::Memory;
 use rv32i::Hart;
+use std::marker::Model;
 
 /// A breakpoint as it is asked for.
 #[derive(Drop)]
@@ -20,7 +21,7 @@ pub struct BreakSpec {
     pub hit: u32,
 }
 
-/// A breakpoint that is set, with its count.
+/// A breakpoint that is set, with its count. A contract sees its condition as a tree.
 #[derive(Drop)]
 pub struct Breakpoint {
     /// What a stop names it by.
@@ -35,6 +36,20 @@ pub struct Breakpoint {
     pub hits: u32,
 }
 
+impl Model for Breakpoint {
+    ghost use Rattle.std.specs.Prelude.{option_map};
+    ghost use Rattle.std.specs.Coded.{codes};
+    ghost use Rattle.expressions.specs.Nodes.{tree_of};
+    ghost use Rattle.breakpoints.specs.Codes.{coded_tree};
+    ghost use Rattle.breakpoints.specs.Stops.{Placed};
+
+    ghost Value = { Placed };
+
+    ghost coded = { Prim.hlevel (codes, coded_tree) };
+
+    ghost view = { λ b. record { id = b.id; address = b.address; condition = option_map tree_of b.condition; hit = b.hit; hits = b.hits } };
+}
+
 /// Which kinds of breakpoints stop.
 #[derive(Clone, Copy, Debug, PartialEq, Eq)]
 pub struct Hit {
@@ -47,7 +62,7 @@ pub struct Hit {
 impl Breakpoint {
     /// A breakpoint that was not hit yet.
     pub(crate) fn fresh(spec: BreakSpec) -> Breakpoint
-        ensures { result ≡ fresh spec }
+        ensures { result ≡ fresh (wanted_by spec) }
     {
         Breakpoint {
             id: spec.id,
@@ -68,6 +83,13 @@ impl Breakpoint {
         }
         self.hits = self.hits.saturating_add(1);
         self.hits >= self.hit
+    }
+
+    /// It was not hit yet.
+    pub(crate) fn reset(&mut self)
+        ensures { self.new ≡ reset self.old }
+    {
+        self.hits = 0;
     }
 
     // Whether its condition is absent, not 0, or has no value.

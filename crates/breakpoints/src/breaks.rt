@@ -4,7 +4,7 @@ ghost use Rattle.std.specs.Prelude.{◌≡◌, ◌+◌, ◌<◌, ◌≤◌, ◌^
 ghost use Rattle.std.specs.Bool.{OnFalse};
 ghost use Rattle.std.specs.List.{list_any};
 ghost use Rattle.breakpoints.specs.Places.{is_at, Covers};
-ghost use Rattle.breakpoints.specs.Stops.{CanBeSet, checked, counted, fresh, hit_in, reset, stopping_ids, stops};
+ghost use Rattle.breakpoints.specs.Stops.{CanBeSet, checked, counted, fresh, hit_in, reset, stopping_ids, stops, wanted_by};
 
 use crate::breakpoint::{BreakSpec, Breakpoint, Hit};
 use crate::places::Places;
@@ -29,11 +29,11 @@ impl Model for Breaks {
     ghost use Rattle.breakpoints.specs.Stops.{Lists};
     ghost use Rattle.breakpoints.specs.Places.{IsKept};
     ghost use Rattle.std.specs.Coded.{codes};
-    ghost use Rattle.breakpoints.specs.contracts.breakpoint.Breakpoint as breakpoint;
+    ghost use Rattle.breakpoints.specs.Codes.{coded_tree};
 
     ghost Value = { Lists };
 
-    ghost coded = { Prim.hlevel (codes, breakpoint.the_row.coded) };
+    ghost coded = { Prim.hlevel (codes, coded_tree) };
 
     ghost view = { λ b. record { source = b.source.items; instructions = b.instructions.items; ids = b.ids.items } };
 
@@ -58,7 +58,7 @@ impl Breaks {
     /// check. Where no memory is left, nothing changes.
     pub fn set_source(&mut self, specs: Vec<BreakSpec>) -> Result<(), AllocError>
         requires { CanBeSet specs.items }
-        ensures ok { OnOk result (self.new ≡ record self.old { source = map fresh specs.items; ids = [] }) }
+        ensures ok { OnOk result (self.new ≡ record self.old { source = map fresh (map wanted_by specs.items); ids = [] }) }
         ensures err { OnErr result (self.new ≡ self.old) }
     {
         let source = fresh_list(self.alloc, specs)?;
@@ -74,7 +74,7 @@ impl Breaks {
     /// check. Where no memory is left, nothing changes.
     pub fn set_instructions(&mut self, specs: Vec<BreakSpec>) -> Result<(), AllocError>
         requires { CanBeSet specs.items }
-        ensures ok { OnOk result (self.new ≡ record self.old { instructions = map fresh specs.items; ids = [] }) }
+        ensures ok { OnOk result (self.new ≡ record self.old { instructions = map fresh (map wanted_by specs.items); ids = [] }) }
         ensures err { OnErr result (self.new ≡ self.old) }
     {
         let instructions = fresh_list(self.alloc, specs)?;
@@ -150,7 +150,7 @@ impl Breaks {
 // The breakpoints of specs, none of which was hit yet.
 fn fresh_list(alloc: Global, specs: Vec<BreakSpec>) -> Result<Vec<Breakpoint>, AllocError>
     requires { CanBeSet specs.items }
-    ensures { IfOk result (λ list. list.items ≡ map fresh specs.items) }
+    ensures { IfOk result (λ list. list.items ≡ map fresh (map wanted_by specs.items)) }
 {
     let mut list = Vec::with_capacity(alloc, specs.len())?;
     for spec in specs {
@@ -186,7 +186,7 @@ fn reset_list(list: &mut Vec<Breakpoint>)
     ensures { list.new.items ≡ map reset list.old.items }
 {
     for breakpoint in list.iter_mut() {
-        breakpoint.hits = 0;
+        breakpoint.reset();
     }
 }
 

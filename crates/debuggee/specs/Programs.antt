@@ -12,7 +12,8 @@
 -- A machine has one tick: it has one, and no second (the laws `each_machine_ticks` and `tick_is_deterministic` of
 -- `stepping`). `the_tick` is that one, with what it answers and what it leaves.
 use Rattle.std.specs.Prelude.{◌≡◌, ◌≢◌, ◌<◌, zero, suc, ℕ, ℤ}
-use Rattle.std.specs.Prelude.{Bool, true, false, if◌then◌else◌, List, [], Option, Some, None}
+use Rattle.std.specs.Prelude.{Bool, true, false, if◌then◌else◌, List, [], map, Option, Some, None}
+use Rattle.breakpoints.specs.Stops.{Wanted, fresh}
 use Rattle.image.specs.declared.Image.{Image}
 use Rattle.stepping.specs.Loading.{loaded, no_breakpoints, reloaded}
 use Rattle.stepping.specs.Ticks.{Debugged, entry_tick, entry_checked}
@@ -153,6 +154,20 @@ run_after (HasEnded code) run = Ended (Some code)
 -- What it owes was told: the breakpoints that stopped it are named no more. Its run is as it was.
 abbrev pub told : Program → Program
 told p = record p { machine = record p.machine { lists = record p.machine.lists { ids = [] } }; owed = None }
+
+-- ---- its breakpoints are replaced
+
+-- Those of source lines are now these, none of which was hit yet, or those of instructions are. The others stay, with
+-- their hits. A stop that is owed still is, and names no breakpoint: what stopped it may be set no more.
+abbrev pub with_source : List Wanted → Program → Program
+with_source wanted p = record p {
+  machine = record p.machine { lists = record p.machine.lists { source = map fresh wanted; ids = [] } };
+}
+
+abbrev pub with_instructions : List Wanted → Program → Program
+with_instructions wanted p = record p {
+  machine = record p.machine { lists = record p.machine.lists { instructions = map fresh wanted; ids = [] } };
+}
 
 -- ---- an editor goes
 

@@ -1,9 +1,11 @@
 //! A program that was loaded, and what is done to it.
-ghost use Rattle.std.specs.Prelude.{◌≡◌, ◌+◌, ◌^◌, ◌<◌, ◌≤◌, true, false, Some, None, IfOk, OnErr, OnOk};
+ghost use Rattle.std.specs.Prelude.{◌≡◌, ◌+◌, ◌^◌, ◌<◌, ◌≤◌, true, false, map, Some, None, IfOk, OnErr, OnOk};
+ghost use Rattle.breakpoints.specs.Stops.{CanBeSet, wanted_by};
 ghost use Rattle.debuggee.specs.Programs as spec;
 ghost use Rattle.stepping.specs.Loading.{CanBeLoaded};
 
 use crate::run::{Mark, Run, Why};
+use breakpoints::BreakSpec;
 use image::Image;
 use protocol::Text;
 use std::alloc::{AllocError, Global};
@@ -26,13 +28,13 @@ pub struct Program {
 impl Model for Program {
     ghost use Rattle.std.specs.Prelude.{◌≡◌, [], None};
     ghost use Rattle.std.specs.Coded.{codes};
-    ghost use Rattle.breakpoints.specs.contracts.breakpoint.Breakpoint as breakpoint;
+    ghost use Rattle.breakpoints.specs.Codes.{coded_tree};
     ghost use Rattle.debuggee.specs.Programs.{Program};
     ghost use Rattle.stepping.specs.Loading.{CanBeLoaded};
 
     ghost Value = { Program };
 
-    ghost coded = { Prim.hlevel (codes, breakpoint.the_row.coded) };
+    ghost coded = { Prim.hlevel (codes, coded_tree) };
 
     ghost view = { λ p. record {
       image = p.image;
@@ -183,6 +185,28 @@ impl Program {
     {
         self.runner.breaks_mut().forget_ids();
         self.owed = None;
+    }
+
+    /// Replaces the breakpoints of source lines, at most 1,024, by these, none of which was hit yet (`SetBreakpointsRequest`); those
+    /// of instructions stay, with their hits. What it owes it still owes, but a stop that is owed names no breakpoint then: to name
+    /// it, tell it first. `Err`: no memory was left, and nothing has changed.
+    pub fn set_source(&mut self, specs: Vec<BreakSpec>) -> Result<(), AllocError>
+        requires { CanBeSet specs.items }
+        ensures ok { OnOk result (self.new ≡ spec.with_source (map wanted_by specs.items) self.old) }
+        ensures err { OnErr result (self.new ≡ self.old) }
+    {
+        self.runner.breaks_mut().set_source(specs)
+    }
+
+    /// Replaces the breakpoints of instructions, at most 1,024, by these, none of which was hit yet
+    /// (`SetInstructionBreakpointsRequest`); those of source lines stay, with their hits. What it owes it still owes, but a stop that
+    /// is owed names no breakpoint then: to name it, tell it first. `Err`: no memory was left, and nothing has changed.
+    pub fn set_instructions(&mut self, specs: Vec<BreakSpec>) -> Result<(), AllocError>
+        requires { CanBeSet specs.items }
+        ensures ok { OnOk result (self.new ≡ spec.with_instructions (map wanted_by specs.items) self.old) }
+        ensures err { OnErr result (self.new ≡ self.old) }
+    {
+        self.runner.breaks_mut().set_instructions(specs)
     }
 
     /// An editor goes. Its breakpoints and the mark go with it; a stop that is owed is made, and told to nobody (`DisconnectRequest`).

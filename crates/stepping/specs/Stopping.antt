@@ -24,8 +24,7 @@
 use Rattle.std.specs.Prelude.{◌≡◌, ℕ, ℤ, zero, suc, ◌+◌, ◌<◌, ◌≤◌, Bool, true, false, IsTrue, if◌then◌else◌, List, []}
 use Rattle.std.specs.Prelude.{◌∷◌, map, replicate, Some, None, Ok, refl}
 use Rattle.std.specs.List.{list_any}
-use Rattle.breakpoints.specs.Stops.{checked, stops}
-use Rattle.breakpoints.specs.declared.breakpoint.Breakpoint.{Breakpoint}
+use Rattle.breakpoints.specs.Stops.{checked, Placed, stops}
 use Rattle.rv32i.specs.Machine.{IsDecodedAtPc, IsMove, Machine, machine_of}
 use Rattle.rv32i.specs.declared.instr.Instr.{Instr}
 use Rattle.rv32i.specs.declared.stepped.Cause.{Cause}
@@ -98,7 +97,7 @@ abbrev pub Breaks : Debugged → Type 0
 Breaks before = Answers before Break
 
 -- One of these breakpoints, whose hits are those of before, stops at the pc where the machine is now.
-abbrev pub OneStops : List Breakpoint → Debugged → Type 0
+abbrev pub OneStops : List Placed → Debugged → Type 0
 OneStops breakpoints now = IsTrue (list_any (stops now.hart.pc now.hart now.memory) breakpoints)
 
 -- after it a breakpoint of a source line stops, or one of an instruction

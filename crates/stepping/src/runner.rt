@@ -36,13 +36,13 @@ pub struct Runner {
 
 impl Model for Runner {
     ghost use Rattle.std.specs.Coded.{codes};
-    ghost use Rattle.breakpoints.specs.contracts.breakpoint.Breakpoint as breakpoint;
+    ghost use Rattle.breakpoints.specs.Codes.{coded_tree};
     ghost use Rattle.stepping.specs.Running.{IsSound};
     ghost use Rattle.stepping.specs.Ticks.{Debugged};
 
     ghost Value = { Debugged };
 
-    ghost coded = { Prim.hlevel (codes, breakpoint.the_row.coded) };
+    ghost coded = { Prim.hlevel (codes, coded_tree) };
 
     ghost view = { λ r. record { hart = r.hart; memory = r.memory; size = r.size; calls = r.calls; lists = r.breaks; retired = r.retired; goal = r.goal; start = r.start; check_due = r.check_due; table = r.lines } };
 
