@@ -4,8 +4,7 @@ use Rattle.std.specs.Prelude.{◌&&◌, ◌≤ℤ◌, not, int_le, pos, neg_ℤ}
 use Rattle.std.specs.List.{list_all}
 use Rattle.std.specs.declared.alloc.AllocError.{AllocError}
 use Rattle.std.proofs.lemmas.Int.{ints}
-use Rattle.breakpoints.specs.Stops.{Lists, checked, counted, is_hit, reset, stops, stopping_ids}
-use Rattle.breakpoints.specs.declared.breakpoint.Breakpoint.{Breakpoint}
+use Rattle.breakpoints.specs.Stops.{Lists, Placed, checked, counted, is_hit, reset, stops, stopping_ids}
 use Rattle.debuggee.specs.Programs.{Debuggee, Program, ended, entered, first_run, is_ended, is_running, just_loaded, left, marked, marked_by, moved, next_tick, on_program, owing_by, restarted, resumed, stopped, told}
 use Rattle.debuggee.specs.declared.run.Mark.{Mark}
 use Rattle.debuggee.specs.declared.run.Run.{Run}
@@ -50,20 +49,20 @@ all_words (n ∷ ids) h = ap (λ b. b && list_all is_word ids) h.0 ∙ all_words
 
 -- ---- breakpoints
 
-abbrev pub AreNumbered : List Breakpoint → Type 0
+abbrev pub AreNumbered : List Placed → Type 0
 AreNumbered [] = Unit {0}
 AreNumbered (b ∷ rest) = (is_word b.id ≡ true) × AreNumbered rest
 
-map_numbered : (f : Breakpoint → Breakpoint) → ((b : Breakpoint) → (f b).id ≡ b.id) → (list : List Breakpoint) → AreNumbered list → AreNumbered (map f list)
+map_numbered : (f : Placed → Placed) → ((b : Placed) → (f b).id ≡ b.id) → (list : List Placed) → AreNumbered list → AreNumbered (map f list)
 map_numbered f same [] h = tt
 map_numbered f same (b ∷ list) h = (ap is_word (same b) ∙ h.0, map_numbered f same list h.1)
 
-filter_words : (f : Breakpoint → Bool) (list : List Breakpoint) → AreNumbered list → AreWords (map (λ b. b.id) (filter f list))
+filter_words : (f : Placed → Bool) (list : List Placed) → AreNumbered list → AreWords (map (λ b. b.id) (filter f list))
 filter_words f [] h = tt
-filter_words f (b ∷ list) h = if_keeps (λ (l : List Breakpoint). AreWords (map (λ b. b.id) l)) (f b) _ _ (λ _. (h.0, filter_words f list h.1)) (λ _. filter_words f list h.1)
+filter_words f (b ∷ list) h = if_keeps (λ (l : List Placed). AreWords (map (λ b. b.id) l)) (f b) _ _ (λ _. (h.0, filter_words f list h.1)) (λ _. filter_words f list h.1)
 
-counted_id : (pc : ℕ) (hart : Hart) (memory : List ℕ) (b : Breakpoint) → (counted pc hart memory b).id ≡ b.id
-counted_id pc hart memory b = if_keeps (λ (x : Breakpoint). x.id ≡ b.id) (is_hit pc hart memory b) _ _ (λ _. refl) (λ _. refl)
+counted_id : (pc : ℕ) (hart : Hart) (memory : List ℕ) (b : Placed) → (counted pc hart memory b).id ≡ b.id
+counted_id pc hart memory b = if_keeps (λ (x : Placed). x.id ≡ b.id) (is_hit pc hart memory b) _ _ (λ _. refl) (λ _. refl)
 
 pub record AreOrderly (lists : Lists) : Type 0 where
   pub source : AreNumbered lists.source

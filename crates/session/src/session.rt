@@ -31,9 +31,9 @@ pub struct Session {
 impl Model for Session {
     ghost use Rattle.session.specs.Kept.{Kept};
     ghost use Rattle.std.specs.Coded.{codes};
-    ghost use Rattle.breakpoints.specs.contracts.breakpoint.Breakpoint as breakpoint;
+    ghost use Rattle.breakpoints.specs.Codes.{coded_tree};
 
-    ghost coded = { Prim.hlevel (codes, breakpoint.the_row.coded) };
+    ghost coded = { Prim.hlevel (codes, coded_tree) };
 
     ghost Value = { Kept };
 
