@@ -20,7 +20,6 @@ pub mod Cuts
 pub mod Turning
 pub mod Serving
 pub mod Once
-pub mod Proper
 pub mod Reading
 pub mod Refusing
 pub mod Wanting

@@ -49,11 +49,6 @@ pub fn refused_changes_nothing()
     ensures { (s : ASession) → law.RefusedChangesNothing s }
 {}
 
-/// Whatever happens, each answer is a message that an adapter may send.
-pub fn answers_are_proper()
-    ensures { (from : ABeginning) (events : List AnEvent) → law.AnswersAreProper (After from events) }
-{}
-
 /// Whatever happens, `initialize` succeeds once at most on a connection.
 pub fn initializes_once()
     ensures { (from : ABeginning) (events : List AnEvent) → law.InitializesOnce (After from events) }
