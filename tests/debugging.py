@@ -31,6 +31,8 @@ UNREADABLE = ("fileUnreadable", 21)
 INITIALIZED = ("initialized", None)
 TERMINATED = ("terminated", None)
 
+OF_A_THREAD = ("continue", "next", "stepIn", "stepOut", "pause")
+
 SUCCESSES = {"initialize": CAPABILITIES, "threads": THREADS,
              "continue": '{"body":{"allThreadsContinued":true},"command":"continue","request_seq":%d,"seq":%d,"success":true,"type":"response"}'}
 
@@ -70,7 +72,7 @@ class Debugging:
 
     def __init__(self, *new):
         """Begins with a session that is made of this, or with the player's first one: 1 MiB, the greatest limits and no program."""
-        self.steps, self.number, self.asked, self.told = [], 0, 0, 0
+        self.steps, self.number, self.asked, self.told, self.is_connected = [], 0, 0, 0, False
         self.sent, self.taken, self.waiting = b"", b"", b""
         if new:
             self.does("new " + " ".join(map(str, new)), "ok")
@@ -81,15 +83,17 @@ class Debugging:
 
     def connects(self):
         self.number += 1
-        self.asked, self.told, self.waiting = 0, 0, b""
+        self.asked, self.told, self.waiting, self.is_connected = 0, 0, b"", True
         return self.does("connect", str(self.number))
 
     def drops(self):
-        self.waiting = b""
+        self.waiting, self.is_connected = b"", False
         return self.does("drop", "ok")
 
     def sends(self, command, seq=None, **arguments):
-        """A request comes, with the next number if no other is given."""
+        """A request comes, with the next number if no other is given. One that names a thread names the first, if no other is given."""
+        if command in OF_A_THREAD and not arguments:
+            arguments = {"threadId": 1}
         self.asked = self.asked + 1 if seq is None else max(seq, self.asked)
         piece = request(self.asked if seq is None else seq, command, **arguments)
         self.sent += piece
@@ -120,7 +124,7 @@ class Debugging:
 
     def takes(self):
         """The same, and it is all taken."""
-        self.shows().does("sent %d" % len(self.waiting), "ok")
+        self.shows().does("sent %d" % len(self.waiting), "ok" if self.is_connected else "NotConnected")
         self.taken, self.waiting = self.taken + self.waiting, b""
         return self
 

@@ -105,7 +105,7 @@ BOTH = [
     ("an unknown name where the program has ended", ended, UNKNOWN, "scopes", {"frameId": 1}),
     ("bad arguments in the wrong phase", fresh, BAD_ARGUMENTS, "launch", {}),
     ("bad arguments where there is no program", initialized, BAD_ARGUMENTS, "continue", {"threadId": "one"}),
-    ("bad arguments where the program has ended", ended, BAD_ARGUMENTS, "pause", {}),
+    ("bad arguments where the program has ended", ended, BAD_ARGUMENTS, "pause", {"threadId": None}),
     ("bad arguments where the program runs", running, BAD_ARGUMENTS, "next", {"threadId": 1, "granularity": "word"}),
     ("the wrong phase where there is no program", initialized, WRONG_PHASE, "pause", {"threadId": 1}),
     ("the wrong phase where the program has ended", configuring_an_ended_program, WRONG_PHASE, "restart", {}),
