@@ -1,6 +1,7 @@
 """Programs that are debugged: launched, given time in slices, stepped through, paused, restarted and ended; and what is told of them."""
 from debugging import (ASSEMBLY_FAILED, CALLS, CIRCLES, COUNTS, ENDED, INITIALIZED, PATH, PRINTS, RECURS, TERMINATED, UNREADABLE, WAS_CANCELLED,
-                       WRONG_PHASE, Debugging, debugging, exits, printed, stopped)
+                       WRONG_PHASE, Debugging, debugging, exits, printed, stopped,
+                       success_text)
 from playing import Row
 
 PLAYER = "play_session"
@@ -18,6 +19,8 @@ PRINTS_ON = b"li a0, 7\nli a7, 1\ne: ecall\nj e\n"
 KEEPS = b"_start: la t0, n\nlw a0, 0(t0)\naddi a0, a0, 1\nsw a0, 0(t0)\nli a7, 1\necall\nebreak\nj _start\nn: .word 7\n"
 # Exits with -1.
 EXITS = b"li a0, -1\nli a7, 93\necall\n"
+# Stops at once, and again and again.
+STOPS = b"e: ebreak\nj e\n"
 
 
 def limited(seq=GREATEST, ref=GREATEST, retired=GREATEST_RETIRED):
@@ -364,14 +367,106 @@ def anew():
     return script.asks("terminate", events=[TERMINATED]).asks("disconnect").does("finished", "true")
 
 
+# Each of these is a session in which a slice is not made again where it finds no memory, as found says; all else is the same.
+
+
+def sliced_once(file, found, moved, ending):
+    return debugging(file).does("slice_once 9", "%d %s" % (moved, ending if found else "NoMemory")).runs(not found)
+
+
+def stop_told_by_a_turn(found):
+    script = sliced_once(STOPS, found, 1, "Stopped").does("turn", "Nothing" if found else "Answered").tells(EBREAK).takes().runs(False)
+    return script.does("turn", "Nothing").slices(9, 0, "Idle")
+
+
+def stop_told_by_a_slice(found):
+    script = sliced_once(STOPS, found, 1, "Stopped").does("slice_once 0", "0 Idle" if found else "0 Stopped").tells(EBREAK).takes().runs(False)
+    return script.asks("continue").slices(9, 2, "Stopped", EBREAK)
+
+
+def stop_made_by_a_drop(found):
+    script = sliced_once(STOPS, found, 1, "Stopped").drops().runs(False).slices(9, 0, "Idle").connects().does("waiting", "")
+    return script.does("turn", "Nothing").slices(9, 0, "Idle").does("waiting", "")
+
+
+def stop_made_by_a_disconnect(found):
+    """What is owed is told before the request is answered, and once."""
+    script = sliced_once(STOPS, found, 1, "Stopped").sends("disconnect", terminateDebuggee=False)
+    script.does("turn", "Answered").does("turn", "Nothing" if found else "Answered").tells(EBREAK).queues(
+        lambda seq: success_text("disconnect", script.asked, seq))
+    return script.takes().runs(False).does("finished", "true").slices(9, 0, "Idle").does("waiting", "")
+
+
+def exit_made_later(found):
+    script = sliced_once(EXITS, found, 2, "Ended").does("turn", "Nothing").runs(not found)
+    return script.does("slice_once 9", "0 Idle" if found else "0 Ended").tells(*exits(-1)).takes().runs(False).asks("pause", ENDED)
+
+
+def exit_made_without_an_editor(found):
+    script = sliced_once(EXITS, found, 2, "Ended").drops().runs(not found).does("slice_once 9", "0 Idle" if found else "0 Ended")
+    return script.connects().runs(False).does("waiting", "")
+
+
+def trap_made_later(found):
+    stop = stopped("exception", "illegal instruction")
+    script = sliced_once(b"nop\n.word 0\n", found, 1, "Stopped").does("turn", "Nothing").does("slice_once 9", "0 Idle" if found else "0 Stopped")
+    return script.tells(stop).takes().asks("continue").slices(9, 0, "Stopped", stop)
+
+
+def pause_made_later(found):
+    script = debugging(CIRCLES).asks("pause").does("slice_once 9", "0 Stopped" if found else "0 NoMemory").runs(not found)
+    script.does("turn", "Nothing").does("slice_once 9", "0 Idle" if found else "0 Stopped").tells(PAUSE).takes()
+    return script.asks("continue").slices(9, 9, "Spent")
+
+
+def limit_met_later(found):
+    script = debugging(CIRCLES, *limited(retired=5)).does("slice_once 9", "5 Stopped" if found else "5 NoMemory").runs(not found)
+    return script.does("slice_once 9", "0 Idle" if found else "0 Stopped").tells(LIMIT).takes()
+
+
+def output_told_by_a_turn(found):
+    """A turn that tells what is owed answers no request."""
+    script = debugging(PRINTS).does("slice_once 3", "3 Spent" if found else "3 NoMemory").runs(True).sends("pause")
+    script.does("turn", "Answered").does("pending", "0" if found else "1").does("turn", "Nothing" if found else "Answered")
+    script.tells(printed(7)).queues(lambda seq: success_text("pause", script.asked, seq)).takes()
+    return script.slices(9, 0, "Stopped", PAUSE).asks("continue").slices(9, 1, "Stopped", EBREAK)
+
+
+def output_told_by_a_slice(found):
+    script = debugging(PRINTS).does("slice_once 3", "3 Spent" if found else "3 NoMemory").runs(True).does("slice_once 0", "0 Spent")
+    return script.tells(printed(7)).takes().slices(9, 1, "Stopped", EBREAK)
+
+
+def output_lost_by_a_drop(found):
+    script = debugging(PRINTS).does("slice_once 3", "3 Spent" if found else "3 NoMemory").drops().runs(True).connects()
+    return script.slices(9, 1, "Stopped").does("waiting", "")
+
+
+FOUND_NONE = [
+    ("a turn tells the stop that is owed", stop_told_by_a_turn), ("a slice tells the stop that is owed", stop_told_by_a_slice),
+    ("a drop makes the stop that is owed", stop_made_by_a_drop), ("a stop that is owed is told before disconnect", stop_made_by_a_disconnect),
+    ("an exit that was not told was not made", exit_made_later),
+    ("an exit that was not told is made where nobody is told", exit_made_without_an_editor), ("a trap that was not told was not made", trap_made_later),
+    ("a pause that was not told was not made", pause_made_later), ("the limit that was not told was not met", limit_met_later),
+    ("a turn tells what was printed", output_told_by_a_turn), ("a slice tells what was printed", output_told_by_a_slice),
+    ("a drop loses what was printed and not told", output_lost_by_a_drop),
+]
+
+
+def without_memory(name, session):
+    found, found_none = session(True).steps, session(False).steps
+    assert [command for command, _ in found] == [command for command, _ in found_none]
+    return Row(name, found, PROFILE, refused=True, otherwise=[answer for _, answer in found_none])
+
+
 ROWS = [
-    Row("a launched program stops at its entry, goes on and exits", two_pieces().steps, PROFILE),
+    Row("a launched program stops at its entry, goes on and exits", two_pieces().steps, PROFILE, refused=True),
     Row("what is printed is told before the stop", prints_then_stops().steps, PROFILE),
     *slices_of_each_size(),
     *(Row("above 65,536 waiting bytes a program makes no move, %d moves at a time" % most, full(most).steps, PROFILE) for most in (1, 7, 100000)),
     *(Row("a trap: " + text, traps(text, file, moves).steps, PROFILE) for text, file, moves in TRAPS),
-    *(Row("a file without an image: " + said, unassembled(said, file).steps, PROFILE) for said, file in FILES),
-    Row("a file that cannot be read", unread().steps, PROFILE),
+    *(Row("a file without an image: " + said, unassembled(said, file).steps, PROFILE, refused=len(file) < 10) for said, file in FILES),
+    Row("a file that cannot be read", unread().steps, PROFILE, refused=True),
     Row("a file is wanted for the launch that comes next", unwanted().steps, PROFILE),
     Row("a file that is empty", traps("illegal instruction", b"", 0).steps, PROFILE),
     Row("a pause stops before the next move", paused().steps, PROFILE),
@@ -382,9 +477,9 @@ ROWS = [
     Row("steps by instructions", steps_by_instructions().steps, PROFILE),
     *(Row("a step over a call, %d moves at a time" % most, steps_in_slices(most).steps, PROFILE) for most in (1, 3, 7)),
     Row("a pause ends a step", steps_and_pauses().steps, PROFILE),
-    Row("a restart loads the program anew", restarts().steps, PROFILE),
+    Row("a restart loads the program anew", restarts().steps, PROFILE, refused=True),
     Row("a restart after a pause", restarts_what_runs().steps, PROFILE),
-    Row("as many instructions retire as may", limits().steps, PROFILE),
+    Row("as many instructions retire as may", limits().steps, PROFILE, refused=True),
     Row("the limit comes after the stop of the last move", limits_at_an_end().steps, PROFILE),
     Row("the limit comes before an exit", limits_at_an_exit().steps, PROFILE),
     Row("an exit before the limit", exits_at_the_limit().steps, PROFILE),
@@ -402,7 +497,7 @@ ROWS = [
     Row("a program runs on where the connection is dropped", dropped().steps, PROFILE),
     Row("a drop clears the mark of the entry", dropped_at_entry().steps, PROFILE),
     Row("an editor that has not said all is told nothing", untold().steps, PROFILE),
-    Row("a program that is there from the beginning", given().steps, PROFILE),
+    Row("a program that is there from the beginning", given().steps, PROFILE, refused=True),
     Row("the last number is an event's", last_numbers().steps, PROFILE),
     Row("the last number is that of the exit", last_number_of_an_exit().steps, PROFILE),
     Row("the last number leaves a launch unanswered", last_number_of_a_launch().steps, PROFILE),
@@ -410,4 +505,5 @@ ROWS = [
     Row("sizes of memory, and which error comes first", sizes(), PROFILE),
     Row("the events of a program, applied", applied().steps, PROFILE),
     Row("a program that is debugged where events found no memory and are given again", anew().steps, PROFILE, refused=True),
+    *(without_memory(name, session) for name, session in FOUND_NONE),
 ]

@@ -2,6 +2,7 @@
 //!
 //! - `new SIZE SEQ REF RETIRED [PATH TEXT]`: a session with so many bytes of memory, these limits, and this program.
 //! - an event by its name, with its arguments: `turn FILE` is given what a file holds. `apply EVENT` does the same.
+//! - `slice_once MOVES`: a slice that is not made again where it found no memory.
 //! - a query by its name.
 #![tactic(auto)]
 
@@ -111,6 +112,10 @@ impl Events {
                 self.turn(alloc, Some(&file))
             }
             "slice" => self.slice(alloc, parsed(argument)?),
+            "slice_once" => {
+                let sliced = self.session.slice(parsed(argument)?);
+                Ok(format!(in alloc; "{} {:?}", sliced.moved, sliced.ending)?)
+            }
             "sent" => {
                 let count = parsed(argument)?;
                 done(alloc, self.session.sent(count))
