@@ -94,6 +94,8 @@ class Debugging:
         """A request comes, with the next number if no other is given. One that names a thread names the first, if no other is given."""
         if command in OF_A_THREAD and not arguments:
             arguments = {"threadId": 1}
+        if command == "initialize":
+            arguments = {"adapterID": "rvdap", **arguments}
         self.asked = self.asked + 1 if seq is None else max(seq, self.asked)
         piece = request(self.asked if seq is None else seq, command, **arguments)
         self.sent += piece
