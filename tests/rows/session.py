@@ -263,8 +263,8 @@ ROWS = [Row(name, conversation(*pieces), PROFILE) for name, pieces in CONVERSATI
     ], PROFILE),
     Row("a limit is at least 1 and at most its greatest", [
         limits(1, 1, 1), limits(GREATEST, GREATEST, GREATEST_RETIRED),
-        limits(0, 1, 1, "BadLimit: bad limit"), limits(1, 0, 1, "BadLimit: bad limit"), limits(1, 1, 0, "BadLimit: bad limit"),
-        limits(GREATEST + 1, 1, 1, "BadLimit: bad limit"), limits(1, GREATEST + 1, 1, "BadLimit: bad limit"), limits(1, 1, GREATEST_RETIRED + 1, "BadLimit: bad limit"),
+        *(limits(*numbers, "BadLimit: bad limit") for numbers in (
+            (0, 1, 1), (1, 0, 1), (1, 1, 0), (GREATEST + 1, 1, 1), (1, GREATEST + 1, 1), (1, 1, GREATEST_RETIRED + 1))),
         ("greatest", "Limits { last_seq: %d, last_ref: %d, last_retired: %d }" % (GREATEST, GREATEST, GREATEST_RETIRED)),
     ], PROFILE),
     Row("the last number closes the connection", [

@@ -136,7 +136,8 @@ def traps(text, file, moves):
 
 # Files without an image: what is wrong, and the bytes.
 FILES = [
-    ("line 1: NotUtf8", b"\xff"), ("line 2: NotUtf8", b"nop\nj \xc3\n"), ("line 1: Syntax", b"1 nop\n"), ("line 2: UnknownInstruction", b"nop\nfly a0\n"),
+    ("line 1: NotUtf8", b"\xff"), ("line 2: NotUtf8", b"nop\nj \xc3\n"), ("line 1: Syntax", b"1 nop\n"),
+    ("line 2: UnknownInstruction", b"nop\nfly a0\n"),
     ("line 1: BadOperand", b"li a0\n"), ("line 3: OutOfRange", b"nop\nnop\naddi a0, a0, 2048\n"), ("line 2: TwiceDefined", b"f: nop\nf: nop\n"),
     ("line 1: Undefined", b"j x"), ("line 2: TooLarge", b"nop\n.space 1048576\n"), ("line 0: TooLarge", b"#" * 1048577),
 ]
@@ -446,7 +447,8 @@ FOUND_NONE = [
     ("a turn tells the stop that is owed", stop_told_by_a_turn), ("a slice tells the stop that is owed", stop_told_by_a_slice),
     ("a drop makes the stop that is owed", stop_made_by_a_drop), ("a stop that is owed is told before disconnect", stop_made_by_a_disconnect),
     ("an exit that was not told was not made", exit_made_later),
-    ("an exit that was not told is made where nobody is told", exit_made_without_an_editor), ("a trap that was not told was not made", trap_made_later),
+    ("an exit that was not told is made where nobody is told", exit_made_without_an_editor),
+    ("a trap that was not told was not made", trap_made_later),
     ("a pause that was not told was not made", pause_made_later), ("the limit that was not told was not met", limit_met_later),
     ("a turn tells what was printed", output_told_by_a_turn), ("a slice tells what was printed", output_told_by_a_slice),
     ("a drop loses what was printed and not told", output_lost_by_a_drop),
@@ -463,9 +465,11 @@ ROWS = [
     Row("a launched program stops at its entry, goes on and exits", two_pieces().steps, PROFILE, refused=True),
     Row("what is printed is told before the stop", prints_then_stops().steps, PROFILE),
     *slices_of_each_size(),
-    *(Row("above 65,536 waiting bytes a program makes no move, %d moves at a time" % most, full(most).steps, PROFILE) for most in (1, 7, 100000)),
+    *(Row("above 65,536 waiting bytes a program makes no move, %d moves at a time" % most, full(most).steps, PROFILE)
+      for most in (1, 7, 100000)),
     *(Row("a trap: " + text, traps(text, file, moves).steps, PROFILE) for text, file, moves in TRAPS),
-    *(Row("a file without an image: " + said, unassembled(said, file).steps, PROFILE, refused=len(file) < 10) for said, file in FILES),
+    *(Row("a file without an image: " + said, unassembled(said, file).steps, PROFILE, refused=len(file) < 10)
+      for said, file in FILES),
     Row("a file that cannot be read", unread().steps, PROFILE, refused=True),
     Row("a file is wanted for the launch that comes next", unwanted().steps, PROFILE),
     Row("a file that is empty", traps("illegal instruction", b"", 0).steps, PROFILE),
