@@ -1,4 +1,5 @@
 """The events of a session: what each answers, when it is refused, and what the session then says of itself."""
+from debugging import GONE, REPEATED, UNKNOWN, WAS_CANCELLED, WRONG_PHASE
 from playing import Row
 from program import frame
 from texts import ANSWERS, CANCELLED, CAPABILITIES, DISCONNECTED, FIRST, FIRST_ANSWER, SESSION, THREADS, refused, request
@@ -11,13 +12,6 @@ EVENT = frame('{"type":"event","event":"x"}')
 NO_MESSAGE = b"content-length:  2\r\nX-A: b\r\n\r\n{}"
 NO_FRAME = b"X: 1\r\n\r\n"
 
-# Why a request is refused: the name and the number.
-REPEATED = ("repeatedSequence", 6)
-WAS_CANCELLED = ("cancelled", 5)
-WRONG_PHASE = ("wrongPhase", 3)
-GONE = ("requestGone", 20)
-UNKNOWN = ("unknownCommand", 1)
-
 CONNECT = ("connect", "1")
 ANSWERED = ("turn", "Answered")
 NOTHING = ("turn", "Nothing")
@@ -29,7 +23,7 @@ DROPPED = ("drop", "ok")
 
 
 def limits(last_seq, last_ref, last_retired, answer="ok"):
-    return "new %d %d %d" % (last_seq, last_ref, last_retired), answer
+    return "new 4096 %d %d %d" % (last_seq, last_ref, last_retired), answer
 
 
 def recv(piece, answer="ok"):
@@ -53,7 +47,7 @@ def faulty(fault):
 
 
 def text(error, wanted):
-    return "text " + error, wanted
+    return "text event " + error, wanted
 
 
 def takes(data):
@@ -224,7 +218,7 @@ FULL_STEPS, FULL_ANSWERS, FULL_COUNT = full()
 NEXT_ANSWER = refused("wrongPhase", 3, "threads", FULL_COUNT + 1, FULL_COUNT + 1)
 
 # Names that are not served, each with arguments: such as the request takes, such as it does not, and any.
-UNSERVED = [("launch", {"program": "a.s", "stopOnEntry": True}), ("setBreakpoints", {"breakpoints": 1}), ("fly", {"to": "the moon"})]
+UNSERVED = [("stackTrace", {"threadId": 1, "levels": 20}), ("scopes", {"frameId": "one"}), ("fly", {"to": "the moon"})]
 
 
 def unserved(command, arguments):
@@ -269,8 +263,8 @@ ROWS = [Row(name, conversation(*pieces), PROFILE) for name, pieces in CONVERSATI
     ], PROFILE),
     Row("a limit is at least 1 and at most its greatest", [
         limits(1, 1, 1), limits(GREATEST, GREATEST, GREATEST_RETIRED),
-        limits(0, 1, 1, "BadLimit"), limits(1, 0, 1, "BadLimit"), limits(1, 1, 0, "BadLimit"),
-        limits(GREATEST + 1, 1, 1, "BadLimit"), limits(1, GREATEST + 1, 1, "BadLimit"), limits(1, 1, GREATEST_RETIRED + 1, "BadLimit"),
+        *(limits(*numbers, "BadLimit: bad limit") for numbers in (
+            (0, 1, 1), (1, 0, 1), (1, 1, 0), (GREATEST + 1, 1, 1), (1, GREATEST + 1, 1), (1, 1, GREATEST_RETIRED + 1))),
         ("greatest", "Limits { last_seq: %d, last_ref: %d, last_retired: %d }" % (GREATEST, GREATEST, GREATEST_RETIRED)),
     ], PROFILE),
     Row("the last number closes the connection", [
@@ -297,6 +291,7 @@ ROWS = [Row(name, conversation(*pieces), PROFILE) for name, pieces in CONVERSATI
     Row("an event that is applied is its call", [
         ("apply connect", "Connect(1)"), ("apply recv " + FIRST.hex(), "Recv"), ("apply turn", "Turn(Answered)"), waits(FIRST_ANSWER),
         ("apply sent 1", "Sent"), waits(FIRST_ANSWER[1:]), ("apply turn " + b"a file".hex(), "Turn(Nothing)"),
+        ("apply hold", "Hold"), ("apply slice 5", "Slice(Sliced { moved: 0, ending: Idle })"),
         ("apply drop", "DropConnection"), ("apply sent 1", "NotConnected"),
     ], PROFILE),
     Row("the bytes of an event are those of its vector", [("bytes " + b"abc".hex(), b"abc".hex() + " 3")], "worked by hand"),
@@ -308,7 +303,8 @@ ROWS = [Row(name, conversation(*pieces), PROFILE) for name, pieces in CONVERSATI
     Row("texts of errors", [
         text("NotConnected", "not connected"), text("AlreadyConnected", "already connected"), text("Busy", "busy"),
         text("SentTooMuch", "more sent than waits"), text("PieceTooLong", "piece too long"), text("Closing", "connection is closing"),
-        text("NoMemory", "no memory"), text("Spent", "no connection number is left"), text("BadLimit", "bad limit"),
+        text("NoMemory", "no memory"), text("Spent", "no connection number is left"),
+        ("text config BadMemorySize", "bad memory size"), ("text config BadLimit", "bad limit"), ("text config NoMemory", "no memory"),
     ], "the doc comments of the errors"),
 ] + [Row("a conversation is the same however it is cut: %d bytes at a time" % most, cut(most, turns, taken), PROFILE)
      for most, turns, taken in ((1, 1, 1), (2, 0, 0), (7, 3, 2), (83, 1, 1000), (1000, 9, 83), (60000, 0, 7))]

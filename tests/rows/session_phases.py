@@ -1,0 +1,155 @@
+"""What each request answers in each phase of a connection, and in which order the reasons for a refusal are looked at."""
+from debugging import (BAD_ARGUMENTS, CALLS, CIRCLES, ENDED, GONE, INITIALIZED, NO_THREAD, NOT_STOPPED, PATH, REPEATED, TERMINATED, UNKNOWN,
+                       WAS_CANCELLED, WRONG_PHASE, Debugging, debugging, exits, stopped)
+from playing import Row
+
+PLAYER = "play_session"
+PROFILE = "docs/PROTOCOL.md, worked by hand"
+
+# The requests, with arguments that each takes.
+THREAD = {"threadId": 1}
+REQUESTS = {"initialize": {}, "launch": {"program": PATH}, "configurationDone": {}, "threads": {}, "setExceptionBreakpoints": {"filters": []},
+            "continue": THREAD, "next": THREAD, "stepIn": THREAD, "stepOut": THREAD, "pause": THREAD, "restart": {}, "terminate": {},
+            "cancel": {}, "disconnect": {}, "goto": {"threadId": 1, "targetId": 1}}
+STEPS = ("continue", "next", "stepIn", "stepOut")
+
+
+def fresh():
+    return Debugging().connects()
+
+
+def initialized():
+    return fresh().asks("initialize")
+
+
+def configuring():
+    return initialized().launches(CIRCLES)
+
+
+def configuring_an_ended_program():
+    return configuring().asks("terminate", events=[TERMINATED])
+
+
+def running():
+    return debugging(CIRCLES)
+
+
+def standing():
+    return debugging(CIRCLES, stopOnEntry=True).slices(100, 0, "Stopped", stopped("entry"))
+
+
+def ended():
+    return debugging(CALLS).slices(100, 6, "Ended", *exits(6))
+
+
+def left():
+    return initialized().sends("disconnect").answers("disconnect").takes()
+
+
+def answers_of(taken, refused, other=WRONG_PHASE):
+    """The refusal of each request, None for those that are taken: some have one of their own, and the rest this one."""
+    return {command: None if command in taken else refused.get(command, other) for command in REQUESTS}
+
+
+EVERYWHERE = ("cancel", "disconnect")
+UNSERVED = {"goto": UNKNOWN}
+OF_ENDED = {command: ENDED for command in (*STEPS, "pause", "restart", "terminate")}
+
+# The phases, each with how it is reached and what is refused in it.
+PHASES = [
+    ("nothing was agreed", fresh, answers_of(("initialize", *EVERYWHERE), UNSERVED)),
+    ("initialize was answered", initialized, answers_of(("launch", "threads", *EVERYWHERE), UNSERVED)),
+    ("a program was launched", configuring, answers_of(
+        ("configurationDone", "threads", "setExceptionBreakpoints", "terminate", *EVERYWHERE), UNSERVED)),
+    ("a program was launched, and ended", configuring_an_ended_program, answers_of(
+        ("threads", "setExceptionBreakpoints", *EVERYWHERE), {"configurationDone": ENDED, "terminate": ENDED, **UNSERVED})),
+    ("a program runs", running, answers_of(
+        ("threads", "setExceptionBreakpoints", "pause", "restart", "terminate", *EVERYWHERE),
+        {**{command: NOT_STOPPED for command in STEPS}, **UNSERVED})),
+    ("a program stands still", standing, answers_of(
+        ("threads", "setExceptionBreakpoints", *STEPS, "pause", "restart", "terminate", *EVERYWHERE), UNSERVED)),
+    ("a program has ended", ended, answers_of(("threads", "setExceptionBreakpoints", *EVERYWHERE), {**OF_ENDED, **UNSERVED})),
+]
+
+EVENTS = {"launch": [INITIALIZED], "terminate": [TERMINATED]}
+
+
+def asked_in(reach, command, refusal):
+    """The request in the phase that is so reached."""
+    file = CIRCLES if command == "launch" else None
+    events = EVENTS.get(command, []) if refusal is None else []
+    return reach().asks(command, refusal, file=file, events=events, **REQUESTS[command])
+
+
+def refused_after_disconnect():
+    """Each request in one piece with `disconnect`: none is taken after it."""
+    script = initialized().sends("disconnect")
+    for command, arguments in REQUESTS.items():
+        script.sends(command, **arguments)
+    script.answers("disconnect", seq=2)
+    for seq, command in enumerate(REQUESTS, 3):
+        script.answers(command, UNSERVED.get(command, WRONG_PHASE), seq=seq)
+    return script.takes().does("finished", "true")
+
+
+# Two reasons apply to each of these requests, and the first of them is answered: how its phase is reached, the request, its arguments.
+BOTH = [
+    ("a repeat of an unknown name", lambda: initialized(), REPEATED, "goto", {"seq": 1}),
+    ("a repeat with bad arguments", lambda: initialized(), REPEATED, "launch", {"seq": 1}),
+    ("a repeat in the wrong phase", lambda: initialized(), REPEATED, "next", {"seq": 1, "threadId": 1}),
+    ("a repeat where the program has ended", ended, REPEATED, "next", {"seq": 1, "threadId": 1}),
+    ("a repeat of no thread", running, REPEATED, "next", {"seq": 1, "threadId": 2}),
+    ("a repeat where the program runs", running, REPEATED, "continue", {"seq": 1, "threadId": 1}),
+    ("an unknown name with bad arguments", initialized, UNKNOWN, "scopes", {"frameId": "one"}),
+    ("an unknown name in the wrong phase", fresh, UNKNOWN, "scopes", {"frameId": 1}),
+    ("an unknown name where the program has ended", ended, UNKNOWN, "scopes", {"frameId": 1}),
+    ("bad arguments in the wrong phase", fresh, BAD_ARGUMENTS, "launch", {}),
+    ("bad arguments where there is no program", initialized, BAD_ARGUMENTS, "continue", {"threadId": "one"}),
+    ("bad arguments where the program has ended", ended, BAD_ARGUMENTS, "pause", {"threadId": None}),
+    ("bad arguments where the program runs", running, BAD_ARGUMENTS, "next", {"threadId": 1, "granularity": "word"}),
+    ("the wrong phase where there is no program", initialized, WRONG_PHASE, "pause", {"threadId": 1}),
+    ("the wrong phase where the program has ended", configuring_an_ended_program, WRONG_PHASE, "restart", {}),
+    ("the wrong phase with no thread", configuring, WRONG_PHASE, "next", {"threadId": 2}),
+    ("the wrong phase where the program runs", lambda: running().drops().connects(), WRONG_PHASE, "next", {"threadId": 1}),
+    ("the end with no thread", ended, ENDED, "pause", {"threadId": 2}),
+    ("the end with no thread, of a step", ended, ENDED, "stepOut", {"threadId": 0}),
+    ("no thread where the program runs", running, NO_THREAD, "stepIn", {"threadId": -1}),
+]
+
+
+def cancelled(reach, command, **arguments):
+    """A request that is cancelled, whatever else applies to it."""
+    script = reach().sends(command, **arguments)
+    number = script.asked
+    script.sends("cancel", requestId=number)
+    return script.wants("none").answers(command, WAS_CANCELLED, seq=number).answers("cancel").takes()
+
+
+CANCELLED = [
+    ("an unknown name", initialized, "goto", {}),
+    ("bad arguments", initialized, "launch", {}),
+    ("the wrong phase", fresh, "pause", THREAD),
+    ("a launch, of which no file is wanted", initialized, "launch", {"program": PATH}),
+    ("the end", ended, "restart", {}),
+    ("no thread", standing, "next", {"threadId": 2}),
+    ("a program that runs", running, "next", THREAD),
+]
+
+
+def cancels_that_name_none():
+    script = running()
+    for number in (0, -1, 99):
+        script.asks("cancel", GONE, requestId=number)
+    return script.asks("cancel", BAD_ARGUMENTS, requestId="one")
+
+
+ROWS = [
+    Row("%s, where %s" % (command, name), asked_in(reach, command, refusal).steps, PROFILE)
+    for name, reach, refusals in PHASES for command, refusal in refusals.items()] + [
+    Row("no request is taken after disconnect", refused_after_disconnect().steps, PROFILE),
+] + [Row("of two reasons the first is answered: " + name, reach().asks(command, refusal, **arguments).steps, PROFILE)
+     for name, reach, refusal, command, arguments in BOTH] + [
+    Row("a cancel is answered before any other reason: " + name, cancelled(reach, command, **arguments).steps, PROFILE)
+    for name, reach, command, arguments in CANCELLED] + [
+    Row("cancels that name no request that waits", cancels_that_name_none().steps, PROFILE),
+]
