@@ -8,21 +8,24 @@ use Rattle.session.specs.declared.event.Event.TheVariants.{Recv, Turn, Sent}
 use Rattle.session.specs.declared.link.Link.{Link}
 use Rattle.session.specs.declared.pending.Pending.{Pending}
 use Rattle.session.specs.Acts.{Seen}
-use Rattle.session.specs.Outcomes.{done, is_finished, is_finished_on, next_turn, outcome, outcome_at}
-use Rattle.transport.specs.Rounds.{Send, Leave, Answer, Receive, due}
+use Rattle.session.specs.Outcomes.{answers_next, done, is_finished, is_finished_on, next_turn, outcome, outcome_at, turn_by, turn_of}
+use Rattle.session.specs.Slices.{is_runnable}
+use Rattle.transport.specs.Rounds.{Send, Leave, Answer, Run, Receive, due}
 
 -- what the tests say of which something is due
-send_test : (a b c : Bool) → cond a Send (cond b Leave (cond c Answer Receive)) ≡ Send → a ≡ true
-send_test true b c h = refl
-send_test false true c h = cc
-send_test false false true h = cc
-send_test false false false h = cc
+send_test : (a b c d : Bool) → cond a Send (cond b Leave (cond c Answer (cond d Run Receive))) ≡ Send → a ≡ true
+send_test true b c d h = refl
+send_test false true c d h = cc
+send_test false false true d h = cc
+send_test false false false true h = cc
+send_test false false false false h = cc
 
-receive_tests : (a b c : Bool) → cond a Send (cond b Leave (cond c Answer Receive)) ≡ Receive → (a ≡ false) × (b ≡ false) × (c ≡ false)
-receive_tests true b c h = cc
-receive_tests false true c h = cc
-receive_tests false false true h = cc
-receive_tests false false false h = (refl, refl, refl)
+receive_tests : (a b c d : Bool) → cond a Send (cond b Leave (cond c Answer (cond d Run Receive))) ≡ Receive → (a ≡ false) × (b ≡ false) × (c ≡ false)
+receive_tests true b c d h = cc
+receive_tests false true c d h = cc
+receive_tests false false true d h = cc
+receive_tests false false false true h = cc
+receive_tests false false false false h = (refl, refl, refl)
 
 open_still : (x y z : Bool) → ((x && y) && z) ≡ false → y ≡ true → z ≡ true → x ≡ false
 open_still false y z h a b = refl
@@ -40,32 +43,41 @@ takes_sent seen n few =
       | Some link ↦ inr (rw test refl)
     ]
 
--- a request that waits is answered
-turns : (link : Link) (pending : List Pending) → IsOk (next_turn link pending).answer
-turns link [] = refl
-turns link (p ∷ rest) = refl
+-- a request that waits is answered, or what is owed is told
+turns : (seen : Seen) (link : Link) (file : Option (List ℕ)) (pending : List Pending) → IsOk (next_turn seen.now link.terms file pending).answer
+turns seen link file [] = refl
+turns seen link file (p ∷ rest) = refl
 
-answered : (seen : Seen) (link : Link) → IsOk (outcome_at seen (Some link) (Turn None)).answer
-answered seen link =
-    let P : Bool → Type 0 = λ t. IsOk (cond t (done (DidTurn Full) []) (next_turn link seen.now.arrivals.pending)).answer in
+next_answered : (seen : Seen) (link : Link) (file : Option (List ℕ)) → IsOk (answers_next seen link file).answer
+next_answered seen link file =
+    let P : Bool → Type 0 = λ t. IsOk (cond t (done (DidTurn Full) []) (next_turn seen.now link.terms file seen.now.arrivals.pending)).answer in
     elim (ltb 65536 seen.waits) as P [
       | true ↦ refl
-      | false ↦ turns link seen.now.arrivals.pending
+      | false ↦ turns seen link file seen.now.arrivals.pending
     ]
 
-pub takes_turn : (seen : Seen) → (seen.now.link ≡ None) ⊎ IsOk (outcome seen (Turn None)).answer
-takes_turn seen =
-    let P : Option Link → Type 0 = λ l. (l ≡ None) ⊎ IsOk (outcome_at seen l (Turn None)).answer in
+answered_of : (seen : Seen) (link : Link) (file : Option (List ℕ)) → IsOk (turn_of seen.now.debuggee.program seen link file).answer
+answered_of seen link file = elim seen.now.debuggee.program as (λ program. IsOk (turn_of program seen link file).answer) [
+  | None ↦ next_answered seen link file
+  | Some p ↦ elim p.owed as (λ owed. IsOk (turn_by owed seen link p file).answer) [
+    | None ↦ next_answered seen link file
+    | Some tick ↦ refl
+  ]
+]
+
+pub takes_turn : (seen : Seen) (file : Option (List ℕ)) → (seen.now.link ≡ None) ⊎ IsOk (outcome seen (Turn file)).answer
+takes_turn seen file =
+    let P : Option Link → Type 0 = λ l. (l ≡ None) ⊎ IsOk (outcome_at seen l (Turn file)).answer in
     elim seen.now.link as P [
       | None ↦ inl refl
-      | Some link ↦ inr (answered seen link)
+      | Some link ↦ inr (answered_of seen link file)
     ]
 
 -- a piece is received where nothing waits, so the session takes it
 pub takes_received : (seen : Seen) (piece : List ℕ) → due seen ≡ Receive → length piece ≤ 65536 → (seen.now.link ≡ None) ⊎ IsOk (outcome seen (Recv piece)).answer
 takes_received seen piece d few =
     let pending : List Pending = seen.now.arrivals.pending in
-    let t = receive_tests (ltb 0 seen.waits) (is_finished seen) (ltb 0 (length pending)) d in
+    let t = receive_tests (ltb 0 seen.waits) (is_finished seen) (ltb 0 (length pending)) (is_runnable seen.now) d in
     let waits : ltb 0 seen.waits ≡ false = t.0 in
     let waiting : ltb 0 (length pending) ≡ false = t.2 in
     let none : eqb (length pending) 0 ≡ true = grind (arith, nat_tests) in

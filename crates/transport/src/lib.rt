@@ -2,6 +2,7 @@
 #![tactic(auto)]
 
 mod end;
+mod files;
 mod inbox;
 pub mod laws;
 mod outbox;
@@ -10,5 +11,6 @@ pub mod serve;
 pub mod server;
 
 pub use end::StreamEnd;
+pub use files::{Files, LONGEST_TEXT};
 pub use serve::serve_streams;
 pub use server::{Server, ServerError};

@@ -1,8 +1,18 @@
-use Rattle.transport.proofs.Serving.{answers, found_ok, found_err}
+use Rattle.std.proofs.Common.{refl}
+use Rattle.transport.proofs.Serving.{answers, answers_not, found_ok, found_err}
 use Rattle.transport.proofs.serve.answer.Goals as goal
 
-pub returns-in-Ok : goal.returns-in-Ok
-returns-in-Ok c left held = answers left held c.args.session.now c.turn.new.self _ c.requires c.turn.ensures.stands (found_ok _ c.turn.result _ c.in-Ok.is)
+pub returns-in_default-clause-went : goal.returns-in_default-clause-went
+returns-in_default-clause-went g c left held = answers_not left held c.args.session.now c.requires
 
-pub returns-in_default : goal.returns-in_default
-returns-in_default c left held = answers left held c.args.session.now c.turn.new.self _ c.requires c.turn.ensures.stands (found_err _ c.turn.result c.in-Err.error c.in-Err.is c.in_default.not-NoMemory)
+pub returns-in-Ok-turn_with-clause-went : goal.returns-in-Ok-turn_with-clause-went
+returns-in-Ok-turn_with-clause-went g c left held = answers _ c.args.since left held c.args.session.now c.turn_with.new.session c.in-Ok.file c.turn_with.result c.requires c.in-Ok.ensures c.turn_with.ensures.stands (found_ok c.turn_with.result _ c.in-Ok-turn_with.is)
+
+pub returns-in-NoMemory-clause-went : goal.returns-in-NoMemory-clause-went
+returns-in-NoMemory-clause-went g c left held = rw c.in-Err.ensures.err (answers_not left held c.args.session.now c.requires)
+
+pub returns-in_default-error : goal.returns-in_default-error
+returns-in_default-error g c = record {
+  went = λ left held. answers _ c.args.since left held c.args.session.now c.turn_with.new.session c.in-Ok.file c.turn_with.result c.requires c.in-Ok.ensures c.turn_with.ensures.stands (found_err c.turn_with.result c.in-Err.error c.in-Err.is c.in_default-error.not-NoMemory);
+  same = refl;
+}
