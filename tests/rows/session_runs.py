@@ -19,6 +19,8 @@ PRINTS_ON = b"li a0, 7\nli a7, 1\ne: ecall\nj e\n"
 KEEPS = b"_start: la t0, n\nlw a0, 0(t0)\naddi a0, a0, 1\nsw a0, 0(t0)\nli a7, 1\necall\nebreak\nj _start\nn: .word 7\n"
 # Exits with -1.
 EXITS = b"li a0, -1\nli a7, 93\necall\n"
+# Exits with what it has stored at the end of memory.
+STORES = b"li a0, 7\nsw a0, -4(sp)\nlw a0, -4(sp)\nli a7, 93\necall\n"
 # Stops at once, and again and again.
 STOPS = b"e: ebreak\nj e\n"
 
@@ -352,6 +354,20 @@ def sizes():
         ("new 4096 1 1 1 /w/p.s " + b"nop\n.space 4092".hex(), "ok"), ("runnable", "false")]
 
 
+def greatest_program():
+    """The greatest memory, the longest text and path, and a program that stores at the end of memory."""
+    script = Debugging(16777216, GREATEST, GREATEST, GREATEST_RETIRED, "/" + "p" * 1048575, (b"#" * 1048576).hex()).runs(False)
+    path = "/" + "q" * 60000
+    script.connects().asks("initialize").sends("launch", program=path).wants(path).answers("launch", file=STORES).tells(INITIALIZED).takes()
+    script.asks("configurationDone").slices(9, 4, "Ended", *exits(7)).drops()
+    return script.begins(b"#" * 1048576).slices(9, 0, "Stopped", stopped("exception", "illegal instruction"))
+
+
+def most_moves():
+    script = debugging(CIRCLES, *limited(retired=1000000)).slices(4294967295, 1000000, "Stopped", LIMIT)
+    return script.asks("continue").slices(4294967295, 0, "Stopped", LIMIT)
+
+
 def applied():
     """The events of a program, applied."""
     script = debugging(CIRCLES)
@@ -508,6 +524,8 @@ ROWS = [
     Row("the last number is that of a launch", last_number_before_the_event().steps, PROFILE),
     Row("sizes of memory, and which error comes first", sizes(), PROFILE),
     Row("the events of a program, applied", applied().steps, PROFILE),
+    Row("the greatest program", greatest_program().steps, PROFILE),
+    Row("the most moves", most_moves().steps, PROFILE),
     Row("a program that is debugged where events found no memory and are given again", anew().steps, PROFILE, refused=True),
     *(without_memory(name, session) for name, session in FOUND_NONE),
 ]
