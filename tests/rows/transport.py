@@ -88,6 +88,26 @@ def fails(reads_made, writes_made, most, count):
             NO_FAULT] + ENDED
 
 
+P = b"_start: li a0, 5\ncall f\nli a7, 93\necall\nf: addi a0, a0, 1\nret\n"
+FOREVER = b"e: j e\n"
+
+
+def file(text, path="/w/p.s"):
+    return "file %s %s" % (path, text.hex()), "ok"
+
+
+def launch(**arguments):
+    return request(2, "launch", program="/w/p.s", **arguments) + request(3, "configurationDone")
+
+
+def bare(command, seq, number):
+    return frame('{"command":"%s","request_seq":%d,"seq":%d,"success":true,"type":"response"}' % (command, seq, number))
+
+
+LAUNCHED = FIRST_ANSWER + bare("launch", 2, 2) + frame('{"event":"initialized","seq":3,"type":"event"}') + bare("configurationDone", 3, 4)
+STOPPED = '{"body":{"allThreadsStopped":true,"reason":"%s","threadId":1},"event":"stopped","seq":%d,"type":"event"}'
+UNREADABLE = FIRST_ANSWER + refused("fileUnreadable", 21, "launch", 2, 2)
+
 POLLED = ("poll", "2:threads")
 NO_MORE = ("poll", "none")
 
@@ -112,6 +132,19 @@ ROWS = [Row("the first session is answered however it is cut: %d bytes at a time
     Row("where all is said nothing is read", [
         given(FIRST), CONNECT, ("recv " + NO_FRAME.hex(), "ok"), serves("Closed", 1), faulty("Frame(NoLength)"), left(FIRST), written(b"")] + ENDED,
         PROFILE),
+    Row("a program is launched, stops at its entry and runs to its end", [
+        file(P), given(FIRST + launch(stopOnEntry=True) + request(4, "continue", threadId=1)), reads(len(FIRST + launch(stopOnEntry=True))), CONNECT,
+        serves("Closed"), written(LAUNCHED + frame(STOPPED % ("entry", 5))
+                                  + frame('{"body":{"allThreadsContinued":true},"command":"continue","request_seq":4,"seq":6,"success":true,"type":"response"}')
+                                  + frame('{"body":{"exitCode":6},"event":"exited","seq":7,"type":"event"}')
+                                  + frame('{"event":"terminated","seq":8,"type":"event"}')), NO_FAULT] + ENDED, PROFILE),
+    Row("a program that does not end is held, and the end of the input is read then", [
+        file(FOREVER), given(FIRST + launch()), CONNECT, serves("Closed"), written(LAUNCHED + frame(STOPPED % ("pause", 5))), NO_FAULT], PROFILE),
+    Row("a program that does not end runs for 100 slices before it is held", [
+        file(FOREVER), given(FIRST + launch()), CONNECT, serves("Turns", 8 + 99), ("runnable", "true"), written(LAUNCHED), serves("Closed"),
+        written(LAUNCHED + frame(STOPPED % ("pause", 5)))], PROFILE),
+    Row("a file that is not there is not launched", [
+        file(P, "/w/q.s"), given(FIRST + request(2, "launch", program="/w/p.s")), CONNECT, serves("Closed"), written(UNREADABLE), NO_FAULT], PROFILE),
     Row("a server polls requests and writes responses", [
         given(EVENT + HARTS + EVENT), server(POLLED, ("threads=2", "ok"), NO_MORE, NO_MORE), written(FIRST_HARTS_ANSWER)], PROFILE),
     Row("a fault of a frame stays with a server", stays_faulty(HARTS + NO_FRAME, "Frame"), PROFILE),

@@ -3,11 +3,13 @@
 #![tactic(auto)]
 
 mod polling;
+mod shelf;
 mod streams;
 
 use play::{Fault, Player, bytes_of, hexadecimal, parsed, play, shown};
 use polling::polled;
-use session::{EventError, Limits, Session};
+use session::{Config, EventError, Limits, Session};
+use shelf::Shelf;
 use std::alloc::Global;
 use std::process::ExitCode;
 use streams::{Drip, Pace, Sink};
@@ -19,11 +21,12 @@ struct Connection {
     session: Session,
     reader: Drip,
     writer: Sink,
+    files: Shelf,
 }
 
 fn main(rt: HostRuntime) -> ExitCode {
     let alloc = rt.alloc();
-    let Ok(session) = Session::new(alloc, Limits::greatest()) else {
+    let Some(session) = new_session(alloc) else {
         return ExitCode::from(1);
     };
     let Ok(writer) = Sink::new(alloc) else {
@@ -34,8 +37,20 @@ fn main(rt: HostRuntime) -> ExitCode {
         session,
         reader,
         writer,
+        files: Shelf::new(alloc),
     };
     play(&rt, &mut connection)
+}
+
+fn new_session(alloc: Global) -> Option<Session> {
+    let config = Config {
+        memory_size: 1_048_576,
+        program: None,
+    };
+    match Session::new(alloc, config, Limits::greatest()) {
+        Ok(session) => Some(session),
+        Err(_) => None,
+    }
 }
 
 impl Player for Connection {
@@ -43,6 +58,11 @@ impl Player for Connection {
         match arguments {
             ["input", bytes] => {
                 self.reader = Drip::new(bytes_of(alloc, bytes)?);
+                shown(alloc, "ok")
+            }
+            ["file", path, bytes] => {
+                self.files.path = path.to_string(alloc)?;
+                self.files.text = bytes_of(alloc, bytes)?;
                 shown(alloc, "ok")
             }
             ["reader", most, calls, interruptions] => {
@@ -78,6 +98,7 @@ impl Connection {
             &mut self.session,
             &mut self.reader,
             &mut self.writer,
+            &self.files,
             turns,
         )
     }
@@ -99,6 +120,7 @@ impl Connection {
                 None => shown(alloc, "none"),
             },
             "written" => hexadecimal(alloc, self.writer.bytes.as_slice()),
+            "runnable" => shown(alloc, self.session.runnable()),
             "left" => hexadecimal(alloc, self.reader.left()),
             _ => Err(Fault::NoCommand),
         }
@@ -124,13 +146,21 @@ fn done(alloc: Global, answer: Result<(), EventError>) -> Result<String, Fault> 
 
 /// A session from its first byte to its end: how it ended, and what was written.
 fn whole(alloc: Global, input: &[u8]) -> Result<String, Fault> {
-    let Ok(mut session) = Session::new(alloc, Limits::greatest()) else {
+    let Some(mut session) = new_session(alloc) else {
         return Err(Fault::NoCommand);
     };
     let _ = session.connect();
     let mut reader = input;
     let mut writer = Sink::new(alloc)?;
-    match serve_streams(alloc, &mut session, &mut reader, &mut writer, u64::MAX) {
+    let files = Shelf::new(alloc);
+    match serve_streams(
+        alloc,
+        &mut session,
+        &mut reader,
+        &mut writer,
+        &files,
+        u64::MAX,
+    ) {
         StreamEnd::NoMemory => Err(Fault::NoMemoryInCall),
         end => {
             let written = hexadecimal(alloc, writer.bytes.as_slice())?;

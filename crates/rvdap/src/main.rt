@@ -3,17 +3,19 @@
 #![tactic(auto)]
 
 mod asm;
+mod disk;
 mod ending;
 mod options;
 mod serving;
 
 use asm::{AsmFault, list_file};
 use descriptors::Waiting;
+use disk::Disk;
 use ending::Ending;
 use listing::ListFault;
 use options::{Task, task_of};
 use serving::serve;
-use session::{Limits, Session};
+use session::{Config, Limits, Session};
 use std::fmt::Display;
 use std::process::ExitCode;
 
@@ -30,11 +32,23 @@ fn main(rt: HostRuntime) -> ExitCode {
 }
 
 fn serve_editor(rt: &HostRuntime) -> Ending {
-    let mut session = Session::new(rt.alloc(), Limits::greatest()).unwrap();
+    let config = Config {
+        memory_size: 1_048_576,
+        program: None,
+    };
+    let Ok(mut session) = Session::new(rt.alloc(), config, Limits::greatest()) else {
+        return Ending::NoMemory;
+    };
     let _ = session.connect();
     let mut input = Waiting::new(rt.stdin());
     let mut output = Waiting::new(rt.stdout());
-    serve(rt.alloc(), &mut session, &mut input, &mut output)
+    serve(
+        rt.alloc(),
+        &mut session,
+        &mut input,
+        &mut output,
+        &Disk::new(rt),
+    )
 }
 
 fn list(rt: &HostRuntime, file: &str) -> ExitCode {

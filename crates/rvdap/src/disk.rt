@@ -1,0 +1,64 @@
+//! The files of the computer that the program runs on.
+ghost use Rattle.std.specs.Prelude.{IfOk};
+ghost use Rattle.transport.specs.Rounds.{IsShort};
+
+use session::Bytes;
+use std::alloc::{AllocError, Global};
+use std::fs::File;
+use std::io::{ErrorKind, Read};
+use std::{fs, io};
+use transport::{Files, LONGEST_TEXT};
+
+/// The files of the computer that the program runs on. What is no regular file, as a folder, a device
+/// or a pipe, is not opened: a read of it might never end.
+#[derive(Drop)]
+pub(crate) struct Disk<'a> {
+    rt: &'a HostRuntime,
+}
+
+impl<'a> Disk<'a> {
+    /// The files that this runtime reaches.
+    pub(crate) fn new(rt: &'a HostRuntime) -> Disk<'a> {
+        Disk { rt }
+    }
+}
+
+impl Files for Disk<'_> {
+    fn read(&self, alloc: Global, path: &str) -> Result<Option<Bytes>, AllocError> {
+        match read_some(self.rt, alloc, path) {
+            Ok(text) => Ok(fitting(text)),
+            Err(error) => unread(&error),
+        }
+    }
+}
+
+// A regular file's bytes, up to one more than it may have.
+fn read_some(rt: &HostRuntime, alloc: Global, path: &str) -> io::Result<Vec<u8>> {
+    if !fs::metadata(rt, path)?.is_file() {
+        return Err(ErrorKind::InvalidInput.into());
+    }
+    let mut bytes = Vec::new(alloc);
+    let mut file = File::open(rt, path)?.take(LONGEST_TEXT as u64 + 1);
+    file.read_to_end(&mut bytes)?;
+    Ok(bytes)
+}
+
+// A file that is not too long.
+fn fitting(text: Vec<u8>) -> Option<Bytes>
+    ensures { IsShort result }
+{
+    if text.len() > LONGEST_TEXT {
+        None
+    } else {
+        Some(Bytes::from_vec(text))
+    }
+}
+
+fn unread(error: &io::Error) -> Result<Option<Bytes>, AllocError>
+    ensures { IfOk result (λ file. IsShort file) }
+{
+    match error.kind() {
+        ErrorKind::OutOfMemory => Err(AllocError),
+        _ => Ok(None),
+    }
+}
