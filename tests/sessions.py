@@ -124,7 +124,8 @@ def requests_out_of_phase_are_refused():
 
 def unknown_requests_and_bad_arguments_are_refused():
     expect_run(request(7, "fly"), refused("unknownCommand", 1, "fly", 7, 1))
-    expect_run(FIRST + request(2, "continue", threadId=1), FIRST_ANSWER + refused("unknownCommand", 1, "continue", 2, 2))
+    expect_run(FIRST + request(2, "scopes", frameId=1), FIRST_ANSWER + refused("unknownCommand", 1, "scopes", 2, 2))
+    expect_run(FIRST + request(2, "continue", threadId=1), FIRST_ANSWER + refused("wrongPhase", 3, "continue", 2, 2))
     expect_run(request(1, "initialize", linesStartAt1=1), refused("badArguments", 2, "initialize", 1, 1))
     bad = frame('{"seq":9,"type":"request","command":"disconnect","arguments":[]}')
     expect_run(bad + request(10, "disconnect"), refused("badArguments", 2, "disconnect", 9, 1) + frame(DISCONNECTED % (10, 2)))
