@@ -1,0 +1,263 @@
+"""The built program, as an editor meets it that launches a program: what it answers, and what it tells of the program."""
+import contextlib
+import os
+import tempfile
+import time
+
+from program import SECONDS, Talk, expect, frame, run
+from streams import FAULT, Streams, pipes
+from texts import CAPABILITIES, DISCONNECTED, FIRST, FIRST_ANSWER, THREADS, refused, request
+
+# Texts of docs/PROTOCOL.md, sections 4 and 5.
+DONE = '{"command":"%s","request_seq":%d,"seq":%d,"success":true,"type":"response"}'
+CONTINUED = '{"body":{"allThreadsContinued":true},"command":"continue","request_seq":%d,"seq":%d,"success":true,"type":"response"}'
+FAILED = ('{"body":{"error":{"format":"%s","id":17}},"command":"launch","message":"assemblyFailed","request_seq":%d,"seq":%d,'
+          '"success":false,"type":"response"}')
+INITIALIZED = '{"event":"initialized","seq":%d,"type":"event"}'
+STOPPED = '{"body":{"allThreadsStopped":true,"reason":"%s","threadId":1},"event":"stopped","seq":%d,"type":"event"}'
+PRINTED = r'{"body":{"category":"stdout","output":"%d\n"},"event":"output","seq":%d,"type":"event"}'
+EXITED = '{"body":{"exitCode":%d},"event":"exited","seq":%d,"type":"event"}'
+TERMINATED = '{"event":"terminated","seq":%d,"type":"event"}'
+
+# Prints -7, and ends with the code 3: six lines of one instruction each.
+PRINTS = """_start: li a0, -7
+        li a7, 1
+        ecall
+        li a0, 3
+        li a7, 93
+        ecall
+"""
+
+ENDLESS = "e: j e\n"
+
+# Prints 0, 1, 2 and so on, for ever.
+PRINTS_FOR_EVER = """        li a7, 1
+more:   ecall
+        addi a0, a0, 1
+        j more
+"""
+
+# Prints 0, 1, 2 and so on, so many numbers, and ends with the code -1.
+COUNT = 3000
+PRINTS_MUCH = """        li a7, 1
+        li s0, %d
+more:   ecall
+        addi a0, a0, 1
+        blt a0, s0, more
+        li a0, -1
+        li a7, 93
+        ecall
+""" % COUNT
+
+
+@contextlib.contextmanager
+def file_of(text):
+    """The path of a file that holds a text, or bytes. Its name has a blank and a letter beyond ASCII."""
+    with tempfile.TemporaryDirectory() as folder:
+        path = os.path.join(folder, "é p.s")
+        with open(path, "wb") as file:
+            file.write(text if isinstance(text, bytes) else text.encode())
+        yield path
+
+
+def frames(*bodies):
+    return b"".join(map(frame, bodies))
+
+
+def started(path, **arguments):
+    """The requests by which a program is launched and started, and what is told of them."""
+    return (FIRST + request(2, "launch", program=path, **arguments) + request(3, "configurationDone"),
+            FIRST_ANSWER + frames(DONE % ("launch", 2, 2), INITIALIZED % 3, DONE % ("configurationDone", 3, 4)))
+
+
+def stepped(path):
+    """A session that steps through PRINTS: what the editor sends, each time with all that it then waits for."""
+    one = {"threadId": 1}
+    return [
+        (FIRST, FIRST_ANSWER),
+        (request(2, "launch", program=path, stopOnEntry=True), frames(DONE % ("launch", 2, 2), INITIALIZED % 3)),
+        (request(3, "configurationDone"), frames(DONE % ("configurationDone", 3, 4), STOPPED % ("entry", 5))),
+        (request(4, "next", **one), frames(DONE % ("next", 4, 6), STOPPED % ("step", 7))),
+        (request(5, "next", **one), frames(DONE % ("next", 5, 8), STOPPED % ("step", 9))),
+        (request(6, "next", **one), frames(DONE % ("next", 6, 10), PRINTED % (-7, 11), STOPPED % ("step", 12))),
+        (request(7, "next", **one), frames(DONE % ("next", 7, 13), STOPPED % ("step", 14))),
+        (request(8, "next", **one), frames(DONE % ("next", 8, 15), STOPPED % ("step", 16))),
+        (request(9, "next", **one), frames(DONE % ("next", 9, 17), EXITED % (3, 18), TERMINATED % 19)),
+        (request(10, "next", **one), refused("ended", 18, "next", 10, 20)),
+        (request(11, "threads"), frame(THREADS % (11, 21))),
+        (request(12, "disconnect"), frame(DISCONNECTED % (12, 22))),
+    ]
+
+
+def expect_all(talk, told, what):
+    """The rest of what the program says is this, and it ends well."""
+    expect(talk.read(len(told)), told, what)
+    expect(talk.end(), (0, b""), "the end")
+    expect(talk.read_so_far + talk.process.stdout.read(), b"", "what comes after it")
+
+
+def a_program_is_stepped_from_its_entry_to_its_end():
+    with file_of(PRINTS) as path, Talk() as talk:
+        for sent, told in stepped(path):
+            expect(talk.answers(sent, told), told, "what is told after %r" % sent)
+        expect_all(talk, b"", "the rest")
+
+
+def steps_are_the_same_however_their_requests_are_cut():
+    with file_of(PRINTS) as path:
+        for cut in (1, 15, 18, 20, 21, 22, 23, 30, 50, -2, -1):
+            with Talk() as talk:
+                for sent, told in stepped(path):
+                    talk.write(sent[:cut])
+                    expect(talk.answers(sent[cut:], told), told, "what is told after %r, cut at %d" % (sent, cut))
+                expect_all(talk, b"", "the rest")
+
+
+def a_session_that_ends_with_the_start_of_its_program_is_the_same_however_it_is_cut():
+    with file_of(PRINTS) as path:
+        data = (FIRST + request(2, "launch", program=path + ".no") + request(3, "configurationDone") + request(4, "launch", program=path)
+                + request(5, "threads") + request(6, "setExceptionBreakpoints", filters=[]) + request(7, "next", threadId=1)
+                + request(8, "launch", program=path) + request(9, "configurationDone"))
+        told = FIRST_ANSWER + refused("fileUnreadable", 21, "launch", 2, 2) + refused("wrongPhase", 3, "configurationDone", 3, 3) + frames(
+            DONE % ("launch", 4, 4), INITIALIZED % 5, THREADS % (5, 6), DONE % ("setExceptionBreakpoints", 6, 7)) + refused(
+            "wrongPhase", 3, "next", 7, 8) + refused("wrongPhase", 3, "launch", 8, 9) + frames(
+            DONE % ("configurationDone", 9, 10), PRINTED % (-7, 11), EXITED % (3, 12), TERMINATED % 13)
+        expect(run(data), (told, b"", 0), "the session in one write")
+        expect(run(None, pieces=[data[i:i + 1] for i in range(len(data))]), (told, b"", 0), "the session byte by byte")
+        for cut in list(range(0, len(data), 17)) + list(range(len(data) - 20, len(data) + 1)):
+            expect(run(None, pieces=[data[:cut], data[cut:]]), (told, b"", 0), "the session, cut at %d" % cut)
+
+
+def requests_that_wait_are_answered_before_the_program_moves():
+    # One write of so few bytes into a pipe is one read.
+    with file_of(PRINTS) as path, Talk() as talk:
+        sent, told = started(path)
+        sent += request(4, "next", threadId=1) + request(5, "pause", threadId=2) + request(6, "pause", threadId=1)
+        told += refused("notStopped", 4, "next", 4, 5) + refused("noThread", 7, "pause", 5, 6) + frames(
+            DONE % ("pause", 6, 7), STOPPED % ("pause", 8))
+        expect(talk.answers(sent, told), told, "what is told of a pause in the piece of the start")
+        told = frames(CONTINUED % (7, 9), PRINTED % (-7, 10), EXITED % (3, 11), TERMINATED % 12)
+        expect(talk.answers(request(7, "continue", threadId=1), told), told, "what is told of a program that goes on")
+        expect_all(talk, b"", "the rest")
+
+
+def a_file_that_cannot_be_read_is_refused_and_the_session_goes_on():
+    longest = PRINTS.encode() + b"#" * (1048576 - len(PRINTS))
+    with file_of(longest) as path, file_of(longest + b"#") as too_long:
+        folder = os.path.dirname(path)
+        fifo = os.path.join(folder, "fifo")
+        os.mkfifo(fifo)
+        expect((os.path.getsize(path), os.path.getsize(too_long)), (1048576, 1048577), "the lengths of the files")
+        bad = (path + ".no", os.path.join(path, "p.s"), folder, too_long, fifo, "", path + "\0")
+        sent, told, seq = FIRST, FIRST_ANSWER, 1
+        for seq, name in enumerate(bad, 2):
+            sent += request(seq, "launch", program=name)
+            told += refused("fileUnreadable", 21, "launch", seq, seq)
+        sent += request(seq + 1, "launch", program=path) + request(seq + 2, "configurationDone")
+        told += frames(DONE % ("launch", seq + 1, seq + 1), INITIALIZED % (seq + 2), DONE % ("configurationDone", seq + 2, seq + 3),
+                       PRINTED % (-7, seq + 4), EXITED % (3, seq + 5), TERMINATED % (seq + 6))
+        with Talk() as talk:
+            talk.write(sent)
+            expect_all(talk, told, "the answers")
+
+
+def a_text_with_an_error_is_refused_with_its_line():
+    rows = (
+        ("nop\n\n        j end\nEnd:    nop\n", "line 3: Undefined"),
+        ("nop\r\n  adi a0, a0, 1\r\n", "line 2: UnknownInstruction"),
+        (b"nop # \xff\n", "line 1: NotUtf8"),
+        (".space 1048576\nnop", "line 2: TooLarge"),
+    )
+    for text, error in rows:
+        for lines, first in ((True, FIRST), (False, request(1, "initialize", linesStartAt1=False))):
+            with file_of(text) as path, file_of(PRINTS) as right:
+                sent = first + request(2, "launch", program=path) + request(3, "launch", program=right) + request(4, "configurationDone")
+                told = frames(CAPABILITIES % (1, 1), FAILED % (error, 2, 2), DONE % ("launch", 3, 3), INITIALIZED % 4,
+                              DONE % ("configurationDone", 4, 5), PRINTED % (-7, 6), EXITED % (3, 7), TERMINATED % 8)
+                expect(run(sent), (told, b"", 0), "a text with %s, and lines from 1: %s" % (error, lines))
+
+
+def a_program_without_an_end_is_held_and_then_the_end_of_the_input_is_met():
+    with file_of(ENDLESS) as path:
+        sent, told = started(path)
+        expect(run(sent), (told + frame(STOPPED % ("pause", 5)), b"", 0), "a program that runs for ever, and no more input")
+        expect(run(sent + FIRST[:30]), (told + frame(STOPPED % ("pause", 5)), b"", 0), "the same, and an unfinished frame")
+
+
+def a_program_that_was_held_goes_on_and_is_held_again():
+    with file_of(ENDLESS) as path, Talk() as talk:
+        sent, told = started(path)
+        rows = [
+            (sent, told + frame(STOPPED % ("pause", 5))),
+            (request(4, "pause", threadId=1), frame(DONE % ("pause", 4, 6))),
+            (request(5, "continue", threadId=1), frames(CONTINUED % (5, 7), STOPPED % ("pause", 8))),
+            (request(6, "stepOut", threadId=1), frames(DONE % ("stepOut", 6, 9), STOPPED % ("pause", 10))),
+            (request(7, "disconnect"), frame(DISCONNECTED % (7, 11))),
+        ]
+        for sent, told in rows:
+            expect(talk.answers(sent, told), told, "what is told after %r" % sent)
+        # The program ends of itself, before its input does.
+        expect(talk.process.wait(SECONDS), 0, "the status")
+        expect_all(talk, b"", "the rest")
+
+
+def an_editor_that_vanishes_while_the_program_prints_is_a_fault():
+    with file_of(PRINTS_FOR_EVER) as path, Talk() as talk:
+        sent, told = started(path)
+        told += frames(*(PRINTED % (n, 5 + n) for n in range(10)))
+        expect(talk.answers(sent, told), told, "what is told before")
+        talk.process.stdout.close()
+        expect(talk.process.wait(SECONDS), 1, "the status")
+        expect(talk.process.stderr.read(), FAULT, "standard error")
+
+
+def an_editor_that_vanishes_while_the_program_runs_is_a_fault():
+    with file_of(ENDLESS) as path, Talk() as talk:
+        sent, told = started(path)
+        expect(talk.answers(sent, told), told, "what is told before")
+        talk.process.stdout.close()
+        try:
+            talk.write(request(4, "threads"))
+        except BrokenPipeError:
+            pass
+        expect(talk.process.wait(SECONDS), 1, "the status")
+        expect(talk.process.stderr.read(), FAULT, "standard error")
+
+
+def a_program_that_prints_more_than_may_wait_loses_nothing_to_a_slow_editor():
+    with file_of(PRINTS_MUCH) as path:
+        sent, told = started(path)
+        told += frames(*(PRINTED % (n, 5 + n) for n in range(COUNT)), EXITED % (-1, 5 + COUNT), TERMINATED % (6 + COUNT))
+        sent_last, told_last = request(4, "disconnect"), frame(DISCONNECTED % (4, 7 + COUNT))
+        expect(len(told) > 4 * 65536, True, "more than may wait, and than a pipe holds")
+        # The pipe is full before it is read.
+        with Streams(pipes) as streams:
+            streams.write(sent)
+            time.sleep(0.3)
+            expect(streams.read(len(told), 3000), told, "what is told over pipes that do not block")
+            streams.write(sent_last)
+            expect(streams.read(len(told_last)), told_last, "the last answer")
+            expect(streams.end()[:2], (0, b""), "the end")
+        with Talk() as talk:
+            talk.write(sent)
+            time.sleep(0.3)
+            expect(talk.read(len(told)), told, "what is told over pipes that block")
+            expect(talk.answers(sent_last, told_last), told_last, "the last answer")
+            expect_all(talk, b"", "the rest")
+
+
+def checks():
+    """Each check with its name."""
+    return [(check.__name__.replace("_", " "), check) for check in (
+        a_program_is_stepped_from_its_entry_to_its_end,
+        steps_are_the_same_however_their_requests_are_cut,
+        a_session_that_ends_with_the_start_of_its_program_is_the_same_however_it_is_cut,
+        requests_that_wait_are_answered_before_the_program_moves,
+        a_file_that_cannot_be_read_is_refused_and_the_session_goes_on,
+        a_text_with_an_error_is_refused_with_its_line,
+        a_program_without_an_end_is_held_and_then_the_end_of_the_input_is_met,
+        a_program_that_was_held_goes_on_and_is_held_again,
+        an_editor_that_vanishes_while_the_program_prints_is_a_fault,
+        an_editor_that_vanishes_while_the_program_runs_is_a_fault,
+        a_program_that_prints_more_than_may_wait_loses_nothing_to_a_slow_editor,
+    )]
