@@ -378,6 +378,7 @@ def checks():
         each_answer_comes_before_more_is_read,
         the_example_session_is_the_first_session,
         the_example_of_a_late_cancel_is_answered_that_the_request_is_gone,
+        the_example_of_steps_debugs_a_program,
         an_empty_input_is_answered_with_nothing,
         an_unfinished_frame_is_dropped,
         requests_out_of_phase_are_refused,
