@@ -5,7 +5,7 @@ use session::{ConfigError, EventError};
 use std::alloc::Global;
 
 /// The text of the error of this name, of the events or of what a session is made of.
-pub fn text_of(alloc: Global, kind: &str, name: &str) -> Result<String, Fault> {
+pub(crate) fn text_of(alloc: Global, kind: &str, name: &str) -> Result<String, Fault> {
     match kind {
         "event" => event_text(alloc, name),
         "config" => config_text(alloc, name),
