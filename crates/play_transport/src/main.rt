@@ -73,7 +73,7 @@ impl Player for Connection {
                 self.writer.pace = pace_of(most, calls, interruptions)?;
                 shown(alloc, "ok")
             }
-            ["whole", input] => whole(alloc, bytes_of(alloc, input)?),
+            ["whole", input] => whole(alloc, &bytes_of(alloc, input)?),
             ["server", calls @ ..] => polled(alloc, &mut self.reader, &mut self.writer, calls),
             ["text", name] => text_of(alloc, name),
             ["serve", turns] => {
@@ -145,21 +145,25 @@ fn done(alloc: Global, answer: Result<(), EventError>) -> Result<String, Fault> 
 }
 
 /// A session from its first byte to its end: how it ended, and what was written.
-fn whole(alloc: Global, input: Vec<u8>) -> Result<String, Fault> {
-    let Some(session) = new_session(alloc) else {
+fn whole(alloc: Global, input: &[u8]) -> Result<String, Fault> {
+    let Some(mut session) = new_session(alloc) else {
         return Err(Fault::NoCommand);
     };
-    let mut connection = Connection {
-        session,
-        reader: Drip::new(input),
-        writer: Sink::new(alloc)?,
-        files: Shelf::new(alloc),
-    };
-    let _ = connection.session.connect();
-    match connection.serve(alloc, u64::MAX) {
+    let _ = session.connect();
+    let mut reader = input;
+    let mut writer = Sink::new(alloc)?;
+    let files = Shelf::new(alloc);
+    match serve_streams(
+        alloc,
+        &mut session,
+        &mut reader,
+        &mut writer,
+        &files,
+        u64::MAX,
+    ) {
         StreamEnd::NoMemory => Err(Fault::NoMemoryInCall),
         end => {
-            let written = hexadecimal(alloc, connection.writer.bytes.as_slice())?;
+            let written = hexadecimal(alloc, writer.bytes.as_slice())?;
             Ok(format!(in alloc; "{end:?} {written}")?)
         }
     }
