@@ -23,6 +23,7 @@ pub mod Serving
 pub mod Once
 pub mod Proper
 pub mod Runs
+pub mod Joined
 pub mod Reading
 pub mod Refusing
 pub mod Wanting

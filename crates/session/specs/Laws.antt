@@ -37,7 +37,8 @@ use Rattle.session.specs.declared.pending.Pending.{Pending}
 use Rattle.session.specs.Acts.{fault_of_reading}
 use Rattle.session.specs.Arrivals.{number_of, name_asked, asks_of}
 use Rattle.session.specs.Prefixes.{IsPrefixOf}
-use Rattle.session.specs.Sessions.{Session, Life, Said, life_of, bytes_of, waiting_of, Effect, Answer}
+use Rattle.session.specs.Sessions.{Session, Life, Said, life_of, bytes_of, waiting_of, histories, Effect, Answer}
+use Rattle.session.specs.Effects.{sliced}
 
 -- ---- connections
 
@@ -196,3 +197,10 @@ SaysItsRun (IsEvent (event.Output output)) d = ⊤
 -- Each message says of the program's run what is so of the program as it was when the message was queued.
 abbrev pub RunsAreTold : Session → Type 0
 RunsAreTold s = (c : ℕ) → All (λ (m : Said). SaysItsRun m.message m.snapshot) (life_of c s).said
+
+-- ---- time
+
+-- Two slices, one after the other, leave what one of all their moves leaves, and as many instructions retire in them.
+abbrev pub SlicesJoin : Session → Type 0
+SlicesJoin s = (a b : ℕ) → let first = sliced histories a s in let second = sliced histories b first.state in
+    let whole = sliced histories (a + b) s in (second.state ≡ whole.state) × (first.moved + second.moved ≡ whole.moved)

@@ -65,3 +65,9 @@ pub fn initializes_once()
 pub fn runs_are_told()
     ensures { (from : ABeginning) (events : List AnEvent) → law.RunsAreTold (After from events) }
 {}
+
+/// Two slices, one after the other, leave what one of all their moves leaves, and as many instructions
+/// retire in them.
+pub fn slices_join()
+    ensures { (s : ASession) → law.SlicesJoin s }
+{}
