@@ -28,17 +28,17 @@ use Rattle.session.proofs.Turning.{said_debuggee}
 
 -- ---- what is told changes no program
 
-OnlyTells : List Act → Type 0
+pub OnlyTells : List Act → Type 0
 OnlyTells [] = Unit {0}
 OnlyTells (Tell event ∷ acts) = OnlyTells acts
 OnlyTells (act ∷ acts) = ⊥
 
-told_only : (events : List Told) → OnlyTells (map Tell events)
+pub told_only : (events : List Told) → OnlyTells (map Tell events)
 unfolding OnlyTells
 told_only [] = tt
 told_only (e ∷ es) = told_only es
 
-tells_only : (now : Now) (events : List Told) → OnlyTells (tells now events)
+pub tells_only : (now : Now) (events : List Told) → OnlyTells (tells now events)
 unfolding OnlyTells
 tells_only now events = if_keeps OnlyTells (is_active now.link) _ [] (λ _. told_only events) (λ _. tt)
 
@@ -47,34 +47,33 @@ unfolding OnlyTells
 prints_only now None = tt
 prints_only now (Some number) = tells_only now (output_event number ∷ [])
 
-same_debuggee : (acts : List Act) (s : Session) → OnlyTells acts → (performed histories acts s).now.debuggee ≡ s.now.debuggee
+pub same_debuggee : (acts : List Act) (s : Session) → OnlyTells acts → (performed histories acts s).now.debuggee ≡ s.now.debuggee
 unfolding OnlyTells
 same_debuggee [] s h = refl
 same_debuggee (Tell e ∷ acts) s h = same_debuggee acts (performed_on (Tell e) s) h ∙ said_debuggee s.now.link (IsEvent e) s.now.arrivals.pending s
 same_debuggee (act ∷ acts) s h = absurd h
 
-abbrev program_of : Session → Option Program
+abbrev pub program_of : Session → Option Program
 program_of s = s.now.debuggee.program
 
 -- a program becomes this, and then something is told
-becomes_program : (now : Now) (p : Program) (acts : List Act) (s : Session) → OnlyTells acts → program_of (performed histories (becomes now p ∷ acts) s) ≡ Some p
+pub becomes_program : (now : Now) (p : Program) (acts : List Act) (s : Session) → OnlyTells acts → program_of (performed histories (becomes now p ∷ acts) s) ≡ Some p
 becomes_program now p acts s h = ap (λ (d : Debuggee). d.program) (same_debuggee acts (performed_on (becomes now p) s) h)
 
 -- ---- what a tick that is told leaves
 
-concluded_as : Outcome → Program → Program
+abbrev pub concluded_as : Outcome → Program → Program
 concluded_as Went p = p
 concluded_as (Stopped reason) p = stopped (why.Met reason) p
 concluded_as (Ended code) p = ended (Some code) p
 
 -- the program after what concludes, where it was this
 concludes_program : (now : Now) (p : Program) (outcome : Outcome) (ids : List ℕ) (s : Session) → program_of s ≡ Some p → program_of (performed histories (concludes now p outcome ids) s) ≡ Some (concluded_as outcome p)
-unfolding concluded_as
 concludes_program now p Went ids s e = e
 concludes_program now p (Stopped reason) ids s e = becomes_program now (stopped (why.Met reason) p) (tells now (stop_event (why.Met reason) ids ∷ [])) s (tells_only now (stop_event (why.Met reason) ids ∷ []))
 concludes_program now p (Ended code) ids s e = becomes_program now (ended (Some code) p) (tells now (exit_events code)) s (tells_only now (exit_events code))
 
-telling_program : (now : Now) (p : Program) (tick : Tick) (s : Session) → program_of (performed histories (telling now p tick) s) ≡ Some (concluded_as tick.outcome (told p))
+pub telling_program : (now : Now) (p : Program) (tick : Tick) (s : Session) → program_of (performed histories (telling now p tick) s) ≡ Some (concluded_as tick.outcome (told p))
 telling_program now p tick s =
     let t : Session = performed_on (becomes now (told p)) s in
     let acts : List Act = concludes now (told p) tick.outcome p.machine.lists.ids in
@@ -219,7 +218,7 @@ unfolding EndsStill
 spent_still s e is never = absurd (never (let same : Some ending.Spent ≡ Some e = is in cc))
 
 tick_still : (s : Session) (p : Program) (tick : Tick) → EndsStill s (record { acts = telling s.now p tick; moved = 0; ending = ending_of tick.outcome })
-unfolding EndsStill concluded_as
+unfolding EndsStill
 tick_still s p tick e is never = by tick.outcome refl where
   by : (outcome : Outcome) → tick.outcome ≡ outcome → Still (performed histories (telling s.now p tick) s)
   by Went same = absurd (let no : ending_of tick.outcome ≡ Some e = is in let none : ending_of tick.outcome ≡ None = ap ending_of same in cc)
@@ -355,7 +354,7 @@ abbrev Falls : ℕ → ℕ → Session → Option Program → Beat → Type 0
 Falls n m k program b = b.ending ≡ None → rank n (m + b.moved) (after_beat histories b k).now.debuggee.program < rank n m program
 
 tells_fall : (n m : ℕ) (k : Session) (p : Program) (tick : Tick) → p.owed ≡ Some tick → Falls n m k (Some p) (record { acts = telling k.now p tick; moved = 0; ending = ending_of tick.outcome })
-unfolding rank rank_of owed_rank concluded_as
+unfolding rank rank_of owed_rank
 tells_fall n m k p tick owes on = by tick.outcome refl on where
   by : (outcome : Outcome) → tick.outcome ≡ outcome → ending_of outcome ≡ None → rank n (m + 0) (after_beat histories (record { acts = telling k.now p tick; moved = 0; ending = ending_of tick.outcome }) k).now.debuggee.program < rank n m (Some p)
   by (Stopped reason) e x = absurd (cc)

@@ -24,6 +24,7 @@ pub mod Once
 pub mod Proper
 pub mod Runs
 pub mod Joined
+pub mod Paused
 pub mod Reading
 pub mod Refusing
 pub mod Wanting

@@ -94,7 +94,7 @@ answer_says : (now : Now) (terms : Terms) (file : Option (List ℕ)) (p : Pendin
 answer_says now terms file p =
     of_answer (λ ask answer. Says (name_asked ask) answer) now terms file p.ask p.fate
     (λ refusal _. record { response = never; events = tt })
-    (λ r taken there. success_says now terms file r.command taken there)
+    (λ r taken meets. success_says now terms file r.command taken meets.loaded)
 
 -- ---- every session
 

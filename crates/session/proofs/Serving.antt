@@ -32,14 +32,15 @@ by_lack : (P : Option Refusal → Type 0) (reason : Bool) (refusal : Refusal) (r
 by_lack P true refusal rest here there = here
 by_lack P false refusal rest here there = there refl
 
--- there is a program, where the request asks for one
-abbrev pub HasProgram : Option Run → ARequest → Type 0
-HasProgram run r = ((demand_of r.command).loaded && has_none run) ≡ false
+-- the program is as the request asks: there is one, and it stands still
+pub record Meets (run : Option Run) (demand : Demand) : Type 0 where
+  pub loaded : (demand.loaded && has_none run) ≡ false
+  pub still : (demand.still && goes_on run) ≡ false
 
 -- the answer to a request that could be read
 of_request : (P : Answering → Type 0) (now : Now) (terms : Terms) (file : Option (List ℕ)) (r : ARequest) (fate : Fate)
     → ((refusal : Refusal) → IsRefusalOf (Request r) refusal → P (refusing now terms refusal None))
-    → (is_taken_in terms.phase r.command ≡ true → HasProgram (run_of now.debuggee.program) r → P (success_of now terms file r.command))
+    → (is_taken_in terms.phase r.command ≡ true → Meets (run_of now.debuggee.program) (demand_of r.command) → P (success_of now terms file r.command))
     → P (answer_to now terms file (record { ask = Request r; fate = fate }))
 of_request P now terms file r fate refuses succeeds =
     by_reason Q (is_repeat fate) RepeatedSequence _ (refuses RepeatedSequence (inr refl))
@@ -49,13 +50,13 @@ of_request P now terms file r fate refuses succeeds =
       Q : Option Refusal → Type 0
       Q refusal = P (answer_by now terms file refusal (Request r))
 
-      by_demand : (demand : Demand) (run : Option Run) → ((demand.loaded && has_none run) ≡ false → P (success_of now terms file r.command)) → Q (first_refusal (unmet run demand ++ where_so (names_none fate) RequestGone ∷ []))
+      by_demand : (demand : Demand) (run : Option Run) → (Meets run demand → P (success_of now terms file r.command)) → Q (first_refusal (unmet run demand ++ where_so (names_none fate) RequestGone ∷ []))
       by_demand demand run e =
           by_lack Q (demand.loaded && has_none run) NoMachine _ (refuses NoMachine (inr refl))
           (λ there. by_reason Q (demand.alive && has_ended run) Ended _ (refuses Ended (inr refl))
           (by_reason Q (is_no_thread demand.thread) NoThread _ (refuses NoThread (inr refl))
-          (by_reason Q (demand.still && goes_on run) NotStopped _ (refuses NotStopped (inr refl))
-          (by_reason Q (names_none fate) RequestGone [] (refuses RequestGone (inr refl)) (e there)))))
+          (by_lack Q (demand.still && goes_on run) NotStopped _ (refuses NotStopped (inr refl))
+          (λ still. by_reason Q (names_none fate) RequestGone [] (refuses RequestGone (inr refl)) (e (record { loaded = there; still = still }))))))
 
       by_phase : (taken : Bool) → is_taken_in terms.phase r.command ≡ taken → Q (first_refusal (where_so (not taken) WrongPhase ∷ (unmet (run_of now.debuggee.program) (demand_of r.command) ++ where_so (names_none fate) RequestGone ∷ [])))
       by_phase true e = by_demand (demand_of r.command) (run_of now.debuggee.program) (succeeds e)
@@ -76,7 +77,7 @@ of_bad P now terms file seq command refusal fate refuses =
 -- what holds of each refusal, and of the success of a request that the phase takes, holds of the answer
 pub of_answer : (P : Ask → Answering → Type 0) (now : Now) (terms : Terms) (file : Option (List ℕ)) (ask : Ask) (fate : Fate)
     → ((refusal : Refusal) → IsRefusalOf ask refusal → P ask (refusing now terms refusal None))
-    → ((r : ARequest) → is_taken_in terms.phase r.command ≡ true → HasProgram (run_of now.debuggee.program) r → P (Request r) (success_of now terms file r.command))
+    → ((r : ARequest) → is_taken_in terms.phase r.command ≡ true → Meets (run_of now.debuggee.program) (demand_of r.command) → P (Request r) (success_of now terms file r.command))
     → P ask (answer_to now terms file (record { ask = ask; fate = fate }))
 of_answer P now terms file (Request r) fate refuses succeeds = of_request (P (Request r)) now terms file r fate refuses (succeeds r)
 of_answer P now terms file (Bad seq command refusal) fate refuses succeeds = of_bad (P (Bad seq command refusal)) now terms file seq command refusal fate refuses

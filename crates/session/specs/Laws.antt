@@ -3,7 +3,7 @@
 -- A list of events is any: requests cut anywhere, repeated or cancelled, turns and bytes taken in between, connections
 -- that end and others that follow, and events that are refused.
 use Rattle.std.specs.Prelude.{◌≡◌, ℕ, ◌+◌, ◌<◌, ◌≤◌, List, [], ◌∷◌, ◌++◌, map, flat_map, All, Some, Ok, Err}
-use Rattle.std.specs.Prelude.{◌⊎◌, ◌&&◌, Bool, true, false, None, MatchOption, bytes_eq, ⊤}
+use Rattle.std.specs.Prelude.{◌⊎◌, ◌&&◌, Bool, true, false, is_some, None, Option, MatchOption, bytes_eq, ⊤}
 use Rattle.std.specs.List.{list_any}
 use Rattle.debuggee.specs.Programs.{Debuggee, is_ended, is_running}
 use Rattle.debuggee.specs.declared.run.Run.{Run}
@@ -13,6 +13,9 @@ use Rattle.protocol.specs.declared.next.TheConstants.{NAME as NEXT}
 use Rattle.protocol.specs.declared.step_in.TheConstants.{NAME as STEP_IN}
 use Rattle.protocol.specs.declared.step_out.TheConstants.{NAME as STEP_OUT}
 use Rattle.protocol.specs.declared.restart.TheConstants.{NAME as RESTART}
+use Rattle.protocol.specs.declared.disconnect.TheConstants.{NAME as DISCONNECT}
+use Rattle.protocol.specs.declared.pause.PauseArguments.{PauseArguments}
+use Rattle.protocol.specs.declared.command.Command.TheVariants.{Pause}
 use Rattle.replies.specs.declared.event.Event.TheVariants as event
 use Rattle.replies.specs.declared.exited.Exited.{Exited}
 use Rattle.replies.specs.declared.stopped.Stopped.{Stopped}
@@ -28,13 +31,15 @@ use Rattle.replies.specs.Messages.{IsProper}
 use Rattle.session.specs.declared.TheConstants.{BODY_LIMIT}
 use Rattle.session.specs.declared.event.Applied.TheVariants.{Recv as Received}
 use Rattle.session.specs.declared.event.Event.{Event}
-use Rattle.session.specs.declared.event.Event.TheVariants.{Recv}
+use Rattle.session.specs.declared.event.Event.TheVariants.{Connect, Recv, Turn, Slice, Hold, Sent, DropConnection}
 use Rattle.session.specs.declared.event.EventError.{EventError}
 use Rattle.session.specs.declared.event.EventError.TheVariants.{Closing}
 use Rattle.session.specs.declared.link.Link.{Link}
 use Rattle.session.specs.declared.pending.Ask.{Ask}
 use Rattle.session.specs.declared.pending.Pending.{Pending}
-use Rattle.session.specs.Acts.{fault_of_reading}
+use Rattle.session.specs.declared.terms.Terms.{Terms}
+use Rattle.session.specs.Acts.{Now, fault_of_reading}
+use Rattle.session.specs.Requests.{success_of}
 use Rattle.session.specs.Arrivals.{number_of, name_asked, asks_of}
 use Rattle.session.specs.Prefixes.{IsPrefixOf}
 use Rattle.session.specs.Sessions.{Session, Life, Said, life_of, bytes_of, waiting_of, histories, Effect, Answer}
@@ -204,3 +209,47 @@ RunsAreTold s = (c : ℕ) → All (λ (m : Said). SaysItsRun m.message m.snapsho
 abbrev pub SlicesJoin : Session → Type 0
 SlicesJoin s = (a b : ℕ) → let first = sliced histories a s in let second = sliced histories b first.state in
     let whole = sliced histories (a + b) s in (second.state ≡ whole.state) × (first.moved + second.moved ≡ whole.moved)
+
+-- the program runs, and is marked to stop
+abbrev pub IsMarked : Debuggee → Type 0
+IsMarked d = MatchOption d.program ⊥ (λ p. (is_running p.run ≡ true) × (is_some p.mark ≡ true))
+
+-- it does not run
+abbrev pub IsAtRest : Debuggee → Type 0
+IsAtRest d = RunsAs (λ run. is_running run ≡ false) d
+
+-- the first request that waits is a `disconnect`
+abbrev pub leaves_next : List Pending → Bool
+leaves_next [] = false
+leaves_next (p ∷ rest) = bytes_eq (name_asked p.ask) DISCONNECT.now
+
+-- the editor leaves with this event
+abbrev pub EditorLeaves : Session → Event → Type 0
+EditorLeaves s DropConnection = ⊤
+EditorLeaves s (Turn file) = leaves_next s.now.arrivals.pending ≡ true
+EditorLeaves s Connect = ⊥
+EditorLeaves s (Recv piece) = ⊥
+EditorLeaves s (Slice n) = ⊥
+EditorLeaves s Hold = ⊥
+EditorLeaves s (Sent n) = ⊥
+
+-- no instruction retires in it
+abbrev pub RetiresNone : Session → Event → Type 0
+RetiresNone s (Slice n) = (sliced histories n s).moved ≡ 0
+RetiresNone s e = ⊤
+
+-- No instruction retires in any of these events, until one after which the program does not run, or with which the
+-- editor leaves.
+abbrev pub RetiresNoneIn : List Event → Session → Type 0
+RetiresNoneIn [] s = ⊤
+RetiresNoneIn (e ∷ events) s = RetiresNone s e
+    × (IsAtRest (Effect s e).now.debuggee ⊎ (EditorLeaves s e ⊎ RetiresNoneIn events (Effect s e)))
+
+-- A program that runs and is marked retires no instruction, whatever happens.
+abbrev pub MarkedRetiresNone : Session → Type 0
+MarkedRetiresNone s = IsMarked s.now.debuggee → (events : List Event) → RetiresNoneIn events s
+
+-- A success of `pause` leaves it marked, where it ran (`PauseRequest`).
+abbrev pub PauseMarks : Now → Type 0
+PauseMarks now = (terms : Terms) (file : Option (List ℕ)) (arguments : PauseArguments)
+    → RunsAs (λ run. is_running run ≡ true) now.debuggee → IsMarked (success_of now terms file (Pause arguments)).debuggee

@@ -2,6 +2,7 @@
 //! clauses say it.
 ghost use Rattle.std.specs.Prelude.{List};
 ghost use Rattle.session.specs.declared.event.Event.{Event as AnEvent};
+ghost use Rattle.session.specs.Acts.{Now as ANow};
 ghost use Rattle.session.specs.Sessions.{After, Beginning as ABeginning, Session as ASession};
 ghost use Rattle.session.specs.Laws as law;
 
@@ -70,4 +71,11 @@ pub fn runs_are_told()
 /// retire in them.
 pub fn slices_join()
     ensures { (s : ASession) → law.SlicesJoin s }
+{}
+
+/// A program that runs and is marked to stop, as after a success of `pause`, retires no instruction: whatever
+/// happens, until it does not run, or its editor leaves.
+pub fn marked_retires_none()
+    ensures marked { (s : ASession) → law.MarkedRetiresNone s }
+    ensures pause { (now : ANow) → law.PauseMarks now }
 {}

@@ -1,0 +1,322 @@
+-- A program that runs and is marked retires no instruction.
+use Rattle.std.proofs.Common.{◌≡◌, ℕ, zero, suc, Bool, true, false, leb, ltb, eqb, List, [], ◌∷◌, map, length, Option, Some, None, ◌⊎◌, inl, inr, refl, sym, ap, ◌∙◌, subst, arith}
+use Rattle.std.specs.Prelude.{not, bytes_eq, is_some, MatchOption}
+use Rattle.assembler.specs.Assembled.{assembled}
+use Rattle.assembler.specs.Placed.{error_of}
+use Rattle.assembler.specs.declared.error.AsmError.{AsmError}
+use Rattle.debuggee.specs.Programs.{Debuggee, Program, ended, first_mark, first_run, is_running, just_loaded, marked, marked_by, on_program, restarted, stopped, told, why_marked}
+use Rattle.debuggee.specs.declared.run.Mark.{Mark}
+use Rattle.debuggee.specs.declared.run.Mark.TheVariants as mark
+use Rattle.debuggee.specs.declared.run.Run.{Run}
+use Rattle.debuggee.specs.declared.run.Run.TheVariants as run
+use Rattle.debuggee.specs.declared.run.Why.TheVariants as why
+use Rattle.protocol.specs.declared.command.Command.{Command}
+use Rattle.protocol.specs.declared.command.Command.TheVariants.{Initialize, Launch, ConfigurationDone, Threads, Cancel, Restart, Terminate, Disconnect, SetExceptionBreakpoints, Continue, Next, StepIn, StepOut, Pause}
+use Rattle.protocol.specs.Commands.{name_of}
+use Rattle.protocol.specs.declared.disconnect.TheConstants.{NAME as DISCONNECT}
+use Rattle.replies.specs.declared.message.Message.TheVariants.{Response as IsResponse}
+use Rattle.replies.specs.declared.response.Outcome.{Outcome as Answered}
+use Rattle.session.specs.declared.state.TheConstants.{MOST_PIECE, MOST_PENDING, FULL, LAST_CONNECTION}
+use Rattle.session.specs.declared.event.Ending.{Ending}
+use Rattle.session.specs.declared.event.Ending.TheVariants as ending
+use Rattle.session.specs.declared.event.Event.{Event}
+use Rattle.session.specs.declared.event.Event.TheVariants.{Connect, Recv, Turn, Slice, Hold, Sent, DropConnection}
+use Rattle.session.specs.declared.link.Link.{Link}
+use Rattle.session.specs.declared.pending.Pending.{Pending}
+use Rattle.session.specs.declared.terms.Terms.{Terms}
+use Rattle.session.specs.Acts.{Answering, Now, Become, Agree, Reply, Tell}
+use Rattle.session.specs.Arrivals.{name_asked}
+use Rattle.session.specs.Demands.{goes_on, run_of}
+use Rattle.session.specs.Effects.{Slicing, beats, enough, next_by, performed}
+use Rattle.session.specs.Launch.{assembles}
+use Rattle.session.specs.Laws.{EditorLeaves, IsAtRest, IsMarked, MarkedRetiresNone, PauseMarks, RetiresNone, RetiresNoneIn}
+use Rattle.session.specs.Outcomes.{Outcome, answering, answers_next, closing, next_turn, outcome_at, turn_by, turn_of}
+use Rattle.session.specs.Refusals.{answer_to, response_to}
+use Rattle.session.specs.Requests.{demand_of, is_taken_in, success_of}
+use Rattle.session.specs.Sessions.{Session, Effect, agreed_on, histories, hung_on, performed_on, replied_on, waiting_of}
+use Rattle.session.specs.Slices.{Beat, beat_by, beat_of, ending_of, ends, goes_unless, is_runnable_by, telling, tells}
+use Rattle.session.specs.Telling.{stop_event}
+use Rattle.stepping.specs.declared.tick.Tick.{Tick}
+use Rattle.stepping.specs.declared.tick.Outcome.{Outcome as CameTo}
+use Rattle.stepping.specs.declared.tick.Outcome.TheVariants.{Went, Stopped, Ended}
+use Rattle.session.proofs.ByForms.{on, on_with}
+use Rattle.session.proofs.Reaching.{if_keeps, performed_append}
+use Rattle.session.proofs.Serving.{Meets, of_answer, not_taken}
+use Rattle.session.proofs.Joined.{becomes_program, concluded_as, program_of, same_debuggee, telling_program, tells_only, told_only}
+use Rattle.session.proofs.Turning.{said_debuggee}
+
+-- it runs and is marked, or does not run
+Waits : Option Program → Type 0
+Waits program = MatchOption program ⊥ (λ p. (is_running p.run ≡ true) × (is_some p.mark ≡ true)) ⊎ MatchOption program ⊥ (λ p. is_running p.run ≡ false)
+
+marked_one : (p : Program) → is_running p.run ≡ true → is_some p.mark ≡ true → Waits (Some p)
+unfolding Waits
+marked_one p r m = inl (r, m)
+
+rests_one : (p : Program) → is_running p.run ≡ false → Waits (Some p)
+unfolding Waits
+rests_one p r = inr r
+
+-- ---- a beat
+
+-- what a beat of such a program leaves: it waits still, no instruction retires, and the slice goes on only where it runs
+record Rests (s : Session) (b : Beat) : Type 0 where
+  waits : Waits (program_of (performed histories b.acts s))
+  none : b.moved ≡ 0
+  going : b.ending ≡ None → IsMarked (performed histories b.acts s).now.debuggee
+
+tick_rests : (s : Session) (p : Program) (tick : Tick) (r : is_running p.run ≡ true) (m : is_some p.mark ≡ true) → Rests s (record { acts = telling s.now p tick; moved = 0; ending = ending_of tick.outcome })
+tick_rests s p tick r m = by tick.outcome refl where
+  by : (outcome : CameTo) → tick.outcome ≡ outcome → Rests s (record { acts = telling s.now p tick; moved = 0; ending = ending_of tick.outcome })
+  by Went same =
+      let is : program_of (performed histories (telling s.now p tick) s) ≡ Some (told p) = telling_program s.now p tick s ∙ ap (λ (o : CameTo). let q : Option Program = Some (concluded_as o (told p)) in q) same in
+      record {
+        waits = subst Waits (sym is) (marked_one (told p) r m);
+        none = refl;
+        going = λ _. subst (λ (q : Option Program). MatchOption q ⊥ (λ p. (is_running p.run ≡ true) × (is_some p.mark ≡ true))) (sym is) (r, m);
+      }
+  by (Stopped reason) same =
+      let is : program_of (performed histories (telling s.now p tick) s) ≡ Some (stopped (why.Met reason) (told p)) = telling_program s.now p tick s ∙ ap (λ (o : CameTo). let q : Option Program = Some (concluded_as o (told p)) in q) same in
+      record {
+        waits = subst Waits (sym is) (rests_one (stopped (why.Met reason) (told p)) refl);
+        none = refl;
+        going = λ e. absurd (let no : ending_of tick.outcome ≡ None = e in let some = ap ending_of same in cc);
+      }
+  by (Ended code) same =
+      let is : program_of (performed histories (telling s.now p tick) s) ≡ Some (ended (Some code) (told p)) = telling_program s.now p tick s ∙ ap (λ (o : CameTo). let q : Option Program = Some (concluded_as o (told p)) in q) same in
+      record {
+        waits = subst Waits (sym is) (rests_one (ended (Some code) (told p)) refl);
+        none = refl;
+        going = λ e. absurd (let no : ending_of tick.outcome ≡ None = e in let some = ap ending_of same in cc);
+      }
+
+idle_rests : (s : Session) (p : Program) (e : Ending) → program_of s ≡ Some p → is_running p.run ≡ true → is_some p.mark ≡ true → Rests s (ends e)
+idle_rests s p e is r m = record { waits = subst Waits (sym is) (marked_one p r m); none = refl; going = λ x. absurd (let no : Some e ≡ None = x in cc) }
+
+mark_rests : (s : Session) (p : Program) (mark : Option Mark) (more : Bool) → is_some mark ≡ true → Rests s (goes_unless mark s.now p more)
+mark_rests s p None more m = absurd (let no : false ≡ true = m in cc)
+mark_rests s p (Some mark) more m =
+    let is = becomes_program s.now (stopped (why_marked mark) p) (tells s.now (stop_event (why_marked mark) [] ∷ [])) s (tells_only s.now (stop_event (why_marked mark) [] ∷ [])) in
+    record { waits = subst Waits (sym is) (rests_one (stopped (why_marked mark) p) refl); none = refl; going = λ x. absurd (let no : Some ending.Stopped ≡ None = x in cc) }
+
+owed_rests : (owed : Option Tick) (s : Session) (p : Program) (more : Bool) → program_of s ≡ Some p → is_running p.run ≡ true → is_some p.mark ≡ true → Rests s (beat_by owed (histories.see s) p more)
+owed_rests (Some tick) s p more is r m = tick_rests s p tick r m
+owed_rests None s p more is r m =
+    if_keeps (Rests s) (not (is_runnable_by s.now.link p.run)) _ _ (λ _. idle_rests s p ending.Idle is r m)
+    (λ _. if_keeps (Rests s) (ltb FULL (length (waiting_of s))) _ _ (λ _. idle_rests s p ending.Full is r m) (λ _. mark_rests s p p.mark more m))
+
+program_rests : (program : Option Program) (s : Session) (more : Bool) → program_of s ≡ program → MatchOption program ⊥ (λ p. (is_running p.run ≡ true) × (is_some p.mark ≡ true)) → Rests s (beat_of program (histories.see s) more)
+program_rests None s more is h = absurd h
+program_rests (Some p) s more is h = owed_rests p.owed s p more is h.0 h.1
+
+-- ---- a slice
+
+record Slept (d : Slicing Session) : Type 0 where
+  waits : Waits (program_of d.state)
+  none : d.moved ≡ 0
+  going : d.ending ≡ None → IsMarked d.state.now.debuggee
+
+next_slept : (n : ℕ) (d : Slicing Session) (e : Option Ending) → d.ending ≡ e → Slept d → Slept (next_by histories n e d)
+next_slept n d (Some e) is h = h
+next_slept n d None is h =
+    let b = program_rests (program_of d.state) d.state (ltb d.moved n) refl (h.going is) in
+    let before = h.none in let now = b.none in
+    record { waits = b.waits; none = omega (arith, before, now); going = b.going }
+
+slept : (n i : ℕ) (s : Session) → IsMarked s.now.debuggee → Slept (beats histories n i s)
+unfolding Waits
+slept n zero s h = record { waits = inl h; none = refl; going = λ _. h }
+slept n (suc i) s h = next_slept n (beats histories n i s) (beats histories n i s).ending refl (slept n i s h)
+
+-- ---- an answer
+
+agreed_debuggee : (l : Option Link) (terms : Terms) (s : Session) → (agreed_on l terms (on l s)).now.debuggee ≡ s.now.debuggee
+agreed_debuggee None terms s = refl
+agreed_debuggee (Some l) terms s = refl
+
+replied_debuggee : (pending : List Pending) (outcome : Answered) (s : Session) → (replied_on pending outcome s).now.debuggee ≡ s.now.debuggee
+replied_debuggee [] outcome s = refl
+replied_debuggee (p ∷ rest) outcome s = said_debuggee s.now.link (IsResponse (response_to p.ask outcome)) rest s
+
+hung_debuggee : (l : Option Link) (s : Session) → (hung_on l (on l s)).now.debuggee ≡ s.now.debuggee
+hung_debuggee None s = refl
+hung_debuggee (Some l) s = refl
+
+closed_debuggee : (closes : Bool) (s : Session) → (performed histories (closing closes) s).now.debuggee ≡ s.now.debuggee
+closed_debuggee true s = hung_debuggee s.now.link s
+closed_debuggee false s = refl
+
+answering_debuggee : (a : Answering) (s : Session) → (performed histories (answering a) s).now.debuggee ≡ a.debuggee
+answering_debuggee a s =
+    let t : Session = performed_on (Become a.debuggee) s in
+    let u : Session = performed_on (Agree a.terms) t in
+    let v : Session = performed_on (Reply a.outcome) u in
+    ap (λ (x : Session). x.now.debuggee) (performed_append (map Tell a.events) (closing a.closes) v)
+    ∙ closed_debuggee a.closes (performed histories (map Tell a.events) v)
+    ∙ same_debuggee (map Tell a.events) v (told_only a.events)
+    ∙ replied_debuggee u.now.arrivals.pending a.outcome u
+    ∙ agreed_debuggee t.now.link a.terms t
+
+abbrev Marked : Option Program → Type 0
+Marked program = MatchOption program ⊥ (λ p. (is_running p.run ≡ true) × (is_some p.mark ≡ true))
+
+-- the program waits after it, or the request ends the connection
+abbrev Goes : List ℕ → Answering → Type 0
+Goes name a = Waits a.debuggee.program ⊎ (bytes_eq name DISCONNECT.now ≡ true)
+
+still_marked : (program : Option Program) → Marked program → Waits program
+unfolding Waits
+still_marked program h = inl h
+
+on_waits : (f : Program → Program) (program : Option Program) → Marked program → ((p : Program) → is_running p.run ≡ true → is_some p.mark ≡ true → Waits (Some (f p))) → Waits (on_program f program)
+on_waits f None h keeps = absurd h
+on_waits f (Some p) h keeps = keeps p h.0 h.1
+
+keeps_mark : (mark : Option Mark) (other : Option Mark) → is_some mark ≡ true → is_some (first_mark mark other) ≡ true
+keeps_mark None other h = absurd (let no : false ≡ true = h in cc)
+keeps_mark (Some mark) other h = refl
+
+marked_by_waits : (r : Run) (mark : Mark) (p : Program) → p.run ≡ r → is_running p.run ≡ true → is_some p.mark ≡ true → Waits (Some (marked_by r mark p))
+marked_by_waits run.Running mark p is r m = marked_one (record p { mark = first_mark p.mark (Some mark) }) r (keeps_mark p.mark (Some mark) m)
+marked_by_waits (run.Stopped why) mark p is r m = marked_one p r m
+marked_by_waits (run.Ended code) mark p is r m = marked_one p r m
+
+marked_waits : (mark : Mark) (p : Program) → is_running p.run ≡ true → is_some p.mark ≡ true → Waits (Some (marked mark p))
+marked_waits mark p r m = marked_by_waits p.run mark p refl r m
+
+begun_waits : (p q : Program) → q.mark ≡ p.mark → is_some p.mark ≡ true → Waits (Some (first_run q))
+begun_waits p q same m = marked_one (first_run q) refl (keeps_mark q.mark _ (ap is_some same ∙ m))
+
+-- a request that wants the program to stand still is refused
+no_step : {A : Type 0} (program : Option Program) → Marked program → goes_on (run_of program) ≡ false → A
+no_step None h still = absurd h
+no_step (Some p) h still = absurd (let no : true ≡ false = sym h.0 ∙ still in cc)
+
+command_waits : (now : Now) (terms : Terms) (file : Option (List ℕ)) (command : Command) → Marked now.debuggee.program → is_taken_in terms.phase command ≡ true → Meets (run_of now.debuggee.program) (demand_of command) → Goes (name_of command) (success_of now terms file command)
+command_waits now terms file (Initialize arguments) h taken meets = inl (still_marked now.debuggee.program h)
+command_waits now terms None (Launch arguments) h taken meets = inl (still_marked now.debuggee.program h)
+command_waits now terms (Some text) (Launch arguments) h taken meets = by (error_of text now.size) where
+  by : (error : Option AsmError) → Goes (name_of (Launch arguments)) (assembles now terms arguments text error)
+  by None = inl (rests_one (just_loaded (assembled text) arguments.program arguments.stop_on_entry now.size) refl)
+  by (Some e) = inl (still_marked now.debuggee.program h)
+command_waits now terms file ConfigurationDone h taken meets = inl (on_waits first_run now.debuggee.program h (λ p r m. begun_waits p p refl m))
+command_waits now terms file Threads h taken meets = inl (still_marked now.debuggee.program h)
+command_waits now terms file (Cancel arguments) h taken meets = inl (still_marked now.debuggee.program h)
+command_waits now terms file Restart h taken meets = inl (on_waits (λ p. first_run (restarted p)) now.debuggee.program h (λ p r m. begun_waits p (restarted p) refl m))
+command_waits now terms file Terminate h taken meets = inl (on_waits (ended None) now.debuggee.program h (λ p r m. rests_one (ended None p) refl))
+command_waits now terms file (Disconnect arguments) h taken meets = inr refl
+command_waits now terms file SetExceptionBreakpoints h taken meets = inl (still_marked now.debuggee.program h)
+command_waits now terms file (Continue arguments) h taken meets = no_step now.debuggee.program h meets.still
+command_waits now terms file (Next arguments) h taken meets = no_step now.debuggee.program h meets.still
+command_waits now terms file (StepIn arguments) h taken meets = no_step now.debuggee.program h meets.still
+command_waits now terms file (StepOut arguments) h taken meets = no_step now.debuggee.program h meets.still
+command_waits now terms file (Pause arguments) h taken meets = inl (on_waits (marked mark.Pause) now.debuggee.program h (λ p r m. marked_waits mark.Pause p r m))
+command_waits now terms file command h taken meets = absurd (not_taken taken)
+
+answer_waits : (now : Now) (terms : Terms) (file : Option (List ℕ)) (p : Pending) → Marked now.debuggee.program → Goes (name_asked p.ask) (answer_to now terms file p)
+answer_waits now terms file p h =
+    of_answer (λ ask answer. Goes (name_asked ask) answer) now terms file p.ask p.fate
+    (λ refusal _. inl (still_marked now.debuggee.program h))
+    (λ r taken meets. command_waits now terms file r.command h taken meets)
+
+-- ---- an event
+
+abbrev Passes : Session → Event → Outcome → Type 0
+Passes s e o = EditorLeaves s e ⊎ Waits (program_of (performed histories o.acts s))
+
+turn_passes : (l : Link) (file : Option (List ℕ)) (pending : List Pending) (s : Session) → let t = on_with (Some l) pending s in Marked (program_of t) → Passes t (Turn file) (next_turn t.now l.terms file pending)
+turn_passes l file [] s h = inr (still_marked (program_of s) h)
+turn_passes l file (p ∷ rest) s h = by (answer_waits t.now l.terms file p h) where
+  t : Session
+  t = on_with (Some l) (p ∷ rest) s
+
+  a : Answering
+  a = answer_to t.now l.terms file p
+
+  by : Goes (name_asked p.ask) a → Passes t (Turn file) (next_turn t.now l.terms file (p ∷ rest))
+  by (inl w) = inr (subst (λ (d : Debuggee). Waits d.program) (sym (answering_debuggee a t)) w)
+  by (inr leaves) = inl leaves
+
+answers_pass : (l : Link) (file : Option (List ℕ)) (s : Session) → Marked (program_of s) → Passes (on (Some l) s) (Turn file) (answers_next (histories.see (on (Some l) s)) l file)
+answers_pass l file s h = if_keeps (Passes (on (Some l) s) (Turn file)) (ltb FULL (length (waiting_of (on (Some l) s)))) _ _ (λ _. inr (still_marked (program_of s) h)) (λ _. turn_passes l file s.now.arrivals.pending s h)
+
+owed_passes : (owed : Option Tick) (l : Link) (file : Option (List ℕ)) (p : Program) (s : Session) → is_running p.run ≡ true → is_some p.mark ≡ true → Marked (program_of s) → Passes (on (Some l) s) (Turn file) (turn_by owed (histories.see (on (Some l) s)) l p file)
+owed_passes None l file p s r m h = answers_pass l file s h
+owed_passes (Some tick) l file p s r m h = inr (tick_rests (on (Some l) s) p tick r m).waits
+
+program_passes : (program : Option Program) (l : Link) (file : Option (List ℕ)) (s : Session) → Marked program → Marked (program_of s) → Passes (on (Some l) s) (Turn file) (turn_of program (histories.see (on (Some l) s)) l file)
+program_passes None l file s h g = absurd h
+program_passes (Some p) l file s h g = owed_passes p.owed l file p s h.0 h.1 g
+
+piece_passes : (l : Link) (piece : List ℕ) (s : Session) → Marked (program_of s) → Passes (on (Some l) s) (Recv piece) (outcome_at (histories.see (on (Some l) s)) (Some l) (Recv piece))
+piece_passes l piece s h =
+    let same = inr (still_marked (program_of s) h) in
+    if_keeps (Passes (on (Some l) s) (Recv piece)) l.is_closing _ _ (λ _. same)
+    (λ _. if_keeps (Passes (on (Some l) s) (Recv piece)) (ltb MOST_PIECE (length piece)) _ _ (λ _. same)
+    (λ _. if_keeps (Passes (on (Some l) s) (Recv piece)) (leb MOST_PENDING (length s.now.arrivals.pending)) _ _ (λ _. same)
+    (λ _. if_keeps (λ (t : Session). EditorLeaves (on (Some l) s) (Recv piece) ⊎ Waits (program_of t)) l.is_closing _ _ (λ _. same) (λ _. same))))
+
+hold_waits : (program : Option Program) → Marked program → Waits (on_program (marked mark.Hold) program)
+hold_waits program h = on_waits (marked mark.Hold) program h (λ p r m. marked_waits mark.Hold p r m)
+
+outcome_passes : (l : Option Link) (e : Event) (s : Session) → Marked (program_of s) → Passes (on l s) e (outcome_at (histories.see (on l s)) l e)
+outcome_passes None Connect s h = if_keeps (Passes (on None s) Connect) (eqb s.now.connections LAST_CONNECTION) _ _ (λ _. inr (still_marked (program_of s) h)) (λ _. inr (still_marked (program_of s) h))
+outcome_passes None (Recv piece) s h = inr (still_marked (program_of s) h)
+outcome_passes None (Turn file) s h = inr (still_marked (program_of s) h)
+outcome_passes None (Slice n) s h = inr (still_marked (program_of s) h)
+outcome_passes None Hold s h = inr (hold_waits (program_of s) h)
+outcome_passes None (Sent n) s h = inr (still_marked (program_of s) h)
+outcome_passes None DropConnection s h = inl tt
+outcome_passes (Some l) Connect s h = inr (still_marked (program_of s) h)
+outcome_passes (Some l) (Recv piece) s h = piece_passes l piece s h
+outcome_passes (Some l) (Turn file) s h = program_passes (program_of s) l file s h h
+outcome_passes (Some l) (Slice n) s h = inr (still_marked (program_of s) h)
+outcome_passes (Some l) Hold s h = inr (hold_waits (program_of s) h)
+outcome_passes (Some l) (Sent n) s h = if_keeps (Passes (on (Some l) s) (Sent n)) (ltb (length (waiting_of (on (Some l) s))) n) _ _ (λ _. inr (still_marked (program_of s) h)) (λ _. inr (still_marked (program_of s) h))
+outcome_passes (Some l) DropConnection s h = inl tt
+
+event_passes : (e : Event) (s : Session) → IsMarked s.now.debuggee → EditorLeaves s e ⊎ Waits (program_of (Effect s e))
+event_passes Connect s h = outcome_passes s.now.link Connect s h
+event_passes (Recv piece) s h = outcome_passes s.now.link (Recv piece) s h
+event_passes (Turn file) s h = outcome_passes s.now.link (Turn file) s h
+event_passes (Slice n) s h = inr (slept n (enough n) s h).waits
+event_passes Hold s h = outcome_passes s.now.link Hold s h
+event_passes (Sent n) s h = outcome_passes s.now.link (Sent n) s h
+event_passes DropConnection s h = outcome_passes s.now.link DropConnection s h
+
+retires_none : (e : Event) (s : Session) → IsMarked s.now.debuggee → RetiresNone s e
+retires_none Connect s h = tt
+retires_none (Recv piece) s h = tt
+retires_none (Turn file) s h = tt
+retires_none (Slice n) s h = (slept n (enough n) s h).none
+retires_none Hold s h = tt
+retires_none (Sent n) s h = tt
+retires_none DropConnection s h = tt
+
+goes_on_none : (e : Event) (events : List Event) (s : Session) → (IsMarked (Effect s e).now.debuggee → RetiresNoneIn events (Effect s e)) → EditorLeaves s e ⊎ Waits (program_of (Effect s e))
+    → IsAtRest (Effect s e).now.debuggee ⊎ (EditorLeaves s e ⊎ RetiresNoneIn events (Effect s e))
+unfolding Waits
+goes_on_none e events s rest (inl leaves) = inr (inl leaves)
+goes_on_none e events s rest (inr (inl m)) = inr (inr (rest m))
+goes_on_none e events s rest (inr (inr rests)) = inl rests
+
+retires_none_in : (events : List Event) (s : Session) → IsMarked s.now.debuggee → RetiresNoneIn events s
+retires_none_in [] s h = tt
+retires_none_in (e ∷ events) s h = (retires_none e s h, goes_on_none e events s (retires_none_in events (Effect s e)) (event_passes e s h))
+
+pub marked_retires_none : (s : Session) → MarkedRetiresNone s
+marked_retires_none s h events = retires_none_in events s h
+
+pub pause_marks : (now : Now) → PauseMarks now
+pause_marks now terms file arguments runs = by now.debuggee.program runs where
+  one : (r : Run) (p : Program) → p.run ≡ r → is_running p.run ≡ true → (is_running (marked_by r mark.Pause p).run ≡ true) × (is_some (marked_by r mark.Pause p).mark ≡ true)
+  one run.Running p is r = (r, first p.mark) where
+    first : (m : Option Mark) → is_some (first_mark m (Some mark.Pause)) ≡ true
+    first None = refl
+    first (Some m) = refl
+  one (run.Stopped why) p is r = absurd (let no : is_running (run.Stopped why) ≡ true = ap is_running (sym is) ∙ r in cc)
+  one (run.Ended code) p is r = absurd (let no : is_running (run.Ended code) ≡ true = ap is_running (sym is) ∙ r in cc)
+
+  by : (program : Option Program) → MatchOption program ⊥ (λ p. is_running p.run ≡ true) → Marked (on_program (marked mark.Pause) program)
+  by None h = absurd h
+  by (Some p) h = one p.run p refl h
