@@ -11,3 +11,4 @@ pub mod Made
 pub mod Loadable
 pub mod Done
 pub mod Texts
+pub mod Narrow

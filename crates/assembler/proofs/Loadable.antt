@@ -21,7 +21,7 @@ use Rattle.assembler.proofs.Rising.{multiple, parted, rows_rise}
 
 -- ---- the last line ends within the limit
 
-ends : (limit : ℕ) (before : List Label) (p : Place) → misplaced limit before p ≡ None → end_of_line p.source p.address ≤ limit
+pub ends : (limit : ℕ) (before : List Label) (p : Place) → misplaced limit before p ≡ None → end_of_line p.source p.address ≤ limit
 ends limit before p h =
     let P : Bool → Bool → Bool → Type 0 = λ twice apart fits. defines_twice p.address before p.source.line.labels ≡ twice → (is_aligned p.source.line && not (p.address % 4 == 0)) ≡ apart → nat_le (end_of_line p.source p.address) limit ≡ fits → end_of_line p.source p.address ≤ limit in
     let go : P (defines_twice p.address before p.source.line.labels) (is_aligned p.source.line && not (p.address % 4 == 0)) (nat_le (end_of_line p.source p.address) limit) = elim (defines_twice p.address before p.source.line.labels) as (λ twice. P twice (is_aligned p.source.line && not (p.address % 4 == 0)) (nat_le (end_of_line p.source p.address) limit)) [

@@ -4,16 +4,16 @@
 -- address. Here the parts are made: an instruction is its word, computed, and its bytes; data is itself. A text of
 -- which nothing is wrong has one image, and this is it. Of a text with which something is wrong, what is computed means
 -- nothing: a statement without a content has no bytes, and a text that cannot be read has no lines.
-use Rattle.std.specs.Prelude.{◌≡◌, ℕ, ◌+◌, ◌%◌, ◌≤◌, List, [], ◌∷◌, ◌++◌, length, Result, Ok, Err}
+use Rattle.std.specs.Prelude.{◌≡◌, ℕ, ◌+◌, ◌%◌, ◌≤◌, ◌<◌, ◌^◌, All, None, List, [], ◌∷◌, ◌++◌, length, Result, Ok, Err}
 use Rattle.image.specs.Memory.{first_address, word_bytes}
-use Rattle.image.specs.Lines.{Label, Table}
+use Rattle.image.specs.Lines.{Label, Row, Table, line_in, start_of}
 use Rattle.image.specs.declared.Image.{Image}
 use Rattle.rv32i.specs.Words.{word_of}
 use Rattle.rv32i.specs.declared.instr.Instr.{Instr}
 use Rattle.assembler.specs.declared.error.AsmError.{AsmError}
 use Rattle.assembler.specs.declared.program.Source.{Source}
 use Rattle.assembler.specs.Contents.{Code, Contained, content_at, Plain}
-use Rattle.assembler.specs.Placed.{placed, Placed}
+use Rattle.assembler.specs.Placed.{error_of, placed, Placed}
 use Rattle.assembler.specs.Places.{entry_of, labels_in, Place, rows_in}
 use Rattle.assembler.specs.Program.{read_text}
 
@@ -67,3 +67,11 @@ pub record IsLoadable (size : ℕ) (image : Image) : Type 0 where
 -- An image that is right for a text can be loaded into memory of the size that it is right for.
 abbrev pub PlacedIsLoadable : Type 0
 PlacedIsLoadable = (text : List ℕ) (size : ℕ) (image : Image) → Placed text size image → IsLoadable size image
+
+-- a row of a line table, whose line and first address have 32 bits
+abbrev pub IsNarrowRow : Row → Type 0
+IsNarrowRow row = (line_in row < 2 ^ 32) × (start_of row < 2 ^ 32)
+
+-- The line table of a text with which nothing is wrong has such rows.
+abbrev pub AssembledIsNarrow : Type 0
+AssembledIsNarrow = (text : List ℕ) (size : ℕ) → error_of text size ≡ None → All IsNarrowRow (assembled text).lines.rows

@@ -1,7 +1,7 @@
 //! What holds of every image and of every text: each law is the contract of a function that does
 //! nothing.
 
-ghost use Rattle.assembler.specs.Assembled.{PlacedIsAssembled, PlacedIsLoadable};
+ghost use Rattle.assembler.specs.Assembled.{AssembledIsNarrow, PlacedIsAssembled, PlacedIsLoadable};
 ghost use Rattle.assembler.specs.Placed.{PlacedIsUnique};
 ghost use Rattle.assembler.specs.Texts.{TextsAreWords};
 
@@ -19,6 +19,11 @@ pub fn placed_is_assembled()
 /// of 4: so it can be loaded.
 pub fn placed_is_loadable()
     ensures { PlacedIsLoadable }
+{}
+
+/// The lines and addresses in the line table of a text with which nothing is wrong are numbers of 32 bits.
+pub fn assembled_is_narrow()
+    ensures { AssembledIsNarrow }
 {}
 
 /// The disassembly of an instruction at an address reads back as its word: as a line with no label and with a
