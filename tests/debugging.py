@@ -1,5 +1,6 @@
 """A session in which a program is debugged, written down: what an editor asks and is told, as commands of the session's player and their
 answers. The numbers of both sides are counted here."""
+from breaks import body_of
 from program import frame
 from texts import CAPABILITIES, REFUSED, THREADS, request
 
@@ -22,8 +23,10 @@ NOT_STOPPED = ("notStopped", 4)
 WAS_CANCELLED = ("cancelled", 5)
 REPEATED = ("repeatedSequence", 6)
 NO_THREAD = ("noThread", 7)
+TOO_MUCH = ("tooMuch", 15)
 ASSEMBLY_FAILED = ("assemblyFailed", 17)
 ENDED = ("ended", 18)
+EXHAUSTED = ("referencesExhausted", 19)
 GONE = ("requestGone", 20)
 UNREADABLE = ("fileUnreadable", 21)
 
@@ -37,9 +40,11 @@ SUCCESSES = {"initialize": CAPABILITIES, "threads": THREADS,
              "continue": '{"body":{"allThreadsContinued":true},"command":"continue","request_seq":%d,"seq":%d,"success":true,"type":"response"}'}
 
 
-def stopped(reason, text=None):
+def stopped(reason, text=None, ids=()):
+    """ids: the numbers of the breakpoints that stopped the program."""
+    hit = '"hitBreakpointIds":[%s],' % ",".join(map(str, ids)) if ids else ""
     more = "" if text is None else '"text":"%s",' % text
-    return "stopped", '{"allThreadsStopped":true,"reason":"%s",%s"threadId":1}' % (reason, more)
+    return "stopped", '{"allThreadsStopped":true,%s"reason":"%s",%s"threadId":1}' % (hit, reason, more)
 
 
 def printed(number):
@@ -56,10 +61,11 @@ def event_text(event, seq):
     return '{%s"event":"%s","seq":%d,"type":"event"}' % ("" if body is None else '"body":%s,' % body, name, seq)
 
 
-def success_text(command, request_seq, seq):
-    if command in SUCCESSES:
+def success_text(command, request_seq, seq, body=None):
+    if body is None and command in SUCCESSES:
         return SUCCESSES[command] % (request_seq, seq)
-    return '{"command":"%s","request_seq":%d,"seq":%d,"success":true,"type":"response"}' % (command, request_seq, seq)
+    said = "" if body is None else '"body":%s,' % body
+    return '{%s"command":"%s","request_seq":%d,"seq":%d,"success":true,"type":"response"}' % (said, command, request_seq, seq)
 
 
 def refusal_text(refusal, text, command, request_seq, seq):
@@ -112,12 +118,12 @@ class Debugging:
             self.queues(lambda seq: event_text(event, seq))
         return self
 
-    def answers(self, command, refusal=None, text=None, file=None, seq=None):
+    def answers(self, command, refusal=None, text=None, file=None, seq=None, body=None):
         """The first request that waits, which is this, is answered, with the file if one is given."""
         number = self.asked if seq is None else seq
         self.does("turn" if file is None else "turn " + file.hex(), "Answered")
         if refusal is None:
-            return self.queues(lambda seq: success_text(command, number, seq))
+            return self.queues(lambda seq: success_text(command, number, seq, body))
         return self.queues(lambda seq: refusal_text(refusal, text, command, number, seq))
 
     def shows(self):
@@ -130,9 +136,16 @@ class Debugging:
         self.taken, self.waiting = self.taken + self.waiting, b""
         return self
 
-    def asks(self, command, refusal=None, text=None, file=None, events=(), seq=None, **arguments):
+    def asks(self, command, refusal=None, text=None, file=None, events=(), seq=None, body=None, **arguments):
         """A request comes and is answered, and its answer and the events after it are taken."""
-        return self.sends(command, seq, **arguments).answers(command, refusal, text, file, seq).tells(*events).takes()
+        return self.sends(command, seq, **arguments).answers(command, refusal, text, file, seq, body).tells(*events).takes()
+
+    def sets(self, asked, entries, path=PATH):
+        """Breakpoints at lines are asked for, and this is said of each."""
+        return self.asks("setBreakpoints", body=body_of(entries), source={"path": path}, breakpoints=asked)
+
+    def sets_at_instructions(self, asked, entries):
+        return self.asks("setInstructionBreakpoints", body=body_of(entries), breakpoints=asked)
 
     def slices(self, moves, moved, ending, *events):
         """A slice of so many moves, and what it tells is taken."""
@@ -156,3 +169,8 @@ class Debugging:
 def debugging(file, *new, **arguments):
     """A session in which the program was begun."""
     return Debugging(*new).begins(file, **arguments)
+
+
+def launched(file, *new, **arguments):
+    """A session in which the program was launched, and the editor has not said all."""
+    return Debugging(*new).connects().asks("initialize").launches(file, **arguments)

@@ -10,6 +10,9 @@ from program import PROGRAM, TOP, Talk, expect, frame, run
 from texts import (ANSWERS, CANCELLED, CAPABILITIES, DISCONNECTED, FIRST, FIRST_ANSWER, INITIALIZE, REFUSED, SESSION, THREADS, refused,
                    request)
 
+# The body of a success of `continue`, as a member.
+CONTINUED = '"body":{"allThreadsContinued":true},'
+
 # A program that holds a transcript against the protocol's published schema, where there is one at hand.
 VALIDATOR = os.environ.get("DAP_VALIDATE")
 
@@ -75,19 +78,20 @@ def the_example_of_steps_debugs_a_program():
     def done(command, request_seq, seq, body=""):
         return '{%s"command":"%s","request_seq":%d,"seq":%d,"success":true,"type":"response"}' % (body, command, request_seq, seq)
 
-    def stopped(reason, seq):
-        return '{"body":{"allThreadsStopped":true,"reason":"%s","threadId":1},"event":"stopped","seq":%d,"type":"event"}' % (reason, seq)
+    def stopped(reason, seq, hit=""):
+        return '{"body":{"allThreadsStopped":true,%s"reason":"%s","threadId":1},"event":"stopped","seq":%d,"type":"event"}' % (hit, reason, seq)
 
     answers = [
         [CAPABILITIES % (1, 1)],
         [done("launch", 2, 2), '{"event":"initialized","seq":3,"type":"event"}'],
-        [done("configurationDone", 3, 4), stopped("entry", 5)],
-        [done("next", 4, 6), stopped("step", 7)],
-        [done("stepIn", 5, 8), stopped("step", 9)],
-        [done("stepOut", 6, 10), stopped("step", 11)],
-        [done("continue", 7, 12, '"body":{"allThreadsContinued":true},'), '{"body":{"exitCode":6},"event":"exited","seq":13,"type":"event"}',
-         '{"event":"terminated","seq":14,"type":"event"}'],
-        [done("disconnect", 8, 15)],
+        [done("setBreakpoints", 3, 4, '"body":{"breakpoints":[{"id":1,"instructionReference":"0x00010014","line":8,"verified":true}]},')],
+        [done("configurationDone", 4, 5), stopped("entry", 6)],
+        [done("next", 5, 7), stopped("step", 8)],
+        [done("continue", 6, 9, CONTINUED), stopped("breakpoint", 10, '"hitBreakpointIds":[1],')],
+        [done("stepOut", 7, 11), stopped("step", 12)],
+        [done("continue", 8, 13, CONTINUED), '{"body":{"exitCode":6},"event":"exited","seq":14,"type":"event"}',
+         '{"event":"terminated","seq":15,"type":"event"}'],
+        [done("disconnect", 9, 16)],
     ]
     path = os.path.join(TOP, "examples", "steps")
     played = subprocess.run([os.path.join(TOP, "examples", "play"), path, PROGRAM], capture_output=True, timeout=20, cwd=TOP)

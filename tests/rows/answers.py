@@ -1,23 +1,17 @@
 """Answers: what requests about the machine answer, and the list of breakpoints that they set."""
 import json
 
+from breaks import ADDRESS, CONDITION, HIT, MOST, NO_CODE, UNKNOWN, at, is_not, is_set, on
 from playing import Row
 
 PLAYER = "play_answers"
 BASE = 0x10000
 SIZE = 1 << 20
-MOST = 1024
 PATH = "/w/p.s"
 
 PROFILE = "docs/PROTOCOL.md, \"Breakpoints\""
-EXAMPLES = "docs/PROTOCOL.md, \"Bodies of answers that are not yet sent\""
+EXAMPLES = "docs/PROTOCOL.md, \"Bodies of answers\""
 BY_HAND = "worked by hand from docs/PROTOCOL.md, \"Breakpoints\""
-
-UNKNOWN = "unknown source"
-CONDITION = "bad condition"
-HIT = "bad hit condition"
-NO_CODE = "no code at or after this line"
-ADDRESS = "bad address"
 
 # For each line with code how many words that has; None: a line without code.
 P = (1, 2, 1, 1, 1, 1)
@@ -68,28 +62,6 @@ def lines(asked, entries, listed, path=PATH, **options):
 
 def instructions(asked, entries, listed, **options):
     return succeeds("setInstructionBreakpoints", {"breakpoints": asked}, entries, listed, **options)
-
-
-def at(line, condition=None, hits=None):
-    """A breakpoint at a line, as it is asked for."""
-    return {"line": line, **terms(condition, hits)}
-
-
-def on(reference, offset=None, condition=None, hits=None):
-    """A breakpoint at an address, as it is asked for."""
-    return {"instructionReference": reference, **({} if offset is None else {"offset": offset}), **terms(condition, hits)}
-
-
-def terms(condition, hits):
-    return {**({} if condition is None else {"condition": condition}), **({} if hits is None else {"hitCondition": hits})}
-
-
-def is_set(number, address, line=None):
-    return {"id": number, "instructionReference": "0x%08x" % address, "verified": True, **({} if line is None else {"line": line})}
-
-
-def is_not(message, line=None):
-    return {"message": message, "verified": False, **({} if line is None else {"line": line})}
 
 
 def the_list(*breakpoints):

@@ -1,6 +1,7 @@
 """What each request answers in each phase of a connection, and in which order the reasons for a refusal are looked at."""
-from debugging import (BAD_ARGUMENTS, CALLS, CIRCLES, ENDED, GONE, INITIALIZED, NO_THREAD, NOT_STOPPED, PATH, REPEATED, TERMINATED, UNKNOWN,
-                       WAS_CANCELLED, WRONG_PHASE, Debugging, debugging, exits, stopped)
+from breaks import MOST, at, body_of, on
+from debugging import (BAD_ARGUMENTS, CALLS, CIRCLES, ENDED, GONE, INITIALIZED, NO_THREAD, NOT_STOPPED, PATH, REPEATED, TERMINATED, TOO_MUCH,
+                       UNKNOWN, WAS_CANCELLED, WRONG_PHASE, Debugging, debugging, exits, stopped)
 from playing import Row
 
 PLAYER = "play_session"
@@ -8,10 +9,13 @@ PROFILE = "docs/PROTOCOL.md, worked by hand"
 
 # The requests, with arguments that each takes.
 THREAD = {"threadId": 1}
-REQUESTS = {"initialize": {}, "launch": {"program": PATH}, "configurationDone": {}, "threads": {}, "setExceptionBreakpoints": {"filters": []},
-            "continue": THREAD, "next": THREAD, "stepIn": THREAD, "stepOut": THREAD, "pause": THREAD, "restart": {}, "terminate": {},
-            "cancel": {}, "disconnect": {}, "goto": {"threadId": 1, "targetId": 1}}
+REQUESTS = {"initialize": {}, "launch": {"program": PATH}, "configurationDone": {}, "threads": {}, "setBreakpoints": {"breakpoints": []},
+            "setInstructionBreakpoints": {"breakpoints": []}, "setExceptionBreakpoints": {"filters": []}, "continue": THREAD, "next": THREAD,
+            "stepIn": THREAD, "stepOut": THREAD, "pause": THREAD, "restart": {}, "terminate": {}, "cancel": {}, "disconnect": {},
+            "goto": {"threadId": 1, "targetId": 1}}
 STEPS = ("continue", "next", "stepIn", "stepOut")
+BREAKPOINTS = ("setBreakpoints", "setInstructionBreakpoints", "setExceptionBreakpoints")
+TOO_MANY = MOST + 1
 
 
 def fresh():
@@ -60,25 +64,26 @@ PHASES = [
     ("nothing was agreed", fresh, answers_of(("initialize", *EVERYWHERE), UNSERVED)),
     ("initialize was answered", initialized, answers_of(("launch", "threads", *EVERYWHERE), UNSERVED)),
     ("a program was launched", configuring, answers_of(
-        ("configurationDone", "threads", "setExceptionBreakpoints", "terminate", *EVERYWHERE), UNSERVED)),
+        ("configurationDone", "threads", *BREAKPOINTS, "terminate", *EVERYWHERE), UNSERVED)),
     ("a program was launched, and ended", configuring_an_ended_program, answers_of(
-        ("threads", "setExceptionBreakpoints", *EVERYWHERE), {"configurationDone": ENDED, "terminate": ENDED, **UNSERVED})),
+        ("threads", *BREAKPOINTS, *EVERYWHERE), {"configurationDone": ENDED, "terminate": ENDED, **UNSERVED})),
     ("a program runs", running, answers_of(
-        ("threads", "setExceptionBreakpoints", "pause", "restart", "terminate", *EVERYWHERE),
+        ("threads", *BREAKPOINTS, "pause", "restart", "terminate", *EVERYWHERE),
         {**{command: NOT_STOPPED for command in STEPS}, **UNSERVED})),
     ("a program stands still", standing, answers_of(
-        ("threads", "setExceptionBreakpoints", *STEPS, "pause", "restart", "terminate", *EVERYWHERE), UNSERVED)),
-    ("a program has ended", ended, answers_of(("threads", "setExceptionBreakpoints", *EVERYWHERE), {**OF_ENDED, **UNSERVED})),
+        ("threads", *BREAKPOINTS, *STEPS, "pause", "restart", "terminate", *EVERYWHERE), UNSERVED)),
+    ("a program has ended", ended, answers_of(("threads", *BREAKPOINTS, *EVERYWHERE), {**OF_ENDED, **UNSERVED})),
 ]
 
 EVENTS = {"launch": [INITIALIZED], "terminate": [TERMINATED]}
+BODIES = dict.fromkeys(("setBreakpoints", "setInstructionBreakpoints"), body_of([]))
 
 
 def asked_in(reach, command, refusal):
     """The request in the phase that is so reached."""
     file = CIRCLES if command == "launch" else None
     events = EVENTS.get(command, []) if refusal is None else []
-    return reach().asks(command, refusal, file=file, events=events, **REQUESTS[command])
+    return reach().asks(command, refusal, file=file, events=events, body=BODIES.get(command), **REQUESTS[command])
 
 
 def refused_after_disconnect():
@@ -114,6 +119,16 @@ BOTH = [
     ("the end with no thread", ended, ENDED, "pause", {"threadId": 2}),
     ("the end with no thread, of a step", ended, ENDED, "stepOut", {"threadId": 0}),
     ("no thread where the program runs", running, NO_THREAD, "stepIn", {"threadId": -1}),
+    ("a repeat of bad breakpoints", configuring, REPEATED, "setBreakpoints", {"seq": 2, "breakpoints": [{}]}),
+    ("a repeat of breakpoints in the wrong phase", initialized, REPEATED, "setInstructionBreakpoints", {"seq": 1, "breakpoints": []}),
+    ("a repeat of too many breakpoints", configuring, REPEATED, "setBreakpoints", {"seq": 1, "lines": TOO_MANY * [1]}),
+    ("bad breakpoints in the wrong phase", fresh, BAD_ARGUMENTS, "setBreakpoints", {"lines": [1.5]}),
+    ("bad breakpoints where there is no program", initialized, BAD_ARGUMENTS, "setInstructionBreakpoints", {}),
+    ("a bad breakpoint among too many", configuring, BAD_ARGUMENTS, "setBreakpoints", {"breakpoints": TOO_MANY * [at(1)] + [at(-1)]}),
+    ("breakpoints in the wrong phase where there is no program", initialized, WRONG_PHASE, "setBreakpoints", {"breakpoints": [at(1)]}),
+    ("too many breakpoints in the wrong phase", initialized, WRONG_PHASE, "setInstructionBreakpoints", {"breakpoints": TOO_MANY * [on("x")]}),
+    ("too many breakpoints of another source", running, TOO_MUCH, "setBreakpoints", {"source": {"path": ""}, "lines": TOO_MANY * [1]}),
+    ("too many breakpoints where the program has ended", ended, TOO_MUCH, "setInstructionBreakpoints", {"breakpoints": TOO_MANY * [on("x")]}),
 ]
 
 
@@ -133,6 +148,7 @@ CANCELLED = [
     ("the end", ended, "restart", {}),
     ("no thread", standing, "next", {"threadId": 2}),
     ("a program that runs", running, "next", THREAD),
+    ("too many breakpoints", configuring, "setBreakpoints", {"lines": TOO_MANY * [1]}),
 ]
 
 
