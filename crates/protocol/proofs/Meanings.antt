@@ -1,33 +1,57 @@
 -- What holds of each meaning of a body.
-use Rattle.std.proofs.Common.{◌≡◌, ◌≤◌, ◌⊎◌, inl, inr, ℕ, Bool, true, false, cond, leb, List, [], ◌∷◌, Option, Some, None, Result, Ok, Err, refl, ap, ◌∙◌, ⊎_elim, arith}
+use Rattle.std.proofs.Common.{◌≡◌, ◌≤◌, ◌⊎◌, ◌++◌, map, option_map, inl, inr, ℕ, Bool, true, false, cond, leb, List, [], ◌∷◌, Option, Some, None, Result, Ok, Err, refl, ap, ◌∙◌, ⊎_elim, arith}
 use Rattle.std.proofs.lemmas.Bool.Decides.{nat_tests}
-use Rattle.std.specs.Prelude.{ok_or, bytes_eq, option_and_then, ◌||◌}
-use Rattle.serde_json.specs.Data.{Data, object, Members, put}
-use Rattle.serde_json.specs.Find.{as_object, as_number, as_u64}
+use Rattle.std.proofs.lemmas.List.Elements.{All-nil, All-cons, All-map}
+use Rattle.std.specs.Prelude.{All, IfSome, ok_or, bytes_eq, option_and_then, unwrap_or, ◌||◌}
+use Rattle.serde_json.specs.Data.{Data, Items, no_items, item, object, Members, put}
+use Rattle.serde_json.specs.Find.{as_array, as_object, as_number, as_str, as_u64}
 use Rattle.serde_json.proofs.Views.{get_member-put_other}
 use Rattle.protocol.specs.Json.{json_of}
-use Rattle.protocol.specs.Properties.{property, text, sequence_number, within_i32_max, non_null}
-use Rattle.protocol.specs.Arguments.{arguments_members}
-use Rattle.protocol.specs.Commands.{Row, command_among, requests}
+use Rattle.protocol.specs.Properties.{natural, property, text, sequence_number, within_i32_max, non_null}
+use Rattle.protocol.specs.Arguments.{arguments_members, each, list, optional, required}
+use Rattle.protocol.specs.Commands.{Row, command_among, execution_requests, inspection_requests, requests, session_requests}
 use Rattle.protocol.specs.Reading.{◌>>=◌, received, request_of, typed_message_of, message_of, incoming_of}
-use Rattle.protocol.specs.Laws.{IsOfType, IgnoresWhatIsNoRequest, PassesOverUnknownMembers}
+use Rattle.protocol.specs.Initialize.{initialize_arguments}
+use Rattle.protocol.specs.Launch.{launch_arguments}
+use Rattle.protocol.specs.Cancel.{cancel_arguments}
+use Rattle.protocol.specs.Disconnect.{disconnect_arguments}
+use Rattle.protocol.specs.SetBreakpoints.{asked, at_line, by_lines, or_by_lines, set_breakpoints_arguments, source_breakpoint, source_of}
+use Rattle.protocol.specs.SetInstructionBreakpoints.{set_instruction_breakpoints_arguments}
+use Rattle.protocol.specs.Continue.{continue_arguments}
+use Rattle.protocol.specs.Next.{next_arguments}
+use Rattle.protocol.specs.StepIn.{step_in_arguments}
+use Rattle.protocol.specs.StepOut.{step_out_arguments}
+use Rattle.protocol.specs.Pause.{pause_arguments}
+use Rattle.protocol.specs.StackTrace.{stack_trace_arguments}
+use Rattle.protocol.specs.Scopes.{scopes_arguments}
+use Rattle.protocol.specs.Variables.{variables_arguments}
+use Rattle.protocol.specs.SetVariable.{set_variable_arguments}
+use Rattle.protocol.specs.Evaluate.{evaluate_arguments}
+use Rattle.protocol.specs.Disassemble.{disassemble_arguments}
+use Rattle.protocol.specs.ReadMemory.{read_memory_arguments}
+use Rattle.protocol.specs.WriteMemory.{write_memory_arguments}
+use Rattle.protocol.specs.Laws.{AsksLinesWithin, IsOfType, IgnoresWhatIsNoRequest, PassesOverUnknownMembers}
 use Rattle.protocol.specs.declared.command.Command.{Command}
+use Rattle.protocol.specs.declared.command.Command.TheVariants.{Initialize, Launch, Cancel, Disconnect, SetBreakpoints, SetInstructionBreakpoints, Continue, Next, StepIn, StepOut, Pause}
+use Rattle.protocol.specs.declared.command.Command.TheVariants.{StackTrace, Scopes, Variables, SetVariable, Evaluate, Disassemble, ReadMemory, WriteMemory}
+use Rattle.protocol.specs.declared.set_breakpoints.SourceBreakpoint.{SourceBreakpoint}
+use Rattle.protocol.specs.declared.set_breakpoints.TheConstants.{SOURCE, LINES, LINE}
 use Rattle.protocol.specs.declared.refusal.Refusal.{Refusal}
 use Rattle.protocol.specs.declared.refusal.Refusal.TheVariants.{UnknownCommand, BadArguments}
 use Rattle.protocol.specs.declared.request.Incoming.{Incoming}
 use Rattle.protocol.specs.declared.request.Incoming.TheVariants.{Request, Bad, Ignored}
 use Rattle.protocol.specs.declared.request.MessageError.{MessageError}
 use Rattle.protocol.specs.declared.request.MessageError.TheVariants.{NotJson, NotAMessage, BadSeq, NoMemory}
-use Rattle.protocol.specs.declared.members.TheConstants.{SEQ, TYPE, COMMAND, ARGUMENTS, REQUEST, RESPONSE, EVENT}
+use Rattle.protocol.specs.declared.members.TheConstants.{SEQ, TYPE, COMMAND, ARGUMENTS, REQUEST, RESPONSE, EVENT, BREAKPOINTS, CONDITION, HIT_CONDITION}
 
 -- a refusal of a name or of arguments
 abbrev pub IsOfNameOrArguments : Refusal → Type 0
 IsOfNameOrArguments refusal = (refusal ≡ UnknownCommand) ⊎ (refusal ≡ BadArguments)
 
--- what holds of a meaning: its number is within bounds, a refusal is of its name or arguments, and
--- it is not that memory ran out
+-- what holds of a meaning: its number and the lines that it asks for are within bounds, a refusal is of its name or
+-- arguments, and it is not that memory ran out
 abbrev pub IsSound : Result Incoming MessageError → Type 0
-IsSound (Ok (Request request)) = request.seq ≤ 2147483647
+IsSound (Ok (Request request)) = (request.seq ≤ 2147483647) × AsksLinesWithin request.command
 IsSound (Ok (Bad seq name refusal)) = (seq ≤ 2147483647) × IsOfNameOrArguments refusal
 IsSound (Ok Ignored) = Unit {0}
 IsSound (Err NoMemory) = ⊥
@@ -47,30 +71,173 @@ sound_if : (b : Bool) (x y : Result Incoming MessageError) → IsSound x → IsS
 sound_if true x y p q = p
 sound_if false x y p q = q
 
--- a command, or a refusal of its name or its arguments
-abbrev IsRefusedRightly : Result Command Refusal → Type 0
-IsRefusedRightly (Ok command) = Unit {0}
-IsRefusedRightly (Err refusal) = IsOfNameOrArguments refusal
+-- ---- lines
 
-arguments-right : (found : Option Command) → IsRefusedRightly (ok_or found BadArguments)
-arguments-right None = inr refl
-arguments-right (Some command) = tt
+-- what holds of a value that is read, and of what follows from each such value, holds of what follows
+then_holds : {A B : Type 0} (P : A → Type 0) (Q : B → Type 0) (found : Option A) (next : A → Option B)
+    → IfSome found P → ((a : A) → P a → IfSome (next a) Q) → IfSome (option_and_then next found) Q
+then_holds P Q None next h on = tt
+then_holds P Q (Some a) next h on = on a h
 
-if-right : (b : Bool) (x y : Result Command Refusal) → IsRefusedRightly x → IsRefusedRightly y
-    → IsRefusedRightly (cond b x y)
+-- the same, of any value
+then_any : {A B : Type 0} (Q : B → Type 0) (found : Option A) (next : A → Option B)
+    → ((a : A) → IfSome (next a) Q) → IfSome (option_and_then next found) Q
+then_any Q None next on = tt
+then_any Q (Some a) next on = on a
+
+max_holds : (n : ℕ) → IfSome (within_i32_max n) (λ k. k ≤ 2147483647)
+max_holds n = by (leb n 2147483647) refl where
+  by : (b : Bool) → leb n 2147483647 ≡ b → IfSome (cond b (Some n) None) (λ k. k ≤ 2147483647)
+  by true e = grind (arith, nat_tests, e)
+  by false e = tt
+
+natural_holds : (value : Data) → IfSome (natural value) (λ n. n ≤ 2147483647)
+natural_holds value = then_any (λ n. n ≤ 2147483647) (option_and_then as_u64 (as_number value)) within_i32_max max_holds
+
+each_holds : {A : Type 0} (P : A → Type 0) (meaning : Data → Option A) → ((value : Data) → IfSome (meaning value) P)
+    → (items : Items) → IfSome (each meaning items) (All P)
+each_holds P meaning h no_items = All-nil P
+each_holds P meaning h (item value rest) =
+    then_holds P (All P) (meaning value) _ (h value) (λ first p.
+    then_holds (All P) (All P) (each meaning rest) _ (each_holds P meaning h rest) (λ others q. All-cons P first others p q))
+
+list_holds : {A : Type 0} (P : A → Type 0) (meaning : Data → Option A) → ((value : Data) → IfSome (meaning value) P)
+    → (value : Data) → IfSome (list meaning value) (All P)
+list_holds P meaning h value = then_any (All P) (as_array value) (each meaning) (each_holds P meaning h)
+
+optional_holds : {A : Type 0} (P : A → Type 0) (meaning : Data → Option A) → ((value : Data) → IfSome (meaning value) P)
+    → (value : Option Data) → IfSome (optional meaning value) (λ found. IfSome found P)
+optional_holds P meaning h None = tt
+optional_holds {A = A} P meaning h (Some value) = by (meaning value) (h value) where
+  by : (found : Option A) → IfSome found P → IfSome (option_map (λ a. Some a) found) (λ f. IfSome f P)
+  by None p = tt
+  by (Some a) p = p
+
+-- the line of a breakpoint is within bounds
+abbrev IsLineWithin : SourceBreakpoint → Type 0
+IsLineWithin b = b.line ≤ 2147483647
+
+line_holds : (found : Option Data) → IfSome (required natural found) (λ n. n ≤ 2147483647)
+line_holds None = tt
+line_holds (Some value) = natural_holds value
+
+breakpoint_holds : (value : Data) → IfSome (source_breakpoint value) IsLineWithin
+breakpoint_holds value =
+    then_any IsLineWithin (as_object value) _ (λ members.
+    then_holds (λ n. n ≤ 2147483647) IsLineWithin (required natural (property LINE.now members)) _ (line_holds (property LINE.now members)) (λ line h.
+    then_any IsLineWithin (optional as_str (property CONDITION.now members)) _ (λ condition.
+    then_any IsLineWithin (optional as_str (property HIT_CONDITION.now members)) _ (λ hits. h))))
+
+lines_hold : (lines : Option (List ℕ)) → IfSome lines (All (λ n. n ≤ 2147483647)) → All IsLineWithin (map at_line (unwrap_or lines []))
+lines_hold None h = All-nil IsLineWithin
+lines_hold (Some lines) h = All-map IsLineWithin at_line lines h
+
+by_lines_holds : (members : Members) → IfSome (by_lines members) (All IsLineWithin)
+by_lines_holds members =
+    then_holds (λ found. IfSome found (All (λ n. n ≤ 2147483647))) (All IsLineWithin) (optional (list natural) (property LINES.now members)) _
+    (optional_holds (All (λ n. n ≤ 2147483647)) (list natural) (list_holds (λ n. n ≤ 2147483647) natural natural_holds) (property LINES.now members))
+    lines_hold
+
+asked_holds : (members : Members) → IfSome (asked members) (All IsLineWithin)
+asked_holds members =
+    then_holds (λ found. IfSome found (All IsLineWithin)) (All IsLineWithin) (optional (list source_breakpoint) (property BREAKPOINTS.now members)) _
+    (optional_holds (All IsLineWithin) (list source_breakpoint) (list_holds IsLineWithin source_breakpoint breakpoint_holds) (property BREAKPOINTS.now members))
+    by
+  where
+    by : (found : Option (List SourceBreakpoint)) → IfSome found (All IsLineWithin) → IfSome (or_by_lines found members) (All IsLineWithin)
+    by None h = by_lines_holds members
+    by (Some breakpoints) h = h
+
+set_breakpoints_holds : (members : Members) → IfSome (set_breakpoints_arguments members) (λ a. All IsLineWithin a.breakpoints)
+set_breakpoints_holds members =
+    then_any (λ a. All IsLineWithin a.breakpoints) (optional source_of (property SOURCE.now members)) _ (λ source.
+    then_holds (All IsLineWithin) (λ a. All IsLineWithin a.breakpoints) (asked members) _ (asked_holds members) (λ breakpoints h. h))
+
+-- ---- commands
+
+-- what each command of a row asks is within bounds
+abbrev RowWithin : Row → Type 0
+RowWithin r = (members : Members) → IfSome (r.meaning members) AsksLinesWithin
+
+made_within : {A : Type 0} (make : A → Command) (found : Option A) → ((a : A) → AsksLinesWithin (make a)) → IfSome (option_map make found) AsksLinesWithin
+made_within make None h = tt
+made_within make (Some a) h = h a
+
+made_of : {A : Type 0} (P : A → Type 0) (make : A → Command) (found : Option A) → IfSome found P → ((a : A) → P a → AsksLinesWithin (make a)) → IfSome (option_map make found) AsksLinesWithin
+made_of P make None h on = tt
+made_of P make (Some a) h on = on a h
+
+-- the same of each of several
+AllWithin : List Row → Type 0
+AllWithin [] = Unit {0}
+AllWithin (r ∷ rows) = RowWithin r × AllWithin rows
+
+session_within : (more : List Row) → AllWithin more → AllWithin (session_requests ++ more)
+unfolding AllWithin
+session_within more h = (
+  (λ m. made_within (λ a. Initialize a) (initialize_arguments m) (λ a. tt)),
+  ((λ m. made_within (λ a. Launch a) (launch_arguments m) (λ a. tt)),
+  ((λ m. tt), ((λ m. tt), ((λ m. tt),
+  ((λ m. made_within (λ a. Cancel a) (cancel_arguments m) (λ a. tt)),
+  ((λ m. tt), ((λ m. tt),
+  ((λ m. made_within (λ a. Disconnect a) (disconnect_arguments m) (λ a. tt)), h)))))))),
+)
+
+execution_within : (more : List Row) → AllWithin more → AllWithin (execution_requests ++ more)
+unfolding AllWithin execution_requests
+execution_within more h = (
+  (λ m. made_of (λ a. All IsLineWithin a.breakpoints) (λ a. SetBreakpoints a) (set_breakpoints_arguments m) (set_breakpoints_holds m) (λ a within. within)),
+  ((λ m. made_within (λ a. SetInstructionBreakpoints a) (set_instruction_breakpoints_arguments m) (λ a. tt)),
+  ((λ m. tt),
+  ((λ m. made_within (λ a. Continue a) (continue_arguments m) (λ a. tt)),
+  ((λ m. made_within (λ a. Next a) (next_arguments m) (λ a. tt)),
+  ((λ m. made_within (λ a. StepIn a) (step_in_arguments m) (λ a. tt)),
+  ((λ m. made_within (λ a. StepOut a) (step_out_arguments m) (λ a. tt)),
+  ((λ m. made_within (λ a. Pause a) (pause_arguments m) (λ a. tt)), h))))))),
+)
+
+inspection_within : AllWithin inspection_requests
+unfolding AllWithin inspection_requests
+inspection_within = (
+  (λ m. made_within (λ a. StackTrace a) (stack_trace_arguments m) (λ a. tt)),
+  ((λ m. made_within (λ a. Scopes a) (scopes_arguments m) (λ a. tt)),
+  ((λ m. made_within (λ a. Variables a) (variables_arguments m) (λ a. tt)),
+  ((λ m. made_within (λ a. SetVariable a) (set_variable_arguments m) (λ a. tt)),
+  ((λ m. made_within (λ a. Evaluate a) (evaluate_arguments m) (λ a. tt)),
+  ((λ m. made_within (λ a. Disassemble a) (disassemble_arguments m) (λ a. tt)),
+  ((λ m. made_within (λ a. ReadMemory a) (read_memory_arguments m) (λ a. tt)),
+  ((λ m. made_within (λ a. WriteMemory a) (write_memory_arguments m) (λ a. tt)), tt))))))),
+)
+
+-- a command that asks within bounds, or a refusal of its name or its arguments
+abbrev IsReadRightly : Result Command Refusal → Type 0
+IsReadRightly (Ok command) = AsksLinesWithin command
+IsReadRightly (Err refusal) = IsOfNameOrArguments refusal
+
+arguments-right : (found : Option Command) → IfSome found AsksLinesWithin → IsReadRightly (ok_or found BadArguments)
+arguments-right None h = inr refl
+arguments-right (Some command) h = h
+
+meaning-right : (r : Row) (members : Option Members) → RowWithin r → IsReadRightly (ok_or (option_and_then r.meaning members) BadArguments)
+meaning-right r None h = inr refl
+meaning-right r (Some members) h = arguments-right (r.meaning members) (h members)
+
+if-right : (b : Bool) (x y : Result Command Refusal) → IsReadRightly x → IsReadRightly y
+    → IsReadRightly (cond b x y)
 if-right true x y p q = p
 if-right false x y p q = q
 
 command_among-right : (rows : List Row) (name : List ℕ) (members : Option Members)
-    → IsRefusedRightly (command_among rows name members)
-command_among-right [] name members = inl refl
-command_among-right (r ∷ rs) name members =
-    if-right (bytes_eq name r.name) _ _ (arguments-right (option_and_then r.meaning members))
-    (command_among-right rs name members)
+    → AllWithin rows → IsReadRightly (command_among rows name members)
+unfolding AllWithin
+command_among-right [] name members h = inl refl
+command_among-right (r ∷ rs) name members h =
+    if-right (bytes_eq name r.name) _ _ (meaning-right r members h.0)
+    (command_among-right rs name members h.1)
 
 received-sound : (seq : ℕ) (name : List ℕ) (found : Result Command Refusal) → seq ≤ 2147483647
-    → IsRefusedRightly found → IsSound (Ok (received seq name found))
-received-sound seq name (Ok command) within right = within
+    → IsReadRightly found → IsSound (Ok (received seq name found))
+received-sound seq name (Ok command) within right = (within, right)
 received-sound seq name (Err refusal) within right = (within, right)
 
 -- the numbers that a message may have
@@ -95,7 +262,8 @@ request_of-sound members =
     sound_next (text (property COMMAND.now members)) NotAMessage _ tt (λ name _.
     sound_next (sequence_number (property SEQ.now members)) BadSeq _ tt (λ seq is.
     received-sound seq name _ (sequence_number-within (property SEQ.now members) seq is)
-    (command_among-right requests name (arguments_members (property ARGUMENTS.now members)))))
+    (command_among-right requests name (arguments_members (property ARGUMENTS.now members))
+    (session_within (execution_requests ++ inspection_requests) (execution_within inspection_requests inspection_within)))))
 
 typed_message_of-sound : (kind : List ℕ) (members : Members)
     → IsSound (typed_message_of kind members)

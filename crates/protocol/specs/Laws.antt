@@ -1,5 +1,5 @@
 -- What follows from the meaning of a body, in the protocol's own terms.
-use Rattle.std.specs.Prelude.{◌≡◌, ◌≢◌, ◌≤◌, ◌⊎◌, ◌↔◌, ℕ, List, Option, Some, Ok, Err}
+use Rattle.std.specs.Prelude.{◌≡◌, ◌≢◌, ◌≤◌, ◌⊎◌, ◌↔◌, ℕ, All, List, Option, Some, Ok, Err, ⊤}
 use Rattle.base64.specs.Engines.{standard}
 use Rattle.base64.specs.GeneralPurpose.{IsBytes, encode_of}
 use Rattle.serde_json.specs.Data.{Data, object, string, Members, put}
@@ -9,6 +9,7 @@ use Rattle.protocol.specs.Arguments.{base64}
 use Rattle.protocol.specs.Commands.{command_of, name_of}
 use Rattle.protocol.specs.Reading.{incoming_of, message_of}
 use Rattle.protocol.specs.declared.command.Command.{Command}
+use Rattle.protocol.specs.declared.command.Command.TheVariants.{SetBreakpoints}
 use Rattle.protocol.specs.declared.refusal.Refusal.{Refusal}
 use Rattle.protocol.specs.declared.refusal.Refusal.TheVariants.{UnknownCommand, BadArguments}
 use Rattle.protocol.specs.declared.request.Request.{Request as ARequest}
@@ -48,6 +49,17 @@ abbrev pub BadNumbersWithinSeq : Type 0
 BadNumbersWithinSeq =
     (body : List ℕ) (seq : ℕ) (name : List ℕ) (refusal : Refusal)
     → incoming_of body ≡ Ok (Bad seq name refusal) → seq ≤ 2147483647
+
+-- the lines for which breakpoints are asked are at most 2,147,483,647
+abbrev pub AsksLinesWithin : Command → Type 0
+AsksLinesWithin (SetBreakpoints arguments) = All (λ b. b.line ≤ 2147483647) arguments.breakpoints
+AsksLinesWithin other = ⊤
+
+-- Each line that a request asks for is so.
+abbrev pub LinesWithinMax : Type 0
+LinesWithinMax =
+    (body : List ℕ) (request : ARequest) → incoming_of body ≡ Ok (Request request)
+    → AsksLinesWithin request.command
 
 -- A request is refused as it stands for its name or its arguments alone, and never for its phase.
 abbrev pub RefusesForNameOrArguments : Type 0

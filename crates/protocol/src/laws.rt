@@ -23,6 +23,11 @@ pub fn numbers_within_seq()
     ensures refused { law.BadNumbersWithinSeq }
 {}
 
+/// The lines for which breakpoints are asked are from 0 to 2,147,483,647 (`SourceBreakpoint.line`).
+pub fn lines_within_max()
+    ensures { law.LinesWithinMax }
+{}
+
 /// A request is refused as it stands for its name or its arguments alone.
 pub fn refuses_for_name_or_arguments()
     ensures { law.RefusesForNameOrArguments }
