@@ -2,8 +2,8 @@
 use Rattle.std.proofs.Common.{◌≡◌, ℕ, ℤ, pos, negsuc, ◌+◌, ◌+ℤ◌, ◌<◌, ◌≤◌, Bool, true, false, cond, ◌&&◌, ltb, List, [], ◌∷◌, length, Option, Some, None, Result, Ok, Err, IfOk, option_map, refl, ap, subst, arith}
 use Rattle.std.specs.Prelude.{All, find}
 use Rattle.std.specs.List.{list_all}
-use Rattle.std.proofs.lemmas.Bool.{lt-ltb, ltb-true, ltb-false}
-use Rattle.std.proofs.lemmas.List.Elements.{All-head, All-tail}
+use Rattle.std.proofs.lemmas.Bool.{lt-ltb, ltb-true}
+use Rattle.std.proofs.lemmas.List.Elements.{All-head, All-tail, All-weaker}
 use Rattle.image.specs.Lines.{Row, Table, bind, line_in, start_of}
 use Rattle.protocol.specs.declared.command.Command.TheVariants as command
 use Rattle.protocol.specs.declared.refusal.Refusal.TheVariants.{TooMuch}
@@ -12,13 +12,15 @@ use Rattle.protocol.specs.declared.set_instruction_breakpoints.InstructionBreakp
 use Rattle.replies.specs.SetBreakpoints.{source_breakpoint}
 use Rattle.replies.specs.SetInstructionBreakpoints.{instruction_breakpoint}
 use Rattle.replies.specs.declared.response.ResponseBody.{ResponseBody}
-use Rattle.answers.specs.Breakpoints.{Answer, entries_of, next_after}
-use Rattle.answers.specs.Laws.{AnswersAreProper, IsNarrow}
+use Rattle.answers.specs.Breakpoints.{Answer, entries_of, followed_by, list_of, next_after}
+use Rattle.answers.specs.Laws.{AnswersAreProper, IsNarrow, NumbersFit}
 use Rattle.answers.specs.References.{address_in, address_of, offset_by, reference_of}
 use Rattle.answers.specs.SetBreakpoints as source
 use Rattle.answers.specs.SetInstructionBreakpoints as instruction
 use Rattle.answers.specs.Terms.{Terms, terms_of}
 use Rattle.answers.specs.declared.problem.Problem.{Problem}
+use Rattle.answers.specs.declared.problem.Problem.TheVariants.{UnknownSource}
+use Rattle.answers.specs.declared.view.View.{View}
 use Rattle.answers.proofs.Settable.{one_value}
 
 both : (x y : Bool) → x ≡ true → y ≡ true → (x && y) ≡ true
@@ -30,16 +32,17 @@ both false y a b = cc
 line_set : (id address line : ℕ) → id < 4294967296 → address < 4294967296 → line < 4294967296 → (ltb id 4294967296 && (ltb address 4294967296 && (ltb line 4294967296 && true))) ≡ true
 line_set id address line a b c = both (ltb id 4294967296) _ (lt-ltb id 4294967296 a) (both (ltb address 4294967296) _ (lt-ltb address 4294967296 b) (both (ltb line 4294967296) true (lt-ltb line 4294967296 c) refl))
 
-lines_proper : (judged : SourceBreakpoint → Result source.Place Problem) (base next : ℕ) (asked : List SourceBreakpoint) → ((one : SourceBreakpoint) (place : source.Place) → judged one ≡ Ok place → (place.address < 4294967296) × (place.line < 4294967296)) → All (λ b. b.line < 4294967296) asked → next + length asked ≤ 4294967296 → list_all source_breakpoint.is_in (entries_of judged (source.entry base) next asked) ≡ true
+lines_proper : (judged : SourceBreakpoint → Result source.Place Problem) (base next : ℕ) (asked : List SourceBreakpoint) → ((one : SourceBreakpoint) (place : source.Place) → judged one ≡ Ok place → (place.address < 4294967296) × (place.line < 4294967296)) → All (λ b. b.line < 4294967296) asked → next + length (list_of judged source.wanted next asked) ≤ 4294967296 → list_all source_breakpoint.is_in (entries_of judged (source.entry base) next asked) ≡ true
 lines_proper judged base next [] narrow lines room = refl
-lines_proper judged base next (one ∷ others) narrow lines room = go (judged one) refl (λ n r. lines_proper judged base n others narrow (All-tail (λ b. b.line < 4294967296) one others lines) r) where
-  go : (found : Result source.Place Problem) → judged one ≡ found → ((n : ℕ) → n + length others ≤ 4294967296 → list_all source_breakpoint.is_in (entries_of judged (source.entry base) n others) ≡ true) → (source_breakpoint.is_in (source.entry base next one found) && list_all source_breakpoint.is_in (entries_of judged (source.entry base) (next_after next found) others)) ≡ true
-  go (Ok place) e on =
+lines_proper judged base next (one ∷ others) narrow lines room = go (judged one) refl room (λ n r. lines_proper judged base n others narrow (All-tail (λ b. b.line < 4294967296) one others lines) r) where
+  go : (found : Result source.Place Problem) → judged one ≡ found → next + length (followed_by source.wanted next found (list_of judged source.wanted (next_after next found) others)) ≤ 4294967296
+      → ((n : ℕ) → n + length (list_of judged source.wanted n others) ≤ 4294967296 → list_all source_breakpoint.is_in (entries_of judged (source.entry base) n others) ≡ true) → (source_breakpoint.is_in (source.entry base next one found) && list_all source_breakpoint.is_in (entries_of judged (source.entry base) (next_after next found) others)) ≡ true
+  go (Ok place) e room on =
       let small = narrow one place e in
       both (source_breakpoint.is_in (source.verified base next place)) _ (line_set next place.address (source.line_in_editor base place.line) (omega (arith, room)) small.0 (omega (arith, small.1))) (on (next + 1) (omega (arith, room)))
-  go (Err problem) e on =
+  go (Err problem) e room on =
       let first : one.line < 4294967296 = All-head (λ b. b.line < 4294967296) one others lines in
-      both (source_breakpoint.is_in (source.unverified one.line problem)) _ (both (ltb one.line 4294967296) true (lt-ltb one.line 4294967296 first) refl) (on next (omega (arith, room)))
+      both (source_breakpoint.is_in (source.unverified one.line problem)) _ (both (ltb one.line 4294967296) true (lt-ltb one.line 4294967296 first) refl) (on next room)
 
 bound : (p : Row → Bool) (rows : List Row) (found : ℕ × ℕ) → All (λ row. line_in row < 4294967296) rows → All (λ row. start_of row < 4294967296) rows → option_map (λ row. (line_in row, start_of row)) (find p rows) ≡ Some found → (found.1 < 4294967296) × (found.0 < 4294967296)
 bound p [] found lines places e = cc
@@ -70,12 +73,13 @@ source_narrow false table base narrow one place e = cc
 instruction_set : (id address : ℕ) → id < 4294967296 → address < 4294967296 → (ltb id 4294967296 && (ltb address 4294967296 && true)) ≡ true
 instruction_set id address a b = both (ltb id 4294967296) _ (lt-ltb id 4294967296 a) (both (ltb address 4294967296) true (lt-ltb address 4294967296 b) refl)
 
-instructions_proper : (judged : InstructionBreakpoint → Result instruction.Place Problem) (next : ℕ) (asked : List InstructionBreakpoint) → ((one : InstructionBreakpoint) (place : instruction.Place) → judged one ≡ Ok place → place.address < 4294967296) → next + length asked ≤ 4294967296 → list_all instruction_breakpoint.is_in (entries_of judged instruction.entry next asked) ≡ true
+instructions_proper : (judged : InstructionBreakpoint → Result instruction.Place Problem) (next : ℕ) (asked : List InstructionBreakpoint) → ((one : InstructionBreakpoint) (place : instruction.Place) → judged one ≡ Ok place → place.address < 4294967296) → next + length (list_of judged instruction.wanted next asked) ≤ 4294967296 → list_all instruction_breakpoint.is_in (entries_of judged instruction.entry next asked) ≡ true
 instructions_proper judged next [] narrow room = refl
-instructions_proper judged next (one ∷ others) narrow room = go (judged one) refl (λ n r. instructions_proper judged n others narrow r) where
-  go : (found : Result instruction.Place Problem) → judged one ≡ found → ((n : ℕ) → n + length others ≤ 4294967296 → list_all instruction_breakpoint.is_in (entries_of judged instruction.entry n others) ≡ true) → (instruction_breakpoint.is_in (instruction.entry next one found) && list_all instruction_breakpoint.is_in (entries_of judged instruction.entry (next_after next found) others)) ≡ true
-  go (Ok place) e on = both (instruction_breakpoint.is_in (instruction.verified next place)) _ (instruction_set next place.address (omega (arith, room)) (narrow one place e)) (on (next + 1) (omega (arith, room)))
-  go (Err problem) e on = both (instruction_breakpoint.is_in (instruction.unverified problem)) _ refl (on next (omega (arith, room)))
+instructions_proper judged next (one ∷ others) narrow room = go (judged one) refl room (λ n r. instructions_proper judged n others narrow r) where
+  go : (found : Result instruction.Place Problem) → judged one ≡ found → next + length (followed_by instruction.wanted next found (list_of judged instruction.wanted (next_after next found) others)) ≤ 4294967296
+      → ((n : ℕ) → n + length (list_of judged instruction.wanted n others) ≤ 4294967296 → list_all instruction_breakpoint.is_in (entries_of judged instruction.entry n others) ≡ true) → (instruction_breakpoint.is_in (instruction.entry next one found) && list_all instruction_breakpoint.is_in (entries_of judged instruction.entry (next_after next found) others)) ≡ true
+  go (Ok place) e room on = both (instruction_breakpoint.is_in (instruction.verified next place)) _ (instruction_set next place.address (omega (arith, room)) (narrow one place e)) (on (next + 1) (omega (arith, room)))
+  go (Err problem) e room on = both (instruction_breakpoint.is_in (instruction.unverified problem)) _ refl (on next room)
 
 address_small : (z : ℤ) (n : ℕ) → address_of z ≡ Some n → n < 4294967296
 address_small (negsuc m) n e = cc
@@ -115,20 +119,34 @@ instruction_narrow size one place e =
 
 -- ---- answers
 
-if_few : (P : ResponseBody → Type 0) (many : ℕ) (answer : Answer) → (many ≤ 1024 → IfOk answer.result P) → IfOk (cond (ltb 1024 many) (record { result = Err TooMuch; list = None }) answer).result P
-if_few P many answer h =
-    let Q : Bool → Type 0 = λ v. ltb 1024 many ≡ v → IfOk (cond v (record { result = Err TooMuch; list = None }) answer).result P in
-    let go : Q (ltb 1024 many) = elim (ltb 1024 many) as Q [ true ↦ λ v. tt | false ↦ λ v. h (ltb-false 1024 many v) ] in
-    go refl
+-- what holds of an answer to few holds of the answer: too many are refused
+if_few : (P : ResponseBody → Type 0) (next many : ℕ) (answer : Answer) → (NumbersFit next answer.list → IfOk answer.result P) → let it = cond (ltb 1024 many) (record { result = Err TooMuch; list = None }) answer in NumbersFit next it.list → IfOk it.result P
+if_few P next many answer h =
+    let Q : Bool → Type 0 = λ v. let it = cond v (record { result = Err TooMuch; list = None }) answer in NumbersFit next it.list → IfOk it.result P in
+    let go : Q (ltb 1024 many) = elim (ltb 1024 many) as Q [ true ↦ λ fit. tt | false ↦ h ] in
+    go
+
+-- the lines of a source, which is the program's or not
+source_proper : (own : Bool) (table : Table) (view : View) (next : ℕ) (asked : List SourceBreakpoint) → IsNarrow table → All (λ b. b.line < 4294967296) asked → NumbersFit next (source.of_source own table view next asked).list → list_all source_breakpoint.is_in (entries_of (source.judged own table view.line_base) (source.entry view.line_base) next asked) ≡ true
+source_proper true table view next asked narrow lines fit = lines_proper (source.judged true table view.line_base) view.line_base next asked (source_narrow true table view.line_base narrow) lines fit
+source_proper false table view next asked narrow lines fit = unknown asked lines where
+  unknown : (asked : List SourceBreakpoint) → All (λ b. b.line < 4294967296) asked → list_all source_breakpoint.is_in (entries_of (source.judged false table view.line_base) (source.entry view.line_base) next asked) ≡ true
+  unknown [] lines = refl
+  unknown (one ∷ others) lines =
+      let first : one.line < 4294967296 = All-head (λ b. b.line < 4294967296) one others lines in
+      both (source_breakpoint.is_in (source.unverified one.line UnknownSource)) _ (both (ltb one.line 4294967296) true (lt-ltb one.line 4294967296 first) refl) (unknown others (All-tail (λ b. b.line < 4294967296) one others lines))
 
 alone : (x : Bool) → x ≡ true → (x && true) ≡ true
 alone true e = refl
 alone false e = cc
 
+few_lines : (asked : List SourceBreakpoint) → All (λ b. b.line ≤ 2147483647) asked → All (λ b. b.line < 4294967296) asked
+few_lines asked h = All-weaker (λ b. b.line ≤ 2147483647) (λ b. b.line < 4294967296) (λ b few. omega (arith, few)) asked h
+
 pub answers_are_proper : AnswersAreProper
-answers_are_proper (command.SetBreakpoints arguments) table size view next sets narrow lines small =
+answers_are_proper (command.SetBreakpoints arguments) table size view next sets narrow lines =
     let own = source.is_own view.path arguments.source.path in
-    if_few _ (length arguments.breakpoints) (source.of_source own table view next arguments.breakpoints) (λ few. (refl, alone _ (lines_proper (source.judged own table view.line_base) view.line_base next arguments.breakpoints (source_narrow own table view.line_base narrow) lines (omega (arith, few, small)))))
-answers_are_proper (command.SetInstructionBreakpoints arguments) table size view next sets narrow lines small =
-    if_few _ (length arguments.breakpoints) _ (λ few. (refl, alone _ (instructions_proper (instruction.judged size) next arguments.breakpoints (instruction_narrow size) (omega (arith, few, small)))))
-answers_are_proper other table size view next sets narrow lines small = cc
+    if_few _ next (length arguments.breakpoints) (source.of_source own table view next arguments.breakpoints) (λ fit. (refl, alone _ (source_proper own table view next arguments.breakpoints narrow (few_lines arguments.breakpoints lines) fit)))
+answers_are_proper (command.SetInstructionBreakpoints arguments) table size view next sets narrow lines =
+    if_few _ next (length arguments.breakpoints) _ (λ fit. (refl, alone _ (instructions_proper (instruction.judged size) next arguments.breakpoints (instruction_narrow size) fit)))
+answers_are_proper other table size view next sets narrow lines = cc

@@ -1,12 +1,12 @@
 -- What the definitions promise.
-use Rattle.std.specs.Prelude.{All, IfOk, ◌^◌, ⊤}
+use Rattle.std.specs.Prelude.{All, IfOk, IfSome, ◌^◌}
 use Rattle.std.specs.Prelude.{◌≡◌, ◌↔◌, ℕ, ◌+◌, ◌<◌, ◌≤◌, IsTrue, List, [], ◌∷◌, length, map, slice_index}
 use Rattle.std.specs.Prelude.{Option, Some, None, Result, Ok}
 use Rattle.expressions.specs.Trees.{Tree}
 use Rattle.image.specs.Lines.{Table, line_in, start_of}
 use Rattle.protocol.specs.Commands.{name_of}
+use Rattle.protocol.specs.Laws.{AsksLinesWithin}
 use Rattle.protocol.specs.declared.command.Command.{Command}
-use Rattle.protocol.specs.declared.command.Command.TheVariants as asked
 use Rattle.protocol.specs.declared.refusal.Refusal.{Refusal}
 use Rattle.replies.specs.Responses.{IsOutcomeOf}
 use Rattle.replies.specs.declared.response.Outcome.TheVariants.{Done}
@@ -78,13 +78,13 @@ pub record IsNarrow (table : Table) : Type 0 where
   pub lines : All (λ row. line_in row < 2 ^ 32) table.rows
   pub places : All (λ row. start_of row < 2 ^ 32) table.rows
 
--- the lines that are asked for are
-abbrev pub AsksNarrowly : Command → Type 0
-AsksNarrowly (asked.SetBreakpoints arguments) = All (λ b. b.line < 2 ^ 32) arguments.breakpoints
-AsksNarrowly other = ⊤
+-- so are those of the breakpoints that are set, from this one on
+abbrev pub NumbersFit : ℕ → Option (List Wanted) → Type 0
+NumbersFit next list = IfSome list (λ list. next + length list ≤ 2 ^ 32)
 
 -- The body is that of the request, and its numbers are in their ranges.
 abbrev pub AnswersAreProper : Type 0
 AnswersAreProper = (command : Command) (table : Table) (size : ℕ) (view : View) (next : ℕ) →
-    IsTrue (sets_breakpoints command) → IsNarrow table → AsksNarrowly command → next ≤ 2147483648 →
+    IsTrue (sets_breakpoints command) → IsNarrow table → AsksLinesWithin command →
+    NumbersFit next (breaks_answer command table size view next).list →
     IfOk (breaks_answer command table size view next).result (λ body. IsOutcomeOf (name_of command) (Done body))

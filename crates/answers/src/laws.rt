@@ -22,7 +22,8 @@ pub fn each_has_its_entry()
     ensures { EachHasItsEntry }
 {}
 
-/// The body is that of the request, and its numbers are in their ranges, where those of the line table and of the request are.
+/// The body is that of the request, and its numbers are in their ranges, where those of the line table, of the request and of the
+/// breakpoints that are set are.
 pub fn answers_are_proper()
     ensures { AnswersAreProper }
 {}
