@@ -18,6 +18,7 @@ pub mod Joining
 pub mod Order
 pub mod Cuts
 pub mod Orderly
+pub mod Breaking
 pub mod Turning
 pub mod Serving
 pub mod Once

@@ -1,13 +1,17 @@
 -- `initialize` succeeds once at most on a connection.
 use Rattle.std.proofs.Common.{◌≡◌, ℕ, ◌+◌, ◌≤◌, Bool, true, false, ltb, List, [], ◌∷◌, ◌++◌, map, Option, Some, None, refl, sym, subst, arith}
-use Rattle.std.specs.Prelude.{All}
+use Rattle.std.specs.Prelude.{All, IsTrue, Ok}
 use Rattle.std.proofs.lemmas.List.Elements.{All-push, All-nil}
+use Rattle.answers.specs.Answers.{sets_breakpoints}
 use Rattle.assembler.specs.Placed.{error_of}
 use Rattle.assembler.specs.declared.error.AsmError.{AsmError}
+use Rattle.debuggee.specs.Programs.{Program}
 use Rattle.protocol.specs.declared.command.Command.{Command}
-use Rattle.protocol.specs.declared.command.Command.TheVariants.{Initialize, Launch, ConfigurationDone, Threads, Cancel, Restart, Terminate, Disconnect, SetExceptionBreakpoints, Continue, Next, StepIn, StepOut, Pause}
+use Rattle.protocol.specs.declared.command.Command.TheVariants.{Initialize, Launch, ConfigurationDone, Threads, Cancel, Restart, Terminate, Disconnect, SetBreakpoints, SetInstructionBreakpoints, SetExceptionBreakpoints, Continue, Next, StepIn, StepOut, Pause}
 use Rattle.replies.specs.declared.event.Event.{Event}
 use Rattle.replies.specs.declared.message.Message.TheVariants.{Response, Event as IsEvent}
+use Rattle.replies.specs.declared.response.Outcome.TheVariants.{Done}
+use Rattle.replies.specs.declared.response.ResponseBody.{ResponseBody}
 use Rattle.replies.specs.declared.response.Outcome.{Outcome}
 use Rattle.session.specs.declared.event.Event.{Event as SessionEvent}
 use Rattle.session.specs.declared.link.Link.{Link}
@@ -16,6 +20,7 @@ use Rattle.session.specs.declared.phase.Phase.{Phase}
 use Rattle.session.specs.declared.phase.Phase.TheVariants.{Fresh, Initialized, Configuring, Active, Left}
 use Rattle.session.specs.declared.terms.Terms.{Terms}
 use Rattle.session.specs.Acts.{Answering, Now, Tell}
+use Rattle.session.specs.Breaks.{success_on}
 use Rattle.session.specs.Effects.{performed}
 use Rattle.session.specs.Launch.{assembles}
 use Rattle.session.specs.Laws.{initializes, initializes_by, times_initialized, InitializesOnce}
@@ -24,6 +29,7 @@ use Rattle.session.specs.Phases.{is_fresh_in}
 use Rattle.session.specs.Refusals.{answer_to, response_to}
 use Rattle.session.specs.Requests.{is_taken_in, success_of}
 use Rattle.session.specs.Sessions.{Beginning, Session, Life, Said, said_next, said_on, replied_on, hung_on, performed_on, histories, After}
+use Rattle.session.proofs.Breaking.{IsPlain, answer_on, by_answer, is_plain}
 use Rattle.session.proofs.Serving.{of_answer, not_taken}
 use Rattle.session.proofs.Reaching.{if_keeps, each_life, performed_append}
 use Rattle.session.proofs.ByForms.{on, on_with}
@@ -136,6 +142,18 @@ answer_keeps l p rest s a fits h =
 same_fits : (n : ℕ) (phase : Phase) → n + 0 ≤ 1 → Suits phase (n + 0) → (n + 0 ≤ 1) × Suits phase (n + 0)
 same_fits n phase few suits = (few, suits)
 
+sets_fit : (now : Now) (terms : Terms) (command : Command) (n : ℕ) → IsTrue (sets_breakpoints command) → n + 0 ≤ 1 → Suits terms.phase (n + 0) → Fits n (success_on now.debuggee.program now terms command)
+sets_fit now terms command n sets few suits =
+    by_answer (Fits n) now.debuggee.program now terms command sets (λ _. (few, suits)) (λ refusal plain. (few, suits))
+    (λ p b is e f. of_none terms.phase n (initializes (Done b)) (none p b e) few suits)
+    (λ p b list is e f within. of_none terms.phase n (initializes (Done b)) (none p b e) few suits)
+  where
+    none : (p : Program) (b : ResponseBody) → (answer_on p now terms command).result ≡ Ok b → initializes (Done b) ≡ 0
+    none p b e = subst IsPlain e (is_plain p now terms command sets)
+
+    of_none : (phase : Phase) (n k : ℕ) → k ≡ 0 → n + 0 ≤ 1 → Suits phase (n + 0) → (n + k ≤ 1) × Suits phase (n + k)
+    of_none phase n k is few suits = subst (λ (i : ℕ). (n + i ≤ 1) × Suits phase (n + i)) (sym is) (few, suits)
+
 command_fits : (now : Now) (terms : Terms) (file : Option (List ℕ)) (command : Command) (n : ℕ) → is_taken_in terms.phase command ≡ true → n + 0 ≤ 1 → Suits terms.phase (n + 0) → Fits n (success_of now terms file command)
 command_fits now terms file (Initialize arguments) n taken few suits = let one = first_time terms.phase n taken suits in (one, one)
 command_fits now terms None (Launch arguments) n taken few suits = (few, suits)
@@ -149,6 +167,8 @@ command_fits now terms file (Cancel arguments) n taken few suits = (few, suits)
 command_fits now terms file Restart n taken few suits = (few, suits)
 command_fits now terms file Terminate n taken few suits = (few, suits)
 command_fits now terms file (Disconnect arguments) n taken few suits = (few, few)
+command_fits now terms file (SetBreakpoints arguments) n taken few suits = sets_fit now terms (SetBreakpoints arguments) n refl few suits
+command_fits now terms file (SetInstructionBreakpoints arguments) n taken few suits = sets_fit now terms (SetInstructionBreakpoints arguments) n refl few suits
 command_fits now terms file SetExceptionBreakpoints n taken few suits = (few, suits)
 command_fits now terms file (Continue arguments) n taken few suits = (few, suits)
 command_fits now terms file (Next arguments) n taken few suits = (few, suits)
@@ -168,7 +188,7 @@ once = record {
     present = subst (λ n. n ≤ 1) (let e = times_more s.life.said (said_next s.now l (IsEvent event)) in cc) h.present;
     suits = subst (Suits l.terms.phase) (let e = times_more s.life.said (said_next s.now l (IsEvent event)) in cc) h.suits;
   };
-  answers = λ l p rest file s h. answer_keeps l p rest s (answer_to (on_with (Some l) (p ∷ rest) s).now l.terms file p)
+  answers = λ l p rest file s _ _ h. answer_keeps l p rest s (answer_to (on_with (Some l) (p ∷ rest) s).now l.terms file p)
       (of_answer (λ ask answer. Fits (times_initialized s.life.said) answer) (on_with (Some l) (p ∷ rest) s).now l.terms file p.ask p.fate
       (λ refusal _. (h.present, h.suits))
       (λ r taken _. command_fits (on_with (Some l) (p ∷ rest) s).now l.terms file r.command (times_initialized s.life.said) taken h.present h.suits)) h;

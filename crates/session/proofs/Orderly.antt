@@ -1,10 +1,11 @@
--- What the editor is told of the program has numbers of 32 bits: breakpoints have such numbers, and so has an end.
+-- What the editor is told of the program has numbers of 32 bits: breakpoints have such numbers, and so have lines and an end.
 use Rattle.std.proofs.Common.{◌≡◌, ℕ, ℤ, Bool, true, false, List, [], ◌∷◌, ◌++◌, map, filter, Option, Some, None, Result, Ok, Err, MatchBool, refl, sym, ap, ◌∙◌, subst, arith}
-use Rattle.std.specs.Prelude.{◌&&◌, ◌≤ℤ◌, not, int_le, pos, neg_ℤ}
+use Rattle.std.specs.Prelude.{All, ◌&&◌, ◌≤ℤ◌, not, int_le, pos, neg_ℤ}
 use Rattle.std.specs.List.{list_all}
 use Rattle.std.specs.declared.alloc.AllocError.{AllocError}
 use Rattle.std.proofs.lemmas.Int.{ints}
-use Rattle.breakpoints.specs.Stops.{Lists, Placed, checked, counted, is_hit, reset, stops, stopping_ids}
+use Rattle.assembler.specs.Assembled.{IsNarrowRow}
+use Rattle.breakpoints.specs.Stops.{Lists, Placed, Wanted, checked, counted, fresh, is_hit, reset, stops, stopping_ids}
 use Rattle.debuggee.specs.Programs.{Debuggee, Program, ended, entered, first_run, is_ended, is_running, just_loaded, left, marked, marked_by, moved, next_tick, on_program, owing_by, restarted, resumed, stopped, told}
 use Rattle.debuggee.specs.declared.run.Mark.{Mark}
 use Rattle.debuggee.specs.declared.run.Run.{Run}
@@ -12,6 +13,8 @@ use Rattle.debuggee.specs.declared.run.Run.TheVariants as run
 use Rattle.debuggee.specs.declared.run.Why.{Why}
 use Rattle.debuggee.specs.declared.run.Why.TheVariants as why
 use Rattle.image.specs.declared.Image.{Image}
+use Rattle.protocol.specs.declared.command.Command.{Command}
+use Rattle.protocol.specs.declared.command.Command.TheVariants.{SetBreakpoints}
 use Rattle.stepping.specs.declared.goal.Goal.{Goal}
 use Rattle.replies.specs.Events.{IsProperEvent}
 use Rattle.replies.specs.Forms.{is_signed_word, is_word}
@@ -29,6 +32,7 @@ use Rattle.stepping.specs.declared.tick.Outcome.TheVariants.{Went, Stopped, Ende
 use Rattle.stepping.specs.declared.tick.Tick.{Tick}
 use Rattle.stepping.proofs.Existing.{the_tick}
 use Rattle.stepping.proofs.Exiting.{ends_with_codes, no_end}
+use Rattle.session.specs.Breaks.{with_list}
 use Rattle.session.specs.Disconnect.{departed}
 use Rattle.session.specs.Telling.{output_event, stop_event, text_of, reason_of}
 use Rattle.session.proofs.Reaching.{if_keeps}
@@ -109,11 +113,16 @@ tick_orderly before after answer t h = go before.check_due t where
 
 -- ---- the program
 
+-- lines and addresses of its line table have 32 bits
+abbrev pub IsNarrowImage : Image → Type 0
+IsNarrowImage image = All IsNarrowRow image.lines.rows
+
 abbrev pub FitsOwed : Option Tick → Type 0
 FitsOwed None = Unit {0}
 FitsOwed (Some tick) = HasSignedCode tick.outcome
 
 pub record Orderly (p : Program) : Type 0 where
+  pub image : IsNarrowImage p.image
   pub lists : AreOrderly p.machine.lists
   pub owed : FitsOwed p.owed
 
@@ -131,21 +140,17 @@ ids_are_words p h = h.lists.ids
 pub owed_fits : (p : Program) (tick : Tick) → p.owed ≡ Some tick → Orderly p → HasSignedCode tick.outcome
 owed_fits p tick e h = subst FitsOwed e h.owed
 
--- the same machine and nothing else owed
-same_orderly : (p q : Program) → q.machine.lists ≡ p.machine.lists → q.owed ≡ p.owed → Orderly p → Orderly q
-same_orderly p q l o h = record { lists = subst AreOrderly (sym l) h.lists; owed = subst FitsOwed (sym o) h.owed }
-
 pub stopped_orderly : (why : Why) (p : Program) → Orderly p → Orderly (stopped why p)
-stopped_orderly why p h = record { lists = h.lists; owed = h.owed }
+stopped_orderly why p h = record { image = h.image; lists = h.lists; owed = h.owed }
 
 pub ended_orderly : (code : Option ℤ) (p : Program) → Orderly p → Orderly (ended code p)
-ended_orderly code p h = record { lists = h.lists; owed = h.owed }
+ended_orderly code p h = record { image = h.image; lists = h.lists; owed = h.owed }
 
 pub told_orderly : (p : Program) → Orderly p → Orderly (told p)
-told_orderly p h = record { lists = none_named p.machine.lists h.lists; owed = tt }
+told_orderly p h = record { image = h.image; lists = none_named p.machine.lists h.lists; owed = tt }
 
 pub left_orderly : (p : Program) → Orderly p → Orderly (left p)
-left_orderly p h = record { lists = record { source = tt; instructions = tt; ids = tt }; owed = tt }
+left_orderly p h = record { image = h.image; lists = record { source = tt; instructions = tt; ids = tt }; owed = tt }
 
 owing_fits : (printed : Option ℤ) (outcome : Outcome) → HasSignedCode outcome → FitsOwed (owing_by printed outcome)
 owing_fits None Went h = tt
@@ -159,6 +164,7 @@ pub entered_orderly : (p : Program) → Orderly p → Orderly (entered p)
 entered_orderly p h =
     let d = p.machine in
     record {
+      image = h.image;
       lists = checked_orderly d.hart.pc d.hart d.memory d.lists h.lists;
       owed = owing_fits None (entry_tick d).outcome (no_end (hit_at_pc d) false);
     }
@@ -170,12 +176,13 @@ pub moved_orderly : (p : Program) → Orderly p → Orderly (moved p)
 moved_orderly p h =
     let t = the_tick p.machine in
     record {
+      image = h.image;
       lists = tick_orderly p.machine t.after (Ok t.tick) t.is h.lists;
       owed = owing_fits (next_tick p).printed (next_tick p).outcome (next_fits p);
     }
 
 marked_by_orderly : (r : Run) (mark : Mark) (p : Program) → Orderly p → Orderly (marked_by r mark p)
-marked_by_orderly run.Running mark p h = record { lists = h.lists; owed = h.owed }
+marked_by_orderly run.Running mark p h = record { image = h.image; lists = h.lists; owed = h.owed }
 marked_by_orderly (run.Stopped why) mark p h = h
 marked_by_orderly (run.Ended code) mark p h = h
 
@@ -183,21 +190,30 @@ pub marked_orderly : (mark : Mark) (p : Program) → Orderly p → Orderly (mark
 marked_orderly mark p h = marked_by_orderly p.run mark p h
 
 pub resumed_orderly : (goal : Goal) (p : Program) → Orderly p → Orderly (resumed goal p)
-resumed_orderly goal p h = record { lists = h.lists; owed = h.owed }
+resumed_orderly goal p h = record { image = h.image; lists = h.lists; owed = h.owed }
 
 pub first_run_orderly : (p : Program) → Orderly p → Orderly (first_run p)
-first_run_orderly p h = record { lists = h.lists; owed = h.owed }
+first_run_orderly p h = record { image = h.image; lists = h.lists; owed = h.owed }
 
 pub restarted_orderly : (p : Program) → Orderly p → Orderly (restarted p)
-restarted_orderly p h = record { lists = reset_orderly p.machine.lists h.lists; owed = h.owed }
+restarted_orderly p h = record { image = h.image; lists = reset_orderly p.machine.lists h.lists; owed = h.owed }
 
 pub departed_orderly : (ends stands : Bool) (p : Program) → Orderly p → Orderly (departed ends stands p)
 departed_orderly ends stands p h =
     if_keeps Orderly (ends && not (is_ended p.run)) _ _ (λ _. ended_orderly None p h)
     (λ _. if_keeps Orderly (stands && is_running p.run) _ _ (λ _. stopped_orderly why.Pause p h) (λ _. h))
 
-pub loaded_orderly : (image : Image) (path : List ℕ) (stop_on_entry : Bool) (size : ℕ) → Orderly (just_loaded image path stop_on_entry size)
-loaded_orderly image path stop_on_entry size = record { lists = record { source = tt; instructions = tt; ids = tt }; owed = tt }
+-- breakpoints that are set have their numbers, and none was hit
+set_numbered : (list : List Wanted) → AreWords (map (λ w. w.id) list) → AreNumbered (map fresh list)
+set_numbered [] h = tt
+set_numbered (w ∷ list) h = (h.0, set_numbered list h.1)
+
+pub listed_orderly : (command : Command) (list : List Wanted) → AreWords (map (λ w. w.id) list) → (p : Program) → Orderly p → Orderly (with_list command list p)
+listed_orderly (SetBreakpoints arguments) list ids p h = record { image = h.image; lists = record { source = set_numbered list ids; instructions = h.lists.instructions; ids = tt }; owed = h.owed }
+listed_orderly other list ids p h = record { image = h.image; lists = record { source = h.lists.source; instructions = set_numbered list ids; ids = tt }; owed = h.owed }
+
+pub loaded_orderly : (image : Image) (path : List ℕ) (stop_on_entry : Bool) (size : ℕ) → IsNarrowImage image → Orderly (just_loaded image path stop_on_entry size)
+loaded_orderly image path stop_on_entry size narrow = record { image = narrow; lists = record { source = tt; instructions = tt; ids = tt }; owed = tt }
 
 pub with_orderly : (f : Program → Program) → ((p : Program) → Orderly p → Orderly (f p)) → (program : Option Program) → OrderlyOf program → OrderlyOf (on_program f program)
 with_orderly f keeps None h = tt

@@ -1,9 +1,12 @@
 -- A program that runs and is marked retires no instruction.
 use Rattle.std.proofs.Common.{◌≡◌, ℕ, zero, suc, Bool, true, false, leb, ltb, eqb, List, [], ◌∷◌, map, length, Option, Some, None, ◌⊎◌, inl, inr, refl, sym, ap, ◌∙◌, subst, arith}
-use Rattle.std.specs.Prelude.{not, bytes_eq, is_some, MatchOption}
+use Rattle.std.specs.Prelude.{IsTrue, not, bytes_eq, is_some, MatchOption}
+use Rattle.answers.specs.Answers.{sets_breakpoints}
 use Rattle.assembler.specs.Assembled.{assembled}
 use Rattle.assembler.specs.Placed.{error_of}
 use Rattle.assembler.specs.declared.error.AsmError.{AsmError}
+use Rattle.breakpoints.specs.Stops.{Wanted}
+use Rattle.debuggee.specs.Programs.{with_instructions, with_source}
 use Rattle.debuggee.specs.Programs.{Debuggee, Program, ended, first_mark, first_run, is_running, just_loaded, marked, marked_by, on_program, restarted, stopped, told, why_marked}
 use Rattle.debuggee.specs.declared.run.Mark.{Mark}
 use Rattle.debuggee.specs.declared.run.Mark.TheVariants as mark
@@ -11,7 +14,7 @@ use Rattle.debuggee.specs.declared.run.Run.{Run}
 use Rattle.debuggee.specs.declared.run.Run.TheVariants as run
 use Rattle.debuggee.specs.declared.run.Why.TheVariants as why
 use Rattle.protocol.specs.declared.command.Command.{Command}
-use Rattle.protocol.specs.declared.command.Command.TheVariants.{Initialize, Launch, ConfigurationDone, Threads, Cancel, Restart, Terminate, Disconnect, SetExceptionBreakpoints, Continue, Next, StepIn, StepOut, Pause}
+use Rattle.protocol.specs.declared.command.Command.TheVariants.{Initialize, Launch, ConfigurationDone, Threads, Cancel, Restart, Terminate, Disconnect, SetBreakpoints, SetInstructionBreakpoints, SetExceptionBreakpoints, Continue, Next, StepIn, StepOut, Pause}
 use Rattle.protocol.specs.Commands.{name_of}
 use Rattle.protocol.specs.declared.disconnect.TheConstants.{NAME as DISCONNECT}
 use Rattle.replies.specs.declared.message.Message.TheVariants.{Response as IsResponse}
@@ -26,6 +29,7 @@ use Rattle.session.specs.declared.pending.Pending.{Pending}
 use Rattle.session.specs.declared.terms.Terms.{Terms}
 use Rattle.session.specs.Acts.{Answering, Now, Become, Agree, Reply, Tell}
 use Rattle.session.specs.Arrivals.{name_asked}
+use Rattle.session.specs.Breaks.{success_on, with_list}
 use Rattle.session.specs.Demands.{goes_on, run_of}
 use Rattle.session.specs.Effects.{Slicing, beats, enough, next_by, performed}
 use Rattle.session.specs.Launch.{assembles}
@@ -41,6 +45,7 @@ use Rattle.stepping.specs.declared.tick.Outcome.{Outcome as CameTo}
 use Rattle.stepping.specs.declared.tick.Outcome.TheVariants.{Went, Stopped, Ended}
 use Rattle.session.proofs.ByForms.{on, on_with}
 use Rattle.session.proofs.Reaching.{if_keeps, performed_append}
+use Rattle.session.proofs.Breaking.{by_answer}
 use Rattle.session.proofs.Serving.{Meets, of_answer, not_taken}
 use Rattle.session.proofs.Joined.{becomes_program, concluded_as, program_of, same_debuggee, telling_program, tells_only, told_only}
 use Rattle.session.proofs.Turning.{said_debuggee}
@@ -192,6 +197,16 @@ no_step : {A : Type 0} (program : Option Program) → Marked program → goes_on
 no_step None h still = absurd h
 no_step (Some p) h still = absurd (let no : true ≡ false = sym h.0 ∙ still in cc)
 
+listed_waits : (command : Command) (list : List Wanted) (p : Program) → is_running p.run ≡ true → is_some p.mark ≡ true → Waits (Some (with_list command list p))
+listed_waits (SetBreakpoints arguments) list p r m = marked_one (with_source list p) r m
+listed_waits other list p r m = marked_one (with_instructions list p) r m
+
+sets_wait : (now : Now) (terms : Terms) (command : Command) → IsTrue (sets_breakpoints command) → Marked now.debuggee.program → Waits (success_on now.debuggee.program now terms command).debuggee.program
+sets_wait now terms command sets h =
+    let same = still_marked now.debuggee.program h in
+    by_answer (λ a. Waits a.debuggee.program) now.debuggee.program now terms command sets (λ _. same) (λ refusal plain. same) (λ p b is e f. same)
+    (λ p b list is e f within. on_waits (with_list command list) now.debuggee.program h (listed_waits command list))
+
 command_waits : (now : Now) (terms : Terms) (file : Option (List ℕ)) (command : Command) → Marked now.debuggee.program → is_taken_in terms.phase command ≡ true → Meets (run_of now.debuggee.program) (demand_of command) → Goes (name_of command) (success_of now terms file command)
 command_waits now terms file (Initialize arguments) h taken meets = inl (still_marked now.debuggee.program h)
 command_waits now terms None (Launch arguments) h taken meets = inl (still_marked now.debuggee.program h)
@@ -205,6 +220,8 @@ command_waits now terms file (Cancel arguments) h taken meets = inl (still_marke
 command_waits now terms file Restart h taken meets = inl (on_waits (λ p. first_run (restarted p)) now.debuggee.program h (λ p r m. begun_waits p (restarted p) refl m))
 command_waits now terms file Terminate h taken meets = inl (on_waits (ended None) now.debuggee.program h (λ p r m. rests_one (ended None p) refl))
 command_waits now terms file (Disconnect arguments) h taken meets = inr refl
+command_waits now terms file (SetBreakpoints arguments) h taken meets = inl (sets_wait now terms (SetBreakpoints arguments) refl h)
+command_waits now terms file (SetInstructionBreakpoints arguments) h taken meets = inl (sets_wait now terms (SetInstructionBreakpoints arguments) refl h)
 command_waits now terms file SetExceptionBreakpoints h taken meets = inl (still_marked now.debuggee.program h)
 command_waits now terms file (Continue arguments) h taken meets = no_step now.debuggee.program h meets.still
 command_waits now terms file (Next arguments) h taken meets = no_step now.debuggee.program h meets.still

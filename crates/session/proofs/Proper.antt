@@ -1,18 +1,26 @@
 -- Each answer is proper.
 use Rattle.std.proofs.Common.{◌≡◌, ℕ, ◌+◌, ◌<◌, ◌≤◌, Bool, true, false, eqb, ltb, List, [], ◌∷◌, ◌++◌, map, Option, Some, None, Result, Ok, Err, inl, inr, refl, sym, ap, ◌∙◌, subst, arith}
-use Rattle.std.specs.Prelude.{All}
+use Rattle.std.specs.Prelude.{All, IfOk, IsTrue, ◌^◌, ◌&&◌}
+use Rattle.answers.specs.Answers.{sets_breakpoints}
+use Rattle.answers.specs.Laws.{IsNarrow, NumbersFit}
+use Rattle.answers.proofs.Proper.{answers_are_proper as breaks_are_proper}
+use Rattle.assembler.specs.Assembled.{IsNarrowRow}
+use Rattle.breakpoints.specs.Stops.{Wanted}
+use Rattle.debuggee.specs.Programs.{Program}
+use Rattle.image.specs.Lines.{line_in, start_of}
 use Rattle.std.proofs.lemmas.List.{map-id}
-use Rattle.std.proofs.lemmas.List.Elements.{All-push, All-nil}
+use Rattle.std.proofs.lemmas.List.Elements.{All-push, All-nil, All-weaker}
 use Rattle.assembler.specs.Placed.{error_of}
 use Rattle.assembler.specs.declared.error.AsmError.{AsmError}
 use Rattle.protocol.proofs.Meanings.{IsSound, IsOfNameOrArguments, incoming_of-sound}
 use Rattle.protocol.specs.declared.command.Command.{Command}
-use Rattle.protocol.specs.declared.command.Command.TheVariants.{Initialize, Launch, ConfigurationDone, Threads, Cancel, Restart, Terminate, Disconnect, SetExceptionBreakpoints, Continue, Next, StepIn, StepOut, Pause}
+use Rattle.protocol.specs.declared.command.Command.TheVariants.{Initialize, Launch, ConfigurationDone, Threads, Cancel, Restart, Terminate, Disconnect, SetBreakpoints, SetInstructionBreakpoints, SetExceptionBreakpoints, Continue, Next, StepIn, StepOut, Pause}
 use Rattle.protocol.specs.declared.refusal.Refusal.{Refusal}
 use Rattle.protocol.specs.declared.request.Incoming.{Incoming}
 use Rattle.protocol.specs.declared.request.Incoming.TheVariants.{Request as IsRequest, Bad as IsBad, Ignored}
 use Rattle.protocol.specs.declared.request.MessageError.{MessageError}
 use Rattle.protocol.specs.Commands.{name_of}
+use Rattle.protocol.specs.Laws.{AsksLinesWithin}
 use Rattle.protocol.specs.Refusals.{has_text}
 use Rattle.protocol.specs.Reading.{incoming_of}
 use Rattle.replies.specs.Events.{IsProperEvent}
@@ -21,6 +29,8 @@ use Rattle.replies.specs.Responses.{IsOutcomeOf}
 use Rattle.replies.specs.declared.event.Event.{Event as Told}
 use Rattle.replies.specs.declared.message.Message.TheVariants.{Response, Event as IsEvent}
 use Rattle.replies.specs.declared.response.Outcome.{Outcome}
+use Rattle.replies.specs.declared.response.Outcome.TheVariants.{Done}
+use Rattle.replies.specs.declared.response.ResponseBody.{ResponseBody}
 use Rattle.session.specs.declared.event.Event.{Event}
 use Rattle.session.specs.declared.link.Link.{Link}
 use Rattle.session.specs.declared.pending.Ask.{Ask}
@@ -29,17 +39,21 @@ use Rattle.session.specs.declared.pending.Pending.{Pending}
 use Rattle.session.specs.declared.terms.Terms.{Terms}
 use Rattle.session.specs.Acts.{Answering, Now, Tell, read_on}
 use Rattle.session.specs.Arrivals.{number_of, name_asked, asks_in, asks_of}
+use Rattle.session.specs.Breaks.{success_on, view_of}
+use Rattle.session.specs.Demands.{has_none, run_of}
 use Rattle.session.specs.Effects.{performed}
 use Rattle.session.specs.Launch.{assembles}
 use Rattle.session.specs.Laws.{AnswersAreProper}
 use Rattle.session.specs.Outcomes.{answering, closing}
 use Rattle.session.specs.Refusals.{answer_to, response_to}
-use Rattle.session.specs.Requests.{is_taken_in, success_of}
+use Rattle.session.specs.Requests.{demand_of, is_taken_in, success_of}
 use Rattle.session.specs.Sessions.{Beginning, Session, Life, Said, said_next, said_on, replied_on, hung_on, performed_on, histories, After}
 use Rattle.session.proofs.Joining.{seen_as, all_joined_as}
 use Rattle.session.proofs.Reaching.{if_keeps, each_life, performed_append}
 use Rattle.session.proofs.ByForms.{on, on_with, saying}
 use Rattle.session.proofs.Turning.{KeptByEvents, reached_by_events}
+use Rattle.session.proofs.Breaking.{answer_on, by_answer}
+use Rattle.session.proofs.Orderly.{Orderly, OrderlyIn, OrderlyOf}
 use Rattle.session.proofs.Serving.{IsRefusalOf, of_answer, not_taken}
 
 -- ---- one answer
@@ -56,36 +70,63 @@ record Fits (command : List ℕ) (a : Answering) : Type 0 where
   outcome : IsOutcomeOf command a.outcome
   events : AllTold a.events
 
+-- the line table of a program is narrow
+narrow_table : (p : Program) → Orderly p → IsNarrow p.image.lines
+narrow_table p h = record {
+  lines = All-weaker IsNarrowRow (λ row. line_in row < 2 ^ 32) (λ row narrow. narrow.0) p.image.lines.rows h.image;
+  places = All-weaker IsNarrowRow (λ row. start_of row < 2 ^ 32) (λ row narrow. narrow.1) p.image.lines.rows h.image;
+}
+
+-- what such a request is answered is of that request, where there is a program
+sets_fit : (now : Now) (terms : Terms) (command : Command) → IsTrue (sets_breakpoints command) → has_none (run_of now.debuggee.program) ≡ false → AsksLinesWithin command → now.limits.last_ref ≤ 2147483647 → OrderlyIn now.debuggee → Fits (name_of command) (success_on now.debuggee.program now terms command)
+sets_fit now terms command sets there asks few h =
+    by_answer (Fits (name_of command)) now.debuggee.program now terms command sets
+    (λ none. absurd (let no : true ≡ false = sym (ap (λ (x : Option Program). has_none (run_of x)) none) ∙ there in cc))
+    (λ refusal plain. record { outcome = sym plain; events = tt })
+    (λ p b is e f. record { outcome = done p b None is e f tt; events = tt })
+    (λ p b list is e f within. record { outcome = done p b (Some list) is e f (omega (arith, within, few)); events = tt })
+  where
+    done : (p : Program) (b : ResponseBody) (list : Option (List Wanted)) → now.debuggee.program ≡ Some p → (answer_on p now terms command).result ≡ Ok b → (answer_on p now terms command).list ≡ list
+        → NumbersFit (now.debuggee.last_break + 1) list → IsOutcomeOf (name_of command) (Done b)
+    done p b list is e f fit =
+        subst (λ (result : Result ResponseBody Refusal). IfOk result (λ b. IsOutcomeOf (name_of command) (Done b))) e
+        (breaks_are_proper command p.image.lines p.machine.size (view_of terms p) (now.debuggee.last_break + 1) sets (narrow_table p (subst OrderlyOf is h)) asks
+        (subst (NumbersFit (now.debuggee.last_break + 1)) (sym f) fit))
+
 -- the body of a success is that of its request
-success_fits : (now : Now) (terms : Terms) (file : Option (List ℕ)) (command : Command) → is_taken_in terms.phase command ≡ true → Fits (name_of command) (success_of now terms file command)
-success_fits now terms file (Initialize arguments) taken = record { outcome = (refl, refl); events = tt }
-success_fits now terms None (Launch arguments) taken = record { outcome = refl; events = tt }
-success_fits now terms (Some text) (Launch arguments) taken = by (error_of text now.size) where
+success_fits : (now : Now) (terms : Terms) (file : Option (List ℕ)) (command : Command) → is_taken_in terms.phase command ≡ true
+    → ((demand_of command).loaded && has_none (run_of now.debuggee.program)) ≡ false → AsksLinesWithin command → now.limits.last_ref ≤ 2147483647 → OrderlyIn now.debuggee
+    → Fits (name_of command) (success_of now terms file command)
+success_fits now terms file (Initialize arguments) taken there asks few h = record { outcome = (refl, refl); events = tt }
+success_fits now terms None (Launch arguments) taken there asks few h = record { outcome = refl; events = tt }
+success_fits now terms (Some text) (Launch arguments) taken there asks few h = by (error_of text now.size) where
   by : (error : Option AsmError) → Fits (name_of (Launch arguments)) (assembles now terms arguments text error)
   by None = record { outcome = (refl, refl); events = (refl, tt) }
   by (Some e) = record { outcome = refl; events = tt }
-success_fits now terms file ConfigurationDone taken = record { outcome = (refl, refl); events = tt }
-success_fits now terms file Threads taken = record { outcome = (refl, refl); events = tt }
-success_fits now terms file (Cancel arguments) taken = record { outcome = (refl, refl); events = tt }
-success_fits now terms file Restart taken = record { outcome = (refl, refl); events = tt }
-success_fits now terms file Terminate taken = record { outcome = (refl, refl); events = (refl, tt) }
-success_fits now terms file (Disconnect arguments) taken = record { outcome = (refl, refl); events = tt }
-success_fits now terms file SetExceptionBreakpoints taken = record { outcome = (refl, refl); events = tt }
-success_fits now terms file (Continue arguments) taken = record { outcome = (refl, refl); events = tt }
-success_fits now terms file (Next arguments) taken = record { outcome = (refl, refl); events = tt }
-success_fits now terms file (StepIn arguments) taken = record { outcome = (refl, refl); events = tt }
-success_fits now terms file (StepOut arguments) taken = record { outcome = (refl, refl); events = tt }
-success_fits now terms file (Pause arguments) taken = record { outcome = (refl, refl); events = tt }
-success_fits now terms file command taken = absurd (not_taken taken)
+success_fits now terms file ConfigurationDone taken there asks few h = record { outcome = (refl, refl); events = tt }
+success_fits now terms file Threads taken there asks few h = record { outcome = (refl, refl); events = tt }
+success_fits now terms file (Cancel arguments) taken there asks few h = record { outcome = (refl, refl); events = tt }
+success_fits now terms file Restart taken there asks few h = record { outcome = (refl, refl); events = tt }
+success_fits now terms file Terminate taken there asks few h = record { outcome = (refl, refl); events = (refl, tt) }
+success_fits now terms file (Disconnect arguments) taken there asks few h = record { outcome = (refl, refl); events = tt }
+success_fits now terms file (SetBreakpoints arguments) taken there asks few h = sets_fit now terms (SetBreakpoints arguments) refl there asks few h
+success_fits now terms file (SetInstructionBreakpoints arguments) taken there asks few h = sets_fit now terms (SetInstructionBreakpoints arguments) refl there asks few h
+success_fits now terms file SetExceptionBreakpoints taken there asks few h = record { outcome = (refl, refl); events = tt }
+success_fits now terms file (Continue arguments) taken there asks few h = record { outcome = (refl, refl); events = tt }
+success_fits now terms file (Next arguments) taken there asks few h = record { outcome = (refl, refl); events = tt }
+success_fits now terms file (StepIn arguments) taken there asks few h = record { outcome = (refl, refl); events = tt }
+success_fits now terms file (StepOut arguments) taken there asks few h = record { outcome = (refl, refl); events = tt }
+success_fits now terms file (Pause arguments) taken there asks few h = record { outcome = (refl, refl); events = tt }
+success_fits now terms file command taken there asks few h = absurd (not_taken taken)
 
--- ---- requests as they come: with a number that a request may have, and no refusal that has a text of its own
+-- ---- requests as they come: with numbers that a request may have, and no refusal that has a text of its own
 
 abbrev IsRead : Ask → Type 0
-IsRead (Request r) = r.seq ≤ 2147483647
+IsRead (Request r) = (r.seq ≤ 2147483647) × AsksLinesWithin r.command
 IsRead (Bad seq command refusal) = (seq ≤ 2147483647) × (has_text refusal ≡ false)
 
 number_is : (ask : Ask) → IsRead ask → number_of ask ≤ 2147483647
-number_is (Request r) h = h
+number_is (Request r) h = h.0
 number_is (Bad seq command refusal) h = h.0
 
 has_no_text : (ask : Ask) (refusal : Refusal) → IsRead ask → IsRefusalOf ask refusal → has_text refusal ≡ false
@@ -93,11 +134,11 @@ has_no_text ask refusal h (inr e) = e
 has_no_text (Request r) refusal h (inl e) = absurd (let none : None ≡ Some refusal = e in cc)
 has_no_text (Bad seq command why) refusal h (inl e) = ap has_text (let same : refusal ≡ why = cc in same) ∙ h.1
 
-answer_fits : (now : Now) (terms : Terms) (file : Option (List ℕ)) (p : Pending) → IsRead p.ask → Fits (name_asked p.ask) (answer_to now terms file p)
-answer_fits now terms file p h =
-    of_answer (λ ask answer. Fits (name_asked ask) answer) now terms file p.ask p.fate
-    (λ refusal is. record { outcome = sym (has_no_text p.ask refusal h is); events = tt })
-    (λ r taken _. success_fits now terms file r.command taken)
+answer_fits : (now : Now) (terms : Terms) (file : Option (List ℕ)) (p : Pending) → IsRead p.ask → now.limits.last_ref ≤ 2147483647 → OrderlyIn now.debuggee → Fits (name_asked p.ask) (answer_to now terms file p)
+answer_fits now terms file p h few orderly =
+    of_answer (λ ask answer. IsRead ask → Fits (name_asked ask) answer) now terms file p.ask p.fate
+    (λ refusal is read. record { outcome = sym (has_no_text p.ask refusal read is); events = tt })
+    (λ r taken meets read. success_fits now terms file r.command taken meets.loaded read.1 few orderly) h
 
 abbrev AreRead : List Ask → Type 0
 AreRead [] = Unit {0}
@@ -200,9 +241,9 @@ proper = record {
       };
   becomes = λ d s h. record { before = h.before; present = h.present; pending = h.pending };
   tells = λ l event s proper _ few h. says l event s proper h;
-  answers = λ l p rest file s h.
+  answers = λ l p rest file s orderly few h.
       let t = on_with (Some l) (p ∷ rest) s in
-      answer_keeps l p rest s (answer_to t.now l.terms file p) (answer_fits t.now l.terms file p h.pending.0) h;
+      answer_keeps l p rest s (answer_to t.now l.terms file p) (answer_fits t.now l.terms file p h.pending.0 few orderly) h;
   takes = λ n s h. record { before = h.before; present = h.present; pending = h.pending };
 }
 

@@ -1,13 +1,14 @@
 -- What is told of the program's run is so.
 use Rattle.std.proofs.Common.{◌≡◌, ℕ, Bool, true, false, ltb, List, [], ◌∷◌, map, Option, Some, None, refl, sym, ◌∙◌, subst}
-use Rattle.std.specs.Prelude.{All, ◌&&◌}
+use Rattle.std.specs.Prelude.{All, IsTrue, ◌&&◌}
 use Rattle.std.proofs.lemmas.List.Elements.{All-push, All-nil}
+use Rattle.answers.specs.Answers.{sets_breakpoints}
 use Rattle.assembler.specs.Placed.{error_of}
 use Rattle.assembler.specs.declared.error.AsmError.{AsmError}
 use Rattle.debuggee.specs.Programs.{Debuggee, Program, ended, first_run, is_ended, is_running, on_program, restarted, resumed}
 use Rattle.debuggee.specs.declared.run.Run.{Run}
 use Rattle.protocol.specs.declared.command.Command.{Command}
-use Rattle.protocol.specs.declared.command.Command.TheVariants.{Initialize, Launch, ConfigurationDone, Threads, Cancel, Restart, Terminate, Disconnect, SetExceptionBreakpoints, Continue, Next, StepIn, StepOut, Pause}
+use Rattle.protocol.specs.declared.command.Command.TheVariants.{Initialize, Launch, ConfigurationDone, Threads, Cancel, Restart, Terminate, Disconnect, SetBreakpoints, SetInstructionBreakpoints, SetExceptionBreakpoints, Continue, Next, StepIn, StepOut, Pause}
 use Rattle.protocol.specs.Commands.{name_of}
 use Rattle.replies.specs.declared.event.Event.{Event as Told}
 use Rattle.replies.specs.declared.message.Message.{Message}
@@ -20,6 +21,7 @@ use Rattle.session.specs.declared.pending.Pending.{Pending}
 use Rattle.session.specs.declared.terms.Terms.{Terms}
 use Rattle.session.specs.Acts.{Answering, Now, Tell}
 use Rattle.session.specs.Arrivals.{name_asked}
+use Rattle.session.specs.Breaks.{success_on}
 use Rattle.session.specs.Demands.{has_none, run_of}
 use Rattle.session.specs.Effects.{performed}
 use Rattle.session.specs.Launch.{assembles}
@@ -33,6 +35,7 @@ use Rattle.stepping.specs.declared.goal.Goal.TheVariants as goal
 use Rattle.session.specs.Sessions.{Beginning, Session, Life, Said, said_next, said_on, hung_on, performed_on, histories, After}
 use Rattle.session.proofs.Reaching.{if_keeps, each_life, performed_append}
 use Rattle.session.proofs.ByForms.{on, on_with}
+use Rattle.session.proofs.Breaking.{by_answer}
 use Rattle.session.proofs.Serving.{of_answer, not_taken}
 use Rattle.session.proofs.Turning.{KeptByEvents, reached_by_events, said_debuggee}
 
@@ -66,6 +69,16 @@ Has now command = ((demand_of command).loaded && has_none (run_of now.debuggee.p
 goes_on : (name : List ℕ) (now : Now) (terms : Terms) (f : Program → Program) (body : ResponseBody) → has_none (run_of now.debuggee.program) ≡ false → ((p : Program) → Goes (f p).run) → Says name (changing now terms f body)
 goes_on name now terms f body there goes = record { response = λ _. runs_as Goes f now.debuggee.program now.debuggee.last_break there goes; events = tt }
 
+-- one that sets breakpoints lets nothing go on
+sets_say : (now : Now) (terms : Terms) (command : Command) → IsTrue (sets_breakpoints command) → is_resume (name_of command) ≡ false → Says (name_of command) (success_on now.debuggee.program now terms command)
+sets_say now terms command sets none =
+    by_answer (Says (name_of command)) now.debuggee.program now terms command sets
+    (λ _. record { response = no; events = tt }) (λ refusal plain. record { response = never; events = tt })
+    (λ p b is e f. record { response = no; events = tt }) (λ p b list is e f within. record { response = no; events = tt })
+  where
+    no : {A : Type 0} → is_resume (name_of command) ≡ true → A
+    no h = never (sym none ∙ h)
+
 success_says : (now : Now) (terms : Terms) (file : Option (List ℕ)) (command : Command) → is_taken_in terms.phase command ≡ true → Has now command → Says (name_of command) (success_of now terms file command)
 success_says now terms file (Initialize arguments) taken there = record { response = never; events = tt }
 success_says now terms None (Launch arguments) taken there = record { response = never; events = tt }
@@ -82,6 +95,8 @@ success_says now terms file Terminate taken there = record {
   events = (runs_as (λ run. is_ended run ≡ true) (ended None) now.debuggee.program now.debuggee.last_break there (λ p. refl), tt);
 }
 success_says now terms file (Disconnect arguments) taken there = record { response = never; events = tt }
+success_says now terms file (SetBreakpoints arguments) taken there = sets_say now terms (SetBreakpoints arguments) refl refl
+success_says now terms file (SetInstructionBreakpoints arguments) taken there = sets_say now terms (SetInstructionBreakpoints arguments) refl refl
 success_says now terms file SetExceptionBreakpoints taken there = record { response = never; events = tt }
 success_says now terms file (Continue arguments) taken there = goes_on (name_of (Continue arguments)) now terms (resumed goal.Go) body.Continue there (λ p. refl)
 success_says now terms file (Next arguments) taken there = goes_on (name_of (Next arguments)) now terms (resumed (goal.Over (granularity_of arguments.granularity))) body.Empty there (λ p. refl)
@@ -147,7 +162,7 @@ tells = record {
   accepts = λ l piece s e h. record { before = h.before; present = h.present };
   becomes = λ d s h. record { before = h.before; present = h.present };
   tells = λ l event s _ so few h. record { before = h.before; present = All-push IsSaid s.life.said (said_next s.now l (IsEvent event)) h.present so };
-  answers = λ l p rest file s h.
+  answers = λ l p rest file s _ _ h.
       let t = on_with (Some l) (p ∷ rest) s in
       answer_keeps l p rest s (answer_to t.now l.terms file p) (answer_says t.now l.terms file p) h;
   takes = λ n s h. record { before = h.before; present = h.present };

@@ -1,8 +1,11 @@
 -- What is kept by each event, where answers are looked at whole.
-use Rattle.std.proofs.Common.{◌≡◌, ℕ, ℤ, zero, suc, ◌<◌, Bool, true, false, ltb, leb, eqb, List, [], ◌∷◌, ◌++◌, map, length, Option, Some, None, refl, sym, subst, append-nil, ltb-true}
-use Rattle.std.specs.Prelude.{not}
+use Rattle.std.proofs.Common.{◌≡◌, ℕ, ℤ, zero, suc, ◌<◌, ◌≤◌, Bool, true, false, ltb, leb, eqb, List, [], ◌∷◌, ◌++◌, map, length, Option, Some, None, refl, sym, subst, append-nil, ltb-true, arith}
+use Rattle.std.specs.Prelude.{IsTrue, ◌&&◌, not}
+use Rattle.std.proofs.lemmas.Bool.Decides.{nat_tests}
+use Rattle.answers.specs.Answers.{sets_breakpoints}
 use Rattle.assembler.specs.Assembled.{assembled}
 use Rattle.assembler.specs.Placed.{error_of}
+use Rattle.assembler.proofs.Narrow.{assembled_is_narrow}
 use Rattle.assembler.specs.declared.error.AsmError.{AsmError}
 use Rattle.debuggee.specs.Programs.{Debuggee, Program, ended, first_run, left, marked, next_tick, restarted, resumed, stopped, told, why_marked}
 use Rattle.debuggee.specs.declared.run.Mark.{Mark}
@@ -10,7 +13,7 @@ use Rattle.debuggee.specs.declared.run.Mark.TheVariants as mark
 use Rattle.debuggee.specs.declared.run.Why.{Why}
 use Rattle.debuggee.specs.declared.run.Why.TheVariants as why
 use Rattle.protocol.specs.declared.command.Command.{Command}
-use Rattle.protocol.specs.declared.command.Command.TheVariants.{Initialize, Launch, ConfigurationDone, Threads, Cancel, Restart, Terminate, Disconnect, SetExceptionBreakpoints, Continue, Next, StepIn, StepOut, Pause}
+use Rattle.protocol.specs.declared.command.Command.TheVariants.{Initialize, Launch, ConfigurationDone, Threads, Cancel, Restart, Terminate, Disconnect, SetBreakpoints, SetInstructionBreakpoints, SetExceptionBreakpoints, Continue, Next, StepIn, StepOut, Pause}
 use Rattle.replies.specs.Events.{IsProperEvent}
 use Rattle.replies.specs.declared.event.Event.{Event as Told}
 use Rattle.replies.specs.declared.message.Message.{Message}
@@ -22,15 +25,18 @@ use Rattle.session.specs.declared.event.Ending.{Ending}
 use Rattle.session.specs.declared.event.Ending.TheVariants as ending
 use Rattle.session.specs.declared.event.Event.{Event}
 use Rattle.session.specs.declared.event.Event.TheVariants.{Connect, Recv, Turn, Slice, Hold, Sent, DropConnection}
+use Rattle.session.specs.declared.limits.Limits.{Limits}
 use Rattle.session.specs.declared.link.Link.{Link}
 use Rattle.session.specs.declared.pending.Pending.{Pending}
 use Rattle.session.specs.declared.terms.Terms.{Terms}
 use Rattle.session.specs.Acts.{Act, Answering, Now, Seen, Open, Close, Agree, Become, Reply, Tell, Take}
-use Rattle.session.specs.Config.{first_program}
+use Rattle.session.specs.Breaks.{success_on, with_list}
+use Rattle.session.specs.Config.{HasImage, first_program}
 use Rattle.session.specs.Disconnect.{departed, is_to_end, is_to_stand}
 use Rattle.session.specs.Effects.{performed, beats, enough, next_by}
 use Rattle.session.specs.Launch.{assembles}
 use Rattle.session.specs.Laws.{SaysItsRun}
+use Rattle.session.specs.Limits.{are_limits, greatest_limits, is_within}
 use Rattle.session.specs.Outcomes.{Outcome, outcome_at, answers_next, closing, holding, leaving, next_turn, answering, turn_by, turn_of}
 use Rattle.session.specs.Phases.{is_active}
 use Rattle.session.specs.Refusals.{answer_to, response_to}
@@ -47,8 +53,9 @@ use Rattle.stepping.specs.declared.tick.Reason.TheVariants as met
 use Rattle.stepping.specs.declared.tick.Tick.{Tick}
 use Rattle.session.proofs.Reaching.{if_keeps, performed_append, reached}
 use Rattle.session.proofs.ByForms.{on, on_with, accepting, saying}
+use Rattle.session.proofs.Breaking.{by_answer, ids_are_words}
 use Rattle.session.proofs.Serving.{of_answer, not_taken}
-use Rattle.session.proofs.Orderly.{AreWords, Orderly, OrderlyIn, OrderlyOf, departed_orderly, ended_orderly, entered_orderly, exit_is_proper, first_run_orderly, ids_are_words, left_orderly, loaded_orderly, marked_orderly, moved_orderly, next_fits, output_is_proper, owed_fits, restarted_orderly, resumed_orderly, stop_is_proper, stopped_orderly, told_orderly, with_orderly}
+use Rattle.session.proofs.Orderly.{AreWords, Orderly, OrderlyIn, OrderlyOf, departed_orderly, ended_orderly, entered_orderly, exit_is_proper, first_run_orderly, ids_are_words as named_are_words, left_orderly, listed_orderly, loaded_orderly, marked_orderly, moved_orderly, next_fits, output_is_proper, owed_fits, restarted_orderly, resumed_orderly, stop_is_proper, stopped_orderly, told_orderly, with_orderly}
 
 -- What is debugged is orderly in each state, and each event that is told is proper: what is kept may stand on both.
 pub record KeptByEvents (P : Session → Type 0) : Type 0 where
@@ -57,7 +64,7 @@ pub record KeptByEvents (P : Session → Type 0) : Type 0 where
   pub accepts : (l : Link) (piece : List ℕ) (s : Session) → l.is_closing ≡ false → P (on (Some l) s) → P (accepting l piece (on (Some l) s))
   pub becomes : (d : Debuggee) (s : Session) → P s → P (performed_on (Become d) s)
   pub tells : (l : Link) (event : Told) (s : Session) → IsProperEvent event → SaysItsRun (IsEvent event) s.now.debuggee → l.seq < s.now.limits.last_seq → P (on (Some l) s) → P (saying l (IsEvent event) s.now.arrivals.pending (on (Some l) s))
-  pub answers : (l : Link) (p : Pending) (rest : List Pending) (file : Option (List ℕ)) (s : Session) → let t = on_with (Some l) (p ∷ rest) s in P t → P (performed histories (answering (answer_to t.now l.terms file p)) t)
+  pub answers : (l : Link) (p : Pending) (rest : List Pending) (file : Option (List ℕ)) (s : Session) → let t = on_with (Some l) (p ∷ rest) s in OrderlyIn s.now.debuggee → s.now.limits.last_ref ≤ 2147483647 → P t → P (performed histories (answering (answer_to t.now l.terms file p)) t)
   pub takes : (n : ℕ) (s : Session) → P s → P (performed_on (Take n) s)
 
 -- an event that may be told of that program
@@ -115,7 +122,7 @@ concludes_quiet now d p (Ended code) ids h c w = exits_quiet now d p code h c
 
 telling_quiet : (now : Now) (d : Debuggee) (p : Program) (tick : Tick) → Orderly p → HasSignedCode tick.outcome → AllQuiet d (telling now p tick)
 unfolding AllQuiet
-telling_quiet now d p tick h c = (told_orderly p h, prints_before now (debugging now (told p)) tick.printed _ (concludes_quiet now (debugging now (told p)) (told p) tick.outcome p.machine.lists.ids (told_orderly p h) c (ids_are_words p h)))
+telling_quiet now d p tick h c = (told_orderly p h, prints_before now (debugging now (told p)) tick.printed _ (concludes_quiet now (debugging now (told p)) (told p) tick.outcome p.machine.lists.ids (told_orderly p h) c (named_are_words p h)))
 
 -- the acts of a beat are such, whatever the program was before
 abbrev QuietBeat : Beat → Type 0
@@ -161,37 +168,44 @@ program_quiet (Some p) seen more h = owed_quiet p.owed seen p more refl h
 
 -- ---- an answer leaves an orderly program
 
-command_orderly : (now : Now) (terms : Terms) (file : Option (List ℕ)) (command : Command) → is_taken_in terms.phase command ≡ true → OrderlyIn now.debuggee → OrderlyIn (success_of now terms file command).debuggee
-command_orderly now terms file (Initialize arguments) taken h = h
-command_orderly now terms None (Launch arguments) taken h = h
-command_orderly now terms (Some text) (Launch arguments) taken h = by (error_of text now.size) where
-  by : (error : Option AsmError) → OrderlyIn (assembles now terms arguments text error).debuggee
-  by None = loaded_orderly (assembled text) arguments.program arguments.stop_on_entry now.size
-  by (Some e) = h
-command_orderly now terms file ConfigurationDone taken h = with_orderly first_run first_run_orderly now.debuggee.program h
-command_orderly now terms file Threads taken h = h
-command_orderly now terms file (Cancel arguments) taken h = h
-command_orderly now terms file Restart taken h = with_orderly (λ p. first_run (restarted p)) (λ p o. first_run_orderly (restarted p) (restarted_orderly p o)) now.debuggee.program h
-command_orderly now terms file Terminate taken h = with_orderly (ended None) (ended_orderly None) now.debuggee.program h
-command_orderly now terms file (Disconnect arguments) taken h =
+sets_orderly : (now : Now) (terms : Terms) (command : Command) → IsTrue (sets_breakpoints command) → now.limits.last_ref ≤ 2147483647 → OrderlyIn now.debuggee → OrderlyIn (success_on now.debuggee.program now terms command).debuggee
+sets_orderly now terms command sets few h =
+    by_answer (λ a. OrderlyIn a.debuggee) now.debuggee.program now terms command sets (λ _. h) (λ refusal plain. h) (λ p b is e f. h)
+    (λ p b list is e f within. with_orderly (with_list command list) (listed_orderly command list (ids_are_words p now terms command list f (omega (arith, within, few)))) now.debuggee.program h)
+
+command_orderly : (now : Now) (terms : Terms) (file : Option (List ℕ)) (command : Command) → is_taken_in terms.phase command ≡ true → now.limits.last_ref ≤ 2147483647 → OrderlyIn now.debuggee → OrderlyIn (success_of now terms file command).debuggee
+command_orderly now terms file (Initialize arguments) taken few h = h
+command_orderly now terms None (Launch arguments) taken few h = h
+command_orderly now terms (Some text) (Launch arguments) taken few h = by (error_of text now.size) refl where
+  by : (error : Option AsmError) → error_of text now.size ≡ error → OrderlyIn (assembles now terms arguments text error).debuggee
+  by None e = loaded_orderly (assembled text) arguments.program arguments.stop_on_entry now.size (assembled_is_narrow text now.size e)
+  by (Some error) e = h
+command_orderly now terms file ConfigurationDone taken few h = with_orderly first_run first_run_orderly now.debuggee.program h
+command_orderly now terms file Threads taken few h = h
+command_orderly now terms file (Cancel arguments) taken few h = h
+command_orderly now terms file Restart taken few h = with_orderly (λ p. first_run (restarted p)) (λ p o. first_run_orderly (restarted p) (restarted_orderly p o)) now.debuggee.program h
+command_orderly now terms file Terminate taken few h = with_orderly (ended None) (ended_orderly None) now.debuggee.program h
+command_orderly now terms file (Disconnect arguments) taken few h =
     with_orderly (λ p. departed (is_to_end terms arguments) (is_to_stand terms arguments) (left p))
     (λ p o. departed_orderly (is_to_end terms arguments) (is_to_stand terms arguments) (left p) (left_orderly p o)) now.debuggee.program h
-command_orderly now terms file SetExceptionBreakpoints taken h = h
-command_orderly now terms file (Continue arguments) taken h = with_orderly (resumed goal.Go) (resumed_orderly goal.Go) now.debuggee.program h
-command_orderly now terms file (Next arguments) taken h = let g = goal.Over (granularity_of arguments.granularity) in with_orderly (resumed g) (resumed_orderly g) now.debuggee.program h
-command_orderly now terms file (StepIn arguments) taken h = let g = goal.In (granularity_of arguments.granularity) in with_orderly (resumed g) (resumed_orderly g) now.debuggee.program h
-command_orderly now terms file (StepOut arguments) taken h = let g = goal.Out (granularity_of arguments.granularity) in with_orderly (resumed g) (resumed_orderly g) now.debuggee.program h
-command_orderly now terms file (Pause arguments) taken h = with_orderly (marked mark.Pause) (marked_orderly mark.Pause) now.debuggee.program h
-command_orderly now terms file command taken h = absurd (not_taken taken)
+command_orderly now terms file (SetBreakpoints arguments) taken few h = sets_orderly now terms (SetBreakpoints arguments) refl few h
+command_orderly now terms file (SetInstructionBreakpoints arguments) taken few h = sets_orderly now terms (SetInstructionBreakpoints arguments) refl few h
+command_orderly now terms file SetExceptionBreakpoints taken few h = h
+command_orderly now terms file (Continue arguments) taken few h = with_orderly (resumed goal.Go) (resumed_orderly goal.Go) now.debuggee.program h
+command_orderly now terms file (Next arguments) taken few h = let g = goal.Over (granularity_of arguments.granularity) in with_orderly (resumed g) (resumed_orderly g) now.debuggee.program h
+command_orderly now terms file (StepIn arguments) taken few h = let g = goal.In (granularity_of arguments.granularity) in with_orderly (resumed g) (resumed_orderly g) now.debuggee.program h
+command_orderly now terms file (StepOut arguments) taken few h = let g = goal.Out (granularity_of arguments.granularity) in with_orderly (resumed g) (resumed_orderly g) now.debuggee.program h
+command_orderly now terms file (Pause arguments) taken few h = with_orderly (marked mark.Pause) (marked_orderly mark.Pause) now.debuggee.program h
+command_orderly now terms file command taken few h = absurd (not_taken taken)
 
-answer_orderly : (now : Now) (terms : Terms) (file : Option (List ℕ)) (p : Pending) → OrderlyIn now.debuggee → OrderlyIn (answer_to now terms file p).debuggee
-answer_orderly now terms file p h =
-    of_answer (λ ask answer. OrderlyIn answer.debuggee) now terms file p.ask p.fate (λ refusal _. h) (λ r taken _. command_orderly now terms file r.command taken h)
+answer_orderly : (now : Now) (terms : Terms) (file : Option (List ℕ)) (p : Pending) → now.limits.last_ref ≤ 2147483647 → OrderlyIn now.debuggee → OrderlyIn (answer_to now terms file p).debuggee
+answer_orderly now terms file p few h =
+    of_answer (λ ask answer. OrderlyIn answer.debuggee) now terms file p.ask p.fate (λ refusal _. h) (λ r taken _. command_orderly now terms file r.command taken few h)
 
 -- ---- what changes no program
 
 abbrev StaysOrderly : Session → Type 0
-StaysOrderly s = OrderlyIn s.now.debuggee
+StaysOrderly s = OrderlyIn s.now.debuggee × (s.now.limits.last_ref ≤ 2147483647)
 
 agreed_stays : (l : Option Link) (terms : Terms) (s : Session) → StaysOrderly (on l s) → StaysOrderly (agreed_on l terms (on l s))
 agreed_stays None terms s h = h
@@ -222,7 +236,7 @@ closed_stays : (closes : Bool) (s : Session) → StaysOrderly s → StaysOrderly
 closed_stays true s h = hung_stays s.now.link s h
 closed_stays false s h = h
 
-answering_stays : (a : Answering) (s : Session) → OrderlyIn a.debuggee → StaysOrderly (performed histories (answering a) s)
+answering_stays : (a : Answering) (s : Session) → OrderlyIn a.debuggee × (s.now.limits.last_ref ≤ 2147483647) → StaysOrderly (performed histories (answering a) s)
 answering_stays a s h =
     let t : Session = performed_on (Become a.debuggee) s in
     let u : Session = performed_on (Agree a.terms) t in
@@ -231,9 +245,20 @@ answering_stays a s h =
     subst StaysOrderly (sym (performed_append (map Tell a.events) (closing a.closes) v))
     (closed_stays a.closes (performed histories (map Tell a.events) v) (told_stays a.events v replied))
 
-begins_orderly : (given : Option (List ℕ × List ℕ)) (size : ℕ) → OrderlyOf (first_program given size)
-begins_orderly None size = tt
-begins_orderly (Some g) size = loaded_orderly (assembled g.1) g.0 false size
+begins_orderly : (given : Option (List ℕ × List ℕ)) (size : ℕ) → HasImage given size → OrderlyOf (first_program given size)
+begins_orderly None size image = tt
+begins_orderly (Some g) size image = loaded_orderly (assembled g.1) g.0 false size (assembled_is_narrow g.1 size image)
+
+-- limits that are right
+both : (a b : Bool) → (a && b) ≡ true → (a ≡ true) × (b ≡ true)
+both true b h = (refl, h)
+both false b h = absurd (cc)
+
+few_references : (limits : Limits) → are_limits limits ≡ true → limits.last_ref ≤ 2147483647
+few_references limits h =
+    let two = (both (is_within 2147483647 limits.last_seq) _ (both _ (is_within greatest_limits.last_retired limits.last_retired) h).0).1 in
+    let one = (both (leb 1 limits.last_ref) _ two).1 in
+    grind (arith, nat_tests, one)
 
 module _ (P : Session → Type 0) (k : KeptByEvents P) where
   abbrev Both : Session → Type 0
@@ -247,7 +272,7 @@ module _ (P : Session → Type 0) (k : KeptByEvents P) where
   quiet_keeps : (acts : List Act) (s : Session) → AllQuiet s.now.debuggee acts → Both s → Both (performed histories acts s)
   unfolding AllQuiet
   quiet_keeps [] s q h = h
-  quiet_keeps (Become d ∷ acts) s q h = quiet_keeps acts (performed_on (Become d) s) q.1 (k.becomes d s h.0, q.0)
+  quiet_keeps (Become d ∷ acts) s q h = quiet_keeps acts (performed_on (Become d) s) q.1 (k.becomes d s h.0, (q.0, h.1.1))
   quiet_keeps (Tell e ∷ acts) s q h =
       quiet_keeps acts (performed_on (Tell e) s) (subst (λ (d : Debuggee). AllQuiet d acts) (sym (said_debuggee s.now.link (IsEvent e) s.now.arrivals.pending s)) q.1) (tells_by s.now.link e s q.0 h)
   quiet_keeps (act ∷ acts) s q h = absurd q
@@ -256,7 +281,7 @@ module _ (P : Session → Type 0) (k : KeptByEvents P) where
   turn_keeps l file [] s h = h
   turn_keeps l file (p ∷ rest) s h =
       let t = on_with (Some l) (p ∷ rest) s in
-      (k.answers l p rest file s h.0, answering_stays (answer_to t.now l.terms file p) t (answer_orderly t.now l.terms file p h.1))
+      (k.answers l p rest file s h.1.0 h.1.1 h.0, answering_stays (answer_to t.now l.terms file p) t (answer_orderly t.now l.terms file p h.1.1 h.1.0, h.1.1))
 
   piece_keeps : (l : Link) (piece : List ℕ) (s : Session) → Both (on (Some l) s) → Both (performed histories (outcome_at (histories.see (on (Some l) s)) (Some l) (Recv piece)).acts (on (Some l) s))
   piece_keeps l piece s h =
@@ -277,10 +302,10 @@ module _ (P : Session → Type 0) (k : KeptByEvents P) where
   program_keeps (Some p) l file s o h = owed_keeps p.owed l file p s refl o h
 
   hold_keeps : (s : Session) → Both s → Both (performed histories (holding s.now) s)
-  hold_keeps s h = (k.becomes _ s h.0, with_orderly (marked mark.Hold) (marked_orderly mark.Hold) s.now.debuggee.program h.1)
+  hold_keeps s h = (k.becomes _ s h.0, (with_orderly (marked mark.Hold) (marked_orderly mark.Hold) s.now.debuggee.program h.1.0, h.1.1))
 
   drop_keeps : (s : Session) → Both s → Both (performed histories (leaving s.now) s)
-  drop_keeps s h = (k.closes _ (k.becomes _ s h.0), with_orderly left left_orderly s.now.debuggee.program h.1)
+  drop_keeps s h = (k.closes _ (k.becomes _ s h.0), (with_orderly left left_orderly s.now.debuggee.program h.1.0, h.1.1))
 
   outcome_keeps : (l : Option Link) (e : Event) (s : Session) → Both (on l s) → Both (performed histories (outcome_at (histories.see (on l s)) l e).acts (on l s))
   outcome_keeps None Connect s h =
@@ -293,7 +318,7 @@ module _ (P : Session → Type 0) (k : KeptByEvents P) where
   outcome_keeps None DropConnection s h = h
   outcome_keeps (Some l) Connect s h = h
   outcome_keeps (Some l) (Recv piece) s h = piece_keeps l piece s h
-  outcome_keeps (Some l) (Turn file) s h = program_keeps s.now.debuggee.program l file s h.1 h
+  outcome_keeps (Some l) (Turn file) s h = program_keeps s.now.debuggee.program l file s h.1.0 h
   outcome_keeps (Some l) (Slice n) s h = h
   outcome_keeps (Some l) Hold s h = hold_keeps (on (Some l) s) h
   outcome_keeps (Some l) (Sent n) s h =
@@ -307,7 +332,7 @@ module _ (P : Session → Type 0) (k : KeptByEvents P) where
     by (Some e) x = x
     by None x =
         let t = (beats histories n i s).state in
-        quiet_keeps (beat (histories.see t) (ltb (beats histories n i s).moved n)).acts t (program_quiet t.now.debuggee.program (histories.see t) (ltb (beats histories n i s).moved n) x.1 t.now.debuggee) x
+        quiet_keeps (beat (histories.see t) (ltb (beats histories n i s).moved n)).acts t (program_quiet t.now.debuggee.program (histories.see t) (ltb (beats histories n i s).moved n) x.1.0 t.now.debuggee) x
 
   event_keeps : (e : Event) (s : Session) → Both s → Both (Effect s e)
   event_keeps Connect s h = outcome_keeps s.now.link Connect s h
@@ -319,4 +344,4 @@ module _ (P : Session → Type 0) (k : KeptByEvents P) where
   event_keeps DropConnection s h = outcome_keeps s.now.link DropConnection s h
 
   pub reached_by_events : (from : Beginning) → P (start from) → (events : List Event) → P (After from events)
-  reached_by_events from h events = (reached Both event_keeps from (h, begins_orderly from.program from.size) events).0
+  reached_by_events from h events = (reached Both event_keeps from (h, (begins_orderly from.program from.size from.image, few_references from.limits from.numbers)) events).0

@@ -14,10 +14,21 @@ pub record AreRight (config : Config) (limits : Limits) : Type 0 where
   pub size : is_size config.memory_size ≡ true
   pub numbers : are_limits limits ≡ true
 
+-- a session of these is what has begun so
+pub record HasBegun (config : Config) (limits : Limits) (k : Kept) : Type 0 where
+  pub right : AreRight config limits
+  pub image : HasImage config.program config.memory_size
+  pub stands : Stands k (start (record {
+    limits = limits;
+    size = config.memory_size;
+    program = config.program;
+    numbers = right.numbers;
+    image = image;
+  }))
+
 -- A session is made of it, or the first error that applies is answered.
 abbrev pub Begins : Config → Limits → Result Kept ConfigError → Type 0
-Begins config limits (Ok k) = AreRight config limits × (HasImage config.program config.memory_size
-    × Stands k (start (record { limits = limits; size = config.memory_size; program = config.program })))
+Begins config limits (Ok k) = HasBegun config limits k
 Begins config limits (Err BadMemorySize) = is_size config.memory_size ≡ false
 Begins config limits (Err BadLimit) = (is_size config.memory_size ≡ true) × (are_limits limits ≡ false)
 Begins config limits (Err (Assembly error)) =

@@ -7,7 +7,7 @@ use Rattle.session.specs.declared.phase.Phase.{Phase}
 use Rattle.session.specs.declared.phase.Phase.TheVariants.{Initialized}
 use Rattle.session.specs.declared.terms.Terms.{Terms}
 use Rattle.session.specs.Acts.{Now, Answering}
-use Rattle.session.specs.Phases.{base_of, is_fresh_in}
+use Rattle.session.specs.Phases.{is_fresh_in}
 use Rattle.session.specs.Successes.{agreeing}
 
 -- the phases in which it is taken
@@ -18,8 +18,8 @@ is_taken_in phase = is_fresh_in phase
 abbrev pub agreed : Terms → InitializeArguments → Terms
 agreed terms arguments = record terms {
   phase = Initialized;
-  line_base = base_of arguments.lines_start_at1;
-  column_base = base_of arguments.columns_start_at1;
+  lines_start_at1 = arguments.lines_start_at1;
+  columns_start_at1 = arguments.columns_start_at1;
 }
 
 -- what comes of it

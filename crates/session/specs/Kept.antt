@@ -1,5 +1,5 @@
 -- What the code of a session keeps, and which sessions with a past it stands for.
-use Rattle.std.specs.Prelude.{◌≡◌, ℕ, nat_lt, ◌+◌, ◌==◌, if◌then◌else◌, Bool, true, false, List, [], ◌∷◌, ◌++◌}
+use Rattle.std.specs.Prelude.{◌≡◌, ◌≤◌, ℕ, nat_lt, ◌+◌, ◌==◌, if◌then◌else◌, Bool, true, false, List, [], ◌∷◌, ◌++◌}
 use Rattle.std.specs.Prelude.{length, drop, Option, Some, None, Result, Ok, Err}
 use Rattle.replies.specs.declared.message.Message.{Message}
 use Rattle.replies.specs.declared.message.Message.TheVariants.{Response, Event as IsEvent}
@@ -7,15 +7,18 @@ use Rattle.replies.specs.declared.response.Outcome.{Outcome}
 use Rattle.session.specs.declared.event.Applied.{Applied}
 use Rattle.session.specs.declared.event.Event.{Event}
 use Rattle.session.specs.declared.event.EventError.{EventError}
+use Rattle.session.specs.declared.lent.Lent.{Lent}
 use Rattle.session.specs.declared.limits.Limits.{Limits}
 use Rattle.session.specs.declared.link.Link.{Link}
 use Rattle.session.specs.declared.pending.Pending.{Pending}
 use Rattle.session.specs.declared.terms.Terms.{Terms}
-use Rattle.debuggee.specs.Programs.{Debuggee, Program, ended, first_run, left, marked, restarted, resumed, with_program}
+use Rattle.debuggee.specs.Programs.{Debuggee, Program, ended, first_run, left, marked, on_program, restarted, resumed, with_instructions}
+use Rattle.debuggee.specs.Programs.{with_program, with_source}
 use Rattle.replies.specs.declared.event.Event.{Event as AnEvent}
 use Rattle.session.specs.declared.answer.Answer.{Answer as AnAnswer}
 use Rattle.session.specs.declared.answer.Change.{Change}
 use Rattle.session.specs.declared.answer.Change.TheVariants as change
+use Rattle.session.specs.Config.{IsSize}
 use Rattle.session.specs.Disconnect.{departed}
 use Rattle.session.specs.Acts.{Now, Seen, Act, Answering, Open, Close, Accept, Agree, Become, Reply, Tell, HangUp, Take}
 use Rattle.session.specs.Acts.{opened, closed, agreed, hung, numbered, accepted, read_on}
@@ -94,6 +97,8 @@ changed_one change.Begin p = first_run p
 changed_one (change.Resume goal) p = resumed goal p
 changed_one (change.Mark mark) p = marked mark p
 changed_one change.Restart p = first_run (restarted p)
+changed_one (change.SetSource breaks) p = with_source breaks.list p
+changed_one (change.SetInstructions breaks) p = with_instructions breaks.list p
 changed_one change.End p = ended None p
 changed_one (change.Leave ends stands) p = departed ends stands (left p)
 
@@ -105,6 +110,10 @@ changed change.Begin d = with_program first_run d
 changed (change.Resume goal) d = with_program (resumed goal) d
 changed (change.Mark mark) d = with_program (marked mark) d
 changed change.Restart d = with_program (λ p. first_run (restarted p)) d
+changed (change.SetSource breaks) d =
+    record { program = on_program (with_source breaks.list) d.program; last_break = breaks.last }
+changed (change.SetInstructions breaks) d =
+    record { program = on_program (with_instructions breaks.list) d.program; last_break = breaks.last }
 changed change.End d = with_program (ended None) d
 changed (change.Leave ends stands) d = with_program (λ p. departed ends stands (left p)) d
 
@@ -127,6 +136,18 @@ answering_as d a = record {
 abbrev pub kept_changed : Change → Terms → Kept → Kept
 kept_changed c terms k =
     kept_agreed k.now.link terms (record k { now = record k.now { debuggee = changed c k.now.debuggee } })
+
+-- what an answer is lent is in its ranges
+pub record IsLendable (lent : Lent) : Type 0 where
+  pub size : IsSize lent.size
+  pub last_break : lent.last_break ≤ 2147483647
+  pub last_ref : lent.last_ref ≤ 2147483647
+
+-- it is that of a session, which debugs this program
+pub record IsLent (lent : Lent) (program : Option Program) (now : Now) : Type 0 where
+  pub size : now.size ≡ lent.size
+  pub debuggee : now.debuggee ≡ record { program = program; last_break = lent.last_break }
+  pub last_ref : now.limits.last_ref ≡ lent.last_ref
 
 -- their bytes, and the last number given
 pub record Drafted : Type 0 where

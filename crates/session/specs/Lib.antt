@@ -24,6 +24,10 @@ pub mod SetExceptionBreakpoints
 pub mod Continue
 pub mod Stepping
 pub mod Pause
+-- what sets breakpoints, and the two requests that do
+pub mod Breaks
+pub mod SetBreakpoints
+pub mod SetInstructionBreakpoints
 -- the list of the requests
 pub mod Requests
 -- the answer to a request: the refusals in their order, or its success

@@ -11,7 +11,7 @@ use Rattle.session.specs.declared.terms.Terms.{Terms}
 
 -- before anything was agreed, lines and columns are counted from 1
 abbrev pub first_terms : Terms
-first_terms = record { phase = Fresh; launched = false; line_base = 1; column_base = 1 }
+first_terms = record { phase = Fresh; launched = false; lines_start_at1 = true; columns_start_at1 = true }
 
 -- the number that a first line or column has
 abbrev pub base_of : Bool → ℕ

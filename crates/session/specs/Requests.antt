@@ -13,6 +13,8 @@ use Rattle.protocol.specs.declared.cancel.TheConstants.{NAME as CANCEL}
 use Rattle.protocol.specs.declared.restart.TheConstants.{NAME as RESTART}
 use Rattle.protocol.specs.declared.terminate.TheConstants.{NAME as TERMINATE}
 use Rattle.protocol.specs.declared.disconnect.TheConstants.{NAME as DISCONNECT}
+use Rattle.protocol.specs.declared.set_breakpoints.TheConstants.{NAME as SET_BREAKPOINTS}
+use Rattle.protocol.specs.declared.set_instruction_breakpoints.TheConstants.{NAME as SET_INSTRUCTION_BREAKPOINTS}
 use Rattle.protocol.specs.declared.set_exception_breakpoints.TheConstants.{NAME as SET_EXCEPTION_BREAKPOINTS}
 use Rattle.protocol.specs.declared.continue_.TheConstants.{NAME as CONTINUE}
 use Rattle.protocol.specs.declared.next.TheConstants.{NAME as NEXT}
@@ -23,6 +25,7 @@ use Rattle.replies.specs.declared.response.ResponseBody.TheVariants as body
 use Rattle.protocol.specs.declared.command.Command.{Command}
 use Rattle.protocol.specs.declared.command.Command.TheVariants.{Initialize, Launch, ConfigurationDone, Threads, Cancel}
 use Rattle.protocol.specs.declared.command.Command.TheVariants.{Restart, Terminate, Disconnect, SetExceptionBreakpoints}
+use Rattle.protocol.specs.declared.command.Command.TheVariants.{SetBreakpoints, SetInstructionBreakpoints}
 use Rattle.protocol.specs.declared.command.Command.TheVariants.{Continue, Next, StepIn, StepOut, Pause}
 use Rattle.stepping.specs.declared.goal.Goal.TheVariants as goal
 use Rattle.session.specs.declared.demand.Demand.{Demand}
@@ -40,6 +43,8 @@ use Rattle.session.specs.Cancel as cancel
 use Rattle.session.specs.Restart as restart
 use Rattle.session.specs.Terminate as terminate
 use Rattle.session.specs.Disconnect as disconnect
+use Rattle.session.specs.SetBreakpoints as set_breakpoints
+use Rattle.session.specs.SetInstructionBreakpoints as set_instruction_breakpoints
 use Rattle.session.specs.SetExceptionBreakpoints as set_exception_breakpoints
 use Rattle.session.specs.Continue as continue
 use Rattle.session.specs.Stepping as stepping
@@ -48,8 +53,8 @@ use Rattle.session.specs.Pause as pause
 -- the names of the requests that are served
 abbrev pub served : List (List ℕ)
 served = INITIALIZE.now ∷ LAUNCH.now ∷ CONFIGURATION_DONE.now ∷ THREADS.now ∷ CANCEL.now ∷ RESTART.now ∷ TERMINATE.now
-    ∷ DISCONNECT.now ∷ SET_EXCEPTION_BREAKPOINTS.now ∷ CONTINUE.now ∷ NEXT.now ∷ STEP_IN.now ∷ STEP_OUT.now
-    ∷ PAUSE.now ∷ []
+    ∷ DISCONNECT.now ∷ SET_BREAKPOINTS.now ∷ SET_INSTRUCTION_BREAKPOINTS.now ∷ SET_EXCEPTION_BREAKPOINTS.now
+    ∷ CONTINUE.now ∷ NEXT.now ∷ STEP_IN.now ∷ STEP_OUT.now ∷ PAUSE.now ∷ []
 
 -- whether a request of that name is served
 unfoldable pub is_served : List ℕ → Bool
@@ -73,6 +78,8 @@ is_taken_in phase (Cancel arguments) = cancel.is_taken_in phase
 is_taken_in phase Restart = restart.is_taken_in phase
 is_taken_in phase Terminate = terminate.is_taken_in phase
 is_taken_in phase (Disconnect arguments) = disconnect.is_taken_in phase
+is_taken_in phase (SetBreakpoints arguments) = set_breakpoints.is_taken_in phase
+is_taken_in phase (SetInstructionBreakpoints arguments) = set_instruction_breakpoints.is_taken_in phase
 is_taken_in phase SetExceptionBreakpoints = set_exception_breakpoints.is_taken_in phase
 is_taken_in phase (Continue arguments) = continue.is_taken_in phase
 is_taken_in phase (Next arguments) = stepping.is_taken_in phase
@@ -86,6 +93,8 @@ abbrev pub demand_of : Command → Demand
 demand_of ConfigurationDone = asks_alive
 demand_of Restart = asks_alive
 demand_of Terminate = asks_alive
+demand_of (SetBreakpoints arguments) = asks_program
+demand_of (SetInstructionBreakpoints arguments) = asks_program
 demand_of SetExceptionBreakpoints = asks_program
 demand_of (Continue arguments) = asks_still arguments.thread_id
 demand_of (Next arguments) = asks_still arguments.thread_id
@@ -104,6 +113,9 @@ success_of now terms file (Cancel arguments) = cancel.success now terms
 success_of now terms file Restart = restart.success now terms
 success_of now terms file Terminate = terminate.success now terms
 success_of now terms file (Disconnect arguments) = disconnect.success now terms arguments
+success_of now terms file (SetBreakpoints arguments) = set_breakpoints.success now terms arguments
+success_of now terms file (SetInstructionBreakpoints arguments) =
+    set_instruction_breakpoints.success now terms arguments
 success_of now terms file SetExceptionBreakpoints = set_exception_breakpoints.success now terms
 success_of now terms file (Continue arguments) = continue.success now terms
 success_of now terms file (Next arguments) =

@@ -3,7 +3,7 @@
 -- Nothing that was queued, taken or asked is forgotten here: a session is what it is now, and the lives of all its
 -- connections. A connection has a number, from 1. Its bytes are the frames of the messages that were queued for it, in
 -- order; those that were not taken yet wait, as long as the connection lasts.
-use Rattle.std.specs.Prelude.{ℕ, ◌+◌, nat_lt, Bool, if◌then◌else◌, List, [], ◌∷◌, ◌++◌, length, take, drop, get_or}
+use Rattle.std.specs.Prelude.{◌≡◌, ℕ, ◌+◌, nat_lt, Bool, true, if◌then◌else◌, List, [], ◌∷◌, ◌++◌, length, take, drop, get_or}
 use Rattle.std.specs.Prelude.{Option, Some, None, is_some, Result}
 use Rattle.std.specs.List.{flat_map}
 use Rattle.framing.specs.Reading.{reading_of}
@@ -25,8 +25,9 @@ use Rattle.session.specs.Acts.{Now, Act, Open, Close, Accept, Agree, Become, Rep
 use Rattle.session.specs.Acts.{agreed, hung}
 use Rattle.session.specs.Acts.{numbered, accepted, read_on, fault_of_reading}
 use Rattle.session.specs.Arrivals.{no_arrivals, asks_of}
-use Rattle.session.specs.Config.{first_program}
+use Rattle.session.specs.Config.{HasImage, first_program}
 use Rattle.session.specs.Effects.{World, effect, answer, after_all}
+use Rattle.session.specs.Limits.{are_limits}
 use Rattle.session.specs.Refusals.{response_to}
 use Rattle.session.specs.Writing.{frame_of}
 
@@ -170,12 +171,14 @@ Effect s e = effect histories e s
 abbrev pub Answer : Session → Event → Result Applied EventError
 Answer s e = answer histories e s
 
--- what a session begins with: its limits, how much memory a machine gets, and a program, if one is given: the path of
--- its file, and what that holds
+-- what a session begins with: its limits, which are right, how much memory a machine gets, and a program, if one is
+-- given: the path of its file, and what that holds, which has an image
 pub record Beginning : Type 0 where
   pub limits : Limits
   pub size : ℕ
   pub program : Option (List ℕ × List ℕ)
+  pub numbers : are_limits limits ≡ true
+  pub image : HasImage program size
 
 -- what a session is before anything happened, by the program that is debugged then
 abbrev pub nothing_with : Limits → ℕ → Option Program → Now

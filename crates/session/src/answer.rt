@@ -5,6 +5,7 @@ ghost use Rattle.session.specs.Acts.{Now as ANow};
 ghost use Rattle.session.specs.Kept.{answering_as, changed};
 ghost use Rattle.session.specs.Successes as spec;
 
+use crate::numbered::Numbered;
 use crate::terms::Terms;
 use debuggee::{Mark, Program};
 use protocol::{Refusal, Text};
@@ -24,6 +25,10 @@ pub enum Change {
     Resume(Goal),
     /// It is marked, if it runs.
     Mark(Mark),
+    /// The breakpoints of its source lines are these.
+    SetSource(Numbered),
+    /// The breakpoints of its instructions are these.
+    SetInstructions(Numbered),
     /// It is loaded anew, and its first run begins.
     Restart,
     /// It ends.

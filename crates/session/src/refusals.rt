@@ -2,39 +2,49 @@
 ghost use Rattle.std.specs.Prelude.{◌≡◌, ◌++◌, IfOk, None, option_map};
 ghost use Rattle.std.specs.Option.{option_copied};
 ghost use Rattle.session.specs.Acts.{Now as ANow};
-ghost use Rattle.session.specs.Config.{IsSize};
 ghost use Rattle.session.specs.Demands.{run_of};
-ghost use Rattle.session.specs.Kept.{answering_as};
+ghost use Rattle.session.specs.Kept.{IsLendable, IsLent, answering_as};
 ghost use Rattle.session.specs.Refusals as spec;
 
 use crate::answer::{Answer, refusing};
 use crate::demand::Demand;
+use crate::lent::Lent;
 use crate::pending::{Ask, Fate, Pending};
 use crate::phase::Phase;
 use crate::requests::{demand_of, is_served, is_taken_in, success_of};
 use crate::terms::Terms;
-use debuggee::Run;
+use debuggee::{Program, Run};
 use protocol::{Command, Refusal};
 use replies::{Outcome, Response};
 use std::alloc::{AllocError, Global};
 
-/// What a request is answered, where the program that is debugged runs so, by the file that it names,
-/// if it names one, for so many bytes of memory. `Err`: no memory was left.
+/// What a request is answered, by the program that is debugged, if there is one, and by the file that
+/// the request names, if it names one. `Err`: no memory was left.
 pub(crate) fn answer_to(
     alloc: Global,
-    run: Option<Run>,
     terms: Terms,
-    size: u32,
+    program: &Option<Program>,
+    lent: Lent,
     file: Option<&[u8]>,
     pending: &Pending,
 ) -> Result<Answer, AllocError>
-    requires { IsSize size }
-    ensures { IfOk result (λ a. (now : ANow) → now.size ≡ size → run ≡ run_of now.debuggee.program
+    requires { IsLendable lent }
+    ensures { IfOk result (λ a. (now : ANow) → IsLent lent program.now now
         → answering_as now.debuggee a ≡ spec.answer_to now terms (option_copied file.entry) pending.now) }
 {
-    match refusal_of(run, terms.phase, pending) {
+    match refusal_of(run_of(program), terms.phase, pending) {
         Some(refusal) => Ok(refusing(terms, refusal, None)),
-        None => taken(alloc, terms, size, file, &pending.ask),
+        None => taken(alloc, terms, program, lent, file, &pending.ask),
+    }
+}
+
+/// The run of the program that is debugged, if there is one.
+pub(crate) fn run_of(program: &Option<Program>) -> Option<Run>
+    ensures { result ≡ run_of program.now }
+{
+    match program {
+        Some(program) => Some(program.run()),
+        None => None,
     }
 }
 
@@ -109,16 +119,17 @@ fn refusal_unmet(run: Option<Run>, demand: Demand) -> Option<Refusal>
 fn taken(
     alloc: Global,
     terms: Terms,
-    size: u32,
+    program: &Option<Program>,
+    lent: Lent,
     file: Option<&[u8]>,
     ask: &Ask,
 ) -> Result<Answer, AllocError>
-    requires { IsSize size }
-    ensures { IfOk result (λ a. (now : ANow) → now.size ≡ size
+    requires { IsLendable lent }
+    ensures { IfOk result (λ a. (now : ANow) → IsLent lent program.now now
         → answering_as now.debuggee a ≡ spec.answer_by now terms (option_copied file.entry) None ask.now) }
 {
     match ask {
-        Ask::Request(request) => success_of(alloc, terms, size, file, &request.command),
+        Ask::Request(request) => success_of(alloc, terms, program, lent, file, &request.command),
         Ask::Bad { refusal, .. } => Ok(refusing(terms, *refusal, None)),
     }
 }

@@ -1,13 +1,14 @@
 //! The requests, each in a module of its own. This is the list of them.
-ghost use Rattle.std.specs.Prelude.{◌≡◌, IfOk};
+ghost use Rattle.std.specs.Prelude.{◌≡◌, false, IfOk};
 ghost use Rattle.std.specs.Option.{option_copied};
 ghost use Rattle.session.specs.Acts.{Now as ANow};
-ghost use Rattle.session.specs.Config.{IsSize};
-ghost use Rattle.session.specs.Kept.{answering_as};
+ghost use Rattle.answers.specs.Answers.{sets_breakpoints};
+ghost use Rattle.session.specs.Kept.{IsLendable, IsLent, answering_as};
 ghost use Rattle.protocol.specs.declared.command.Command.TheVariants as a_command;
 ghost use Rattle.protocol.specs.declared.launch.LaunchArguments.{LaunchArguments};
 ghost use Rattle.session.specs.Requests.{demand_of, is_served, is_taken_in, success_of};
 
+mod breaks;
 mod cancel;
 mod configuration_done;
 mod continue_;
@@ -23,8 +24,10 @@ mod threads;
 
 use crate::answer::{Answer, agreeing};
 use crate::demand::Demand;
+use crate::lent::Lent;
 use crate::phase::Phase;
 use crate::terms::Terms;
+use debuggee::Program;
 use protocol::Command;
 use replies::ResponseBody;
 use std::alloc::{AllocError, Global};
@@ -45,6 +48,8 @@ pub(crate) fn is_served(name: &str) -> bool
             | protocol::restart::NAME
             | protocol::terminate::NAME
             | protocol::disconnect::NAME
+            | protocol::set_breakpoints::NAME
+            | protocol::set_instruction_breakpoints::NAME
             | protocol::set_exception_breakpoints::NAME
             | protocol::continue_::NAME
             | protocol::next::NAME
@@ -64,7 +69,10 @@ pub(crate) fn is_taken_in(phase: Phase, command: &Command) -> bool
         Command::ConfigurationDone => phase.is_configuring(),
         Command::Threads => phase.is_listening(),
         Command::Cancel(_) | Command::Disconnect(_) => phase.is_there(),
-        Command::Terminate | Command::SetExceptionBreakpoints => phase.is_debugging(),
+        Command::Terminate
+        | Command::SetBreakpoints(_)
+        | Command::SetInstructionBreakpoints(_)
+        | Command::SetExceptionBreakpoints => phase.is_debugging(),
         Command::Restart
         | Command::Continue(_)
         | Command::Next(_)
@@ -81,7 +89,9 @@ pub(crate) fn demand_of(command: &Command) -> Demand
 {
     match command {
         Command::ConfigurationDone | Command::Restart | Command::Terminate => Demand::alive(),
-        Command::SetExceptionBreakpoints => Demand::program(),
+        Command::SetBreakpoints(_)
+        | Command::SetInstructionBreakpoints(_)
+        | Command::SetExceptionBreakpoints => Demand::program(),
         Command::Continue(arguments) => Demand::still(arguments.thread_id),
         Command::Next(arguments) => Demand::still(arguments.thread_id),
         Command::StepIn(arguments) => Demand::still(arguments.thread_id),
@@ -96,30 +106,36 @@ pub(crate) fn demand_of(command: &Command) -> Demand
 pub(crate) fn success_of(
     alloc: Global,
     terms: Terms,
-    size: u32,
+    program: &Option<Program>,
+    lent: Lent,
     file: Option<&[u8]>,
     command: &Command,
 ) -> Result<Answer, AllocError>
-    requires { IsSize size }
-    ensures { IfOk result (λ a. (now : ANow) → now.size ≡ size
+    requires { IsLendable lent }
+    ensures { IfOk result (λ a. (now : ANow) → IsLent lent program.now now
         → answering_as now.debuggee a ≡ success_of now terms (option_copied file.entry) command.now) }
 {
     match command {
-        Command::Launch(arguments) => launch::success(alloc, terms, size, file, arguments),
+        Command::Launch(arguments) => launch::success(alloc, terms, lent.size, file, arguments),
+        Command::SetBreakpoints(_) | Command::SetInstructionBreakpoints(_) => {
+            breaks::success(alloc, terms, program, lent, command)
+        }
         other => Ok(plain_success_of(terms, file, other)),
     }
 }
 
-// The same of any other request than `launch`.
+// The same of any other request, which needs no memory.
 fn plain_success_of(terms: Terms, file: Option<&[u8]>, command: &Command) -> Answer
-    requires { (arguments : LaunchArguments) → command.now ≡ a_command.Launch arguments → ⊥ }
+    requires launch { (arguments : LaunchArguments) → command.now ≡ a_command.Launch arguments → ⊥ }
+    requires sets { sets_breakpoints command.now ≡ false }
     ensures { (now : ANow)
         → answering_as now.debuggee result ≡ success_of now terms (option_copied file.entry) command.now }
 {
     let _ = file;
     match command {
         Command::Initialize(arguments) => initialize::success(terms, arguments),
-        Command::Launch(_) => unreachable!(),
+        Command::Launch(_) | Command::SetBreakpoints(_) | Command::SetInstructionBreakpoints(_) =>
+            unreachable!(),
         Command::ConfigurationDone => configuration_done::success(terms),
         Command::Threads => threads::success(terms),
         Command::Cancel(_) => cancel::success(terms),

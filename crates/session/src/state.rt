@@ -3,7 +3,8 @@ ghost use Rattle.std.specs.Prelude.{◌≡◌, ◌≤◌, ◌^◌, None, true, [
 ghost use Rattle.std.specs.Option.{option_map};
 ghost use Rattle.session.specs.declared.event.Event.TheVariants as event;
 ghost use Rattle.session.specs.declared.event.Applied.TheVariants as applied;
-ghost use Rattle.session.specs.Kept.{Drafted, Goes, answered, changed, changed_one, draft_on, drafted, drafted_all, events_of, kept_agreed, kept_changed, kept_closing, nothing_kept, keepings, see_kept, settled};
+ghost use Rattle.session.specs.Kept.{Drafted, Goes, IsLendable, IsLent, answered, changed, changed_one, draft_on, drafted, drafted_all, events_of, kept_agreed, kept_changed, kept_closing, nothing_kept, keepings, see_kept, settled};
+ghost use Rattle.session.specs.Breaks.{Numbered as ANumbered};
 ghost use Rattle.session.specs.Config.{IsSize};
 ghost use Rattle.session.specs.Demands.{run_of};
 ghost use Rattle.std.specs.Option.{option_copied};
@@ -29,11 +30,13 @@ use crate::buffer::Buffer;
 use crate::draft::Draft;
 use crate::event::{EventError, LinkFault, Turned};
 use crate::feeding::feed;
+use crate::lent::Lent;
 use crate::limits::Limits;
 use crate::link::Link;
+use crate::numbered::Numbered;
 use crate::pending::Pending;
 use crate::prepared::Prepared;
-use crate::refusals::{answer_to, response_to, wanted_by};
+use crate::refusals::{answer_to, response_to, run_of, wanted_by};
 use crate::terms::Terms;
 use debuggee::{Mark, Program, Run, Why};
 use framing::{FrameError, Unframer};
@@ -73,6 +76,7 @@ impl Model for State {
     ghost use Rattle.std.specs.Prelude.{◌≡◌, ◌≤◌, ◌^◌, []};
     ghost use Rattle.session.specs.declared.TheConstants.{BODY_LIMIT};
     ghost use Rattle.session.specs.Kept.{Kept};
+    ghost use Rattle.session.specs.Breaks.{Numbered as ANumbered};
     ghost use Rattle.session.specs.Config.{IsSize};
     ghost use Rattle.std.specs.Coded.{codes};
     ghost use Rattle.breakpoints.specs.Codes.{coded_tree};
@@ -95,7 +99,7 @@ impl Model for State {
       waiting = s.buffer;
     } };
 
-    ghost invariant = { λ s. (s.unframer.limit ≡ BODY_LIMIT) × (s.unframer.waiting ≡ []) × IsSize s.size × (s.limits.last_retired ≤ 2 ^ 62) };
+    ghost invariant = { λ s. (s.unframer.limit ≡ BODY_LIMIT) × (s.unframer.waiting ≡ []) × IsSize s.size × (s.limits.last_retired ≤ 2 ^ 62) × (s.limits.last_ref ≤ 2147483647) × (s.last_break ≤ 2147483647) };
 }
 
 impl State {
@@ -103,6 +107,7 @@ impl State {
     pub(crate) fn new(alloc: Global, limits: Limits, size: u32, program: Option<Program>) -> State
         requires size { IsSize size }
         requires few { limits.last_retired ≤ 2 ^ 62 }
+        requires numbers { limits.last_ref ≤ 2147483647 }
         ensures { result ≡ nothing_kept limits size program }
     {
         State {
@@ -252,7 +257,14 @@ impl State {
         ensures { IfOk result (λ r. IsPrepared self.now.now first.now
             (spec_answer.answer_to self.now.now link.terms (option_copied file.entry) first.now) r) }
     {
-        let answer = answer_to(self.alloc, self.run(), link.terms, self.size, file, first)?;
+        let answer = answer_to(
+            self.alloc,
+            link.terms,
+            &self.program,
+            self.lent(),
+            file,
+            first,
+        )?;
         let Answer {
             change,
             terms,
@@ -267,6 +279,18 @@ impl State {
             closes,
             draft,
         })
+    }
+
+    // What an answer is lent, beside the program.
+    fn lent(&self) -> Lent
+        ensures lent { IsLent result self.now.now.debuggee.program self.now.now }
+        ensures lendable { IsLendable result }
+    {
+        Lent {
+            size: self.size,
+            last_break: self.last_break,
+            last_ref: self.limits.last_ref,
+        }
     }
 
     // The answer to a request, written, with what the editor is told after it.
@@ -315,12 +339,40 @@ impl State {
         match change {
             Change::Nothing => {}
             Change::Load(program) => self.program = Some(program),
+            Change::SetSource(breaks) => return self.set_source(breaks),
+            Change::SetInstructions(breaks) => return self.set_instructions(breaks),
             change => {
                 if let Some(program) = &mut self.program {
                     change_program(program, change)?;
                 }
             }
         }
+        Ok(())
+    }
+
+    // The breakpoints of source lines are now these.
+    fn set_source(&mut self, breaks: Numbered) -> Result<(), AllocError>
+        ensures ok { OnOk result (self.new ≡ record self.old { now = record self.old.now { debuggee = changed (a_change.SetSource breaks) self.old.now.debuggee } }) }
+        ensures err { OnErr result (self.new ≡ self.old) }
+    {
+        let last = breaks.last();
+        if let Some(program) = &mut self.program {
+            breaks.set_source(program)?;
+        }
+        self.last_break = last;
+        Ok(())
+    }
+
+    // Those of instructions are now these.
+    fn set_instructions(&mut self, breaks: Numbered) -> Result<(), AllocError>
+        ensures ok { OnOk result (self.new ≡ record self.old { now = record self.old.now { debuggee = changed (a_change.SetInstructions breaks) self.old.now.debuggee } }) }
+        ensures err { OnErr result (self.new ≡ self.old) }
+    {
+        let last = breaks.last();
+        if let Some(program) = &mut self.program {
+            breaks.set_instructions(program)?;
+        }
+        self.last_break = last;
         Ok(())
     }
 
@@ -501,22 +553,12 @@ impl State {
     pub(crate) fn wants_file(&self) -> Option<&str>
         ensures { option_map (λ path. path.now) result ≡ wanted_on self.now.now self.now.now.link }
     {
-        let run = self.run();
+        let run = run_of(&self.program);
         match self.link {
             Some(link) => match self.arrivals.first() {
                 Some(first) => wanted_by(run, link.terms.phase, first),
                 None => None,
             },
-            None => None,
-        }
-    }
-
-    // The run of the program that is debugged, if there is one.
-    fn run(&self) -> Option<Run>
-        ensures { result ≡ run_of self.now.now.debuggee.program }
-    {
-        match &self.program {
-            Some(program) => Some(program.run()),
             None => None,
         }
     }
@@ -533,11 +575,14 @@ impl State {
 fn change_program(program: &mut Program, change: Change) -> Result<(), AllocError>
     requires nothing { change ≡ a_change.Nothing → ⊥ }
     requires load { (other : AProgram) → change ≡ a_change.Load other → ⊥ }
+    requires source { (breaks : ANumbered) → change ≡ a_change.SetSource breaks → ⊥ }
+    requires instructions { (breaks : ANumbered) → change ≡ a_change.SetInstructions breaks → ⊥ }
     ensures ok { OnOk result (program.new ≡ changed_one change program.old) }
     ensures err { OnErr result (program.new ≡ program.old) }
 {
     match change {
-        Change::Nothing | Change::Load(_) => unreachable!(),
+        Change::Nothing | Change::Load(_) | Change::SetSource(_) | Change::SetInstructions(_) =>
+            unreachable!(),
         Change::Begin => program.begin(),
         Change::Resume(goal) => program.resume(goal),
         Change::Mark(mark) => program.set_mark(mark),

@@ -12,10 +12,10 @@ pub struct Terms {
     pub phase: Phase,
     /// Whether the editor launched the program that is debugged.
     pub launched: bool,
-    /// The number of the first line, 0 or 1 (`InitializeRequestArguments.linesStartAt1`).
-    pub line_base: u32,
-    /// The number of the first column, 0 or 1 (`InitializeRequestArguments.columnsStartAt1`).
-    pub column_base: u32,
+    /// Whether the first line has the number 1, and not 0 (`InitializeRequestArguments.linesStartAt1`).
+    pub lines_start_at1: bool,
+    /// Whether the first column has the number 1, and not 0 (`InitializeRequestArguments.columnsStartAt1`).
+    pub columns_start_at1: bool,
 }
 
 impl Terms {
@@ -26,8 +26,8 @@ impl Terms {
         Terms {
             phase: Phase::Fresh,
             launched: false,
-            line_base: 1,
-            column_base: 1,
+            lines_start_at1: true,
+            columns_start_at1: true,
         }
     }
 

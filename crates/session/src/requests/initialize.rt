@@ -16,8 +16,8 @@ pub(crate) fn success(terms: Terms, arguments: &InitializeArguments) -> Answer
 {
     let agreed = Terms {
         phase: Phase::Initialized,
-        line_base: u32::from(arguments.lines_start_at1),
-        column_base: u32::from(arguments.columns_start_at1),
+        lines_start_at1: arguments.lines_start_at1,
+        columns_start_at1: arguments.columns_start_at1,
         ..terms
     };
     agreeing(agreed, ResponseBody::Initialize)

@@ -1,0 +1,92 @@
+-- What comes of a request that sets breakpoints, case by case.
+use Rattle.std.proofs.Common.{◌≡◌, ℕ, suc, ◌+◌, ◌≤◌, ◌<◌, Bool, true, false, cond, ltb, lt-ltb, List, [], ◌∷◌, length, map, Option, Some, None, Result, Ok, Err, refl, subst, arith}
+use Rattle.std.proofs.lemmas.Bool.Decides.{nat_tests}
+use Rattle.std.proofs.lemmas.List.{length-map}
+use Rattle.std.specs.Prelude.{IsTrue, MatchResult, slice_index}
+use Rattle.answers.specs.Answers.{breaks_answer, sets_breakpoints}
+use Rattle.answers.specs.Breakpoints.{Answer}
+use Rattle.answers.specs.Laws.{those_set}
+use Rattle.answers.specs.SetBreakpoints.{is_own, of_source}
+use Rattle.answers.proofs.Entries.{numbers_follow}
+use Rattle.breakpoints.specs.Stops.{Wanted}
+use Rattle.debuggee.specs.Programs.{Program}
+use Rattle.protocol.specs.Refusals.{has_text}
+use Rattle.protocol.specs.declared.command.Command.{Command}
+use Rattle.protocol.specs.declared.command.Command.TheVariants.{SetBreakpoints, SetInstructionBreakpoints}
+use Rattle.protocol.specs.declared.refusal.Refusal.{Refusal}
+use Rattle.protocol.specs.declared.refusal.Refusal.TheVariants.{ReferencesExhausted, TooMuch}
+use Rattle.replies.specs.Forms.{is_word}
+use Rattle.replies.specs.declared.response.Outcome.TheVariants.{Done}
+use Rattle.replies.specs.declared.response.ResponseBody.{ResponseBody}
+use Rattle.replies.specs.declared.response.ResponseBody.TheVariants as body
+use Rattle.session.specs.declared.terms.Terms.{Terms}
+use Rattle.session.specs.Acts.{Answering, Now}
+use Rattle.session.specs.Breaks.{replaces, sets_by, success_on, view_of}
+use Rattle.session.specs.Laws.{initializes}
+use Rattle.session.specs.Successes.{agreeing, refusing}
+use Rattle.session.proofs.Orderly.{AreWords}
+use Rattle.session.proofs.Reaching.{if_keeps}
+
+-- the answer by a program
+abbrev pub answer_on : Program → Now → Terms → Command → Answer
+answer_on p now terms command = breaks_answer command p.image.lines p.machine.size (view_of terms p) (now.debuggee.last_break + 1)
+
+-- an answer that refuses does it with a refusal that has no text, and one that succeeds is none of `initialize`
+abbrev pub IsPlain : Result ResponseBody Refusal → Type 0
+IsPlain result = MatchResult result (λ b. initializes (Done b) ≡ 0) (λ refusal. has_text refusal ≡ false)
+
+plain_by : (many : Bool) (answer : Answer) → IsPlain answer.result → IsPlain (let it : Answer = cond many (record { result = Err TooMuch; list = None }) answer in it.result)
+plain_by true answer h = refl
+plain_by false answer h = h
+
+pub is_plain : (p : Program) (now : Now) (terms : Terms) (command : Command) → IsTrue (sets_breakpoints command) → IsPlain (answer_on p now terms command).result
+is_plain p now terms (SetBreakpoints arguments) sets =
+    let view = view_of terms p in
+    plain_by (ltb 1024 (length arguments.breakpoints)) (of_source (is_own view.path arguments.source.path) p.image.lines view (now.debuggee.last_break + 1) arguments.breakpoints) refl
+is_plain p now terms (SetInstructionBreakpoints arguments) sets = plain_by (ltb 1024 (length arguments.breakpoints)) _ refl
+is_plain p now terms other sets = absurd (let no : false ≡ true = sets in cc)
+
+few_given : (last greatest : ℕ) → ltb greatest last ≡ false → last ≤ greatest
+few_given last greatest e = grind (arith, nat_tests, e)
+
+-- What holds of each way in which such a request is answered holds of the answer.
+pub by_answer : (P : Answering → Type 0) (program : Option Program) (now : Now) (terms : Terms) (command : Command) → IsTrue (sets_breakpoints command)
+    → (program ≡ None → P (agreeing now terms body.Empty))
+    → ((refusal : Refusal) → has_text refusal ≡ false → P (refusing now terms refusal None))
+    → ((p : Program) (b : ResponseBody) → program ≡ Some p → (answer_on p now terms command).result ≡ Ok b → (answer_on p now terms command).list ≡ None → P (agreeing now terms b))
+    → ((p : Program) (b : ResponseBody) (list : List Wanted) → program ≡ Some p → (answer_on p now terms command).result ≡ Ok b → (answer_on p now terms command).list ≡ Some list → now.debuggee.last_break + length list ≤ now.limits.last_ref
+    → P (replaces now terms command b (record { list = list; last = now.debuggee.last_break + length list })))
+    → P (success_on program now terms command)
+by_answer P None now terms command sets none refuses agrees replaced = none refl
+by_answer P (Some p) now terms command sets none refuses agrees replaced =
+    go (answer_on p now terms command).result (answer_on p now terms command).list refl refl where
+      go : (result : Result ResponseBody Refusal) (list : Option (List Wanted)) → (answer_on p now terms command).result ≡ result → (answer_on p now terms command).list ≡ list → P (sets_by now terms command result list)
+      go (Err refusal) list e f = refuses refusal (subst IsPlain e (is_plain p now terms command sets))
+      go (Ok b) None e f = agrees p b refl e f
+      go (Ok b) (Some list) e f =
+          if_keeps P (ltb now.limits.last_ref (now.debuggee.last_break + length list)) _ _ (λ _. refuses ReferencesExhausted refl)
+          (λ t. replaced p b list refl e f (few_given (now.debuggee.last_break + length list) now.limits.last_ref t))
+
+-- ---- the numbers of those that are set
+
+words_at : (ids : List ℕ) (next : ℕ) → ((k : ℕ) → k < length ids → slice_index ids k ≡ next + k) → next + length ids ≤ 4294967296 → AreWords ids
+words_at [] next at few = tt
+words_at (id ∷ ids) next at few = (
+  is_small id (let first = at 0 (omega arith) in omega (arith, first, few)),
+  words_at ids (next + 1) (λ k h. let later = at (suc k) (omega (arith, h)) in later_is ids k next later) (omega (arith, few)),
+) where
+  is_small : (n : ℕ) → n < 4294967296 → is_word n ≡ true
+  is_small n h = lt-ltb n 4294967296 h
+
+  later_is : (ids : List ℕ) (k next : ℕ) → slice_index ids k ≡ next + suc k → slice_index ids k ≡ next + 1 + k
+  later_is ids k next e = omega (arith, e)
+
+-- they are numbers of 32 bits
+pub ids_are_words : (p : Program) (now : Now) (terms : Terms) (command : Command) (list : List Wanted) → (answer_on p now terms command).list ≡ Some list → now.debuggee.last_break + length list ≤ 2147483647 → AreWords (map (λ w. w.id) list)
+ids_are_words p now terms command list e few =
+    let next = now.debuggee.last_break + 1 in
+    let follow : (k : ℕ) → k < length (those_set (Some list)) → slice_index (map (λ w. w.id) (those_set (Some list))) k ≡ next + k =
+    subst (λ (l : Option (List Wanted)). (k : ℕ) → k < length (those_set l) → slice_index (map (λ w. w.id) (those_set l)) k ≡ next + k) e
+    (numbers_follow command p.image.lines p.machine.size (view_of terms p) next) in
+    let many : length (map (λ (w : Wanted). w.id) list) ≡ length list = length-map list (λ (w : Wanted). w.id) in
+    words_at (map (λ w. w.id) list) next (λ k h. follow k (omega (arith, many, h))) (omega (arith, many, few))
