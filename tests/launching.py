@@ -5,6 +5,7 @@ import tempfile
 import time
 
 from program import SECONDS, Talk, expect, frame, run
+from refusals import each_refusal
 from streams import FAULT, Streams, pipes
 from texts import CAPABILITIES, DISCONNECTED, FIRST, FIRST_ANSWER, THREADS, refused, request
 
@@ -15,6 +16,8 @@ FAILED = ('{"body":{"error":{"format":"%s","id":17}},"command":"launch","message
           '"success":false,"type":"response"}')
 INITIALIZED = '{"event":"initialized","seq":%d,"type":"event"}'
 STOPPED = '{"body":{"allThreadsStopped":true,"reason":"%s","threadId":1},"event":"stopped","seq":%d,"type":"event"}'
+TRAPPED = ('{"body":{"allThreadsStopped":true,"reason":"exception","text":"%s","threadId":1},"event":"stopped","seq":%d,'
+           '"type":"event"}')
 PRINTED = r'{"body":{"category":"stdout","output":"%d\n"},"event":"output","seq":%d,"type":"event"}'
 EXITED = '{"body":{"exitCode":%d},"event":"exited","seq":%d,"type":"event"}'
 TERMINATED = '{"event":"terminated","seq":%d,"type":"event"}'
@@ -48,6 +51,23 @@ more:   ecall
         li a7, 93
         ecall
 """ % COUNT
+
+# Memory begins at this address.
+BASE = 65536
+
+# Stores an address in the word before it, prints what is there and where the stack begins, and stores at the address.
+STORES_BEFORE = """        li t0, %d
+        li a7, 1
+        sw t0, -4(t0)
+        lw a0, -4(t0)
+        ecall
+        mv a0, sp
+        ecall
+        sw t0, 0(t0)
+"""
+
+# What is said of a KIB that is not taken.
+NO_KIB = "error: invalid value '%s' for '--memory <KIB>': not a multiple of 4 from 4 to 16384"
 
 
 @contextlib.contextmanager
@@ -246,6 +266,77 @@ def a_program_that_prints_more_than_may_wait_loses_nothing_to_a_slow_editor():
             expect_all(talk, b"", "the rest")
 
 
+def memory_ends_where_the_command_line_says():
+    for words, kib in (((), 1024), (("--memory", "1024"), 1024), (("--memory", "4"), 4), (("--memory=8",), 8), (("--memory", "000012"), 12),
+                       (("--memory", "0" * 40 + "16"), 16), (("--memory", "16380"), 16380), (("--memory", "16384", "--"), 16384)):
+        end = BASE + 1024 * kib
+        with file_of(STORES_BEFORE % end) as path:
+            sent, told = started(path)
+            told += frames(PRINTED % (end, 5), PRINTED % (end, 6), TRAPPED % ("store access fault", 7))
+            expect(run(sent, words=words), (told, b"", 0), "a program at the end of its memory, by %r" % (words,))
+
+
+def a_text_fits_exactly_the_memory_that_was_asked_for():
+    for words, kib in (((), 1024), (("--memory", "4"), 4), (("--memory", "16384"), 16384)):
+        with file_of(".space %d\nnop\n" % (1024 * kib)) as too_large, file_of(".space %d\nnop\n" % (1024 * kib - 4)) as fitting:
+            sent = FIRST + request(2, "launch", program=too_large) + request(3, "launch", program=fitting)
+            told = FIRST_ANSWER + frames(FAILED % ("line 2: TooLarge", 2, 2), DONE % ("launch", 3, 3), INITIALIZED % 4)
+            expect(run(sent, words=words), (told, b"", 0), "texts of the size of memory, and of a word more, by %r" % (words,))
+
+
+def expect_usage(words, first_line):
+    """These words are a fault of usage, and nothing is served: the message begins so, and names help."""
+    out, err, status = run(FIRST, words=words)
+    lines = err.decode().splitlines()
+    expect((out, lines[0], lines[-1], status), (b"", first_line, "For more information, try '--help'.", 2), "words %r" % (words,))
+
+
+def memory_that_is_not_offered_is_a_fault_of_usage():
+    for kib in ("0", "1", "2", "3", "5", "6", "7", "4095", "1023", "1025", "16381", "16385", "16388", "65536", "4294967296", "4294967300",
+                "18446744073709551620", "", "+4", " 4", "4 ", "4.0", "4e0", "0x10", "4K", "4KiB", "1,024", "1_024", "four", "\u0664", "\uff14"):
+        for words in (("--memory", kib), ("--memory=" + kib,)):
+            expect_usage(words, NO_KIB % kib)
+    expect_usage(("--memory=-4",), NO_KIB % "-4")
+
+
+def an_option_out_of_place_is_a_fault_of_usage():
+    used_by_asm = "error: the subcommand 'asm' cannot be used with '--memory <KIB>'"
+    for words, first_line in (
+        (("--memory",), "error: a value is required for '--memory <KIB>' but none was supplied"),
+        (("--memory", "4", "--memory", "4"), "error: the argument '--memory <KIB>' cannot be used multiple times"),
+        (("--memory", "-4"), "error: unexpected argument '-4' found"),
+        (("--memory", "4", "8"), "error: the subcommand '8' cannot be used with '--memory <KIB>'"),
+        (("--mem", "4"), "error: unexpected argument '--mem' found"),
+        (("-m", "4"), "error: unexpected argument '-m' found"),
+        (("memory", "4"), "error: unrecognized subcommand 'memory'"),
+        (("--memory", "4", "asm", "examples/increment.s"), used_by_asm),
+        (("--memory", "5", "asm", "examples/increment.s"), used_by_asm),
+        (("asm", "--memory", "4", "examples/increment.s"), "error: unexpected argument '--memory' found"),
+        (("asm", "examples/increment.s", "--memory", "4"), "error: unexpected argument '--memory' found"),
+        # What KIB is, is looked at last.
+        (("--memory", "5", "--bad"), "error: unexpected argument '--bad' found"),
+    ):
+        expect_usage(words, first_line)
+
+
+def help_says_how_much_memory_there_is():
+    out, err, status = run(b"", words=("--memory", "5", "--help"))
+    expect((err, status), (b"", 0), "help after a KIB that is not taken")
+    for words in ("--memory <KIB>", "a multiple of 4 from 4 to 16384", "1024 if it is not given"):
+        expect(words in " ".join(out.decode().split()), True, "help has %r" % words)
+
+
+def a_fault_of_usage_ends_well_without_memory():
+    whole = run(b"", words=("--memory", "5"))
+    expect(whole[2], 2, "the status with memory")
+
+    def once(environment):
+        got = run(b"", words=("--memory", "5"), environment=environment)
+        expect(got in (whole, (b"", b"rvdap: no memory\n", 1)), True, "the fault, or no memory: %r" % (got,))
+
+    expect(len(each_refusal(once)) > 20, True, "some allocations were refused")
+
+
 def checks():
     """Each check with its name."""
     return [(check.__name__.replace("_", " "), check) for check in (
@@ -260,4 +351,10 @@ def checks():
         an_editor_that_vanishes_while_the_program_prints_is_a_fault,
         an_editor_that_vanishes_while_the_program_runs_is_a_fault,
         a_program_that_prints_more_than_may_wait_loses_nothing_to_a_slow_editor,
+        memory_ends_where_the_command_line_says,
+        a_text_fits_exactly_the_memory_that_was_asked_for,
+        memory_that_is_not_offered_is_a_fault_of_usage,
+        an_option_out_of_place_is_a_fault_of_usage,
+        help_says_how_much_memory_there_is,
+        a_fault_of_usage_ends_well_without_memory,
     )]

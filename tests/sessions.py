@@ -356,8 +356,8 @@ def help_and_version_are_printed():
 
 def help_says_what_to_do_without_a_command():
     out = run(b"", words=["--help"])[0]
-    for words in (b"Usage: rvdap [COMMAND]", b"  asm  Assembles FILE", b"Without a command", b"Debug Adapter Protocol (DAP)",
-                  b"docs/PROTOCOL.md", b"Status: 0", b"--version"):
+    for words in (b"Usage: rvdap [OPTIONS]", b"rvdap <COMMAND>", b"  --memory <KIB>  Memory of a program", b"  asm  Assembles FILE",
+                  b"Without a command", b"Debug Adapter Protocol (DAP)", b"docs/PROTOCOL.md", b"Status: 0", b"--version"):
         expect(words in out, True, "help has %r" % words)
     expect(b"standard input and output" in b" ".join(out.split()), True, "help says where it speaks")
     expect(run(b"", words=["-h"]), (out, b"", 0), "help by its short name")

@@ -5,6 +5,7 @@
 mod asm;
 mod disk;
 mod ending;
+mod memory;
 mod options;
 mod serving;
 
@@ -13,9 +14,9 @@ use descriptors::Waiting;
 use disk::Disk;
 use ending::Ending;
 use listing::ListFault;
+use memory::MemorySize;
 use options::{Task, task_of};
-use serving::serve;
-use session::{Config, Limits, Session};
+use serving::{new_session, serve};
 use std::fmt::Display;
 use std::process::ExitCode;
 
@@ -24,19 +25,15 @@ use std::process::ExitCode;
 /// arguments are not taken.
 fn main(rt: HostRuntime) -> ExitCode {
     match task_of(&rt) {
-        Task::Serve => end(&rt, serve_editor(&rt)),
+        Task::Serve(memory) => end(&rt, serve_editor(&rt, memory)),
         Task::List(file) => list(&rt, file.as_str()),
         Task::Printed(status) => ExitCode::from(status),
         Task::NoMemory => end(&rt, Ending::NoMemory),
     }
 }
 
-fn serve_editor(rt: &HostRuntime) -> Ending {
-    let config = Config {
-        memory_size: 1_048_576,
-        program: None,
-    };
-    let Ok(mut session) = Session::new(rt.alloc(), config, Limits::greatest()) else {
+fn serve_editor(rt: &HostRuntime, memory: MemorySize) -> Ending {
+    let Ok(mut session) = new_session(rt.alloc(), memory) else {
         return Ending::NoMemory;
     };
     let _ = session.connect();

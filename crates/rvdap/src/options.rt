@@ -1,5 +1,6 @@
 //! The command line.
 
+use crate::memory::{MemorySize, memory_for};
 use clap::error::ErrorKind;
 use clap::{Arg, ArgMatches, Command};
 use std::alloc::{AllocError, Global};
@@ -54,8 +55,8 @@ const AFTER_HELP_OF_ASM: &str = "\
 
 /// What the arguments of the program ask for.
 pub(crate) enum Task {
-    /// An editor is to be served over standard streams.
-    Serve,
+    /// An editor is to be served over standard streams, and a machine gets so much memory.
+    Serve(MemorySize),
     /// The text in this file is to be listed.
     List(String),
     /// Something was printed, and the program ends with this status.
@@ -64,9 +65,9 @@ pub(crate) enum Task {
     NoMemory,
 }
 
-/// Reads the arguments of the program: none, or `asm FILE`. `--help` and `--version` are answered on
-/// standard output, with status 0; other arguments are a fault of usage, reported on standard error,
-/// with status 2.
+/// Reads the arguments of the program: none, `--memory KIB` or `asm FILE`. `--help` and `--version` are
+/// answered on standard output, with status 0; other arguments, or another KIB than `memory_for` takes,
+/// are a fault of usage, reported on standard error, with status 2.
 pub(crate) fn task_of<R: Env + AllocGlobal + Print + Eprint>(rt: &R) -> Task {
     match arguments(rt) {
         Ok(arguments) => asked(rt, arguments.as_slice()),
@@ -75,28 +76,36 @@ pub(crate) fn task_of<R: Env + AllocGlobal + Print + Eprint>(rt: &R) -> Task {
 }
 
 fn asked<R: AllocGlobal + Print + Eprint>(rt: &R, arguments: &[String]) -> Task {
-    match matched(rt.alloc(), arguments) {
-        Ok(matches) => mode_of(rt.alloc(), &matches),
+    match task_by(rt.alloc(), arguments) {
+        Ok(task) => task,
         Err(error) => printed(rt, &error),
     }
 }
 
-fn matched<'a>(alloc: Global, arguments: &'a [String]) -> Result<ArgMatches<'a>, clap::Error> {
-    command(alloc)?.try_get_matches_from(arguments)
+// What is asked for, by arguments that are taken.
+fn task_by(alloc: Global, arguments: &[String]) -> Result<Task, clap::Error> {
+    let mut command = command(alloc)?;
+    let matches = command.try_get_matches_from_mut(arguments)?;
+    if let Some(file) = file_of(&matches) {
+        return Ok(Task::List(String::from_str(alloc, file)?));
+    }
+    match memory_for(matches.get_str("memory")) {
+        Ok(memory) => Ok(Task::Serve(memory)),
+        Err(text) => Err(no_memory(alloc, &mut command, text)?),
+    }
 }
 
-// What is asked for, by arguments that are taken.
-fn mode_of(alloc: Global, matches: &ArgMatches) -> Task {
-    let Some(matches) = matches.subcommand_matches("asm") else {
-        return Task::Serve;
-    };
-    let Some(file) = matches.get_str("FILE") else {
-        return Task::Serve;
-    };
-    match String::from_str(alloc, file) {
-        Ok(file) => Task::List(file),
-        Err(_) => Task::NoMemory,
-    }
+// The file that is to be listed, if one is.
+fn file_of<'a>(matches: &ArgMatches<'a>) -> Option<&'a str> {
+    matches.subcommand_matches("asm")?.get_str("FILE")
+}
+
+// The fault of usage that no memory can be asked for by such a text.
+fn no_memory(alloc: Global, command: &mut Command, text: &str) -> Result<clap::Error, AllocError> {
+    let message = format!(in alloc;
+        "invalid value '{text}' for '--memory <KIB>': not a multiple of 4 from 4 to 16384"
+    )?;
+    command.error(ErrorKind::ValueValidation, message.as_str())
 }
 
 // Prints what clap has to say. Where it can't be printed, the status still says it.
@@ -131,7 +140,18 @@ fn command<'a>(alloc: Global) -> Result<Command<'a>, AllocError> {
         .about("A debug adapter for assembly programs on one simulated RISC-V hart")
         .after_help(AFTER_HELP)
         .disable_help_subcommand(true)
+        .args_conflicts_with_subcommands(true)
+        .arg(memory(alloc))?
         .subcommand(asm(alloc)?)
+}
+
+fn memory<'a>(alloc: Global) -> Arg<'a> {
+    Arg::new(alloc, "memory")
+        .long("memory")
+        .value_name("KIB")
+        .help(
+            "Memory of a program, in KiB: a multiple of 4 from 4 to\n16384; 1024 if it is not given",
+        )
 }
 
 fn asm<'a>(alloc: Global) -> Result<Command<'a>, AllocError> {

@@ -1,18 +1,39 @@
 //! An editor over a reader and a writer.
-ghost use Rattle.std.specs.Prelude.{◌≡◌};
-ghost use Rattle.session.specs.Kept.{OfEach};
+ghost use Rattle.std.specs.Prelude.{◌≡◌, IfOk, None};
+ghost use Rattle.session.specs.Kept.{OfEach, Stands};
+ghost use Rattle.session.specs.Limits.{greatest_limits};
+ghost use Rattle.session.specs.Sessions.{start};
 ghost use Rattle.transport.specs.Rounds.{Served};
 ghost use Rattle.transport.specs.declared.end.StreamEnd.{StreamEnd as AnEnd};
 ghost use Rattle.rvdap.specs.Endings as spec;
 
 use crate::ending::Ending;
-use session::Session;
-use std::alloc::Global;
+use crate::memory::MemorySize;
+use session::{Config, ConfigError, Limits, Session};
+use std::alloc::{AllocError, Global};
 use std::io::{Read, Write};
 use transport::{Files, serve_streams};
 
 /// How many turns the program grants: no one will live to see them used up.
 const TURNS: u64 = u64::MAX;
+
+/// A session in which a machine gets so much memory, with no program and with the greatest limits.
+pub(crate) fn new_session(alloc: Global, memory: MemorySize) -> Result<Session, AllocError>
+    ensures { IfOk result (λ kept. Stands kept
+        (start (record { limits = greatest_limits; size = memory.bytes; program = None }))) }
+{
+    let config = Config {
+        memory_size: memory.bytes,
+        program: None,
+    };
+    match Session::new(alloc, config, Limits::greatest()) {
+        Ok(session) => Ok(session),
+        Err(ConfigError::NoMemory) => Err(AllocError),
+        Err(ConfigError::BadMemorySize | ConfigError::BadLimit | ConfigError::Assembly(_)) => {
+            unreachable!()
+        }
+    }
+}
 
 /// Serves the editor that is connected, and gives how the program ends.
 pub(crate) fn serve<R: Read, W: Write, F: Files>(

@@ -1,0 +1,2 @@
+-- what a text asks for, and what asks for a size
+mod Asking
