@@ -1,6 +1,6 @@
 -- What a text asks for, by how its digits are read; and what asks for a size.
 use Rattle.std.proofs.Common.{◌≡◌, ℕ, ◌*◌, ◌/◌, ◌%◌, ◌<◌, ◌≤◌, ◌==◌, ◌&&◌, not, Bool, true, false, leb, List, [], ◌∷◌, length, Option, Some, None}
-use Rattle.std.proofs.Common.{Ok, Err, Result, refl, arith, ap, sym, ◌∙◌, rules, cond}
+use Rattle.std.proofs.Common.{Ok, Err, refl, arith, ap, sym, ◌∙◌, rules, cond}
 use Rattle.std.proofs.lemmas.Bool.{ltb-true}
 use Rattle.std.proofs.lemmas.Bool.Decides.{nat_tests}
 use Rattle.std.proofs.lemmas.Fmt.{decimal_is_IsNumeral}
@@ -9,7 +9,7 @@ use Rattle.std.specs.Cmp.Derive.{both_true}
 use Rattle.std.specs.Fmt.{decimal}
 use Rattle.std.specs.List.{list_all}
 use Rattle.std.specs.Str.Parse.{AllDigits, IsNumeral, digits_value}
-use Rattle.numerals.specs.Numerals.{numeral, within}
+use Rattle.numerals.specs.Numerals.{numeral}
 use Rattle.numerals.specs.declared.NumeralError.{NumeralError}
 use Rattle.numerals.specs.declared.NumeralError.TheVariants.{Malformed, TooLarge}
 use Rattle.session.specs.Config.{IsSize}

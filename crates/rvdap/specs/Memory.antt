@@ -7,10 +7,17 @@ use Rattle.std.proofs.Common.{arith, lit≤}
 use Rattle.std.specs.Fmt.{decimal}
 use Rattle.std.specs.Str.Parse.{IsNumeral, digits_value}
 use Rattle.session.specs.Config.{IsSize}
+use Rattle.session.specs.Limits.{greatest_limits}
+use Rattle.session.specs.Sessions.{Beginning}
 
 -- how many bytes it is where nothing is asked: 1,024 KiB
 abbrev pub default_memory : ℕ
 default_memory = 1048576
+
+-- what a session begins with, in which a machine gets so many: the greatest limits, and no program
+abbrev pub begins_with : ℕ → Beginning
+begins_with bytes =
+    record { limits = greatest_limits; size = bytes; program = None; numbers = refl; image = tt }
 
 -- a number of KiB that may be asked for
 pub record IsOffered (kib : ℕ) : Type 0 where

@@ -1,5 +1,4 @@
-use Rattle.std.proofs.Common.{None, rules, ◌≡◌}
-use Rattle.rvdap.specs.Memory.{Answers}
+use Rattle.std.proofs.Common.{None, rules}
 use Rattle.rvdap.proofs.Asking.{answers_err, reaches}
 use Rattle.rvdap.proofs.memory.memory_in.Goals as goal
 
