@@ -5,17 +5,8 @@
    For each program and round: the time from its start to the answer of `initialize`, round trips of one `threads`
    at a time, and `threads` requests written as fast as they are taken. Each figure is a median over the rounds (the
    round trips: over all of them), and is also given as a ratio to that of the last program. */
-#define _GNU_SOURCE
-#include <errno.h>
-#include <fcntl.h>
+#include "adapter.h"
 #include <poll.h>
-#include <spawn.h>
-#include <stdio.h>
-#include <stdlib.h>
-#include <string.h>
-#include <sys/wait.h>
-#include <time.h>
-#include <unistd.h>
 
 enum { TRIPS = 4000, PIPELINED = 40000, MOST_ROUNDS = 101, MOST_PROGRAMS = 8 };
 
@@ -24,93 +15,10 @@ struct figures {
     int rounds, trips;
 };
 
-struct adapter {
-    pid_t pid;
-    int in, out;
-    char room[1 << 17];
-    size_t have;
-};
-
-static double now(void)
-{
-    struct timespec t;
-    clock_gettime(CLOCK_MONOTONIC, &t);
-    return (double)t.tv_sec + (double)t.tv_nsec / 1e9;
-}
-
-static void fail(const char *what)
-{
-    fprintf(stderr, "client: %s\n", what);
-    exit(1);
-}
-
-static void begin(struct adapter *a, char *program)
-{
-    int to[2], from[2];
-    if (pipe2(to, O_CLOEXEC) || pipe2(from, O_CLOEXEC))
-        fail("no pipe");
-    posix_spawn_file_actions_t actions;
-    posix_spawn_file_actions_init(&actions);
-    posix_spawn_file_actions_adddup2(&actions, to[0], 0);
-    posix_spawn_file_actions_adddup2(&actions, from[1], 1);
-    char *words[] = {program, NULL};
-    if (posix_spawn(&a->pid, program, &actions, NULL, words, environ))
-        fail("an adapter does not start");
-    posix_spawn_file_actions_destroy(&actions);
-    close(to[0]);
-    close(from[1]);
-    a->in = to[1];
-    a->out = from[0];
-    a->have = 0;
-}
-
-static void end(struct adapter *a)
-{
-    close(a->in);
-    close(a->out);
-    waitpid(a->pid, NULL, 0);
-}
-
 /* Reads once, and gives how many frames are whole now. */
 static int frames(struct adapter *a)
 {
-    ssize_t got = read(a->out, a->room + a->have, sizeof a->room / 2);
-    if (got <= 0)
-        fail("an adapter ended early");
-    a->have += (size_t)got;
-    size_t at = 0;
-    int count = 0;
-    for (;;) {
-        char *stop = memmem(a->room + at, a->have - at, "\r\n\r\n", 4);
-        if (stop == NULL)
-            break;
-        size_t whole = (size_t)(stop - a->room) + 4 + (size_t)atol(a->room + at + strlen("Content-Length: "));
-        if (whole > a->have)
-            break;
-        at = whole;
-        count++;
-    }
-    memmove(a->room, a->room + at, a->have - at);
-    a->have -= at;
-    return count;
-}
-
-static void put(struct adapter *a, const char *bytes, size_t count)
-{
-    while (count > 0) {
-        ssize_t took = write(a->in, bytes, count);
-        if (took < 0)
-            fail("an adapter takes no more");
-        bytes += took;
-        count -= (size_t)took;
-    }
-}
-
-static size_t request(char *out, unsigned seq, const char *rest)
-{
-    char body[200];
-    int length = sprintf(body, "{\"seq\":%u,\"type\":\"request\",%s}", seq, rest);
-    return (size_t)sprintf(out, "Content-Length: %d\r\n\r\n%s", length, body);
+    return frames_with(a, NULL);
 }
 
 static void pipelined(struct adapter *a, char *all, size_t size)
@@ -139,7 +47,7 @@ static void measure(char *program, struct figures *f)
     char one[300];
     size_t size = request(one, 1, "\"command\":\"initialize\",\"arguments\":{\"adapterID\":\"rvdap\"}");
     double from = now();
-    begin(&a, program);
+    begin(&a, program, NULL);
     put(&a, one, size);
     while (frames(&a) == 0) {
     }
@@ -162,18 +70,6 @@ static void measure(char *program, struct figures *f)
     f->rate[f->rounds++] = PIPELINED / (now() - from);
     free(all);
     end(&a);
-}
-
-static int order(const void *x, const void *y)
-{
-    double a = *(const double *)x, b = *(const double *)y;
-    return (a > b) - (a < b);
-}
-
-static double at(double *figures, int count, double part)
-{
-    qsort(figures, (size_t)count, sizeof *figures, order);
-    return figures[(int)(part * (count - 1))];
 }
 
 int main(int words, char **word)

@@ -1,22 +1,70 @@
 #define _GNU_SOURCE
 /* What the measured adapter is held against: a program that reads frames, and answers each from a fixed text with
-   one write. It looks at nothing but the length in each header. */
+   one write. It looks at nothing but the length in each header.
+
+   Usage: floor [stops]
+
+   With `stops` it looks for the command too, and its texts are what the adapter answers and tells of a program that stops. */
 #include <stdio.h>
 #include <stdlib.h>
 #include <string.h>
 #include <unistd.h>
 
-#define HEADER "Content-Length: 124\r\n\r\n"
-#define BODY                                                                                                          \
-    "{\"body\":{\"threads\":[{\"id\":1,\"name\":\"hart 0\"}]},\"command\":\"threads\",\"request_seq\":2,\"seq\":2,"        \
-    "\"success\":true,\"type\":\"response\"}"
+/* What a request is answered: one or two bodies, with their headers. */
+struct answer {
+    const char *command, *bodies[2];
+    char bytes[1024];
+    size_t length;
+};
+
+#define SUCCESS "\"success\":true,\"type\":\"response\"}"
+#define STOPPED(reason, seq) "{\"body\":{\"allThreadsStopped\":true,\"reason\":\"" reason "\",\"threadId\":1},\"event\":\"stopped\",\"seq\":" seq ",\"type\":\"event\"}"
+
+/* The first is that of a command which is not looked for. */
+static struct answer answers[] = {
+    {"threads", {"{\"body\":{\"threads\":[{\"id\":1,\"name\":\"hart 0\"}]},\"command\":\"threads\",\"request_seq\":2,\"seq\":2," SUCCESS, NULL}, "", 0},
+    {"launch", {"{\"command\":\"launch\",\"request_seq\":2,\"seq\":2," SUCCESS, "{\"event\":\"initialized\",\"seq\":3,\"type\":\"event\"}"}, "", 0},
+    {"configurationDone", {"{\"command\":\"configurationDone\",\"request_seq\":3,\"seq\":4," SUCCESS, STOPPED("entry", "5")}, "", 0},
+    {"next", {"{\"command\":\"next\",\"request_seq\":500,\"seq\":1000," SUCCESS, STOPPED("step", "1001")}, "", 0},
+    {"continue",
+     {"{\"body\":{\"allThreadsContinued\":true},\"command\":\"continue\",\"request_seq\":500,\"seq\":1000," SUCCESS, STOPPED("breakpoint", "1001")},
+     "", 0},
+    {"setBreakpoints",
+     {"{\"body\":{\"breakpoints\":[{\"id\":1,\"instructionReference\":\"0x00010000\",\"line\":1,\"verified\":true}]},"
+      "\"command\":\"setBreakpoints\",\"request_seq\":500,\"seq\":1000," SUCCESS,
+      NULL},
+     "", 0},
+};
+
+enum { ANSWERS = sizeof answers / sizeof *answers };
 
 static char room[1 << 17];
-static const char answer[] = HEADER BODY;
 
-int main(void)
+static void write_headers(struct answer *a)
 {
+    for (int i = 0; i < 2 && a->bodies[i]; i++)
+        a->length += (size_t)sprintf(a->bytes + a->length, "Content-Length: %zu\r\n\r\n%s", strlen(a->bodies[i]), a->bodies[i]);
+}
+
+static const struct answer *answer_to(const char *frame, size_t length)
+{
+    static const char before[] = "\"command\":\"";
+    const char *name = memmem(frame, length, before, sizeof before - 1);
+    if (name == NULL)
+        return &answers[0];
+    name += sizeof before - 1;
+    for (int i = 1; i < ANSWERS; i++)
+        if (!strncmp(name, answers[i].command, strlen(answers[i].command)))
+            return &answers[i];
+    return &answers[0];
+}
+
+int main(int words, char **word)
+{
+    int looks = words > 1 && !strcmp(word[1], "stops");
     size_t have = 0;
+    for (int i = 0; i < ANSWERS; i++)
+        write_headers(&answers[i]);
     for (;;) {
         ssize_t got = read(0, room + have, sizeof room / 2);
         if (got <= 0)
@@ -31,7 +79,8 @@ int main(void)
             size_t whole = (size_t)(end - room) + 4 + length;
             if (whole > have)
                 break;
-            if (write(1, answer, sizeof answer - 1) != (ssize_t)(sizeof answer - 1))
+            const struct answer *a = looks ? answer_to(end, length + 4) : &answers[0];
+            if (write(1, a->bytes, a->length) != (ssize_t)a->length)
                 return 1;
             at = whole;
         }
