@@ -176,37 +176,78 @@ session_within : (more : List Row) → AllWithin more → AllWithin (session_req
 unfolding AllWithin
 session_within more h = (
   (λ m. made_within (λ a. Initialize a) (initialize_arguments m) (λ a. tt)),
-  ((λ m. made_within (λ a. Launch a) (launch_arguments m) (λ a. tt)),
-  ((λ m. tt), ((λ m. tt), ((λ m. tt),
-  ((λ m. made_within (λ a. Cancel a) (cancel_arguments m) (λ a. tt)),
-  ((λ m. tt), ((λ m. tt),
-  ((λ m. made_within (λ a. Disconnect a) (disconnect_arguments m) (λ a. tt)), h)))))))),
+  (
+    (λ m. made_within (λ a. Launch a) (launch_arguments m) (λ a. tt)),
+    (
+      (λ m. tt),
+      (
+        (λ m. tt),
+        (
+          (λ m. tt),
+          (
+            (λ m. made_within (λ a. Cancel a) (cancel_arguments m) (λ a. tt)),
+            (
+              (λ m. tt),
+              (
+                (λ m. tt),
+                ((λ m. made_within (λ a. Disconnect a) (disconnect_arguments m) (λ a. tt)), h),
+              ),
+            ),
+          ),
+        ),
+      ),
+    ),
+  ),
 )
 
 execution_within : (more : List Row) → AllWithin more → AllWithin (execution_requests ++ more)
 unfolding AllWithin execution_requests
 execution_within more h = (
   (λ m. made_of (λ a. All IsLineWithin a.breakpoints) (λ a. SetBreakpoints a) (set_breakpoints_arguments m) (set_breakpoints_holds m) (λ a within. within)),
-  ((λ m. made_within (λ a. SetInstructionBreakpoints a) (set_instruction_breakpoints_arguments m) (λ a. tt)),
-  ((λ m. tt),
-  ((λ m. made_within (λ a. Continue a) (continue_arguments m) (λ a. tt)),
-  ((λ m. made_within (λ a. Next a) (next_arguments m) (λ a. tt)),
-  ((λ m. made_within (λ a. StepIn a) (step_in_arguments m) (λ a. tt)),
-  ((λ m. made_within (λ a. StepOut a) (step_out_arguments m) (λ a. tt)),
-  ((λ m. made_within (λ a. Pause a) (pause_arguments m) (λ a. tt)), h))))))),
+  (
+    (λ m. made_within (λ a. SetInstructionBreakpoints a) (set_instruction_breakpoints_arguments m) (λ a. tt)),
+    (
+      (λ m. tt),
+      (
+        (λ m. made_within (λ a. Continue a) (continue_arguments m) (λ a. tt)),
+        (
+          (λ m. made_within (λ a. Next a) (next_arguments m) (λ a. tt)),
+          (
+            (λ m. made_within (λ a. StepIn a) (step_in_arguments m) (λ a. tt)),
+            (
+              (λ m. made_within (λ a. StepOut a) (step_out_arguments m) (λ a. tt)),
+              ((λ m. made_within (λ a. Pause a) (pause_arguments m) (λ a. tt)), h),
+            ),
+          ),
+        ),
+      ),
+    ),
+  ),
 )
 
 inspection_within : AllWithin inspection_requests
 unfolding AllWithin inspection_requests
 inspection_within = (
   (λ m. made_within (λ a. StackTrace a) (stack_trace_arguments m) (λ a. tt)),
-  ((λ m. made_within (λ a. Scopes a) (scopes_arguments m) (λ a. tt)),
-  ((λ m. made_within (λ a. Variables a) (variables_arguments m) (λ a. tt)),
-  ((λ m. made_within (λ a. SetVariable a) (set_variable_arguments m) (λ a. tt)),
-  ((λ m. made_within (λ a. Evaluate a) (evaluate_arguments m) (λ a. tt)),
-  ((λ m. made_within (λ a. Disassemble a) (disassemble_arguments m) (λ a. tt)),
-  ((λ m. made_within (λ a. ReadMemory a) (read_memory_arguments m) (λ a. tt)),
-  ((λ m. made_within (λ a. WriteMemory a) (write_memory_arguments m) (λ a. tt)), tt))))))),
+  (
+    (λ m. made_within (λ a. Scopes a) (scopes_arguments m) (λ a. tt)),
+    (
+      (λ m. made_within (λ a. Variables a) (variables_arguments m) (λ a. tt)),
+      (
+        (λ m. made_within (λ a. SetVariable a) (set_variable_arguments m) (λ a. tt)),
+        (
+          (λ m. made_within (λ a. Evaluate a) (evaluate_arguments m) (λ a. tt)),
+          (
+            (λ m. made_within (λ a. Disassemble a) (disassemble_arguments m) (λ a. tt)),
+            (
+              (λ m. made_within (λ a. ReadMemory a) (read_memory_arguments m) (λ a. tt)),
+              ((λ m. made_within (λ a. WriteMemory a) (write_memory_arguments m) (λ a. tt)), tt),
+            ),
+          ),
+        ),
+      ),
+    ),
+  ),
 )
 
 -- a command that asks within bounds, or a refusal of its name or its arguments
