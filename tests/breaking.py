@@ -2,6 +2,7 @@
 from breaks import ADDRESS, CONDITION, NO_CODE, UNKNOWN, at, body_of, is_not, is_set, on
 from launching import CONTINUED, DONE, ENDLESS, EXITED, INITIALIZED, PRINTED, STOPPED, TERMINATED, expect_all, file_of, frames
 from program import Talk, expect, frame, run
+from refusals import ends_well_without_memory
 from texts import CAPABILITIES, DISCONNECTED, FIRST, FIRST_ANSWER, refused, request
 
 # Texts of docs/PROTOCOL.md, sections 4 and 5.
@@ -183,6 +184,15 @@ def a_breakpoint_stops_a_long_run_at_its_hit():
         expect_all(talk, b"", "the rest")
 
 
+def a_session_with_breakpoints_ends_well_without_memory():
+    with file_of(COUNTS) as path:
+        sent, told = launched(path)
+        sent += lines(3, path, at(9, "a0 == 1", "1"), at(13)) + addresses(4, on("0x00010018")) + request(5, "configurationDone")
+        told += said_of_lines(3, 4, is_set(1, COUNT, 9), is_not(NO_CODE, 13)) + said("setInstructionBreakpoints", 4, 5, is_set(2, COUNT))
+        told += frame(DONE % ("configurationDone", 5, 6)) + hit(7, 2, reason="instruction breakpoint")
+        ends_well_without_memory(sent, told)
+
+
 def checks():
     """Each check with its name."""
     return [(check.__name__.replace("_", " "), check) for check in (
@@ -195,4 +205,5 @@ def checks():
         breakpoints_that_are_refused_change_nothing,
         a_log_message_is_ignored,
         a_breakpoint_stops_a_long_run_at_its_hit,
+        a_session_with_breakpoints_ends_well_without_memory,
     )]

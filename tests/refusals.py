@@ -40,16 +40,21 @@ def each_refusal(once, step=1):
     raise AssertionError("the process asks for memory without end")
 
 
-def the_program_ends_well_without_memory():
+def ends_well_without_memory(sent, told):
+    """A session of which this is the whole input and output, with each allocation refused in turn: it is the same, or ends with a line."""
     def once(environment):
-        out, err, status = run(SESSION, environment=environment)
+        out, err, status = run(sent, environment=environment)
         if status == 0:
-            expect((out, err), (ANSWERS, b""), "a whole session")
+            expect((out, err), (told, b""), "a whole session")
         else:
             expect((err, status), (b"rvdap: no memory\n", 1), "out of memory")
-            expect(out, ANSWERS[:len(out)], "the answers before it")
+            expect(out, told[:len(out)], "what was told before it")
 
     expect(len(each_refusal(once)) > 5, True, "some allocations were refused")
+
+
+def the_program_ends_well_without_memory():
+    ends_well_without_memory(SESSION, ANSWERS)
 
 
 def checks():
