@@ -269,6 +269,21 @@ def while_it_runs():
     return script.slices(9, 1, "Stopped", at_instructions(2)).asks("continue").slices(9, 1, "Stopped", at_instructions(2))
 
 
+def marked_meanwhile():
+    """A mark stays where breakpoints are set, and counts before them."""
+    script = debugging(CIRCLES).slices(5, 5, "Spent").asks("pause").sets([at(1)], [is_set(1, 0x10000, 1)]).slices(9, 0, "Stopped", PAUSE)
+    script.asks("restart").does("hold", "ok").sets_at_instructions([on("65536")], [is_set(2, 0x10000)]).slices(9, 0, "Stopped", PAUSE)
+    return script.asks("continue").slices(9, 1, "Stopped", at_lines(1, 2))
+
+
+def in_a_step():
+    """A step goes on to its goal where breakpoints are set meanwhile, or to one of these."""
+    script = launched(COUNTS, stopOnEntry=True).asks("configurationDone").slices(9, 0, "Stopped", ENTRY).asks("next").slices(2, 2, "Spent")
+    script.sets([at(4, "0")], [is_set(1, RETURN, 4)]).sets_at_instructions([], []).slices(9, 2, "Stopped", STEP).asks("next")
+    script.slices(9, 1, "Stopped", STEP).asks("next").slices(2, 2, "Spent").sets([at(4)], [is_set(2, RETURN, 4)])
+    return script.slices(9, 1, "Stopped", at_lines(2))
+
+
 def hits_begin_anew():
     """The breakpoints of a list that takes the place of another were not hit yet."""
     return counting([at(2, None, "3")], [back(1)]).slices(9, 9, "Spent").sets([at(2, None, "3")], [back(2)]) \
@@ -536,6 +551,8 @@ ROWS = [
     Row("a breakpoint at the limit", at_the_limit().steps, PROFILE),
     Row("a breakpoint in a pause", in_a_pause().steps, PROFILE),
     Row("breakpoints of a program that runs", while_it_runs().steps, PROFILE),
+    Row("breakpoints of a program that is to pause", marked_meanwhile().steps, PROFILE),
+    Row("breakpoints that are set in a step", in_a_step().steps, PROFILE),
     Row("the hits of a new list begin anew", hits_begin_anew().steps, PROFILE),
     Row("the hits of the other list stay", hits_of_the_other_kind_stay().steps, PROFILE),
     Row("a restart keeps breakpoints, and their hits begin anew", hits_begin_anew_at_a_restart().steps, PROFILE),
