@@ -73,7 +73,7 @@ impl Player for Connection {
                 self.writer.pace = pace_of(most, calls, interruptions)?;
                 shown(alloc, "ok")
             }
-            ["whole", input] => whole(alloc, &bytes_of(alloc, input)?),
+            ["whole", input] => whole(alloc, bytes_of(alloc, input)?),
             ["server", calls @ ..] => polled(alloc, &mut self.reader, &mut self.writer, calls),
             ["text", name] => text_of(alloc, name),
             ["serve", turns] => {
@@ -101,6 +101,18 @@ impl Connection {
             &self.files,
             turns,
         )
+    }
+
+    // Connects and serves to the end: how it ended, and what was written.
+    fn served(&mut self, alloc: Global) -> Result<String, Fault> {
+        let _ = self.session.connect();
+        match self.serve(alloc, u64::MAX) {
+            StreamEnd::NoMemory => Err(Fault::NoMemoryInCall),
+            end => {
+                let written = hexadecimal(alloc, self.writer.bytes.as_slice())?;
+                Ok(format!(in alloc; "{end:?} {written}")?)
+            }
+        }
     }
 
     fn look(&mut self, alloc: Global, name: &str) -> Result<String, Fault> {
@@ -144,29 +156,19 @@ fn done(alloc: Global, answer: Result<(), EventError>) -> Result<String, Fault> 
     }
 }
 
-/// A session from its first byte to its end: how it ended, and what was written.
-fn whole(alloc: Global, input: &[u8]) -> Result<String, Fault> {
-    let Some(mut session) = new_session(alloc) else {
+/// A session from its first byte to its end: how it ended, and what was written. It is served in a method,
+/// since with each part in a variable of its own this takes minutes to prove.
+fn whole(alloc: Global, input: Vec<u8>) -> Result<String, Fault> {
+    let Some(session) = new_session(alloc) else {
         return Err(Fault::NoCommand);
     };
-    let _ = session.connect();
-    let mut reader = input;
-    let mut writer = Sink::new(alloc)?;
-    let files = Shelf::new(alloc);
-    match serve_streams(
-        alloc,
-        &mut session,
-        &mut reader,
-        &mut writer,
-        &files,
-        u64::MAX,
-    ) {
-        StreamEnd::NoMemory => Err(Fault::NoMemoryInCall),
-        end => {
-            let written = hexadecimal(alloc, writer.bytes.as_slice())?;
-            Ok(format!(in alloc; "{end:?} {written}")?)
-        }
-    }
+    let mut connection = Connection {
+        session,
+        reader: Drip::new(input),
+        writer: Sink::new(alloc)?,
+        files: Shelf::new(alloc),
+    };
+    connection.served(alloc)
 }
 
 /// The text of the error of this name.
