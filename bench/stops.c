@@ -5,8 +5,7 @@
    SMALL is the file of a program whose loop has an `ebreak`; LARGE one of many lines that begins with a loop of two, in lines 4 and 5.
    In each round each is launched in a process of its own, and stops at its entry: that counts from `launch`, with
    `configurationDone` between, and without the start of the process. Then SMALL goes on from one `ebreak` to the next; LARGE is
-   stepped line by line, and goes on from a breakpoint at line 4 to the same, where PROGRAM takes `setBreakpoints`. Of these a
-   round's figure is the median. */
+   stepped line by line, and goes on from a breakpoint at line 4 to the same. Of these a round's figure is the median. */
 #include "adapter.h"
 
 enum { TRIPS = 1000, MOST_ROUNDS = 101 };
@@ -33,23 +32,15 @@ struct driven {
     double figures[ROWS][MOST_ROUNDS];
 };
 
-/* Sends a request, and reads until a frame with this text came, or a refusal: whether it is no refusal. */
-static int is_taken(struct driven *d, const char *rest, const char *text)
+/* Sends a request, and reads until a frame with this text came. No refusal may come. */
+static void ask(struct driven *d, const char *rest, const char *text)
 {
     char frame[5000];
     put(&d->adapter, frame, request(frame, ++d->seq, rest));
     int refusals = d->adapter.refusals;
     while (frames_with(&d->adapter, text) == 0)
         if (d->adapter.refusals > refusals)
-            return 0;
-    return 1;
-}
-
-/* The same, where no refusal may come. */
-static void ask(struct driven *d, const char *rest, const char *text)
-{
-    if (!is_taken(d, rest, text))
-        fail("a request is refused");
+            fail("a request is refused");
 }
 
 /* Starts the adapter and launches a program: the time until it stands at its entry. */
@@ -88,9 +79,8 @@ static void measure(struct driven *d, int round, const char *small, const char *
     d->figures[LAUNCH_LARGE][round] = launch(d, large);
     d->figures[NEXT][round] = trips(d, "\"command\":\"next\"" OF_THREAD);
     snprintf(rest, sizeof rest, "\"command\":\"setBreakpoints\",\"arguments\":{\"source\":{\"path\":\"%s\"},\"breakpoints\":[{\"line\":4}]}", large);
-    d->figures[TO_BREAKPOINT][round] = 0;
-    if (is_taken(d, rest, SUCCESS))
-        d->figures[TO_BREAKPOINT][round] = trips(d, "\"command\":\"continue\"" OF_THREAD);
+    ask(d, rest, SUCCESS);
+    d->figures[TO_BREAKPOINT][round] = trips(d, "\"command\":\"continue\"" OF_THREAD);
     end(&d->adapter);
 }
 
@@ -100,11 +90,8 @@ static void show(enum row row, struct driven *ours, struct driven *theirs, int r
     double *o = ours->figures[row], *t = theirs->figures[row];
     double least = at(o, rounds, 0) * 1e6, median = at(o, rounds, 0.5) * 1e6;
     double least_floor = at(t, rounds, 0) * 1e6, median_floor = at(t, rounds, 0.5) * 1e6;
-    if (least == 0)
-        printf("| %s | - | %.1f (%.1f) | - |\n", names[row], least_floor, median_floor);
-    else
-        printf("| %s | %.1f (%.1f) | %.1f (%.1f) | %.2f (%.2f) |\n", names[row], least, median, least_floor, median_floor, least / least_floor,
-               median / median_floor);
+    printf("| %s | %.1f (%.1f) | %.1f (%.1f) | %.2f (%.2f) |\n", names[row], least, median, least_floor, median_floor, least / least_floor,
+           median / median_floor);
 }
 
 int main(int words, char **word)
