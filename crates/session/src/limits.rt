@@ -10,7 +10,8 @@ pub struct Limits {
     /// The last number of a message on a connection, at most 2,147,483,647
     /// (`ProtocolMessage.seq`).
     pub last_seq: u32,
-    /// The last reference to a frame or to variables, at most 2,147,483,647.
+    /// The last number of a breakpoint (`Breakpoint.id`), and the last reference to a frame or to variables,
+    /// each at most 2,147,483,647.
     pub last_ref: u32,
     /// How many instructions retire at most since the machine was loaded, at most 2^62.
     pub last_retired: u64,
