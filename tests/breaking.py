@@ -1,6 +1,6 @@
 """The built program, as an editor meets it that sets breakpoints: what it says of them, and where they stop a program."""
 from breaks import ADDRESS, CONDITION, NO_CODE, UNKNOWN, at, body_of, is_not, is_set, on
-from launching import CONTINUED, DONE, ENDLESS, EXITED, INITIALIZED, PRINTED, STOPPED, TERMINATED, expect_all, file_of, frames
+from launching import CONTINUED, DONE, ENDLESS, EXITED, INITIALIZED, PRINTED, STOPPED, TERMINATED, expect_all, file_of, frames, is_told, is_told_however_cut
 from program import Talk, expect, frame, run
 from refusals import ends_well_without_memory
 from texts import CAPABILITIES, DISCONNECTED, FIRST, FIRST_ANSWER, refused, request
@@ -75,20 +75,11 @@ def debugged(path):
 
 
 def breakpoints_are_set_met_and_replaced():
-    with file_of(COUNTS) as path, Talk() as talk:
-        for sent, told in debugged(path):
-            expect(talk.answers(sent, told), told, "what is told after %r" % sent)
-        expect_all(talk, b"", "the rest")
+    is_told(COUNTS, debugged)
 
 
 def breakpoints_are_the_same_however_their_requests_are_cut():
-    with file_of(COUNTS) as path:
-        for cut in (1, 15, 18, 20, 21, 22, 23, 30, 50, -2, -1):
-            with Talk() as talk:
-                for sent, told in debugged(path):
-                    talk.write(sent[:cut])
-                    expect(talk.answers(sent[cut:], told), told, "what is told after %r, cut at %d" % (sent, cut))
-                expect_all(talk, b"", "the rest")
+    is_told_however_cut(COUNTS, debugged)
 
 
 def what_is_sent_ahead_of_the_start_is_set_before_the_first_instruction():

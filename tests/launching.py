@@ -116,21 +116,31 @@ def expect_all(talk, told, what):
     expect(talk.read_so_far + talk.process.stdout.read(), b"", "what comes after it")
 
 
-def a_program_is_stepped_from_its_entry_to_its_end():
-    with file_of(PRINTS) as path, Talk() as talk:
-        for sent, told in stepped(path):
+def is_told(text, session):
+    """Fails unless the program answers each part of a session with the file of this text as the session says."""
+    with file_of(text) as path, Talk() as talk:
+        for sent, told in session(path):
             expect(talk.answers(sent, told), told, "what is told after %r" % sent)
         expect_all(talk, b"", "the rest")
 
 
-def steps_are_the_same_however_their_requests_are_cut():
-    with file_of(PRINTS) as path:
+def is_told_however_cut(text, session):
+    """The same, with each part cut in two."""
+    with file_of(text) as path:
         for cut in (1, 15, 18, 20, 21, 22, 23, 30, 50, -2, -1):
             with Talk() as talk:
-                for sent, told in stepped(path):
+                for sent, told in session(path):
                     talk.write(sent[:cut])
                     expect(talk.answers(sent[cut:], told), told, "what is told after %r, cut at %d" % (sent, cut))
                 expect_all(talk, b"", "the rest")
+
+
+def a_program_is_stepped_from_its_entry_to_its_end():
+    is_told(PRINTS, stepped)
+
+
+def steps_are_the_same_however_their_requests_are_cut():
+    is_told_however_cut(PRINTS, stepped)
 
 
 def a_session_that_ends_with_the_start_of_its_program_is_the_same_however_it_is_cut():
