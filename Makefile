@@ -7,10 +7,9 @@ wants = @command -v $(1) > /dev/null || { echo "make: $(1) is absent: $(2)" >&2;
 
 .PHONY: run build test bench install clean toolchain compiler python
 
-# Debugs an example: plays a session into the program and prints each message on a line of its own. Then lists the example.
+# Debugs an example: plays a session into the program as an editor would, and prints what each request gives.
 run: python build
-	@examples/play examples/steps $(PROGRAM)
-	@$(PROGRAM) asm examples/increment.s
+	@examples/play --explained examples/sorting $(PROGRAM)
 
 # Proves the program and builds it: $(PROGRAM), where neither the gate nor an interrupted one takes it away.
 build: toolchain

@@ -2,46 +2,73 @@
 /* What the measured adapter is held against: a program that reads frames, and answers each from a fixed text with
    one write. It looks at nothing but the length in each header.
 
-   Usage: floor [stops]
+   Usage: floor [stops|looks]
 
-   With `stops` it looks for the command too, and its texts are what the adapter answers and tells of a program that stops. */
+   With a word it looks for the command too, and its texts are what the adapter answers and tells of a program that stops, or as long as that
+   where it looks into one. */
 #include <stdio.h>
 #include <stdlib.h>
 #include <string.h>
 #include <unistd.h>
 
-/* What a request is answered: one or two bodies, with their headers. */
+/* What a request is answered: one or two bodies, with their headers; or a body that is filled up to a length. */
 struct answer {
     const char *command, *bodies[2];
-    char bytes[1024];
+    size_t filled;
+    char bytes[1 << 16];
     size_t length;
 };
 
 #define SUCCESS "\"success\":true,\"type\":\"response\"}"
 #define STOPPED(reason, seq) "{\"body\":{\"allThreadsStopped\":true,\"reason\":\"" reason "\",\"threadId\":1},\"event\":\"stopped\",\"seq\":" seq ",\"type\":\"event\"}"
 
+/* How long the adapter's answers are, of the program that `bench/run` looks into. */
+enum { STACK_TRACE = 260, SCOPES = 248, VARIABLES = 2021, EVALUATE = 133, DISASSEMBLE = 36570, READ_MEMORY = 5588 };
+
 /* The first is that of a command which is not looked for. */
 static struct answer answers[] = {
-    {"threads", {"{\"body\":{\"threads\":[{\"id\":1,\"name\":\"hart 0\"}]},\"command\":\"threads\",\"request_seq\":2,\"seq\":2," SUCCESS, NULL}, "", 0},
-    {"launch", {"{\"command\":\"launch\",\"request_seq\":2,\"seq\":2," SUCCESS, "{\"event\":\"initialized\",\"seq\":3,\"type\":\"event\"}"}, "", 0},
-    {"configurationDone", {"{\"command\":\"configurationDone\",\"request_seq\":3,\"seq\":4," SUCCESS, STOPPED("entry", "5")}, "", 0},
-    {"next", {"{\"command\":\"next\",\"request_seq\":500,\"seq\":1000," SUCCESS, STOPPED("step", "1001")}, "", 0},
+    {"threads", {"{\"body\":{\"threads\":[{\"id\":1,\"name\":\"hart 0\"}]},\"command\":\"threads\",\"request_seq\":2,\"seq\":2," SUCCESS, NULL}, 0, "", 0},
+    {"launch", {"{\"command\":\"launch\",\"request_seq\":2,\"seq\":2," SUCCESS, "{\"event\":\"initialized\",\"seq\":3,\"type\":\"event\"}"}, 0, "", 0},
+    {"configurationDone", {"{\"command\":\"configurationDone\",\"request_seq\":3,\"seq\":4," SUCCESS, STOPPED("entry", "5")}, 0, "", 0},
+    {"next", {"{\"command\":\"next\",\"request_seq\":500,\"seq\":1000," SUCCESS, STOPPED("step", "1001")}, 0, "", 0},
     {"continue",
      {"{\"body\":{\"allThreadsContinued\":true},\"command\":\"continue\",\"request_seq\":500,\"seq\":1000," SUCCESS, STOPPED("breakpoint", "1001")},
-     "", 0},
+     0, "", 0},
     {"setBreakpoints",
      {"{\"body\":{\"breakpoints\":[{\"id\":1,\"instructionReference\":\"0x00010000\",\"line\":1,\"verified\":true}]},"
       "\"command\":\"setBreakpoints\",\"request_seq\":500,\"seq\":1000," SUCCESS,
       NULL},
-     "", 0},
+     0, "", 0},
+    {"stepIn", {"{\"command\":\"stepIn\",\"request_seq\":500,\"seq\":1000," SUCCESS, STOPPED("step", "1001")}, 0, "", 0},
+    {"stackTrace", {NULL, NULL}, STACK_TRACE, "", 0},
+    {"scopes", {NULL, NULL}, SCOPES, "", 0},
+    {"variables", {NULL, NULL}, VARIABLES, "", 0},
+    {"evaluate", {NULL, NULL}, EVALUATE, "", 0},
+    {"disassemble", {NULL, NULL}, DISASSEMBLE, "", 0},
+    {"readMemory", {NULL, NULL}, READ_MEMORY, "", 0},
 };
 
 enum { ANSWERS = sizeof answers / sizeof *answers };
 
 static char room[1 << 17];
 
+/* A success whose body is filled with a text. */
+static void fill(struct answer *a)
+{
+    static const char before[] = "{\"body\":{\"text\":\"", after[] = "\"},\"request_seq\":500,\"seq\":1000," SUCCESS;
+    a->length = (size_t)sprintf(a->bytes, "Content-Length: %zu\r\n\r\n%s", a->filled, before);
+    size_t text = a->filled - (sizeof before - 1) - (sizeof after - 1);
+    memset(a->bytes + a->length, 'x', text);
+    memcpy(a->bytes + a->length + text, after, sizeof after - 1);
+    a->length += text + sizeof after - 1;
+}
+
 static void write_headers(struct answer *a)
 {
+    if (a->filled) {
+        fill(a);
+        return;
+    }
     for (int i = 0; i < 2 && a->bodies[i]; i++)
         a->length += (size_t)sprintf(a->bytes + a->length, "Content-Length: %zu\r\n\r\n%s", strlen(a->bodies[i]), a->bodies[i]);
 }
@@ -61,7 +88,7 @@ static const struct answer *answer_to(const char *frame, size_t length)
 
 int main(int words, char **word)
 {
-    int looks = words > 1 && !strcmp(word[1], "stops");
+    int looks = words > 1 && (!strcmp(word[1], "stops") || !strcmp(word[1], "looks"));
     size_t have = 0;
     for (int i = 0; i < ANSWERS; i++)
         write_headers(&answers[i]);

@@ -181,7 +181,7 @@ def a_session_with_breakpoints_ends_well_without_memory():
         sent += lines(3, path, at(9, "a0 == 1", "1"), at(13)) + addresses(4, on("0x00010018")) + request(5, "configurationDone")
         told += said_of_lines(3, 4, is_set(1, COUNT, 9), is_not(NO_CODE, 13)) + said("setInstructionBreakpoints", 4, 5, is_set(2, COUNT))
         told += frame(DONE % ("configurationDone", 5, 6)) + hit(7, 2, reason="instruction breakpoint")
-        ends_well_without_memory(sent, told)
+        ends_well_without_memory(lambda environment: run(sent, environment=environment), told)
 
 
 def checks():

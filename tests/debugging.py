@@ -34,6 +34,9 @@ UNREADABLE = ("fileUnreadable", 21)
 INITIALIZED = ("initialized", None)
 TERMINATED = ("terminated", None)
 
+# As many bytes may come at once.
+LONGEST_PIECE = 65536
+
 OF_A_THREAD = ("continue", "next", "stepIn", "stepOut", "pause")
 
 SUCCESSES = {"initialize": CAPABILITIES, "threads": THREADS,
@@ -105,7 +108,9 @@ class Debugging:
         self.asked = self.asked + 1 if seq is None else max(seq, self.asked)
         piece = request(self.asked if seq is None else seq, command, **arguments)
         self.sent += piece
-        return self.does("recv " + piece.hex(), "ok")
+        for begin in range(0, len(piece), LONGEST_PIECE):
+            self.does("recv " + piece[begin:begin + LONGEST_PIECE].hex(), "ok")
+        return self
 
     def queues(self, text):
         """A message with the next number is queued; text gives its text by that."""

@@ -8,7 +8,7 @@ import playing
 from program import TOP, expect
 
 SPAN = re.compile(r"`([^`\n]+)`")
-FOLDERS = ("bench", "crates", "docs", "examples", "tests")
+FOLDERS = ("bench", "crates", "docs", "editors", "examples", "tests")
 # Folders of a crate, whose paths may be given without the crate, and without the ending of a definition's file.
 PARTS = ("specs", "src", "proofs")
 

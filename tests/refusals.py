@@ -40,10 +40,11 @@ def each_refusal(once, step=1):
     raise AssertionError("the process asks for memory without end")
 
 
-def ends_well_without_memory(sent, told):
-    """A session of which this is the whole input and output, with each allocation refused in turn: it is the same, or ends with a line."""
+def ends_well_without_memory(tell, told):
+    """A session that tells this whole, with each allocation refused in turn: it is the same, or ends with a line. tell plays it in an
+    environment, and gives what came on standard output and error, and the status."""
     def once(environment):
-        out, err, status = run(sent, environment=environment)
+        out, err, status = tell(environment)
         if status == 0:
             expect((out, err), (told, b""), "a whole session")
         else:
@@ -54,7 +55,7 @@ def ends_well_without_memory(sent, told):
 
 
 def the_program_ends_well_without_memory():
-    ends_well_without_memory(SESSION, ANSWERS)
+    ends_well_without_memory(lambda environment: run(SESSION, environment=environment), ANSWERS)
 
 
 def checks():

@@ -101,7 +101,7 @@ def the_example_of_steps_debugs_a_program():
 
 
 def the_examples_are_valid_by_the_published_schema():
-    for name in ("first-session", "late-cancel", "steps"):
+    for name in ("first-session", "late-cancel", "steps", "sorting"):
         with tempfile.NamedTemporaryFile() as transcript:
             subprocess.run([os.path.join(TOP, "examples", "play"), os.path.join(TOP, "examples", name), PROGRAM],
                            stdout=transcript, check=True, timeout=20, cwd=TOP)
@@ -128,7 +128,7 @@ def requests_out_of_phase_are_refused():
 
 def unknown_requests_and_bad_arguments_are_refused():
     expect_run(request(7, "fly"), refused("unknownCommand", 1, "fly", 7, 1))
-    expect_run(FIRST + request(2, "scopes", frameId=1), FIRST_ANSWER + refused("unknownCommand", 1, "scopes", 2, 2))
+    expect_run(FIRST + request(2, "source", sourceReference=1), FIRST_ANSWER + refused("unknownCommand", 1, "source", 2, 2))
     expect_run(FIRST + request(2, "continue", threadId=1), FIRST_ANSWER + refused("wrongPhase", 3, "continue", 2, 2))
     expect_run(request(1, "initialize", linesStartAt1=1), refused("badArguments", 2, "initialize", 1, 1))
     bad = frame('{"seq":9,"type":"request","command":"disconnect","arguments":[]}')

@@ -1,4 +1,5 @@
 """Answers: what requests about the machine answer, and the list of breakpoints that they set."""
+import base64
 import json
 
 from breaks import ADDRESS, CONDITION, HIT, MOST, NO_CODE, UNKNOWN, at, is_not, is_set, on
@@ -217,4 +218,156 @@ LIMIT_ROWS = [
     ], PROFILE, refused=True),
 ]
 
-ROWS = SOURCE_ROWS + TERMS_ROWS + INSTRUCTION_ROWS + LIMIT_ROWS
+# ---- requests that look into memory
+
+LOOKING = "docs/PROTOCOL.md, \"Memory and instructions\""
+BY_HAND_LOOKING = "worked by hand from docs/PROTOCOL.md, \"Memory and instructions\""
+REFERENCES = {"0x00010000": BASE, "0x10000": BASE, "65536": BASE, "00000000000065536": BASE, "0x0001000C": BASE + 12, "0x0001000c": BASE + 12}
+NO_REFERENCES = ("", "0x", "0X00010000", "0x000010000", "0x0001000g", " 0x00010000", "0x00010000 ", "65536 ", "+65536", "-65536", "10000h",
+                 "4294967296", "0x100010000", "sp", "1e5")
+IDS = {"badMemoryReference": 13, "outsideMemory": 14, "tooMuch": 15}
+# The words of the example P, and its listing as GNU binutils have it, with this project's registers and targets.
+P_WORDS = ((0x00500513, "addi a0, zero, 5"), (0x00000097, "auipc ra, 0x0"), (0x010080e7, "jalr ra, 16(ra)"), (0x05d00893, "addi a7, zero, 93"),
+           (0x00000073, "ecall"), (0x00150513, "addi a0, a0, 1"), (0x00008067, "jalr zero, 0(ra)"))
+MOST_INSTRUCTIONS = 4096
+NO_INSTRUCTIONS = (0, 0xffffffff, 0x02351513, 0x0000100f, 0x00351512)
+
+
+def memory(size=SIZE, data=b"", address=BASE):
+    """A memory of so many bytes, with these from an address on and else 0."""
+    return [("program %d %d " % (BASE, size), "ok")] + ([("bytes %d %s" % (address, data.hex()), "ok")] if data else [])
+
+
+def words_of(words):
+    return b"".join(word.to_bytes(4, "little") for word in words)
+
+
+def looks(command, arguments, outcome):
+    request = {"seq": 5, "type": "request", "command": command, "arguments": arguments}
+    message = {"command": command, "request_seq": 5, "seq": 1, "type": "response", **outcome}
+    return "look %s" % json.dumps(request).encode().hex(), text(message)
+
+
+def looks_in_vain(command, arguments, why):
+    return looks(command, arguments, {"success": False, "message": why, "body": {"error": {"format": why, "id": IDS[why]}}})
+
+
+def bytes_at(reference, count, offset=None):
+    return {"memoryReference": reference, "count": count, **({} if offset is None else {"offset": offset})}
+
+
+def reads(asked, address, data, missing=0):
+    body = {"address": "0x%08x" % address, "data": base64.b64encode(data).decode(), **({"unreadableBytes": missing} if missing else {})}
+    return looks("readMemory", asked, {"success": True, "body": body})
+
+
+def reads_none(why, asked):
+    return looks_in_vain("readMemory", asked, why)
+
+
+def code_at(reference, count, instructions=None, offset=None):
+    given = {"offset": offset, "instructionOffset": instructions}
+    return {"memoryReference": reference, "instructionCount": count, **{name: value for name, value in given.items() if value is not None}}
+
+
+def word(address, number, instruction):
+    return {"address": "0x%08x" % address, "instruction": instruction, "instructionBytes": number.to_bytes(4, "little").hex(" ")}
+
+
+def no_word(address):
+    return {"address": "0x%08x" % address, "instruction": "(invalid)", "presentationHint": "invalid"}
+
+
+def zero(address):
+    return word(address, 0, ".word 0x00000000")
+
+
+def lists(asked, *entries):
+    return looks("disassemble", asked, {"success": True, "body": {"instructions": list(entries)}})
+
+
+def lists_none(why, asked):
+    return looks_in_vain("disassemble", asked, why)
+
+
+READING_ROWS = [
+    Row("bytes of the examples", [
+        *memory(), reads(bytes_at("0x0010fffc", 8), 0x10fffc, bytes(4), 4), reads(bytes_at("0x0010fffc", 0), 0x10fffc, b""),
+        reads_none("outsideMemory", bytes_at("0x00110000", 1)),
+    ], EXAMPLES),
+    Row("bytes where they are", [
+        *memory(4096, b"\x01\x02\x03", BASE + 5), reads(bytes_at("65541", 3), BASE + 5, b"\x01\x02\x03"), reads(bytes_at("65541", 1), BASE + 5, b"\x01"),
+        reads(bytes_at("65536", 10), BASE, b"\0\0\0\0\0\x01\x02\x03\0\0"), reads(bytes_at("65536", 2, 6), BASE + 6, b"\x02\x03"),
+        reads(bytes_at("65545", 2, -2), BASE + 7, b"\x03\0"), reads(bytes_at("0", 1, 65541), BASE + 5, b"\x01"),
+        reads(bytes_at("2147549189", 1, -2147483648), BASE + 5, b"\x01"),
+    ], BY_HAND_LOOKING),
+    Row("the end of memory", [
+        *memory(4096, b"\xff", BASE + 4095), reads(bytes_at("65536", 4096), BASE, bytes(4095) + b"\xff"),
+        reads(bytes_at("65536", 4097), BASE, bytes(4095) + b"\xff", 1), reads(bytes_at("69631", 1), BASE + 4095, b"\xff"),
+        reads(bytes_at("69631", 65536), BASE + 4095, b"\xff", 65535), reads_none("outsideMemory", bytes_at("69632", 1)),
+        reads_none("outsideMemory", bytes_at("65535", 2)), reads_none("outsideMemory", bytes_at("65535", 65536)),
+    ], BY_HAND_LOOKING),
+    Row("no bytes, at any address", [
+        *memory(4096), reads(bytes_at("65536", 0), BASE, b""), reads(bytes_at("69632", 0), BASE + 4096, b""), reads(bytes_at("0", 0), 0, b""),
+        reads(bytes_at("4294967295", 0), 0xffffffff, b""), reads_none("outsideMemory", bytes_at("4294967295", 0, 1)),
+        reads_none("outsideMemory", bytes_at("0", 0, -1)),
+    ], LOOKING),
+    Row("references of bytes", [
+        *memory(4096), *(reads(bytes_at(reference, 0), address, b"") for reference, address in REFERENCES.items()),
+        *(reads_none("badMemoryReference", bytes_at(reference, 0)) for reference in NO_REFERENCES),
+    ], LOOKING),
+    Row("the first refusal of bytes", [
+        *memory(4096), reads_none("badMemoryReference", bytes_at("sp", 65537)), reads_none("tooMuch", bytes_at("0", 65537)),
+        reads_none("tooMuch", bytes_at("0", 2147483647, -1)), reads_none("outsideMemory", bytes_at("0", 65536)),
+        reads_none("outsideMemory", bytes_at("0xffffffff", 1, 65537)),
+    ], LOOKING),
+    Row("65,536 bytes, and one more", [
+        *memory(16777216, bytes(range(256)), BASE), reads(bytes_at("65536", 65536), BASE, bytes(range(256)) + bytes(65280)),
+        reads_none("tooMuch", bytes_at("65536", 65537)), reads(bytes_at("0x0100fffe", 4), 0x100fffe, bytes(2), 2),
+    ], LOOKING),
+]
+
+LISTING_ROWS = [
+    Row("instructions of the example", [
+        *memory(data=words_of(number for number, _ in P_WORDS)),
+        lists(code_at("0x00010000", 3, -2), no_word(0xfff8), no_word(0xfffc), word(BASE, 0x00500513, "addi a0, zero, 5")),
+        lists(code_at("0x00010000", 8), *(word(BASE + 4 * k, *it) for k, it in enumerate(P_WORDS)), zero(BASE + 28)),
+        lists(code_at("0x00010004", 2, 1, 4), word(BASE + 12, *P_WORDS[3]), word(BASE + 16, *P_WORDS[4])), lists(code_at("0x00010000", 0)),
+    ], EXAMPLES),
+    Row("targets, sets of accesses, and words that are no instruction", [
+        *memory(4096, words_of((0xfe000ee3, 0x0080006f, 0x0330000f, 0x8330000f, 0x00351513) + NO_INSTRUCTIONS)),
+        lists(code_at("65536", 10), word(BASE, 0xfe000ee3, "beq zero, zero, 0x0000fffc"), word(BASE + 4, 0x0080006f, "jal zero, 0x0001000c"),
+              word(BASE + 8, 0x0330000f, "fence rw, rw"), word(BASE + 12, 0x8330000f, ".word 0x8330000f"), word(BASE + 16, 0x00351513, "slli a0, a0, 3"),
+              *(word(BASE + 20 + 4 * k, number, ".word 0x%08x" % number) for k, number in enumerate(NO_INSTRUCTIONS))),
+    ], BY_HAND_LOOKING),
+    Row("places at no multiple of 4", [
+        *memory(4096), lists(code_at("65537", 2), no_word(BASE + 1), no_word(BASE + 5)), lists(code_at("65538", 1), no_word(BASE + 2)),
+        lists(code_at("65539", 1, -1), no_word(BASE - 1)), lists(code_at("65537", 1, None, 3), zero(BASE + 4)),
+    ], LOOKING),
+    Row("places outside memory", [
+        *memory(4096), lists(code_at("69628", 2), zero(BASE + 4092), no_word(BASE + 4096)), lists(code_at("65532", 2), no_word(BASE - 4), zero(BASE)),
+        lists(code_at("0", 2, -1), no_word(0xfffffffc), no_word(0)), lists(code_at("0", 1, None, -1), no_word(0xffffffff)),
+        lists(code_at("0xfffffffc", 2), no_word(0xfffffffc), no_word(0)), lists(code_at("4294967295", 1, None, 1), no_word(0)),
+        lists(code_at("0", 1, -2147483648, -2147483648), no_word(0x80000000)),
+        lists(code_at("0xffffffff", 1, 2147483647, 2147483647), no_word(0x7ffffffa)),
+        lists(code_at("0xffffffff", 1, None, 65537), no_word(BASE)), lists(code_at("0", 1, 16384), zero(BASE)),
+        lists(code_at("65536", 1, 1073741824), no_word(BASE)), lists(code_at("65536", 1, -1073741824), no_word(BASE)),
+    ], BY_HAND_LOOKING),
+    Row("references of instructions", [
+        *memory(4096), *(lists(code_at(reference, 1), zero(address)) for reference, address in REFERENCES.items()),
+        *(lists_none("badMemoryReference", code_at(reference, 1)) for reference in NO_REFERENCES),
+    ], LOOKING),
+    Row("4,096 instructions, and one more", [
+        *memory(4096), lists(code_at("65536", MOST_INSTRUCTIONS), *(zero(BASE + 4 * k) for k in range(1024)),
+                             *(no_word(BASE + 4096 + 4 * k) for k in range(MOST_INSTRUCTIONS - 1024))),
+        lists_none("tooMuch", code_at("65536", MOST_INSTRUCTIONS + 1)), lists_none("tooMuch", code_at("0", 2147483647, -1)),
+        lists_none("badMemoryReference", code_at("sp", MOST_INSTRUCTIONS + 1)),
+    ], LOOKING),
+    Row("looks into memory that found none", [
+        *memory(4096, words_of((0x00500513, 0))), reads(bytes_at("65536", 4), BASE, b"\x13\x05\x50\0"),
+        lists(code_at("65532", 3), no_word(BASE - 4), word(BASE, *P_WORDS[0]), zero(BASE + 4)),
+        reads_none("outsideMemory", bytes_at("0", 1)), lists_none("badMemoryReference", code_at("sp", 1)),
+    ], LOOKING, refused=True),
+]
+
+ROWS = SOURCE_ROWS + TERMS_ROWS + INSTRUCTION_ROWS + LIMIT_ROWS + READING_ROWS + LISTING_ROWS

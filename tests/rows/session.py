@@ -218,7 +218,7 @@ FULL_STEPS, FULL_ANSWERS, FULL_COUNT = full()
 NEXT_ANSWER = refused("wrongPhase", 3, "threads", FULL_COUNT + 1, FULL_COUNT + 1)
 
 # Names that are not served, each with arguments: such as the request takes, such as it does not, and any.
-UNSERVED = [("stackTrace", {"threadId": 1, "levels": 20}), ("scopes", {"frameId": "one"}), ("fly", {"to": "the moon"})]
+UNSERVED = [("goto", {"threadId": 1, "targetId": 20}), ("source", {"sourceReference": "one"}), ("fly", {"to": "the moon"})]
 
 
 def unserved(command, arguments):

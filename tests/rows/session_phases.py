@@ -2,6 +2,7 @@
 from breaks import MOST, at, body_of, on
 from debugging import (BAD_ARGUMENTS, CALLS, CIRCLES, ENDED, GONE, INITIALIZED, NO_THREAD, NOT_STOPPED, PATH, REPEATED, TERMINATED, TOO_MUCH,
                        UNKNOWN, WAS_CANCELLED, WRONG_PHASE, Debugging, debugging, exits, stopped)
+from looks import BASE, CONTINUED, NO_MACHINE, UNKNOWN_REFERENCE, frame_at, frames, memory, text
 from playing import Row
 
 PLAYER = "play_session"
@@ -12,8 +13,14 @@ THREAD = {"threadId": 1}
 REQUESTS = {"initialize": {}, "launch": {"program": PATH}, "configurationDone": {}, "threads": {}, "setBreakpoints": {"breakpoints": []},
             "setInstructionBreakpoints": {"breakpoints": []}, "setExceptionBreakpoints": {"filters": []}, "continue": THREAD, "next": THREAD,
             "stepIn": THREAD, "stepOut": THREAD, "pause": THREAD, "restart": {}, "terminate": {}, "cancel": {}, "disconnect": {},
-            "goto": {"threadId": 1, "targetId": 1}}
+            "attach": {}, "stackTrace": THREAD, "scopes": {"frameId": 1}, "variables": {"variablesReference": 1},
+            "setVariable": {"variablesReference": 1, "name": "a0", "value": "1"}, "evaluate": {"expression": "pc"},
+            "disassemble": {"memoryReference": "65536", "instructionCount": 0}, "readMemory": {"memoryReference": "65536", "count": 0},
+            "writeMemory": {"memoryReference": "65536", "data": ""}, "goto": {"threadId": 1, "targetId": 1}}
 STEPS = ("continue", "next", "stepIn", "stepOut")
+# Those that name a number, of which none was given here; and those that need none.
+NAMING = ("scopes", "variables", "setVariable")
+LOOKS = ("stackTrace", "evaluate", "disassemble", "readMemory", "writeMemory")
 BREAKPOINTS = ("setBreakpoints", "setInstructionBreakpoints", "setExceptionBreakpoints")
 TOO_MANY = MOST + 1
 
@@ -46,6 +53,24 @@ def ended():
     return debugging(CALLS).slices(100, 6, "Ended", *exits(6))
 
 
+def gone(script):
+    """The editor has gone, and another one has said who it is."""
+    return script.drops().connects().asks("initialize")
+
+
+def joining(script):
+    """The same, and it joins the program."""
+    return gone(script).asks("attach", events=[INITIALIZED])
+
+
+def joined_running():
+    return joining(running()).asks("configurationDone", events=[CONTINUED])
+
+
+def joined_standing():
+    return joining(standing()).asks("configurationDone", events=[stopped("entry")])
+
+
 def left():
     return initialized().sends("disconnect").answers("disconnect").takes()
 
@@ -57,32 +82,49 @@ def answers_of(taken, refused, other=WRONG_PHASE):
 
 EVERYWHERE = ("cancel", "disconnect")
 UNSERVED = {"goto": UNKNOWN}
-OF_ENDED = {command: ENDED for command in (*STEPS, "pause", "restart", "terminate")}
+OF_ENDED = {command: ENDED for command in (*STEPS, *NAMING, *LOOKS, "pause", "restart", "terminate")}
+OF_RUNNING = {command: NOT_STOPPED for command in (*STEPS, *NAMING, *LOOKS)}
+OF_STANDING = {command: UNKNOWN_REFERENCE for command in NAMING}
+JOINED = ("configurationDone", "threads", *BREAKPOINTS, "terminate", *EVERYWHERE)
 
 # The phases, each with how it is reached and what is refused in it.
 PHASES = [
     ("nothing was agreed", fresh, answers_of(("initialize", *EVERYWHERE), UNSERVED)),
-    ("initialize was answered", initialized, answers_of(("launch", "threads", *EVERYWHERE), UNSERVED)),
-    ("a program was launched", configuring, answers_of(
-        ("configurationDone", "threads", *BREAKPOINTS, "terminate", *EVERYWHERE), UNSERVED)),
+    ("initialize was answered", initialized, answers_of(("launch", "threads", *EVERYWHERE), {"attach": NO_MACHINE, **UNSERVED})),
+    ("initialize was answered, and a program runs", lambda: gone(running()), answers_of(("launch", "attach", "threads", *EVERYWHERE), UNSERVED)),
+    ("initialize was answered, and a program stands still", lambda: gone(standing()), answers_of(
+        ("launch", "attach", "threads", *EVERYWHERE), UNSERVED)),
+    ("initialize was answered, and a program has ended", lambda: gone(ended()), answers_of(
+        ("launch", "threads", *EVERYWHERE), {"attach": ENDED, **UNSERVED})),
+    ("a program was launched", configuring, answers_of(JOINED, UNSERVED)),
     ("a program was launched, and ended", configuring_an_ended_program, answers_of(
         ("threads", *BREAKPOINTS, *EVERYWHERE), {"configurationDone": ENDED, "terminate": ENDED, **UNSERVED})),
+    ("a program that runs was joined", lambda: joining(running()), answers_of(JOINED, UNSERVED)),
+    ("a program that stands still was joined", lambda: joining(standing()), answers_of(JOINED, UNSERVED)),
     ("a program runs", running, answers_of(
-        ("threads", *BREAKPOINTS, "pause", "restart", "terminate", *EVERYWHERE),
-        {**{command: NOT_STOPPED for command in STEPS}, **UNSERVED})),
+        ("threads", *BREAKPOINTS, "pause", "restart", "terminate", *EVERYWHERE), {**OF_RUNNING, **UNSERVED})),
+    ("a program runs that was joined", joined_running, answers_of(
+        ("threads", *BREAKPOINTS, "pause", "restart", "terminate", *EVERYWHERE), {**OF_RUNNING, **UNSERVED})),
     ("a program stands still", standing, answers_of(
-        ("threads", *BREAKPOINTS, *STEPS, "pause", "restart", "terminate", *EVERYWHERE), UNSERVED)),
+        ("threads", *BREAKPOINTS, *STEPS, *LOOKS, "pause", "restart", "terminate", *EVERYWHERE), {**OF_STANDING, **UNSERVED})),
+    ("a program stands still that was joined", joined_standing, answers_of(
+        ("threads", *BREAKPOINTS, *STEPS, *LOOKS, "pause", "restart", "terminate", *EVERYWHERE), {**OF_STANDING, **UNSERVED})),
     ("a program has ended", ended, answers_of(("threads", *BREAKPOINTS, *EVERYWHERE), {**OF_ENDED, **UNSERVED})),
 ]
 
-EVENTS = {"launch": [INITIALIZED], "terminate": [TERMINATED]}
-BODIES = dict.fromkeys(("setBreakpoints", "setInstructionBreakpoints"), body_of([]))
+# The events that follow the answer of each, where the editor launched the program; what an editor is told that has joined it.
+EVENTS = {"launch": [INITIALIZED], "attach": [INITIALIZED], "terminate": [TERMINATED]}
+TOLD = {"a program that runs was joined": [CONTINUED], "a program that stands still was joined": [stopped("entry")]}
+BODIES = {
+    **dict.fromkeys(("setBreakpoints", "setInstructionBreakpoints"), body_of([])), "stackTrace": frames([frame_at(1, BASE, "e", 1)], 1),
+    "evaluate": text({"result": "0x00010000", "variablesReference": 0}), "disassemble": text({"instructions": []}),
+    "readMemory": memory(BASE, b""), "writeMemory": text({"bytesWritten": 0})}
 
 
-def asked_in(reach, command, refusal):
-    """The request in the phase that is so reached."""
+def asked_in(name, reach, command, refusal):
+    """The request in the phase of this name, that is so reached."""
     file = CIRCLES if command == "launch" else None
-    events = EVENTS.get(command, []) if refusal is None else []
+    events = [] if refusal else TOLD.get(name, []) if command == "configurationDone" else EVENTS.get(command, [])
     return reach().asks(command, refusal, file=file, events=events, body=BODIES.get(command), **REQUESTS[command])
 
 
@@ -105,9 +147,9 @@ BOTH = [
     ("a repeat where the program has ended", ended, REPEATED, "next", {"seq": 1, "threadId": 1}),
     ("a repeat of no thread", running, REPEATED, "next", {"seq": 1, "threadId": 2}),
     ("a repeat where the program runs", running, REPEATED, "continue", {"seq": 1, "threadId": 1}),
-    ("an unknown name with bad arguments", initialized, UNKNOWN, "scopes", {"frameId": "one"}),
-    ("an unknown name in the wrong phase", fresh, UNKNOWN, "scopes", {"frameId": 1}),
-    ("an unknown name where the program has ended", ended, UNKNOWN, "scopes", {"frameId": 1}),
+    ("an unknown name with bad arguments", initialized, UNKNOWN, "goto", {"threadId": "one"}),
+    ("an unknown name in the wrong phase", fresh, UNKNOWN, "goto", {"threadId": 1}),
+    ("an unknown name where the program has ended", ended, UNKNOWN, "goto", {"threadId": 1}),
     ("bad arguments in the wrong phase", fresh, BAD_ARGUMENTS, "launch", {}),
     ("bad arguments where there is no program", initialized, BAD_ARGUMENTS, "continue", {"threadId": "one"}),
     ("bad arguments where the program has ended", ended, BAD_ARGUMENTS, "pause", {"threadId": None}),
@@ -128,6 +170,19 @@ BOTH = [
     ("breakpoints in the wrong phase where there is no program", initialized, WRONG_PHASE, "setBreakpoints", {"breakpoints": [at(1)]}),
     ("too many breakpoints in the wrong phase", initialized, WRONG_PHASE, "setInstructionBreakpoints", {"breakpoints": TOO_MANY * [on("x")]}),
     ("too many breakpoints of another source", running, TOO_MUCH, "setBreakpoints", {"source": {"path": ""}, "lines": TOO_MANY * [1]}),
+    ("a repeat of a look", standing, REPEATED, "stackTrace", {"seq": 1, "threadId": 2}),
+    ("a repeat of a join", initialized, REPEATED, "attach", {"seq": 1}),
+    ("a bad look in the wrong phase", fresh, BAD_ARGUMENTS, "scopes", {"frameId": "one"}),
+    ("a bad look where there is no program", initialized, BAD_ARGUMENTS, "readMemory", {"memoryReference": 65536, "count": 1}),
+    ("a bad look where the program has ended", ended, BAD_ARGUMENTS, "writeMemory", {"memoryReference": "65536", "data": "A"}),
+    ("a bad look where the program runs", running, BAD_ARGUMENTS, "disassemble", {"memoryReference": "65536"}),
+    ("a look in the wrong phase where there is no program", initialized, WRONG_PHASE, "evaluate", {"expression": "1 +"}),
+    ("a look in the wrong phase with no thread", configuring, WRONG_PHASE, "stackTrace", {"threadId": 2}),
+    ("a look in the wrong phase where the program has ended", configuring_an_ended_program, WRONG_PHASE, "scopes", {"frameId": 1}),
+    ("a join in the wrong phase where there is no program", fresh, WRONG_PHASE, "attach", {}),
+    ("a join in the wrong phase where the program has ended", ended, WRONG_PHASE, "attach", {}),
+    ("the end with no thread, of a look", ended, ENDED, "stackTrace", {"threadId": 2}),
+    ("no thread where the program runs, of a look", running, NO_THREAD, "stackTrace", {"threadId": 2}),
     ("too many breakpoints where the program has ended", ended, TOO_MUCH, "setInstructionBreakpoints", {"breakpoints": TOO_MANY * [on("x")]}),
 ]
 
@@ -149,6 +204,9 @@ CANCELLED = [
     ("no thread", standing, "next", {"threadId": 2}),
     ("a program that runs", running, "next", THREAD),
     ("too many breakpoints", configuring, "setBreakpoints", {"lines": TOO_MANY * [1]}),
+    ("no program to join", initialized, "attach", {}),
+    ("a number that was not given", standing, "scopes", {"frameId": 7}),
+    ("a look while the program runs", running, "evaluate", {"expression": "1 +"}),
 ]
 
 
@@ -160,7 +218,7 @@ def cancels_that_name_none():
 
 
 ROWS = [
-    Row("%s, where %s" % (command, name), asked_in(reach, command, refusal).steps, PROFILE)
+    Row("%s, where %s" % (command, name), asked_in(name, reach, command, refusal).steps, PROFILE)
     for name, reach, refusals in PHASES for command, refusal in refusals.items()] + [
     Row("no request is taken after disconnect", refused_after_disconnect().steps, PROFILE),
 ] + [Row("of two reasons the first is answered: " + name, reach().asks(command, refusal, **arguments).steps, PROFILE)

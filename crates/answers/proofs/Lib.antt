@@ -5,3 +5,15 @@ pub mod Lists
 pub mod Settable
 pub mod Entries
 pub mod Proper
+pub mod MemoryBytes
+pub mod Places
+pub mod Looks
+pub mod ProperLooks
+pub mod FileNames
+pub mod Setting
+pub mod Ranges
+pub mod Frames
+pub mod Words
+pub mod ProperFrames
+pub mod ProperValues
+pub mod ProperLooking

@@ -96,7 +96,7 @@ address_small (pos m) n e =
     none : (n : ℕ) → None ≡ Some n → ⊥
     none n f = cc
 
-offset_small : (offset : ℤ) (reference : Option ℕ) (n : ℕ) → offset_by offset reference ≡ Some n → n < 4294967296
+pub offset_small : (offset : ℤ) (reference : Option ℕ) (n : ℕ) → offset_by offset reference ≡ Some n → n < 4294967296
 offset_small offset None n e = cc
 offset_small offset (Some m) n e = address_small (pos m +ℤ offset) n e
 

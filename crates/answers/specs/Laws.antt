@@ -1,16 +1,22 @@
 -- What the definitions promise.
-use Rattle.std.specs.Prelude.{All, IfOk, IfSome, ◌^◌}
+use Rattle.std.specs.Prelude.{codes, true, All, IfOk, IfSome, ◌^◌}
 use Rattle.std.specs.Prelude.{◌≡◌, ◌↔◌, ℕ, ◌+◌, ◌<◌, ◌≤◌, IsTrue, List, [], ◌∷◌, length, map, slice_index}
-use Rattle.std.specs.Prelude.{Option, Some, None, Result, Ok}
+use Rattle.std.specs.Prelude.{Option, Some, None, Result, Ok, ℤ, pos, ◌+ℤ◌, ◌*◌, slice_get}
 use Rattle.expressions.specs.Trees.{Tree}
 use Rattle.image.specs.Lines.{Table, line_in, start_of}
+use Rattle.image.specs.Memory.{byte_at, fault_at}
 use Rattle.protocol.specs.Commands.{name_of}
 use Rattle.protocol.specs.Laws.{AsksLinesWithin}
 use Rattle.protocol.specs.declared.command.Command.{Command}
+use Rattle.protocol.specs.declared.disassemble.DisassembleArguments.{DisassembleArguments}
+use Rattle.protocol.specs.declared.read_memory.ReadMemoryArguments.{ReadMemoryArguments}
 use Rattle.protocol.specs.declared.refusal.Refusal.{Refusal}
+use Rattle.replies.specs.EncodedBytes.{are_bytes}
 use Rattle.replies.specs.Responses.{IsOutcomeOf}
 use Rattle.replies.specs.declared.response.Outcome.TheVariants.{Done}
 use Rattle.replies.specs.declared.response.ResponseBody.{ResponseBody}
+use Rattle.replies.specs.declared.read_memory.ReadMemory.{ReadMemory}
+use Rattle.replies.specs.declared.response.ResponseBody.TheVariants.{ReadMemory as Bytes}
 use Rattle.replies.specs.declared.response.ResponseBody.TheVariants.{SetBreakpoints, SetInstructionBreakpoints}
 use Rattle.replies.specs.declared.set_breakpoints.SourceBreakpoint as at_line
 use Rattle.replies.specs.declared.set_breakpoints.SourceBreakpoint.TheVariants as line
@@ -18,12 +24,47 @@ use Rattle.replies.specs.declared.set_instruction_breakpoints.InstructionBreakpo
 use Rattle.replies.specs.declared.set_instruction_breakpoints.InstructionBreakpoint.TheVariants as instruction
 use Rattle.answers.specs.Answers.{breaks_answer, count_asked, sets_breakpoints}
 use Rattle.breakpoints.specs.Stops.{Wanted}
+use Rattle.rv32i.specs.Texts.{IsTextOf}
+use Rattle.answers.specs.Disassemble.{disassemble, entries_from, entry}
+use Rattle.answers.specs.Looking.{look_answer, looks_in}
+use Rattle.answers.specs.ReadMemory.{read_memory}
+use Rattle.answers.specs.SetVariable.{set_variable}
+use Rattle.answers.specs.Texts.{text_at}
 use Rattle.answers.specs.Expressions.{IsExpression, expression_of}
+use Rattle.answers.specs.WriteMemory.{write_memory}
 use Rattle.answers.specs.declared.view.View.{View}
+use Rattle.protocol.specs.declared.set_variable.SetVariableArguments.{SetVariableArguments}
+use Rattle.protocol.specs.declared.write_memory.WriteMemoryArguments.{WriteMemoryArguments}
+use Rattle.stepping.specs.Ticks.{Debugged}
+use Rattle.variables.specs.Numbers.{Numbers}
 
 -- a text is read as a tree exactly where it is that expression by the rules
 abbrev pub ExpressionsAreRead : Type 0
 ExpressionsAreRead = (text : List ℕ) (tree : Tree) → (expression_of text ≡ Some tree) ↔ IsExpression text tree
+
+-- a text is that of a word at an address exactly where it is its disassembly by the rules
+abbrev pub TextsAreDisassemblies : Type 0
+TextsAreDisassemblies = (word pc : ℕ) (text : List ℕ) → (text_at word pc ≡ text) ↔ IsTextOf word pc text
+
+-- ---- what looks into memory tell
+
+-- What is asked for is read or missing. Each byte that is read is that of its address, and where some are missing,
+-- memory has no byte at the next address.
+pub record IsRead (memory : List ℕ) (count : ℕ) (body : ReadMemory) : Type 0 where
+  pub all : length body.bytes + body.unreadable_bytes ≡ count
+  pub each : (k : ℕ) → k < length body.bytes → slice_get body.bytes k ≡ byte_at memory (body.address + k)
+  pub missing : 0 < body.unreadable_bytes → byte_at memory (body.address + length body.bytes) ≡ None
+
+-- So it is of each success, in a memory of no more bytes than memory can have.
+abbrev pub BytesAreRead : Type 0
+BytesAreRead = (memory : List ℕ) (arguments : ReadMemoryArguments) (body : ReadMemory) → length memory ≤ 16777216 →
+    read_memory memory arguments ≡ Ok (Bytes body) → IsRead memory arguments.count body
+
+-- There are as many entries as are asked for, and the k-th, from 0, is for the place 4 * k above the first.
+abbrev pub EntriesHaveTheirPlaces : Type 0
+EntriesHaveTheirPlaces = (memory : List ℕ) (first : ℤ) (count : ℕ) →
+    (length (entries_from memory first count) ≡ count)
+    × ((k : ℕ) → k < count → slice_get (entries_from memory first count) k ≡ Some (entry memory (first +ℤ pos (4 * k))))
 
 -- ---- what an answer says is set: numbers and addresses
 
@@ -88,3 +129,54 @@ AnswersAreProper = (command : Command) (table : Table) (size : ℕ) (view : View
     IsTrue (sets_breakpoints command) → IsNarrow table → AsksLinesWithin command →
     NumbersFit next (breaks_answer command table size view next).list →
     IfOk (breaks_answer command table size view next).result (λ body. IsOutcomeOf (name_of command) (Done body))
+
+-- The body of what looks into memory is that of the request, and its numbers are in their ranges, where memory is a list
+-- of bytes.
+abbrev pub BytesAreProper : Type 0
+BytesAreProper = (memory : List ℕ) (arguments : ReadMemoryArguments) → are_bytes memory ≡ true →
+    IfOk (read_memory memory arguments) (λ body. IsOutcomeOf (codes "readMemory") (Done body))
+
+abbrev pub EntriesAreProper : Type 0
+EntriesAreProper = (memory : List ℕ) (arguments : DisassembleArguments) → are_bytes memory ≡ true →
+    IfOk (disassemble memory arguments) (λ body. IsOutcomeOf (codes "disassemble") (Done body))
+
+-- the numbers of a machine are words, its memory is a list of bytes, and no more calls are kept than can be
+pub record HoldsWords (machine : Debugged) : Type 0 where
+  pub pc : machine.hart.pc < 2 ^ 32
+  pub registers : All (λ value. value < 2 ^ 32) machine.hart.x
+  pub memory : All (λ byte. byte < 2 ^ 8) machine.memory
+  pub calls : All (λ address. address < 2 ^ 32) machine.calls.calls
+  pub few : length machine.calls.calls ≤ 256
+
+-- the numbers that a stop has are among those that may be issued
+pub record AreIssued (numbers : Numbers) : Type 0 where
+  pub within : numbers.first + length numbers.targets ≤ numbers.last + 1
+  pub last : numbers.last ≤ 2147483647
+
+-- So is the body of each request that looks into such a machine.
+abbrev pub LooksAreProper : Type 0
+LooksAreProper = (command : Command) (machine : Debugged) (table : Table) (numbers : Numbers) (view : View) →
+    IsTrue (looks_in command) → HoldsWords machine → IsNarrow table → AreIssued numbers → view.column_base < 2 ^ 32 →
+    IfOk (look_answer command machine table numbers view).result (λ body. IsOutcomeOf (name_of command) (Done body))
+
+-- So is that of a variable that is set, and of bytes that are written, on any machine.
+abbrev pub SettingsAreProper : Type 0
+SettingsAreProper = (arguments : SetVariableArguments) (machine : Debugged) (numbers : Numbers) →
+    IfOk (set_variable arguments machine numbers) (λ setting. IsOutcomeOf (codes "setVariable") (Done setting.body))
+
+abbrev pub WritingsAreProper : Type 0
+WritingsAreProper = (arguments : WriteMemoryArguments) (memory : List ℕ) →
+    IfOk (write_memory arguments memory) (λ writing. IsOutcomeOf (codes "writeMemory") (Done writing.body))
+
+-- ---- what is changed
+
+-- The hart that is set holds words as the one before does.
+abbrev pub SettingsKeepWords : Type 0
+SettingsKeepWords = (arguments : SetVariableArguments) (machine : Debugged) (numbers : Numbers) → HoldsWords machine →
+    IfOk (set_variable arguments machine numbers) (λ setting. HoldsWords (record machine { hart = setting.hart }))
+
+-- What is to be written fits into memory, and is no more than is given.
+abbrev pub WritingsFit : Type 0
+WritingsFit = (arguments : WriteMemoryArguments) (memory : List ℕ) →
+    IfOk (write_memory arguments memory)
+    (λ writing. (writing.count ≤ length arguments.bytes) × (fault_at memory 1 writing.address writing.count ≡ None))

@@ -1,10 +1,14 @@
 -- What the code makes on the way to an answer: cited by private clauses alone.
-use Rattle.std.specs.Prelude.{◌≡◌, ℕ, ◌++◌, List, [], Option, Result, Ok, Err, option_map, map}
+use Rattle.std.specs.Prelude.{◌≡◌, ℕ, ◌+◌, ◌==◌, min, if◌then◌else◌, ◌++◌, List, [], ◌∷◌, slice_index, Option, Some, None}
+use Rattle.std.specs.Prelude.{Result, Ok, Err, option_map, map}
+use Rattle.image.specs.Lines.{Table}
+use Rattle.replies.specs.declared.stack_trace.StackFrame.{StackFrame}
 use Rattle.expressions.specs.Nodes.{tree_of}
 use Rattle.expressions.specs.Trees.{Tree}
 use Rattle.expressions.specs.declared.node.Node.{Node}
 use Rattle.breakpoints.specs.Stops.{Wanted, wanted_by}
 use Rattle.answers.specs.Breakpoints.{followed_by, next_after}
+use Rattle.answers.specs.StackTrace.{frame}
 use Rattle.answers.specs.Terms.{Terms}
 use Rattle.answers.specs.SetBreakpoints as source
 use Rattle.answers.specs.SetInstructionBreakpoints as instruction
@@ -13,6 +17,7 @@ use Rattle.answers.specs.declared.problem.Problem.{Problem}
 use Rattle.answers.specs.declared.set_breakpoints.Place as source_place
 use Rattle.answers.specs.declared.set_instruction_breakpoints.Place as instruction_place
 use Rattle.answers.specs.declared.terms.Terms as made
+use Rattle.answers.specs.declared.view.View.{View}
 
 -- a condition
 abbrev pub condition_by : Result (Option Node) Problem → Result (Option Tree) Problem
@@ -50,3 +55,18 @@ list_in draft = map wanted_by draft.list.items
 pub record Takes {P : Type 0} (wanted : ℕ → P → Wanted) (judged : Result P Problem) (old new : Draft) : Type 0 where
   pub list : list_in new ≡ list_in old ++ followed_by wanted old.next_id judged []
   pub next : new.next_id ≡ next_after old.next_id judged
+
+-- ---- part of a list, by the indices of its first element and of the one after its last
+
+abbrev pub first_in : ℕ → ℕ → ℕ
+first_in start length = min start length
+
+abbrev pub end_in : ℕ → Option ℕ → ℕ → ℕ
+end_in first None length = length
+end_in first (Some count) length = if count == 0 then length else min length (first + count)
+
+-- the frames from an index on, with these numbers
+abbrev pub frames_from : Table → View → List ℕ → ℕ → List ℕ → List StackFrame
+frames_from table view addresses index [] = []
+frames_from table view addresses index (id ∷ ids) =
+    frame table view id (slice_index addresses index) ∷ frames_from table view addresses (index + 1) ids

@@ -17,7 +17,8 @@ pub(crate) fn address_in(text: &str, offset: i32) -> Option<u32>
     offset_by(offset, reference_in(text.as_bytes()))
 }
 
-fn offset_by(offset: i32, reference: Option<u32>) -> Option<u32>
+/// The address that a number and what is added to it come to.
+pub(crate) fn offset_by(offset: i32, reference: Option<u32>) -> Option<u32>
     ensures { result ≡ offset_by offset reference }
 {
     match reference {
@@ -26,7 +27,8 @@ fn offset_by(offset: i32, reference: Option<u32>) -> Option<u32>
     }
 }
 
-fn reference_in(text: &[u8]) -> Option<u32>
+/// The number that a reference gives; `None`: it is none.
+pub(crate) fn reference_in(text: &[u8]) -> Option<u32>
     ensures { result ≡ reference_of text.now }
 {
     reference_by(text, prefixed(text))

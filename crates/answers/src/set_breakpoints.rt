@@ -196,8 +196,8 @@ fn line_in_image(base: u32, line: u32) -> u32
     line.saturating_add(1 - base)
 }
 
-// A line of the image as the editor counts it.
-fn line_in_editor(base: u32, line: u32) -> u32
+/// A line of the image as the editor counts it.
+pub(crate) fn line_in_editor(base: u32, line: u32) -> u32
     requires { base ≤ 1 }
     ensures { result ≡ spec.line_in_editor base line }
 {

@@ -12,9 +12,11 @@
 -- A machine has one tick: it has one, and no second (the laws `each_machine_ticks` and `tick_is_deterministic` of
 -- `stepping`). `the_tick` is that one, with what it answers and what it leaves.
 use Rattle.std.specs.Prelude.{◌≡◌, ◌≢◌, ◌<◌, zero, suc, ℕ, ℤ}
-use Rattle.std.specs.Prelude.{Bool, true, false, if◌then◌else◌, List, [], map, Option, Some, None}
+use Rattle.std.specs.Prelude.{Bool, true, false, if◌then◌else◌, List, [], length, map, Option, Some, None}
 use Rattle.breakpoints.specs.Stops.{Wanted, fresh}
+use Rattle.image.specs.Memory.{fault_at, memory_after, with_bytes}
 use Rattle.image.specs.declared.Image.{Image}
+use Rattle.rv32i.specs.declared.hart.Hart.{Hart}
 use Rattle.stepping.specs.Loading.{loaded, no_breakpoints, reloaded}
 use Rattle.stepping.specs.Ticks.{Debugged, entry_tick, entry_checked}
 use Rattle.stepping.specs.declared.goal.Goal.{Goal}
@@ -167,6 +169,20 @@ with_source wanted p = record p {
 abbrev pub with_instructions : List Wanted → Program → Program
 with_instructions wanted p = record p {
   machine = record p.machine { lists = record p.machine.lists { instructions = map fresh wanted; ids = [] } };
+}
+
+-- ---- its machine is changed from outside
+
+-- its hart has these registers and this pc
+abbrev pub with_hart : Hart → Program → Program
+with_hart hart p = record p { machine = record p.machine { hart = hart } }
+
+-- Bytes are written to its memory, from an address on; nothing is where one of their addresses has no byte.
+abbrev pub written : ℕ → List ℕ → Program → Program
+written address bytes p = let memory = p.machine.memory in record p {
+  machine = record p.machine {
+    memory = memory_after (fault_at memory 1 address (length bytes)) (with_bytes memory address bytes) memory;
+  };
 }
 
 -- ---- an editor goes

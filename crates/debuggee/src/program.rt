@@ -1,13 +1,15 @@
 //! A program that was loaded, and what is done to it.
-ghost use Rattle.std.specs.Prelude.{◌≡◌, ◌+◌, ◌^◌, ◌<◌, ◌≤◌, true, false, map, Some, None, IfOk, OnErr, OnOk};
+ghost use Rattle.std.specs.Prelude.{◌≡◌, ◌+◌, ◌^◌, ◌<◌, ◌≤◌, length, true, false, map, Some, None, IfOk, OnErr, OnOk};
 ghost use Rattle.breakpoints.specs.Stops.{CanBeSet, wanted_by};
 ghost use Rattle.debuggee.specs.Programs as spec;
+ghost use Rattle.image.specs.Memory.{fault_at, unless_fault};
 ghost use Rattle.stepping.specs.Loading.{CanBeLoaded};
 
 use crate::run::{Mark, Run, Why};
 use breakpoints::BreakSpec;
-use image::Image;
+use image::{Image, MemFault};
 use protocol::Text;
+use rv32i::Hart;
 use std::alloc::{AllocError, Global};
 use std::marker::Model;
 use stepping::{Ending, Goal, Outcome, Reason, Runner, Tick};
@@ -207,6 +209,22 @@ impl Program {
         ensures err { OnErr result (self.new ≡ self.old) }
     {
         self.runner.breaks_mut().set_instructions(specs)
+    }
+
+    /// Gives its hart other registers and another pc (`SetVariableRequest`).
+    pub fn set_hart(&mut self, hart: Hart)
+        ensures { self.new ≡ spec.with_hart hart self.old }
+    {
+        self.runner.set_hart(hart);
+    }
+
+    /// Writes bytes to its memory, from an address on (`WriteMemoryRequest`). `Outside`: one of their addresses has no byte, and nothing
+    /// is written. It takes no memory.
+    pub fn write(&mut self, address: u32, bytes: &[u8]) -> Result<(), MemFault>
+        ensures answers { result ≡ unless_fault (fault_at self.old.machine.memory 1 address (length bytes.now)) tt }
+        ensures leaves { self.new ≡ spec.written address bytes.now self.old }
+    {
+        self.runner.write(address, bytes)
     }
 
     /// An editor goes. Its breakpoints and the mark go with it; a stop that is owed is made, and told to nobody (`DisconnectRequest`).

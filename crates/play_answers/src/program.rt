@@ -9,25 +9,31 @@ use image::{Bytes, FIRST_ADDRESS, Image, LineTable};
 use indexmap::IndexMap;
 use play::{Fault, Line, called};
 use play_image::rise;
-use protocol::{Command, Incoming, MessageError, Request, Text, read_request};
-use replies::{Message, Response, write_message};
+use protocol::{Command, Incoming, MessageError, Refusal, Request, Text, read_request};
+use replies::{Message, Response, ResponseBody, write_message};
 use std::alloc::Global;
 use std::str;
 use stepping::Runner;
+use variables::Handles;
 
-/// A program and its machine, and how the editor counts.
+/// The last number that a frame or a scope may have.
+const LAST: u32 = 2_147_483_647;
+
+/// A program and its machine, how the editor counts, and the numbers of frames and scopes.
 #[derive(Drop)]
 pub(crate) struct Program {
-    image: Image,
-    runner: Runner,
-    view: View,
+    pub(crate) image: Image,
+    pub(crate) runner: Runner,
+    pub(crate) view: View,
+    pub(crate) handles: Handles,
 }
 
 impl Program {
-    /// The program whose line table has these rows.
+    /// The program whose line table has these rows and labels.
     pub(crate) fn new(
         alloc: Global,
         rows: Vec<(u32, u32, u32)>,
+        labels: IndexMap<String, u32>,
         end: u32,
         size: u32,
         path: Vec<u8>,
@@ -38,7 +44,7 @@ impl Program {
         let image = Image {
             bytes: Bytes::from_vec(Vec::new(alloc)),
             entry: FIRST_ADDRESS,
-            lines: LineTable::new(rows, IndexMap::new(alloc), end),
+            lines: LineTable::new(rows, labels, end),
         };
         let path = String::from_utf8(path).map_err(|_| Fault::NoCommand)?;
         let view = View {
@@ -51,6 +57,7 @@ impl Program {
             image,
             runner,
             view,
+            handles: Handles::new(alloc, LAST),
         })
     }
 
@@ -80,21 +87,32 @@ impl Program {
             &self.view,
             next,
         ))?;
-        let response = match result {
-            Ok(body) => Response::success(alloc, &request, body)?,
-            Err(refusal) => Response::error(alloc, &request, refusal)?,
-        };
-        show_message(alloc, response, line)?;
+        show_answer(alloc, &request, result, line)?;
         show_list(alloc, &self.runner, list, line)
     }
 }
 
-fn request_in(alloc: Global, body: &[u8]) -> Result<Request, Fault> {
+/// The request that a message is.
+pub(crate) fn request_in(alloc: Global, body: &[u8]) -> Result<Request, Fault> {
     match read_request(alloc, body) {
         Ok(Incoming::Request(request)) => Ok(request),
         Err(MessageError::NoMemory) => Err(Fault::NoMemory),
         _ => Err(Fault::NoCommand),
     }
+}
+
+/// The message of number 1 that answers a request.
+pub(crate) fn show_answer(
+    alloc: Global,
+    request: &Request,
+    looked: Result<ResponseBody, Refusal>,
+    line: &mut Line,
+) -> Result<(), Fault> {
+    let response = match looked {
+        Ok(body) => Response::success(alloc, request, body)?,
+        Err(refusal) => Response::error(alloc, request, refusal)?,
+    };
+    show_message(alloc, response, line)
 }
 
 fn show_message(alloc: Global, response: Response, line: &mut Line) -> Result<(), Fault> {

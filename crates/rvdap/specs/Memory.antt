@@ -2,22 +2,33 @@
 --
 -- It is a number of KiB, 1,024 bytes each, in decimal digits: one or more of them and nothing else, so no sign, no blank
 -- and no `0x`; leading zeros change nothing. The number is a multiple of 4, from 4 to 16,384.
-use Rattle.std.specs.Prelude.{◌≡◌, ℕ, ◌*◌, ◌/◌, ◌%◌, ◌≤◌, List, Option, Some, None, codes, refl}
+use Rattle.std.specs.Prelude.{◌≡◌, ℕ, ◌*◌, ◌/◌, ◌%◌, ◌≤◌, List, Option, Some, None, codes, refl, true}
 use Rattle.std.proofs.Common.{arith, lit≤}
 use Rattle.std.specs.Fmt.{decimal}
 use Rattle.std.specs.Str.Parse.{IsNumeral, digits_value}
-use Rattle.session.specs.Config.{IsSize}
+use Rattle.session.specs.Config.{IsSize, is_size}
 use Rattle.session.specs.Limits.{greatest_limits}
-use Rattle.session.specs.Sessions.{Beginning}
+use Rattle.session.specs.Sessions.{Beginning, Session, start}
 
 -- how many bytes it is where nothing is asked: 1,024 KiB
 abbrev pub default_memory : ℕ
 default_memory = 1048576
 
--- what a session begins with, in which a machine gets so many: the greatest limits, and no program
-abbrev pub begins_with : ℕ → Beginning
-begins_with bytes =
-    record { limits = greatest_limits; size = bytes; program = None; numbers = refl; image = tt }
+-- what a session begins with, in which a machine gets so many, as it can: the greatest limits, and no program
+abbrev pub begins_with : (bytes : ℕ) → is_size bytes ≡ true → Beginning
+begins_with bytes can = record {
+  limits = greatest_limits;
+  size = bytes;
+  program = None;
+  numbers = refl;
+  memory = can;
+  image = tt;
+}
+
+-- a session of which this is so, begun with so many
+pub record IsBegun (bytes : ℕ) (IsSo : Session → Type 0) : Type 0 where
+  pub can : is_size bytes ≡ true
+  pub so : IsSo (start (begins_with bytes can))
 
 -- a number of KiB that may be asked for
 pub record IsOffered (kib : ℕ) : Type 0 where

@@ -1,11 +1,10 @@
 //! An editor over a reader and a writer.
 ghost use Rattle.std.specs.Prelude.{◌≡◌, IfOk};
 ghost use Rattle.session.specs.Kept.{OfEach, Stands};
-ghost use Rattle.session.specs.Sessions.{start};
 ghost use Rattle.transport.specs.Rounds.{Served};
 ghost use Rattle.transport.specs.declared.end.StreamEnd.{StreamEnd as AnEnd};
 ghost use Rattle.rvdap.specs.Endings as spec;
-ghost use Rattle.rvdap.specs.Memory.{begins_with};
+ghost use Rattle.rvdap.specs.Memory.{IsBegun};
 
 use crate::ending::Ending;
 use crate::memory::MemorySize;
@@ -19,7 +18,7 @@ const TURNS: u64 = u64::MAX;
 
 /// A session in which a machine gets so much memory, with no program and with the greatest limits.
 pub(crate) fn new_session(alloc: Global, memory: MemorySize) -> Result<Session, AllocError>
-    ensures { IfOk result (λ kept. Stands kept (start (begins_with memory.bytes))) }
+    ensures { IfOk result (λ kept. IsBegun memory.bytes (λ s. Stands kept s)) }
 {
     let config = Config {
         memory_size: memory.bytes,

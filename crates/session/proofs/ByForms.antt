@@ -8,9 +8,10 @@ use Rattle.session.specs.declared.pending.Pending.{Pending}
 use Rattle.session.specs.declared.terms.Terms.{Terms}
 use Rattle.debuggee.specs.Programs.{Debuggee}
 use Rattle.replies.specs.declared.event.Event.{Event}
-use Rattle.session.specs.Acts.{Open, Close, Accept, Agree, Become, Reply, Tell, HangUp, Take, numbered, accepted, read_on}
+use Rattle.session.specs.Acts.{Open, Close, Accept, Agree, Become, Refer, Reply, Tell, HangUp, Take, numbered, accepted, read_on}
 use Rattle.session.specs.Refusals.{response_to}
-use Rattle.session.specs.Sessions.{Session, said_next, with_said, with_piece, replied_on, accepted_on, agreed_on, said_on, opened_on, hung_on, performed_on}
+use Rattle.variables.specs.Laws.{Call}
+use Rattle.session.specs.Sessions.{Session, said_next, with_said, with_piece, replied_on, accepted_on, agreed_on, said_on, opened_on, hung_on, referred_on, performed_on}
 use Rattle.session.proofs.Reaching.{if_keeps, KeptByActs}
 
 -- a session on that connection, on which these requests wait
@@ -34,6 +35,7 @@ pub record KeptByOthers (P : Session → Type 0) : Type 0 where
   pub closes : (s : Session) → P s → P (performed_on Close s)
   pub accepts : (l : Link) (piece : List ℕ) (s : Session) → l.is_closing ≡ false → P (on (Some l) s) → P (accepting l piece (on (Some l) s))
   pub agrees : (l : Link) (terms : Terms) (s : Session) → P (on (Some l) s) → P (performed_on (Agree terms) (on (Some l) s))
+  pub refers : (l : Link) (call : Option Call) (s : Session) → P (on (Some l) s) → P (performed_on (Refer call) (on (Some l) s))
   pub becomes : (d : Debuggee) (s : Session) → P s → P (performed_on (Become d) s)
   pub tells : (l : Link) (event : Event) (s : Session) → l.seq < s.now.limits.last_seq → P (on (Some l) s) → P (saying l (IsEvent event) s.now.arrivals.pending (on (Some l) s))
   pub hangs : (l : Link) (s : Session) → P (on (Some l) s) → P (performed_on HangUp (on (Some l) s))
@@ -56,6 +58,10 @@ module _ (P : Session → Type 0) (k : KeptByOthers P) (says : KeptByAnswers P) 
   agrees_by None terms s h = h
   agrees_by (Some l) terms s h = k.agrees l terms s h
 
+  refers_by : (l : Option Link) (call : Option Call) (s : Session) → P (on l s) → P (referred_on l call (on l s))
+  refers_by None call s h = h
+  refers_by (Some l) call s h = k.refers l call s h
+
   tells_by : (l : Option Link) (event : Event) (s : Session) → P (on l s) → P (said_on l (IsEvent event) s.now.arrivals.pending (on l s))
   tells_by None event s h = h
   tells_by (Some l) event s h = if_keeps P (ltb l.seq s.now.limits.last_seq) _ _ (λ e. k.tells l event s (ltb-true l.seq s.now.limits.last_seq e) h) (λ _. h)
@@ -74,6 +80,7 @@ module _ (P : Session → Type 0) (k : KeptByOthers P) (says : KeptByAnswers P) 
   by_forms Close s h = k.closes s h
   by_forms (Accept piece) s h = accepts_by s.now.link piece s h
   by_forms (Agree terms) s h = agrees_by s.now.link terms s h
+  by_forms (Refer call) s h = refers_by s.now.link call s h
   by_forms (Become d) s h = k.becomes d s h
   by_forms (Tell event) s h = tells_by s.now.link event s h
   by_forms (Reply outcome) s h = replies_by s.now.link s.now.arrivals.pending outcome s h

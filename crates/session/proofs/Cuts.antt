@@ -93,6 +93,7 @@ reads = record {
   closes = λ s h. record { before = h.before; present = h.present; goes_on = tt; fault = h.fault };
   accepts = reads_accepts;
   agrees = λ l terms s h. record { before = h.before; present = h.present; goes_on = h.goes_on; fault = h.fault };
+  refers = λ l call s h. record { before = h.before; present = h.present; goes_on = h.goes_on; fault = h.fault };
   becomes = λ d s h. record { before = h.before; present = h.present; goes_on = h.goes_on; fault = h.fault };
   tells = λ l event s few h. record { before = h.before; present = h.present; goes_on = λ e. h.goes_on (still_open _ l.is_closing e); fault = h.fault };
   hangs = λ l s h. record { before = h.before; present = h.present; goes_on = λ e. absurd (cc); fault = h.fault };

@@ -12,14 +12,15 @@ use Rattle.session.specs.declared.terms.Terms.{Terms}
 use Rattle.session.specs.declared.answer.Change.{Change}
 use Rattle.session.specs.declared.prepared.Prepared.{Prepared}
 use Rattle.session.specs.Preparing.{IsPrepared, draft_of}
-use Rattle.session.specs.Acts.{Act, Answering, Now, Tell, agreed, numbered}
+use Rattle.session.specs.Acts.{Act, Answering, Now, Tell, agreed, numbered, refers}
 use Rattle.session.specs.Arrivals.{first_pending, others_pending}
 use Rattle.session.specs.Effects.{performed}
 use Rattle.session.specs.Outcomes.{answering, closing, needs_memory, next_turn}
-use Rattle.session.specs.Kept.{Kept, Drafted, changed, kept_changed, kept_closing, draft_on, draft_told, drafted, drafted_all, keepings, kept_said, settled}
+use Rattle.session.specs.Kept.{Kept, Drafted, call_of, changed, kept_changed, kept_closing, draft_on, draft_told, drafted, drafted_all, keepings, kept_said, settled}
 use Rattle.session.specs.Phases.{is_active}
 use Rattle.session.specs.Refusals.{answer_to, response_to}
 use Rattle.session.specs.Writing.{frame_of}
+use Rattle.variables.specs.Laws.{Call}
 
 -- on this connection, where these requests wait
 abbrev pub at : Option Link → List Pending → Kept → Kept
@@ -201,19 +202,20 @@ closes_after : (closes : Bool) (k : Kept) → performed keepings (closing closes
 closes_after true k = refl
 closes_after false k = refl
 
-answers : (link : Link) (p : Pending) (rest : List Pending) (k : Kept) (c : Change) (a : Answering) → changed c k.now.debuggee ≡ a.debuggee →
+answers : (link : Link) (p : Pending) (rest : List Pending) (k : Kept) (c : Change) (a : Answering) → changed c k.now.debuggee ≡ a.debuggee → call_of c ≡ a.references →
     let s = at (Some link) (p ∷ rest) k in
     let d = draft_of k.now.limits (Some link) p a in
     kept_closing a.closes (numbers_given (kept_changed c a.terms (written s d)) d) ≡ performed keepings (answering a) s
-answers link p rest k c a e =
+answers link p rest k c a e f =
     let s = at (Some link) (p ∷ rest) k in
     let d = draft_of k.now.limits (Some link) p a in
     let m : Message = Response (response_to p.ask a.outcome) in
     let l = record link { terms = a.terms } in
-    let t : Debuggee → Kept = λ x. record s { now = agreed (record s.now { debuggee = x }) link a.terms } in
-    ap (λ (x : Debuggee). kept_closing a.closes (numbers_given (written (t x) d) d)) e
-    ∙ sym (performed_append (map Tell a.events) (closing a.closes) (kept_said (Some l) m rest (t a.debuggee))
-    ∙ ap (performed keepings (closing a.closes)) (says (Some l) (t a.debuggee) (p ∷ rest) rest m a.events)
+    let t : Debuggee → Option Call → Kept = λ x y. record s { now = agreed (refers (record s.now { debuggee = x }) y) link a.terms } in
+    ap (λ (x : Debuggee). kept_closing a.closes (numbers_given (written (t x (call_of c)) d) d)) e
+    ∙ ap (λ (y : Option Call). kept_closing a.closes (numbers_given (written (t a.debuggee y) d) d)) f
+    ∙ sym (performed_append (map Tell a.events) (closing a.closes) (kept_said (Some l) m rest (t a.debuggee a.references))
+    ∙ ap (performed keepings (closing a.closes)) (says (Some l) (t a.debuggee a.references) (p ∷ rest) rest m a.events)
     ∙ closes_after a.closes _)
 
 abbrev AnswersAs : Option (List ℕ) → Link → Pending → Prepared → Kept → Type 0
@@ -231,7 +233,7 @@ at_once k link file p rest r h t e =
     ∙ ap (λ (x : Drafted). kept_closing r.closes (numbers_given (kept_changed r.change r.terms (written s x)) x)) h.draft
     ∙ ap (λ (x : Terms). kept_closing r.closes (numbers_given (kept_changed r.change x (written s (draft_of s.now.limits (Some link) p a))) (draft_of s.now.limits (Some link) p a))) h.terms
     ∙ ap (λ (x : Bool). kept_closing x (numbers_given (kept_changed r.change a.terms (written s (draft_of s.now.limits (Some link) p a))) (draft_of s.now.limits (Some link) p a))) h.closes
-    ∙ answers link p rest k r.change a h.debuggee
+    ∙ answers link p rest k r.change a h.debuggee h.references
 
 first_is : (pending : List Pending) (p : Pending) → Some p ≡ first_pending pending → pending ≡ p ∷ others_pending pending
 first_is [] p e = absurd (cc)

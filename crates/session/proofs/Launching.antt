@@ -37,6 +37,7 @@ pub loads_so : (now : Now) (terms : Terms) (arguments : LaunchArguments) (text :
 loads_so now terms arguments text size p path right is_size is_path e =
     let loads_program : Program → Answering = λ q. record {
       debuggee = record now.debuggee { program = Some q };
+      references = None;
       terms = record terms { phase = Configuring; launched = true };
       outcome = Done Empty;
       events = Initialized ∷ [];

@@ -7,7 +7,7 @@ use Rattle.assembler.specs.Placed.{error_of}
 use Rattle.assembler.specs.declared.error.AsmError.{AsmError}
 use Rattle.debuggee.specs.Programs.{Program}
 use Rattle.protocol.specs.declared.command.Command.{Command}
-use Rattle.protocol.specs.declared.command.Command.TheVariants.{Initialize, Launch, ConfigurationDone, Threads, Cancel, Restart, Terminate, Disconnect, SetBreakpoints, SetInstructionBreakpoints, SetExceptionBreakpoints, Continue, Next, StepIn, StepOut, Pause}
+use Rattle.protocol.specs.declared.command.Command.TheVariants.{Initialize, Launch, Attach, ConfigurationDone, Threads, Cancel, Restart, Terminate, Disconnect, SetBreakpoints, SetInstructionBreakpoints, SetExceptionBreakpoints, Continue, Next, StepIn, StepOut, Pause, StackTrace, Scopes, Variables, SetVariable, Evaluate, Disassemble, ReadMemory, WriteMemory}
 use Rattle.replies.specs.declared.event.Event.{Event}
 use Rattle.replies.specs.declared.message.Message.TheVariants.{Response, Event as IsEvent}
 use Rattle.replies.specs.declared.response.Outcome.TheVariants.{Done}
@@ -19,7 +19,8 @@ use Rattle.session.specs.declared.pending.Pending.{Pending}
 use Rattle.session.specs.declared.phase.Phase.{Phase}
 use Rattle.session.specs.declared.phase.Phase.TheVariants.{Fresh, Initialized, Configuring, Active, Left}
 use Rattle.session.specs.declared.terms.Terms.{Terms}
-use Rattle.session.specs.Acts.{Answering, Now, Tell}
+use Rattle.session.specs.Acts.{Answering, Now, Tell, refers}
+use Rattle.session.specs.References.{past_referred}
 use Rattle.session.specs.Breaks.{success_on}
 use Rattle.session.specs.Effects.{performed}
 use Rattle.session.specs.Launch.{assembles}
@@ -30,7 +31,10 @@ use Rattle.session.specs.Refusals.{answer_to, response_to}
 use Rattle.session.specs.Requests.{is_taken_in, success_of}
 use Rattle.session.specs.Sessions.{Beginning, Session, Life, Said, said_next, said_on, replied_on, hung_on, performed_on, histories, After}
 use Rattle.session.proofs.Breaking.{IsPlain, answer_on, by_answer, is_plain}
-use Rattle.session.proofs.Serving.{of_answer, not_taken}
+use Rattle.session.proofs.Looked.{by_look, by_setting, by_writing}
+use Rattle.session.specs.Looking.{looks_on}
+use Rattle.answers.specs.Looking.{looks_in}
+use Rattle.session.proofs.Serving.{of_answer}
 use Rattle.session.proofs.Reaching.{if_keeps, each_life, performed_append}
 use Rattle.session.proofs.ByForms.{on, on_with}
 use Rattle.session.proofs.Turning.{KeptByEvents, reached_by_events}
@@ -131,7 +135,7 @@ closes_more false s h = h
 
 answer_keeps : (l : Link) (p : Pending) (rest : List Pending) (s : Session) (a : Answering) → Fits (times_initialized s.life.said) a → OnceWith 0 (on_with (Some l) (p ∷ rest) s) → OnceWith 0 (performed histories (answering a) (on_with (Some l) (p ∷ rest) s))
 answer_keeps l p rest s a fits h =
-    let t : Session = record s { now = record s.now { debuggee = a.debuggee } } in
+    let t : Session = record s { now = refers (record s.now { debuggee = a.debuggee }) a.references; references = past_referred s.now.connections a.references s.references } in
     let replied = replied_on (p ∷ rest) a.outcome (on_with (Some (record l { terms = a.terms })) (p ∷ rest) t) in
     let after : OnceWith 0 replied = replies (Some (record l { terms = a.terms })) (p ∷ rest) a.outcome t (record { before = h.before; present = fits.0; suits = fits.1 }) in
     subst (OnceWith 0) (sym (performed_append (map Tell a.events) (closing a.closes) replied))
@@ -142,6 +146,9 @@ answer_keeps l p rest s a fits h =
 same_fits : (n : ℕ) (phase : Phase) → n + 0 ≤ 1 → Suits phase (n + 0) → (n + 0 ≤ 1) × Suits phase (n + 0)
 same_fits n phase few suits = (few, suits)
 
+of_none : (phase : Phase) (n k : ℕ) → k ≡ 0 → n + 0 ≤ 1 → Suits phase (n + 0) → (n + k ≤ 1) × Suits phase (n + k)
+of_none phase n k is few suits = subst (λ (i : ℕ). (n + i ≤ 1) × Suits phase (n + i)) (sym is) (few, suits)
+
 sets_fit : (now : Now) (terms : Terms) (command : Command) (n : ℕ) → IsTrue (sets_breakpoints command) → n + 0 ≤ 1 → Suits terms.phase (n + 0) → Fits n (success_on now.debuggee.program now terms command)
 sets_fit now terms command n sets few suits =
     by_answer (Fits n) now.debuggee.program now terms command sets (λ _. (few, suits)) (λ refusal plain. (few, suits))
@@ -151,8 +158,10 @@ sets_fit now terms command n sets few suits =
     none : (p : Program) (b : ResponseBody) → (answer_on p now terms command).result ≡ Ok b → initializes (Done b) ≡ 0
     none p b e = subst IsPlain e (is_plain p now terms command sets)
 
-    of_none : (phase : Phase) (n k : ℕ) → k ≡ 0 → n + 0 ≤ 1 → Suits phase (n + 0) → (n + k ≤ 1) × Suits phase (n + k)
-    of_none phase n k is few suits = subst (λ (i : ℕ). (n + i ≤ 1) × Suits phase (n + i)) (sym is) (few, suits)
+looks_fit : (now : Now) (terms : Terms) (command : Command) (n : ℕ) → IsTrue (looks_in command) → n + 0 ≤ 1 → Suits terms.phase (n + 0) → Fits n (looks_on now.debuggee.program now terms command)
+looks_fit now terms command n looks few suits =
+    by_look (Fits n) now.debuggee.program now terms command looks (λ _. (few, suits)) (λ refusal plain. (few, suits))
+    (λ p b is e none room. of_none terms.phase n (initializes (Done b)) none few suits)
 
 command_fits : (now : Now) (terms : Terms) (file : Option (List ℕ)) (command : Command) (n : ℕ) → is_taken_in terms.phase command ≡ true → n + 0 ≤ 1 → Suits terms.phase (n + 0) → Fits n (success_of now terms file command)
 command_fits now terms file (Initialize arguments) n taken few suits = let one = first_time terms.phase n taken suits in (one, one)
@@ -161,7 +170,8 @@ command_fits now terms (Some text) (Launch arguments) n taken few suits = by (er
   by : (error : Option AsmError) → Fits n (assembles now terms arguments text error)
   by None = (few, few)
   by (Some e) = (few, suits)
-command_fits now terms file ConfigurationDone n taken few suits = (few, few)
+command_fits now terms file Attach n taken few suits = (few, few)
+command_fits now terms file ConfigurationDone n taken few suits = if_keeps (Fits n) terms.launched _ _ (λ _. (few, few)) (λ _. (few, few))
 command_fits now terms file Threads n taken few suits = (few, suits)
 command_fits now terms file (Cancel arguments) n taken few suits = (few, suits)
 command_fits now terms file Restart n taken few suits = (few, suits)
@@ -175,7 +185,14 @@ command_fits now terms file (Next arguments) n taken few suits = (few, suits)
 command_fits now terms file (StepIn arguments) n taken few suits = (few, suits)
 command_fits now terms file (StepOut arguments) n taken few suits = (few, suits)
 command_fits now terms file (Pause arguments) n taken few suits = (few, suits)
-command_fits now terms file command n taken few suits = absurd (not_taken taken)
+command_fits now terms file (StackTrace arguments) n taken few suits = looks_fit now terms (StackTrace arguments) n refl few suits
+command_fits now terms file (Scopes arguments) n taken few suits = looks_fit now terms (Scopes arguments) n refl few suits
+command_fits now terms file (Variables arguments) n taken few suits = looks_fit now terms (Variables arguments) n refl few suits
+command_fits now terms file (Evaluate arguments) n taken few suits = looks_fit now terms (Evaluate arguments) n refl few suits
+command_fits now terms file (Disassemble arguments) n taken few suits = looks_fit now terms (Disassemble arguments) n refl few suits
+command_fits now terms file (ReadMemory arguments) n taken few suits = looks_fit now terms (ReadMemory arguments) n refl few suits
+command_fits now terms file (SetVariable arguments) n taken few suits = by_setting (Fits n) now.debuggee.program now terms arguments (λ _. (few, suits)) (λ refusal plain. (few, suits)) (λ p setting is e none. of_none terms.phase n (initializes (Done setting.body)) none few suits)
+command_fits now terms file (WriteMemory arguments) n taken few suits = by_writing (Fits n) now.debuggee.program now terms arguments (λ _. (few, suits)) (λ refusal plain. (few, suits)) (λ p writing is e none. of_none terms.phase n (initializes (Done writing.body)) none few suits)
 
 once : KeptByEvents (OnceWith 0)
 once = record {
@@ -188,7 +205,7 @@ once = record {
     present = subst (λ n. n ≤ 1) (let e = times_more s.life.said (said_next s.now l (IsEvent event)) in cc) h.present;
     suits = subst (Suits l.terms.phase) (let e = times_more s.life.said (said_next s.now l (IsEvent event)) in cc) h.suits;
   };
-  answers = λ l p rest file s _ _ h. answer_keeps l p rest s (answer_to (on_with (Some l) (p ∷ rest) s).now l.terms file p)
+  answers = λ l p rest file s _ _ _ h. answer_keeps l p rest s (answer_to (on_with (Some l) (p ∷ rest) s).now l.terms file p)
       (of_answer (λ ask answer. Fits (times_initialized s.life.said) answer) (on_with (Some l) (p ∷ rest) s).now l.terms file p.ask p.fate
       (λ refusal _. (h.present, h.suits))
       (λ r taken _. command_fits (on_with (Some l) (p ∷ rest) s).now l.terms file r.command (times_initialized s.life.said) taken h.present h.suits)) h;

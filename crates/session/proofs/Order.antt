@@ -64,6 +64,7 @@ ordered = record {
             ∙ sym (ap (λ x. answered_in s.life ++ x) (all_joined_as asked_as asks s.now.arrivals));
       };
   agrees = λ l terms s h. record { before = h.before; present = h.present; rest = h.rest };
+  refers = λ l call s h. record { before = h.before; present = h.present; rest = h.rest };
   becomes = λ d s h. record { before = h.before; present = h.present; rest = h.rest };
   tells = λ l event s few h.
       let pending = s.now.arrivals.pending in
@@ -119,6 +120,7 @@ counted = record {
   closes = λ s h. record { before = h.before; present = h.present; last = tt };
   accepts = λ l piece s e h. record { before = h.before; present = h.present; last = h.last };
   agrees = λ l terms s h. record { before = h.before; present = h.present; last = h.last };
+  refers = λ l call s h. record { before = h.before; present = h.present; last = h.last };
   becomes = λ d s h. record { before = h.before; present = h.present; last = h.last };
   tells = λ l event s few h. record {
     before = h.before;

@@ -1,12 +1,12 @@
 -- What the editor is told of the program has numbers of 32 bits: breakpoints have such numbers, and so have lines and an end.
-use Rattle.std.proofs.Common.{◌≡◌, ℕ, ℤ, Bool, true, false, List, [], ◌∷◌, ◌++◌, map, filter, Option, Some, None, Result, Ok, Err, MatchBool, refl, sym, ap, ◌∙◌, subst, arith}
-use Rattle.std.specs.Prelude.{All, ◌&&◌, ◌≤ℤ◌, not, int_le, pos, neg_ℤ}
+use Rattle.std.proofs.Common.{◌≡◌, ℕ, ℤ, ◌+◌, ◌<◌, Bool, true, false, List, [], ◌∷◌, ◌++◌, map, filter, Option, Some, None, Result, Ok, Err, MatchBool, refl, sym, ap, ◌∙◌, subst, arith}
+use Rattle.std.specs.Prelude.{All, ◌^◌, ◌&&◌, ◌≤ℤ◌, not, int_le, pos, neg_ℤ}
 use Rattle.std.specs.List.{list_all}
 use Rattle.std.specs.declared.alloc.AllocError.{AllocError}
 use Rattle.std.proofs.lemmas.Int.{ints}
 use Rattle.assembler.specs.Assembled.{IsNarrowRow}
 use Rattle.breakpoints.specs.Stops.{Lists, Placed, Wanted, checked, counted, fresh, is_hit, reset, stops, stopping_ids}
-use Rattle.debuggee.specs.Programs.{Debuggee, Program, ended, entered, first_run, is_ended, is_running, just_loaded, left, marked, marked_by, moved, next_tick, on_program, owing_by, restarted, resumed, stopped, told}
+use Rattle.debuggee.specs.Programs.{Debuggee, Program, ended, entered, first_run, is_ended, is_running, just_loaded, left, marked, marked_by, moved, next_tick, on_program, owing_by, restarted, resumed, stopped, told, with_hart, written}
 use Rattle.debuggee.specs.declared.run.Mark.{Mark}
 use Rattle.debuggee.specs.declared.run.Run.{Run}
 use Rattle.debuggee.specs.declared.run.Run.TheVariants as run
@@ -25,6 +25,11 @@ use Rattle.rv32i.specs.declared.hart.Hart.{Hart}
 use Rattle.rv32i.specs.declared.instr.Instr.{Instr}
 use Rattle.rv32i.specs.declared.stepped.Stepped.{Stepped}
 use Rattle.rv32i.specs.declared.stepped.Stepped.TheVariants as stepped
+use Rattle.image.specs.Memory.{first_address}
+use Rattle.ranges.specs.Debugging.{HartInRange, ImageInRange}
+use Rattle.ranges.specs.Machines.{AreBytes}
+use Rattle.ranges.specs.Programs.{ProgramInRange}
+use Rattle.ranges.proofs.Programs.{ended_in_range, entered_in_range, first_run_in_range, just_loaded_in_range, left_in_range, moved_in_range, restarted_in_range, resumed_in_range, stopped_in_range, told_in_range, with_hart_in_range, with_instructions_in_range, with_source_in_range, written_in_range}
 use Rattle.stepping.specs.RunLaws.{HasSignedCode}
 use Rattle.stepping.specs.Ticks.{Debugged, IsTick, Moves, Settles, entry_checked, entry_tick, hit_at_pc, moved_as, settled}
 use Rattle.stepping.specs.declared.tick.Outcome.{Outcome}
@@ -125,6 +130,7 @@ pub record Orderly (p : Program) : Type 0 where
   pub image : IsNarrowImage p.image
   pub lists : AreOrderly p.machine.lists
   pub owed : FitsOwed p.owed
+  pub range : ProgramInRange p
 
 -- the same of the program that is debugged, if there is one
 abbrev pub OrderlyOf : Option Program → Type 0
@@ -141,16 +147,16 @@ pub owed_fits : (p : Program) (tick : Tick) → p.owed ≡ Some tick → Orderly
 owed_fits p tick e h = subst FitsOwed e h.owed
 
 pub stopped_orderly : (why : Why) (p : Program) → Orderly p → Orderly (stopped why p)
-stopped_orderly why p h = record { image = h.image; lists = h.lists; owed = h.owed }
+stopped_orderly why p h = record { image = h.image; lists = h.lists; owed = h.owed; range = stopped_in_range why p h.range }
 
 pub ended_orderly : (code : Option ℤ) (p : Program) → Orderly p → Orderly (ended code p)
-ended_orderly code p h = record { image = h.image; lists = h.lists; owed = h.owed }
+ended_orderly code p h = record { image = h.image; lists = h.lists; owed = h.owed; range = ended_in_range code p h.range }
 
 pub told_orderly : (p : Program) → Orderly p → Orderly (told p)
-told_orderly p h = record { image = h.image; lists = none_named p.machine.lists h.lists; owed = tt }
+told_orderly p h = record { image = h.image; lists = none_named p.machine.lists h.lists; owed = tt; range = told_in_range p h.range }
 
 pub left_orderly : (p : Program) → Orderly p → Orderly (left p)
-left_orderly p h = record { image = h.image; lists = record { source = tt; instructions = tt; ids = tt }; owed = tt }
+left_orderly p h = record { image = h.image; lists = record { source = tt; instructions = tt; ids = tt }; owed = tt; range = left_in_range p h.range }
 
 owing_fits : (printed : Option ℤ) (outcome : Outcome) → HasSignedCode outcome → FitsOwed (owing_by printed outcome)
 owing_fits None Went h = tt
@@ -167,6 +173,7 @@ entered_orderly p h =
       image = h.image;
       lists = checked_orderly d.hart.pc d.hart d.memory d.lists h.lists;
       owed = owing_fits None (entry_tick d).outcome (no_end (hit_at_pc d) false);
+      range = entered_in_range p h.range;
     }
 
 pub next_fits : (p : Program) → HasSignedCode (next_tick p).outcome
@@ -179,10 +186,11 @@ moved_orderly p h =
       image = h.image;
       lists = tick_orderly p.machine t.after (Ok t.tick) t.is h.lists;
       owed = owing_fits (next_tick p).printed (next_tick p).outcome (next_fits p);
+      range = moved_in_range p h.range;
     }
 
 marked_by_orderly : (r : Run) (mark : Mark) (p : Program) → Orderly p → Orderly (marked_by r mark p)
-marked_by_orderly run.Running mark p h = record { image = h.image; lists = h.lists; owed = h.owed }
+marked_by_orderly run.Running mark p h = record { image = h.image; lists = h.lists; owed = h.owed; range = record { image = h.range.image; machine = h.range.machine } }
 marked_by_orderly (run.Stopped why) mark p h = h
 marked_by_orderly (run.Ended code) mark p h = h
 
@@ -190,18 +198,24 @@ pub marked_orderly : (mark : Mark) (p : Program) → Orderly p → Orderly (mark
 marked_orderly mark p h = marked_by_orderly p.run mark p h
 
 pub resumed_orderly : (goal : Goal) (p : Program) → Orderly p → Orderly (resumed goal p)
-resumed_orderly goal p h = record { image = h.image; lists = h.lists; owed = h.owed }
+resumed_orderly goal p h = record { image = h.image; lists = h.lists; owed = h.owed; range = resumed_in_range goal p h.range }
 
 pub first_run_orderly : (p : Program) → Orderly p → Orderly (first_run p)
-first_run_orderly p h = record { image = h.image; lists = h.lists; owed = h.owed }
+first_run_orderly p h = record { image = h.image; lists = h.lists; owed = h.owed; range = first_run_in_range p h.range }
 
 pub restarted_orderly : (p : Program) → Orderly p → Orderly (restarted p)
-restarted_orderly p h = record { image = h.image; lists = reset_orderly p.machine.lists h.lists; owed = h.owed }
+restarted_orderly p h = record { image = h.image; lists = reset_orderly p.machine.lists h.lists; owed = h.owed; range = restarted_in_range p h.range }
 
 pub departed_orderly : (ends stands : Bool) (p : Program) → Orderly p → Orderly (departed ends stands p)
 departed_orderly ends stands p h =
     if_keeps Orderly (ends && not (is_ended p.run)) _ _ (λ _. ended_orderly None p h)
     (λ _. if_keeps Orderly (stands && is_running p.run) _ _ (λ _. stopped_orderly why.Pause p h) (λ _. h))
+
+pub hart_orderly : (hart : Hart) (p : Program) → HartInRange hart → Orderly p → Orderly (with_hart hart p)
+hart_orderly hart p fits h = record { image = h.image; lists = h.lists; owed = h.owed; range = with_hart_in_range hart fits p h.range }
+
+pub written_orderly : (address : ℕ) (bytes : List ℕ) (p : Program) → AreBytes bytes → Orderly p → Orderly (written address bytes p)
+written_orderly address bytes p fit h = record { image = h.image; lists = h.lists; owed = h.owed; range = written_in_range address bytes fit p h.range }
 
 -- breakpoints that are set have their numbers, and none was hit
 set_numbered : (list : List Wanted) → AreWords (map (λ w. w.id) list) → AreNumbered (map fresh list)
@@ -209,11 +223,16 @@ set_numbered [] h = tt
 set_numbered (w ∷ list) h = (h.0, set_numbered list h.1)
 
 pub listed_orderly : (command : Command) (list : List Wanted) → AreWords (map (λ w. w.id) list) → (p : Program) → Orderly p → Orderly (with_list command list p)
-listed_orderly (SetBreakpoints arguments) list ids p h = record { image = h.image; lists = record { source = set_numbered list ids; instructions = h.lists.instructions; ids = tt }; owed = h.owed }
-listed_orderly other list ids p h = record { image = h.image; lists = record { source = h.lists.source; instructions = set_numbered list ids; ids = tt }; owed = h.owed }
+listed_orderly (SetBreakpoints arguments) list ids p h = record { image = h.image; lists = record { source = set_numbered list ids; instructions = h.lists.instructions; ids = tt }; owed = h.owed; range = with_source_in_range list p h.range }
+listed_orderly other list ids p h = record { image = h.image; lists = record { source = h.lists.source; instructions = set_numbered list ids; ids = tt }; owed = h.owed; range = with_instructions_in_range list p h.range }
 
-pub loaded_orderly : (image : Image) (path : List ℕ) (stop_on_entry : Bool) (size : ℕ) → IsNarrowImage image → Orderly (just_loaded image path stop_on_entry size)
-loaded_orderly image path stop_on_entry size narrow = record { image = narrow; lists = record { source = tt; instructions = tt; ids = tt }; owed = tt }
+pub loaded_orderly : (image : Image) (path : List ℕ) (stop_on_entry : Bool) (size : ℕ) → IsNarrowImage image → ImageInRange image → first_address + size < 2 ^ 32 → Orderly (just_loaded image path stop_on_entry size)
+loaded_orderly image path stop_on_entry size narrow fits ends = record {
+  image = narrow;
+  lists = record { source = tt; instructions = tt; ids = tt };
+  owed = tt;
+  range = just_loaded_in_range image path stop_on_entry size fits ends;
+}
 
 pub with_orderly : (f : Program → Program) → ((p : Program) → Orderly p → Orderly (f p)) → (program : Option Program) → OrderlyOf program → OrderlyOf (on_program f program)
 with_orderly f keeps None h = tt

@@ -14,7 +14,7 @@ use Rattle.debuggee.specs.declared.run.Run.{Run}
 use Rattle.debuggee.specs.declared.run.Run.TheVariants as run
 use Rattle.debuggee.specs.declared.run.Why.TheVariants as why
 use Rattle.protocol.specs.declared.command.Command.{Command}
-use Rattle.protocol.specs.declared.command.Command.TheVariants.{Initialize, Launch, ConfigurationDone, Threads, Cancel, Restart, Terminate, Disconnect, SetBreakpoints, SetInstructionBreakpoints, SetExceptionBreakpoints, Continue, Next, StepIn, StepOut, Pause}
+use Rattle.protocol.specs.declared.command.Command.TheVariants.{Initialize, Launch, Attach, ConfigurationDone, Threads, Cancel, Restart, Terminate, Disconnect, SetBreakpoints, SetInstructionBreakpoints, SetExceptionBreakpoints, Continue, Next, StepIn, StepOut, Pause, StackTrace, Scopes, Variables, SetVariable, Evaluate, Disassemble, ReadMemory, WriteMemory}
 use Rattle.protocol.specs.Commands.{name_of}
 use Rattle.protocol.specs.declared.disconnect.TheConstants.{NAME as DISCONNECT}
 use Rattle.replies.specs.declared.message.Message.TheVariants.{Response as IsResponse}
@@ -27,8 +27,9 @@ use Rattle.session.specs.declared.event.Event.TheVariants.{Connect, Recv, Turn, 
 use Rattle.session.specs.declared.link.Link.{Link}
 use Rattle.session.specs.declared.pending.Pending.{Pending}
 use Rattle.session.specs.declared.terms.Terms.{Terms}
-use Rattle.session.specs.Acts.{Answering, Now, Become, Agree, Reply, Tell}
+use Rattle.session.specs.Acts.{Answering, Now, Become, Refer, Agree, Reply, Tell}
 use Rattle.session.specs.Arrivals.{name_asked}
+use Rattle.variables.specs.Laws.{Call}
 use Rattle.session.specs.Breaks.{success_on, with_list}
 use Rattle.session.specs.Demands.{goes_on, run_of}
 use Rattle.session.specs.Effects.{Slicing, beats, enough, next_by, performed}
@@ -37,7 +38,7 @@ use Rattle.session.specs.Laws.{EditorLeaves, IsAtRest, IsMarked, MarkedRetiresNo
 use Rattle.session.specs.Outcomes.{Outcome, answering, answers_next, closing, next_turn, outcome_at, turn_by, turn_of}
 use Rattle.session.specs.Refusals.{answer_to, response_to}
 use Rattle.session.specs.Requests.{demand_of, is_taken_in, success_of}
-use Rattle.session.specs.Sessions.{Session, Effect, agreed_on, histories, hung_on, performed_on, replied_on, waiting_of}
+use Rattle.session.specs.Sessions.{Session, Effect, agreed_on, histories, hung_on, performed_on, referred_on, replied_on, waiting_of}
 use Rattle.session.specs.Slices.{Beat, beat_by, beat_of, ending_of, ends, goes_unless, is_runnable_by, telling, tells}
 use Rattle.session.specs.Telling.{stop_event}
 use Rattle.stepping.specs.declared.tick.Tick.{Tick}
@@ -46,7 +47,7 @@ use Rattle.stepping.specs.declared.tick.Outcome.TheVariants.{Went, Stopped, Ende
 use Rattle.session.proofs.ByForms.{on, on_with}
 use Rattle.session.proofs.Reaching.{if_keeps, performed_append}
 use Rattle.session.proofs.Breaking.{by_answer}
-use Rattle.session.proofs.Serving.{Meets, of_answer, not_taken}
+use Rattle.session.proofs.Serving.{Meets, of_answer}
 use Rattle.session.proofs.Joined.{becomes_program, concluded_as, program_of, same_debuggee, telling_program, tells_only, told_only}
 use Rattle.session.proofs.Turning.{said_debuggee}
 
@@ -139,6 +140,10 @@ agreed_debuggee : (l : Option Link) (terms : Terms) (s : Session) → (agreed_on
 agreed_debuggee None terms s = refl
 agreed_debuggee (Some l) terms s = refl
 
+referred_debuggee : (l : Option Link) (call : Option Call) (s : Session) → (referred_on l call (on l s)).now.debuggee ≡ s.now.debuggee
+referred_debuggee None call s = refl
+referred_debuggee (Some l) call s = refl
+
 replied_debuggee : (pending : List Pending) (outcome : Answered) (s : Session) → (replied_on pending outcome s).now.debuggee ≡ s.now.debuggee
 replied_debuggee [] outcome s = refl
 replied_debuggee (p ∷ rest) outcome s = said_debuggee s.now.link (IsResponse (response_to p.ask outcome)) rest s
@@ -154,13 +159,15 @@ closed_debuggee false s = refl
 answering_debuggee : (a : Answering) (s : Session) → (performed histories (answering a) s).now.debuggee ≡ a.debuggee
 answering_debuggee a s =
     let t : Session = performed_on (Become a.debuggee) s in
-    let u : Session = performed_on (Agree a.terms) t in
+    let r : Session = performed_on (Refer a.references) t in
+    let u : Session = performed_on (Agree a.terms) r in
     let v : Session = performed_on (Reply a.outcome) u in
     ap (λ (x : Session). x.now.debuggee) (performed_append (map Tell a.events) (closing a.closes) v)
     ∙ closed_debuggee a.closes (performed histories (map Tell a.events) v)
     ∙ same_debuggee (map Tell a.events) v (told_only a.events)
     ∙ replied_debuggee u.now.arrivals.pending a.outcome u
-    ∙ agreed_debuggee t.now.link a.terms t
+    ∙ agreed_debuggee r.now.link a.terms r
+    ∙ referred_debuggee t.now.link a.references t
 
 abbrev Marked : Option Program → Type 0
 Marked program = MatchOption program ⊥ (λ p. (is_running p.run ≡ true) × (is_some p.mark ≡ true))
@@ -214,7 +221,9 @@ command_waits now terms (Some text) (Launch arguments) h taken meets = by (error
   by : (error : Option AsmError) → Goes (name_of (Launch arguments)) (assembles now terms arguments text error)
   by None = inl (rests_one (just_loaded (assembled text) arguments.program arguments.stop_on_entry now.size) refl)
   by (Some e) = inl (still_marked now.debuggee.program h)
-command_waits now terms file ConfigurationDone h taken meets = inl (on_waits first_run now.debuggee.program h (λ p r m. begun_waits p p refl m))
+command_waits now terms file Attach h taken meets = inl (still_marked now.debuggee.program h)
+command_waits now terms file ConfigurationDone h taken meets =
+    if_keeps (Goes (name_of ConfigurationDone)) terms.launched _ _ (λ _. inl (on_waits first_run now.debuggee.program h (λ p r m. begun_waits p p refl m))) (λ _. inl (still_marked now.debuggee.program h))
 command_waits now terms file Threads h taken meets = inl (still_marked now.debuggee.program h)
 command_waits now terms file (Cancel arguments) h taken meets = inl (still_marked now.debuggee.program h)
 command_waits now terms file Restart h taken meets = inl (on_waits (λ p. first_run (restarted p)) now.debuggee.program h (λ p r m. begun_waits p (restarted p) refl m))
@@ -228,7 +237,14 @@ command_waits now terms file (Next arguments) h taken meets = no_step now.debugg
 command_waits now terms file (StepIn arguments) h taken meets = no_step now.debuggee.program h meets.still
 command_waits now terms file (StepOut arguments) h taken meets = no_step now.debuggee.program h meets.still
 command_waits now terms file (Pause arguments) h taken meets = inl (on_waits (marked mark.Pause) now.debuggee.program h (λ p r m. marked_waits mark.Pause p r m))
-command_waits now terms file command h taken meets = absurd (not_taken taken)
+command_waits now terms file (StackTrace arguments) h taken meets = no_step now.debuggee.program h meets.still
+command_waits now terms file (Scopes arguments) h taken meets = no_step now.debuggee.program h meets.still
+command_waits now terms file (Variables arguments) h taken meets = no_step now.debuggee.program h meets.still
+command_waits now terms file (Evaluate arguments) h taken meets = no_step now.debuggee.program h meets.still
+command_waits now terms file (Disassemble arguments) h taken meets = no_step now.debuggee.program h meets.still
+command_waits now terms file (ReadMemory arguments) h taken meets = no_step now.debuggee.program h meets.still
+command_waits now terms file (SetVariable arguments) h taken meets = no_step now.debuggee.program h meets.still
+command_waits now terms file (WriteMemory arguments) h taken meets = no_step now.debuggee.program h meets.still
 
 answer_waits : (now : Now) (terms : Terms) (file : Option (List ℕ)) (p : Pending) → Marked now.debuggee.program → Goes (name_asked p.ask) (answer_to now terms file p)
 answer_waits now terms file p h =

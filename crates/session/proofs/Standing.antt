@@ -10,12 +10,13 @@ use Rattle.session.specs.declared.link.Link.{Link}
 use Rattle.session.specs.declared.pending.Pending.{Pending}
 use Rattle.session.specs.declared.terms.Terms.{Terms}
 use Rattle.debuggee.specs.Programs.{Program}
-use Rattle.session.specs.Acts.{Now, Act, Open, Close, Accept, Agree, Become, Reply, Tell, HangUp, Take, closed}
+use Rattle.variables.specs.Laws.{Call}
+use Rattle.session.specs.Acts.{Now, Act, Open, Close, Accept, Agree, Become, Refer, Reply, Tell, HangUp, Take, closed}
 use Rattle.session.specs.Config.{first_program}
-use Rattle.session.specs.Kept.{Kept, Stands, kept_said, kept_replied, kept_accepted, kept_agreed, kept_opened, kept_hung, kept_performed, keepings, nothing_kept}
+use Rattle.session.specs.Kept.{Kept, Stands, kept_said, kept_replied, kept_accepted, kept_agreed, kept_referred, kept_opened, kept_hung, kept_performed, keepings, nothing_kept}
 use Rattle.session.specs.Prefixes.{IsPrefixOf}
 use Rattle.session.specs.Refusals.{response_to}
-use Rattle.session.specs.Sessions.{Beginning, Session, Said, bytes_of, nothing_with, frame_said, not_taken, waiting_of, said_on, said_next, replied_on, accepted_on, agreed_on, opened_on, hung_on, performed_on, histories, start}
+use Rattle.session.specs.Sessions.{Beginning, Session, Said, bytes_of, nothing_with, frame_said, not_taken, waiting_of, said_on, said_next, replied_on, accepted_on, agreed_on, referred_on, opened_on, hung_on, performed_on, histories, start}
 use Rattle.session.proofs.Simulation.{Simulates}
 
 -- ---- prefixes
@@ -102,6 +103,10 @@ agreed_stands : (l : Option Link) (terms : Terms) (k : Kept) (s : Session) → S
 agreed_stands None terms k s h = h
 agreed_stands (Some link) terms k s h = record { now = refl; waiting = h.waiting; taken = h.taken }
 
+referred_stands : (l : Option Link) (call : Option Call) (k : Kept) (s : Session) → Stands (kept_at (with_link l s) k) (with_link l s) → Stands (kept_referred l call (kept_at (with_link l s) k)) (referred_on l call (with_link l s))
+referred_stands None call k s h = h
+referred_stands (Some link) call k s h = record { now = refl; waiting = h.waiting; taken = h.taken }
+
 opened_stands : (l : Option Link) (k : Kept) (s : Session) → Stands (kept_at (with_link l s) k) (with_link l s) → Stands (kept_opened l (kept_at (with_link l s) k)) (opened_on l (with_link l s))
 opened_stands (Some link) k s h = h
 opened_stands None k s h = record { now = refl; waiting = refl; taken = ([], refl) }
@@ -115,6 +120,7 @@ act_stands Open k s h = at_now (kept_performed Open) (performed_on Open) k s h (
 act_stands Close k s h = record { now = ap closed h.now; waiting = refl; taken = h.taken }
 act_stands (Accept piece) k s h = at_now (kept_performed (Accept piece)) (performed_on (Accept piece)) k s h (accepted_stands s.now.link piece k s)
 act_stands (Agree terms) k s h = at_now (kept_performed (Agree terms)) (performed_on (Agree terms)) k s h (agreed_stands s.now.link terms k s)
+act_stands (Refer call) k s h = at_now (kept_performed (Refer call)) (performed_on (Refer call)) k s h (referred_stands s.now.link call k s)
 act_stands (Become debuggee) k s h = record { now = ap (λ (n : Now). record n { debuggee = debuggee }) h.now; waiting = h.waiting; taken = h.taken }
 act_stands (Tell event) k s h = at_now (kept_performed (Tell event)) (performed_on (Tell event)) k s h (said_stands s.now.link (IsEvent event) s.now.arrivals.pending k s)
 act_stands (Reply outcome) k s h = at_now (kept_performed (Reply outcome)) (performed_on (Reply outcome)) k s h (replied_stands s.now.arrivals.pending outcome k s)

@@ -1,19 +1,19 @@
 -- What is kept by each event, where answers are looked at whole.
-use Rattle.std.proofs.Common.{◌≡◌, ℕ, ℤ, zero, suc, ◌<◌, ◌≤◌, Bool, true, false, ltb, leb, eqb, List, [], ◌∷◌, ◌++◌, map, length, Option, Some, None, refl, sym, subst, append-nil, ltb-true, arith}
-use Rattle.std.specs.Prelude.{IsTrue, ◌&&◌, not}
+use Rattle.std.proofs.Common.{◌≡◌, ℕ, ℤ, zero, suc, ◌+◌, ◌<◌, ◌≤◌, Bool, true, false, ltb, leb, eqb, List, [], ◌∷◌, ◌++◌, map, length, Option, Some, None, Result, Ok, Err, refl, sym, subst, append-nil, ltb-true, arith}
+use Rattle.std.specs.Prelude.{IsTrue, IfOk, IfSome, ◌^◌, ◌&&◌, not, take}
 use Rattle.std.proofs.lemmas.Bool.Decides.{nat_tests}
 use Rattle.answers.specs.Answers.{sets_breakpoints}
 use Rattle.assembler.specs.Assembled.{assembled}
 use Rattle.assembler.specs.Placed.{error_of}
 use Rattle.assembler.proofs.Narrow.{assembled_is_narrow}
 use Rattle.assembler.specs.declared.error.AsmError.{AsmError}
-use Rattle.debuggee.specs.Programs.{Debuggee, Program, ended, first_run, left, marked, next_tick, restarted, resumed, stopped, told, why_marked}
+use Rattle.debuggee.specs.Programs.{Debuggee, Program, on_program, with_program, ended, first_run, left, marked, next_tick, restarted, resumed, stopped, told, why_marked, with_hart, written}
 use Rattle.debuggee.specs.declared.run.Mark.{Mark}
 use Rattle.debuggee.specs.declared.run.Mark.TheVariants as mark
 use Rattle.debuggee.specs.declared.run.Why.{Why}
 use Rattle.debuggee.specs.declared.run.Why.TheVariants as why
 use Rattle.protocol.specs.declared.command.Command.{Command}
-use Rattle.protocol.specs.declared.command.Command.TheVariants.{Initialize, Launch, ConfigurationDone, Threads, Cancel, Restart, Terminate, Disconnect, SetBreakpoints, SetInstructionBreakpoints, SetExceptionBreakpoints, Continue, Next, StepIn, StepOut, Pause}
+use Rattle.protocol.specs.declared.command.Command.TheVariants.{Initialize, Launch, Attach, ConfigurationDone, Threads, Cancel, Restart, Terminate, Disconnect, SetBreakpoints, SetInstructionBreakpoints, SetExceptionBreakpoints, Continue, Next, StepIn, StepOut, Pause, StackTrace, Scopes, Variables, SetVariable, Evaluate, Disassemble, ReadMemory, WriteMemory}
 use Rattle.replies.specs.Events.{IsProperEvent}
 use Rattle.replies.specs.declared.event.Event.{Event as Told}
 use Rattle.replies.specs.declared.message.Message.{Message}
@@ -29,9 +29,9 @@ use Rattle.session.specs.declared.limits.Limits.{Limits}
 use Rattle.session.specs.declared.link.Link.{Link}
 use Rattle.session.specs.declared.pending.Pending.{Pending}
 use Rattle.session.specs.declared.terms.Terms.{Terms}
-use Rattle.session.specs.Acts.{Act, Answering, Now, Seen, Open, Close, Agree, Become, Reply, Tell, Take}
+use Rattle.session.specs.Acts.{Act, Answering, Now, Seen, read_on, Open, Close, Agree, Become, Refer, Reply, Tell, Take}
 use Rattle.session.specs.Breaks.{success_on, with_list}
-use Rattle.session.specs.Config.{HasImage, first_program}
+use Rattle.session.specs.Config.{HasImage, first_program, is_size}
 use Rattle.session.specs.Disconnect.{departed, is_to_end, is_to_stand}
 use Rattle.session.specs.Effects.{performed, beats, enough, next_by}
 use Rattle.session.specs.Launch.{assembles}
@@ -41,7 +41,7 @@ use Rattle.session.specs.Outcomes.{Outcome, outcome_at, answers_next, closing, h
 use Rattle.session.specs.Phases.{is_active}
 use Rattle.session.specs.Refusals.{answer_to, response_to}
 use Rattle.session.specs.Requests.{is_taken_in, success_of}
-use Rattle.session.specs.Sessions.{Beginning, Session, After, Effect, histories, agreed_on, hung_on, performed_on, replied_on, said_on, start, waiting_of}
+use Rattle.session.specs.Sessions.{Beginning, Session, After, Effect, histories, agreed_on, hung_on, performed_on, referred_on, replied_on, said_on, start, waiting_of}
 use Rattle.session.specs.Slices.{Beat, beat, beat_by, beat_of, concludes, ends, exits, goes, goes_unless, halts, is_runnable_by, moves_by, prints, retires, telling, tells}
 use Rattle.session.specs.Stepping.{granularity_of}
 use Rattle.session.specs.Telling.{exit_events, output_event, stop_event}
@@ -51,11 +51,48 @@ use Rattle.stepping.specs.declared.tick.Outcome.{Outcome as CameTo}
 use Rattle.stepping.specs.declared.tick.Outcome.TheVariants.{Went, Stopped, Ended}
 use Rattle.stepping.specs.declared.tick.Reason.TheVariants as met
 use Rattle.stepping.specs.declared.tick.Tick.{Tick}
+use Rattle.variables.specs.Laws.{Call}
 use Rattle.session.proofs.Reaching.{if_keeps, performed_append, reached}
 use Rattle.session.proofs.ByForms.{on, on_with, accepting, saying}
 use Rattle.session.proofs.Breaking.{by_answer, ids_are_words}
-use Rattle.session.proofs.Serving.{of_answer, not_taken}
-use Rattle.session.proofs.Orderly.{AreWords, Orderly, OrderlyIn, OrderlyOf, departed_orderly, ended_orderly, entered_orderly, exit_is_proper, first_run_orderly, ids_are_words as named_are_words, left_orderly, listed_orderly, loaded_orderly, marked_orderly, moved_orderly, next_fits, output_is_proper, owed_fits, restarted_orderly, resumed_orderly, stop_is_proper, stopped_orderly, told_orderly, with_orderly}
+use Rattle.session.proofs.Looked.{by_look, by_setting, by_writing}
+use Rattle.session.specs.Looking.{lacks_numbers, looks_on, seen_in}
+use Rattle.answers.specs.Looking.{looks_in}
+use Rattle.answers.specs.SetVariable.{set_in, setting_of}
+use Rattle.answers.specs.Targets.{target_of}
+use Rattle.answers.specs.declared.set_variable.Setting.{Setting}
+use Rattle.image.specs.Memory.{first_address}
+use Rattle.protocol.specs.declared.refusal.Refusal.{Refusal}
+use Rattle.protocol.specs.declared.set_variable.SetVariableArguments.{SetVariableArguments}
+use Rattle.ranges.specs.Debugging.{HartInRange}
+use Rattle.ranges.specs.Machines.{IsByte, IsWord}
+use Rattle.ranges.specs.Requests.{GivesBytes}
+use Rattle.ranges.proofs.Images.{assembled_is_in_range}
+use Rattle.ranges.proofs.Settings.{registers_stay_in_range, texts_give_words}
+use Rattle.rv32i.specs.declared.hart.Hart.{Hart}
+use Rattle.session.specs.References.{referred}
+use Rattle.std.proofs.lemmas.List.Elements.{All-take}
+use Rattle.variables.specs.Numbers.{Numbers, at_next_stop, next_of, with_targets}
+use Rattle.variables.specs.Registers.{name_answer}
+use Rattle.variables.specs.Values.{value_of}
+use Rattle.variables.specs.declared.target.Target.{Target}
+use Rattle.variables.specs.declared.target.Target.TheVariants as target
+use Rattle.session.proofs.Asked.{AreRead, IsRead, asks_that_wait, joined_are_read}
+use Rattle.session.proofs.Serving.{of_answer}
+use Rattle.session.proofs.Orderly.{AreWords, Orderly, OrderlyIn, OrderlyOf, departed_orderly, ended_orderly, entered_orderly, exit_is_proper, first_run_orderly, hart_orderly, written_orderly, ids_are_words as named_are_words, left_orderly, listed_orderly, loaded_orderly, marked_orderly, moved_orderly, next_fits, output_is_proper, owed_fits, restarted_orderly, resumed_orderly, stop_is_proper, stopped_orderly, told_orderly, with_orderly}
+
+-- numbers of references that are among those that may be issued
+abbrev pub AreGiven : Numbers → Type 0
+AreGiven numbers = (next_of numbers ≤ numbers.last + 1) × (numbers.last ≤ 2147483647)
+
+-- what an answer can count on, beside the program: memory ends at an address, and references have numbers of 32 bits
+pub record Bounds (limits : Limits) (size : ℕ) (good : Numbers) : Type 0 where
+  pub references : limits.last_ref ≤ 2147483647
+  pub memory : first_address + size < 2 ^ 32
+  pub numbers : AreGiven good
+
+abbrev pub BoundsIn : Now → Type 0
+BoundsIn now = Bounds now.limits now.size now.numbers
 
 -- What is debugged is orderly in each state, and each event that is told is proper: what is kept may stand on both.
 pub record KeptByEvents (P : Session → Type 0) : Type 0 where
@@ -64,7 +101,7 @@ pub record KeptByEvents (P : Session → Type 0) : Type 0 where
   pub accepts : (l : Link) (piece : List ℕ) (s : Session) → l.is_closing ≡ false → P (on (Some l) s) → P (accepting l piece (on (Some l) s))
   pub becomes : (d : Debuggee) (s : Session) → P s → P (performed_on (Become d) s)
   pub tells : (l : Link) (event : Told) (s : Session) → IsProperEvent event → SaysItsRun (IsEvent event) s.now.debuggee → l.seq < s.now.limits.last_seq → P (on (Some l) s) → P (saying l (IsEvent event) s.now.arrivals.pending (on (Some l) s))
-  pub answers : (l : Link) (p : Pending) (rest : List Pending) (file : Option (List ℕ)) (s : Session) → let t = on_with (Some l) (p ∷ rest) s in OrderlyIn s.now.debuggee → s.now.limits.last_ref ≤ 2147483647 → P t → P (performed histories (answering (answer_to t.now l.terms file p)) t)
+  pub answers : (l : Link) (p : Pending) (rest : List Pending) (file : Option (List ℕ)) (s : Session) → let t = on_with (Some l) (p ∷ rest) s in OrderlyIn s.now.debuggee → BoundsIn s.now → AreRead (asks_that_wait (p ∷ rest)) → P t → P (performed histories (answering (answer_to t.now l.terms file p)) t)
   pub takes : (n : ℕ) (s : Session) → P s → P (performed_on (Take n) s)
 
 -- an event that may be told of that program
@@ -166,58 +203,130 @@ program_quiet : (program : Option Program) (seen : Seen) (more : Bool) → Order
 program_quiet None seen more h = ends_quiet ending.Idle
 program_quiet (Some p) seen more h = owed_quiet p.owed seen p more refl h
 
--- ---- an answer leaves an orderly program
+-- ---- an answer leaves an orderly program, and numbers that may be issued
 
-sets_orderly : (now : Now) (terms : Terms) (command : Command) → IsTrue (sets_breakpoints command) → now.limits.last_ref ≤ 2147483647 → OrderlyIn now.debuggee → OrderlyIn (success_on now.debuggee.program now terms command).debuggee
-sets_orderly now terms command sets few h =
-    by_answer (λ a. OrderlyIn a.debuggee) now.debuggee.program now terms command sets (λ _. h) (λ refusal plain. h) (λ p b is e f. h)
-    (λ p b list is e f within. with_orderly (with_list command list) (listed_orderly command list (ids_are_words p now terms command list f (omega (arith, within, few)))) now.debuggee.program h)
+ended_given : (numbers : Numbers) → AreGiven numbers → AreGiven (at_next_stop numbers)
+ended_given numbers g = (let few = g.0 in omega (arith, few), g.1)
 
-command_orderly : (now : Now) (terms : Terms) (file : Option (List ℕ)) (command : Command) → is_taken_in terms.phase command ≡ true → now.limits.last_ref ≤ 2147483647 → OrderlyIn now.debuggee → OrderlyIn (success_of now terms file command).debuggee
-command_orderly now terms file (Initialize arguments) taken few h = h
-command_orderly now terms None (Launch arguments) taken few h = h
-command_orderly now terms (Some text) (Launch arguments) taken few h = by (error_of text now.size) refl where
-  by : (error : Option AsmError) → error_of text now.size ≡ error → OrderlyIn (assembles now terms arguments text error).debuggee
-  by None e = loaded_orderly (assembled text) arguments.program arguments.stop_on_entry now.size (assembled_is_narrow text now.size e)
-  by (Some error) e = h
-command_orderly now terms file ConfigurationDone taken few h = with_orderly first_run first_run_orderly now.debuggee.program h
-command_orderly now terms file Threads taken few h = h
-command_orderly now terms file (Cancel arguments) taken few h = h
-command_orderly now terms file Restart taken few h = with_orderly (λ p. first_run (restarted p)) (λ p o. first_run_orderly (restarted p) (restarted_orderly p o)) now.debuggee.program h
-command_orderly now terms file Terminate taken few h = with_orderly (ended None) (ended_orderly None) now.debuggee.program h
-command_orderly now terms file (Disconnect arguments) taken few h =
-    with_orderly (λ p. departed (is_to_end terms arguments) (is_to_stand terms arguments) (left p))
-    (λ p o. departed_orderly (is_to_end terms arguments) (is_to_stand terms arguments) (left p) (left_orderly p o)) now.debuggee.program h
-command_orderly now terms file (SetBreakpoints arguments) taken few h = sets_orderly now terms (SetBreakpoints arguments) refl few h
-command_orderly now terms file (SetInstructionBreakpoints arguments) taken few h = sets_orderly now terms (SetInstructionBreakpoints arguments) refl few h
-command_orderly now terms file SetExceptionBreakpoints taken few h = h
-command_orderly now terms file (Continue arguments) taken few h = with_orderly (resumed goal.Go) (resumed_orderly goal.Go) now.debuggee.program h
-command_orderly now terms file (Next arguments) taken few h = let g = goal.Over (granularity_of arguments.granularity) in with_orderly (resumed g) (resumed_orderly g) now.debuggee.program h
-command_orderly now terms file (StepIn arguments) taken few h = let g = goal.In (granularity_of arguments.granularity) in with_orderly (resumed g) (resumed_orderly g) now.debuggee.program h
-command_orderly now terms file (StepOut arguments) taken few h = let g = goal.Out (granularity_of arguments.granularity) in with_orderly (resumed g) (resumed_orderly g) now.debuggee.program h
-command_orderly now terms file (Pause arguments) taken few h = with_orderly (marked mark.Pause) (marked_orderly mark.Pause) now.debuggee.program h
-command_orderly now terms file command taken few h = absurd (not_taken taken)
+issued_given : (numbers : Numbers) (targets : List Target) → AreGiven numbers → lacks_numbers numbers targets ≡ false → AreGiven (with_targets numbers targets)
+issued_given numbers targets g room = (few (next_of (with_targets numbers targets)) (numbers.last + 1) room, g.1) where
+  few : (n m : ℕ) → ltb m n ≡ false → n ≤ m
+  few n m e = grind (arith, nat_tests, e)
 
-answer_orderly : (now : Now) (terms : Terms) (file : Option (List ℕ)) (p : Pending) → now.limits.last_ref ≤ 2147483647 → OrderlyIn now.debuggee → OrderlyIn (answer_to now terms file p).debuggee
-answer_orderly now terms file p few h =
-    of_answer (λ ask answer. OrderlyIn answer.debuggee) now terms file p.ask p.fate (λ refusal _. h) (λ r taken _. command_orderly now terms file r.command taken few h)
+abbrev Leaves : Now → Answering → Type 0
+Leaves now a = OrderlyIn a.debuggee × AreGiven (referred a.references now.numbers)
+
+-- what is made of the program leaves an orderly one
+makes : (now : Now) (f : Program → Program) → ((p : Program) → Orderly p → Orderly (f p)) → OrderlyIn now.debuggee → OrderlyIn (with_program f now.debuggee)
+makes now f keeps h = with_orderly f keeps now.debuggee.program h
+
+sets_orderly : (now : Now) (terms : Terms) (command : Command) → IsTrue (sets_breakpoints command) → BoundsIn now → OrderlyIn now.debuggee → Leaves now (success_on now.debuggee.program now terms command)
+sets_orderly now terms command sets b h =
+    by_answer (Leaves now) now.debuggee.program now terms command sets (λ _. (h, b.numbers)) (λ refusal plain. (h, b.numbers)) (λ p body is e f. (h, b.numbers))
+    (λ p body list is e f within. (
+      with_orderly (with_list command list) (listed_orderly command list (ids_are_words p now terms command list f (let few = b.references in omega (arith, within, few)))) now.debuggee.program h,
+      b.numbers,
+    ))
+
+looks_orderly : (now : Now) (terms : Terms) (command : Command) → IsTrue (looks_in command) → BoundsIn now → OrderlyIn now.debuggee → Leaves now (looks_on now.debuggee.program now terms command)
+looks_orderly now terms command looks b h =
+    by_look (Leaves now) now.debuggee.program now terms command looks (λ _. (h, b.numbers)) (λ refusal plain. (h, b.numbers))
+    (λ p body is e none room. (h, issued_given now.numbers (seen_in p now terms command).targets b.numbers room))
+
+-- a hart in which a register was set is in range
+setting_fits : (hart : Hart) (number : Result ℕ Refusal) (value : Option ℕ) → HartInRange hart → IfSome value IsWord → IfOk (setting_of hart number value) (λ setting. HartInRange setting.hart)
+setting_fits hart (Err refusal) value h w = tt
+setting_fits hart (Ok number) None h w = tt
+setting_fits hart (Ok zero) (Some value) h w = h
+setting_fits hart (Ok (suc number)) (Some value) h w = record { pc = h.pc; x = registers_stay_in_range hart.x (suc number) value w h.x }
+
+set_fits : (arguments : SetVariableArguments) (p : Program) (found : Result Target Refusal) → Orderly p → IfOk (set_in arguments p.machine found) (λ setting. HartInRange setting.hart)
+set_fits arguments p (Ok (target.Frame index)) h = tt
+set_fits arguments p (Ok target.Registers) h =
+    let m = h.range.machine.machine in
+    setting_fits p.machine.hart (name_answer arguments.name) (value_of arguments.value) (record { pc = m.pc; x = m.x }) (texts_give_words arguments.value)
+set_fits arguments p (Ok target.Stack) h = tt
+set_fits arguments p (Err refusal) h = tt
+
+command_orderly : (now : Now) (terms : Terms) (file : Option (List ℕ)) (command : Command) → is_taken_in terms.phase command ≡ true → GivesBytes command → BoundsIn now → OrderlyIn now.debuggee → Leaves now (success_of now terms file command)
+command_orderly now terms file (Initialize arguments) taken gives b h = (h, b.numbers)
+command_orderly now terms None (Launch arguments) taken gives b h = (h, b.numbers)
+command_orderly now terms (Some text) (Launch arguments) taken gives b h = by (error_of text now.size) refl where
+  by : (error : Option AsmError) → error_of text now.size ≡ error → Leaves now (assembles now terms arguments text error)
+  by None e = (loaded_orderly (assembled text) arguments.program arguments.stop_on_entry now.size (assembled_is_narrow text now.size e) (assembled_is_in_range text now.size e) b.memory, b.numbers)
+  by (Some error) e = (h, b.numbers)
+command_orderly now terms file Attach taken gives b h = (h, b.numbers)
+command_orderly now terms file ConfigurationDone taken gives b h = if_keeps (Leaves now) terms.launched _ _ (λ _. (makes now first_run first_run_orderly h, b.numbers)) (λ _. (h, b.numbers))
+command_orderly now terms file Threads taken gives b h = (h, b.numbers)
+command_orderly now terms file (Cancel arguments) taken gives b h = (h, b.numbers)
+command_orderly now terms file Restart taken gives b h = (makes now (λ p. first_run (restarted p)) (λ p o. first_run_orderly (restarted p) (restarted_orderly p o)) h, ended_given now.numbers b.numbers)
+command_orderly now terms file Terminate taken gives b h = (makes now (ended None) (ended_orderly None) h, b.numbers)
+command_orderly now terms file (Disconnect arguments) taken gives b h = (
+  makes now (λ p. departed (is_to_end terms arguments) (is_to_stand terms arguments) (left p))
+      (λ p o. departed_orderly (is_to_end terms arguments) (is_to_stand terms arguments) (left p) (left_orderly p o)) h,
+  ended_given now.numbers b.numbers,
+)
+command_orderly now terms file (SetBreakpoints arguments) taken gives b h = sets_orderly now terms (SetBreakpoints arguments) refl b h
+command_orderly now terms file (SetInstructionBreakpoints arguments) taken gives b h = sets_orderly now terms (SetInstructionBreakpoints arguments) refl b h
+command_orderly now terms file SetExceptionBreakpoints taken gives b h = (h, b.numbers)
+command_orderly now terms file (Continue arguments) taken gives b h = (makes now (resumed goal.Go) (resumed_orderly goal.Go) h, ended_given now.numbers b.numbers)
+command_orderly now terms file (Next arguments) taken gives b h = let g = goal.Over (granularity_of arguments.granularity) in (makes now (resumed g) (resumed_orderly g) h, ended_given now.numbers b.numbers)
+command_orderly now terms file (StepIn arguments) taken gives b h = let g = goal.In (granularity_of arguments.granularity) in (makes now (resumed g) (resumed_orderly g) h, ended_given now.numbers b.numbers)
+command_orderly now terms file (StepOut arguments) taken gives b h = let g = goal.Out (granularity_of arguments.granularity) in (makes now (resumed g) (resumed_orderly g) h, ended_given now.numbers b.numbers)
+command_orderly now terms file (Pause arguments) taken gives b h = (makes now (marked mark.Pause) (marked_orderly mark.Pause) h, b.numbers)
+command_orderly now terms file (StackTrace arguments) taken gives b h = looks_orderly now terms (StackTrace arguments) refl b h
+command_orderly now terms file (Scopes arguments) taken gives b h = looks_orderly now terms (Scopes arguments) refl b h
+command_orderly now terms file (Variables arguments) taken gives b h = looks_orderly now terms (Variables arguments) refl b h
+command_orderly now terms file (Evaluate arguments) taken gives b h = looks_orderly now terms (Evaluate arguments) refl b h
+command_orderly now terms file (Disassemble arguments) taken gives b h = looks_orderly now terms (Disassemble arguments) refl b h
+command_orderly now terms file (ReadMemory arguments) taken gives b h = looks_orderly now terms (ReadMemory arguments) refl b h
+command_orderly now terms file (SetVariable arguments) taken gives b h = by_setting (Leaves now) now.debuggee.program now terms arguments (λ _. (h, b.numbers)) (λ refusal plain. (h, b.numbers))
+    (λ p setting is e none. (
+      set_of now.debuggee.program p setting is h
+          (subst (λ (r : Result Setting Refusal). IfOk r (λ s. HartInRange s.hart)) e (set_fits arguments p (target_of now.numbers arguments.variables_reference) (subst OrderlyOf is h))),
+      b.numbers,
+    )) where
+      set_of : (program : Option Program) (p : Program) (setting : Setting) → program ≡ Some p → OrderlyOf program → HartInRange setting.hart → OrderlyOf (on_program (with_hart setting.hart) program)
+      set_of program p setting is h fits = with_orderly (with_hart setting.hart) (λ q o. hart_orderly setting.hart q fits o) program h
+command_orderly now terms file (WriteMemory arguments) taken gives b h = by_writing (Leaves now) now.debuggee.program now terms arguments (λ _. (h, b.numbers)) (λ refusal plain. (h, b.numbers))
+    (λ p writing is e none. (
+      makes now (written writing.address (take writing.count arguments.bytes))
+          (λ q o. written_orderly writing.address (take writing.count arguments.bytes) q (All-take IsByte writing.count arguments.bytes gives) o) h,
+      b.numbers,
+    ))
+
+answer_orderly : (now : Now) (terms : Terms) (file : Option (List ℕ)) (p : Pending) → IsRead p.ask → BoundsIn now → OrderlyIn now.debuggee → Leaves now (answer_to now terms file p)
+answer_orderly now terms file p read b h =
+    of_answer (λ ask answer. IsRead ask → Leaves now answer) now terms file p.ask p.fate (λ refusal _ _. (h, b.numbers)) (λ r taken _ is. command_orderly now terms file r.command taken is.1.1 b h) read
 
 -- ---- what changes no program
 
-abbrev StaysOrderly : Session → Type 0
-StaysOrderly s = OrderlyIn s.now.debuggee × (s.now.limits.last_ref ≤ 2147483647)
+record StaysOrderly (s : Session) : Type 0 where
+  program : OrderlyIn s.now.debuggee
+  bounds : BoundsIn s.now
+  asks : AreRead (asks_that_wait s.now.arrivals.pending)
 
 agreed_stays : (l : Option Link) (terms : Terms) (s : Session) → StaysOrderly (on l s) → StaysOrderly (agreed_on l terms (on l s))
 agreed_stays None terms s h = h
-agreed_stays (Some l) terms s h = h
+agreed_stays (Some l) terms s h = record { program = h.program; bounds = h.bounds; asks = h.asks }
 
-said_stays : (l : Option Link) (m : Message) (rest : List Pending) (s : Session) → StaysOrderly (on l s) → StaysOrderly (said_on l m rest (on l s))
-said_stays None m rest s h = h
-said_stays (Some l) m rest s h = if_keeps StaysOrderly (ltb l.seq s.now.limits.last_seq) _ _ (λ _. h) (λ _. h)
+referred_stays : (l : Option Link) (call : Option Call) (s : Session) → AreGiven (referred call s.now.numbers) → StaysOrderly (on l s) → StaysOrderly (referred_on l call (on l s))
+referred_stays None call s given h = h
+referred_stays (Some l) call s given h = record { program = h.program; bounds = record { references = h.bounds.references; memory = h.bounds.memory; numbers = given }; asks = h.asks }
 
-replied_stays : (pending : List Pending) (outcome : Answered) (s : Session) → StaysOrderly s → StaysOrderly (replied_on pending outcome s)
-replied_stays [] outcome s h = h
-replied_stays (p ∷ rest) outcome s h = said_stays s.now.link (IsResponse (response_to p.ask outcome)) rest s h
+said_stays : (l : Option Link) (m : Message) (rest : List Pending) (s : Session) → AreRead (asks_that_wait rest) → StaysOrderly (on l s) → StaysOrderly (said_on l m rest (on l s))
+said_stays None m rest s r h = h
+said_stays (Some l) m rest s r h = if_keeps StaysOrderly (ltb l.seq s.now.limits.last_seq) _ _
+    (λ _. record {
+      program = h.program;
+      bounds = h.bounds;
+      asks = if_keeps (λ (x : List Pending). AreRead (asks_that_wait x)) (eqb (l.seq + 1) s.now.limits.last_seq) [] rest (λ _. tt) (λ _. r);
+    })
+    (λ _. h)
+
+replied_stays : (pending : List Pending) (outcome : Answered) (s : Session) → AreRead (asks_that_wait pending) → StaysOrderly s → StaysOrderly (replied_on pending outcome s)
+replied_stays [] outcome s r h = h
+replied_stays (p ∷ rest) outcome s r h = said_stays s.now.link (IsResponse (response_to p.ask outcome)) rest s r.1 h
 
 -- what is told changes no program
 pub said_debuggee : (l : Option Link) (m : Message) (rest : List Pending) (s : Session) → (said_on l m rest (on l s)).now.debuggee ≡ s.now.debuggee
@@ -226,33 +335,41 @@ said_debuggee (Some l) m rest s = if_keeps (λ (x : Session). x.now.debuggee ≡
 
 told_stays : (events : List Told) (s : Session) → StaysOrderly s → StaysOrderly (performed histories (map Tell events) s)
 told_stays [] s h = h
-told_stays (e ∷ es) s h = told_stays es (performed_on (Tell e) s) (said_stays s.now.link (IsEvent e) s.now.arrivals.pending s h)
+told_stays (e ∷ es) s h = told_stays es (performed_on (Tell e) s) (said_stays s.now.link (IsEvent e) s.now.arrivals.pending s h.asks h)
 
 hung_stays : (l : Option Link) (s : Session) → StaysOrderly (on l s) → StaysOrderly (hung_on l (on l s))
 hung_stays None s h = h
-hung_stays (Some l) s h = h
+hung_stays (Some l) s h = record { program = h.program; bounds = h.bounds; asks = h.asks }
 
 closed_stays : (closes : Bool) (s : Session) → StaysOrderly s → StaysOrderly (performed histories (closing closes) s)
 closed_stays true s h = hung_stays s.now.link s h
 closed_stays false s h = h
 
-answering_stays : (a : Answering) (s : Session) → OrderlyIn a.debuggee × (s.now.limits.last_ref ≤ 2147483647) → StaysOrderly (performed histories (answering a) s)
-answering_stays a s h =
+answering_stays : (a : Answering) (s : Session) → Leaves s.now a → StaysOrderly s → StaysOrderly (performed histories (answering a) s)
+answering_stays a s leaves h =
     let t : Session = performed_on (Become a.debuggee) s in
-    let u : Session = performed_on (Agree a.terms) t in
+    let r : Session = performed_on (Refer a.references) t in
+    let u : Session = performed_on (Agree a.terms) r in
     let v : Session = performed_on (Reply a.outcome) u in
-    let replied : StaysOrderly v = replied_stays u.now.arrivals.pending a.outcome u (agreed_stays t.now.link a.terms t h) in
+    let became : StaysOrderly t = record { program = leaves.0; bounds = h.bounds; asks = h.asks } in
+    let agreed : StaysOrderly u = agreed_stays r.now.link a.terms r (referred_stays t.now.link a.references t leaves.1 became) in
+    let replied : StaysOrderly v = replied_stays u.now.arrivals.pending a.outcome u agreed.asks agreed in
     subst StaysOrderly (sym (performed_append (map Tell a.events) (closing a.closes) v))
     (closed_stays a.closes (performed histories (map Tell a.events) v) (told_stays a.events v replied))
-
-begins_orderly : (given : Option (List ℕ × List ℕ)) (size : ℕ) → HasImage given size → OrderlyOf (first_program given size)
-begins_orderly None size image = tt
-begins_orderly (Some g) size image = loaded_orderly (assembled g.1) g.0 false size (assembled_is_narrow g.1 size image)
 
 -- limits that are right
 both : (a b : Bool) → (a && b) ≡ true → (a ≡ true) × (b ≡ true)
 both true b h = (refl, h)
 both false b h = absurd (cc)
+
+memory_ends : (size : ℕ) → is_size size ≡ true → first_address + size < 2 ^ 32
+memory_ends size h =
+    let most = (both _ (leb size 16777216) h).1 in
+    let few : size ≤ 16777216 = grind (arith, nat_tests, most) in omega (arith, few)
+
+begins_orderly : (given : Option (List ℕ × List ℕ)) (size : ℕ) → first_address + size < 2 ^ 32 → HasImage given size → OrderlyOf (first_program given size)
+begins_orderly None size ends image = tt
+begins_orderly (Some g) size ends image = loaded_orderly (assembled g.1) g.0 false size (assembled_is_narrow g.1 size image) (assembled_is_in_range g.1 size image) ends
 
 few_references : (limits : Limits) → are_limits limits ≡ true → limits.last_ref ≤ 2147483647
 few_references limits h =
@@ -260,19 +377,31 @@ few_references limits h =
     let one = (both (leb 1 limits.last_ref) _ two).1 in
     grind (arith, nat_tests, one)
 
+none_given : (last : ℕ) → 1 + 0 ≤ last + 1
+none_given last = omega arith
+
 module _ (P : Session → Type 0) (k : KeptByEvents P) where
   abbrev Both : Session → Type 0
   Both s = P s × StaysOrderly s
 
+  became : (d : Debuggee) (s : Session) → OrderlyIn d → Both s → Both (performed_on (Become d) s)
+  became d s o h = (k.becomes d s h.0, record { program = o; bounds = h.1.bounds; asks = h.1.asks })
+
   tells_by : (l : Option Link) (event : Told) (s : Session) → Tellable s.now.debuggee event → Both (on l s) → Both (said_on l (IsEvent event) s.now.arrivals.pending (on l s))
   unfolding Tellable
   tells_by None event s t h = h
-  tells_by (Some l) event s t h = if_keeps Both (ltb l.seq s.now.limits.last_seq) _ _ (λ e. (k.tells l event s t.0 t.1 (ltb-true l.seq s.now.limits.last_seq e) h.0, h.1)) (λ _. h)
+  tells_by (Some l) event s t h = if_keeps Both (ltb l.seq s.now.limits.last_seq) _ _ (λ e. (k.tells l event s t.0 t.1 (ltb-true l.seq s.now.limits.last_seq e) h.0, told l event s h.1)) (λ _. h) where
+    told : (l : Link) (event : Told) (s : Session) → StaysOrderly (on (Some l) s) → StaysOrderly (saying l (IsEvent event) s.now.arrivals.pending (on (Some l) s))
+    told l event s h = record {
+      program = h.program;
+      bounds = h.bounds;
+      asks = if_keeps (λ (x : List Pending). AreRead (asks_that_wait x)) (eqb (l.seq + 1) s.now.limits.last_seq) [] s.now.arrivals.pending (λ _. tt) (λ _. h.asks);
+    }
 
   quiet_keeps : (acts : List Act) (s : Session) → AllQuiet s.now.debuggee acts → Both s → Both (performed histories acts s)
   unfolding AllQuiet
   quiet_keeps [] s q h = h
-  quiet_keeps (Become d ∷ acts) s q h = quiet_keeps acts (performed_on (Become d) s) q.1 (k.becomes d s h.0, (q.0, h.1.1))
+  quiet_keeps (Become d ∷ acts) s q h = quiet_keeps acts (performed_on (Become d) s) q.1 (became d s q.0 h)
   quiet_keeps (Tell e ∷ acts) s q h =
       quiet_keeps acts (performed_on (Tell e) s) (subst (λ (d : Debuggee). AllQuiet d acts) (sym (said_debuggee s.now.link (IsEvent e) s.now.arrivals.pending s)) q.1) (tells_by s.now.link e s q.0 h)
   quiet_keeps (act ∷ acts) s q h = absurd q
@@ -281,14 +410,21 @@ module _ (P : Session → Type 0) (k : KeptByEvents P) where
   turn_keeps l file [] s h = h
   turn_keeps l file (p ∷ rest) s h =
       let t = on_with (Some l) (p ∷ rest) s in
-      (k.answers l p rest file s h.1.0 h.1.1 h.0, answering_stays (answer_to t.now l.terms file p) t (answer_orderly t.now l.terms file p h.1.1 h.1.0, h.1.1))
+      (k.answers l p rest file s h.1.program h.1.bounds h.1.asks h.0, answering_stays (answer_to t.now l.terms file p) t (answer_orderly t.now l.terms file p h.1.asks.0 h.1.bounds h.1.program) h.1)
 
   piece_keeps : (l : Link) (piece : List ℕ) (s : Session) → Both (on (Some l) s) → Both (performed histories (outcome_at (histories.see (on (Some l) s)) (Some l) (Recv piece)).acts (on (Some l) s))
   piece_keeps l piece s h =
       if_keeps (λ (o : Outcome). Both (performed histories o.acts (on (Some l) s))) l.is_closing _ _ (λ _. h)
       (λ _. if_keeps (λ (o : Outcome). Both (performed histories o.acts (on (Some l) s))) (ltb MOST_PIECE (length piece)) _ _ (λ _. h)
       (λ _. if_keeps (λ (o : Outcome). Both (performed histories o.acts (on (Some l) s))) (leb MOST_PENDING (length s.now.arrivals.pending)) _ _ (λ _. h)
-      (λ _. if_keeps Both l.is_closing _ _ (λ _. h) (λ e. (k.accepts l piece s e h.0, h.1)))))
+      (λ _. if_keeps Both l.is_closing _ _ (λ _. h) (λ e. (
+        k.accepts l piece s e h.0,
+        record {
+          program = h.1.program;
+          bounds = h.1.bounds;
+          asks = joined_are_read (read_on s.now piece).bodies s.now.arrivals h.1.asks;
+        },
+      )))))
 
   answers_keep : (l : Link) (file : Option (List ℕ)) (s : Session) → Both (on (Some l) s) → Both (performed histories (answers_next (histories.see (on (Some l) s)) l file).acts (on (Some l) s))
   answers_keep l file s h = if_keeps (λ (o : Outcome). Both (performed histories o.acts (on (Some l) s))) (ltb FULL (length (waiting_of (on (Some l) s)))) _ _ (λ _. h) (λ _. turn_keeps l file s.now.arrivals.pending s h)
@@ -302,14 +438,21 @@ module _ (P : Session → Type 0) (k : KeptByEvents P) where
   program_keeps (Some p) l file s o h = owed_keeps p.owed l file p s refl o h
 
   hold_keeps : (s : Session) → Both s → Both (performed histories (holding s.now) s)
-  hold_keeps s h = (k.becomes _ s h.0, (with_orderly (marked mark.Hold) (marked_orderly mark.Hold) s.now.debuggee.program h.1.0, h.1.1))
+  hold_keeps s h = became _ s (with_orderly (marked mark.Hold) (marked_orderly mark.Hold) s.now.debuggee.program h.1.program) h
 
   drop_keeps : (s : Session) → Both s → Both (performed histories (leaving s.now) s)
-  drop_keeps s h = (k.closes _ (k.becomes _ s h.0), (with_orderly left left_orderly s.now.debuggee.program h.1.0, h.1.1))
+  drop_keeps s h = (
+    k.closes _ (k.becomes _ s h.0),
+    record {
+      program = with_orderly left left_orderly s.now.debuggee.program h.1.program;
+      bounds = record { references = h.1.bounds.references; memory = h.1.bounds.memory; numbers = ended_given s.now.numbers h.1.bounds.numbers };
+      asks = tt;
+    },
+  )
 
   outcome_keeps : (l : Option Link) (e : Event) (s : Session) → Both (on l s) → Both (performed histories (outcome_at (histories.see (on l s)) l e).acts (on l s))
   outcome_keeps None Connect s h =
-      if_keeps (λ (o : Outcome). Both (performed histories o.acts (on None s))) (eqb s.now.connections LAST_CONNECTION) _ _ (λ _. h) (λ _. (k.opens s h.0, h.1))
+      if_keeps (λ (o : Outcome). Both (performed histories o.acts (on None s))) (eqb s.now.connections LAST_CONNECTION) _ _ (λ _. h) (λ _. (k.opens s h.0, record { program = h.1.program; bounds = h.1.bounds; asks = tt }))
   outcome_keeps None (Recv piece) s h = h
   outcome_keeps None (Turn file) s h = h
   outcome_keeps None (Slice n) s h = h
@@ -318,11 +461,11 @@ module _ (P : Session → Type 0) (k : KeptByEvents P) where
   outcome_keeps None DropConnection s h = h
   outcome_keeps (Some l) Connect s h = h
   outcome_keeps (Some l) (Recv piece) s h = piece_keeps l piece s h
-  outcome_keeps (Some l) (Turn file) s h = program_keeps s.now.debuggee.program l file s h.1.0 h
+  outcome_keeps (Some l) (Turn file) s h = program_keeps s.now.debuggee.program l file s h.1.program h
   outcome_keeps (Some l) (Slice n) s h = h
   outcome_keeps (Some l) Hold s h = hold_keeps (on (Some l) s) h
   outcome_keeps (Some l) (Sent n) s h =
-      if_keeps (λ (o : Outcome). Both (performed histories o.acts (on (Some l) s))) (ltb (length (waiting_of (on (Some l) s))) n) _ _ (λ _. h) (λ _. (k.takes n (on (Some l) s) h.0, h.1))
+      if_keeps (λ (o : Outcome). Both (performed histories o.acts (on (Some l) s))) (ltb (length (waiting_of (on (Some l) s))) n) _ _ (λ _. h) (λ _. (k.takes n (on (Some l) s) h.0, record { program = h.1.program; bounds = h.1.bounds; asks = h.1.asks }))
   outcome_keeps (Some l) DropConnection s h = drop_keeps (on (Some l) s) h
 
   beats_keep : (n i : ℕ) (s : Session) → Both s → Both (beats histories n i s).state
@@ -332,7 +475,7 @@ module _ (P : Session → Type 0) (k : KeptByEvents P) where
     by (Some e) x = x
     by None x =
         let t = (beats histories n i s).state in
-        quiet_keeps (beat (histories.see t) (ltb (beats histories n i s).moved n)).acts t (program_quiet t.now.debuggee.program (histories.see t) (ltb (beats histories n i s).moved n) x.1.0 t.now.debuggee) x
+        quiet_keeps (beat (histories.see t) (ltb (beats histories n i s).moved n)).acts t (program_quiet t.now.debuggee.program (histories.see t) (ltb (beats histories n i s).moved n) x.1.program t.now.debuggee) x
 
   event_keeps : (e : Event) (s : Session) → Both s → Both (Effect s e)
   event_keeps Connect s h = outcome_keeps s.now.link Connect s h
@@ -344,4 +487,11 @@ module _ (P : Session → Type 0) (k : KeptByEvents P) where
   event_keeps DropConnection s h = outcome_keeps s.now.link DropConnection s h
 
   pub reached_by_events : (from : Beginning) → P (start from) → (events : List Event) → P (After from events)
-  reached_by_events from h events = (reached Both event_keeps from (h, (begins_orderly from.program from.size from.image, few_references from.limits from.numbers)) events).0
+  reached_by_events from h events = (reached Both event_keeps from (
+    h,
+    record {
+      program = begins_orderly from.program from.size (memory_ends from.size from.memory) from.image;
+      bounds = record { references = few_references from.limits from.numbers; memory = memory_ends from.size from.memory; numbers = (none_given from.limits.last_ref, few_references from.limits from.numbers) };
+      asks = tt;
+    },
+  ) events).0

@@ -27,6 +27,7 @@ bytes = record {
   closes = λ s h. record { before = h.before; present = h.present };
   accepts = λ l piece s e h. record { before = h.before; present = h.present };
   agrees = λ l terms s h. record { before = h.before; present = h.present };
+  refers = λ l call s h. record { before = h.before; present = h.present };
   becomes = λ d s h. record { before = h.before; present = h.present };
   tells = λ l event s few h. record { before = h.before; present = said_taken s.life _ h.present };
   hangs = λ l s h. record { before = h.before; present = h.present };
@@ -56,6 +57,7 @@ lives = record {
   closes = λ s h. h;
   accepts = λ l piece s e h. h;
   agrees = λ l terms s h. h;
+  refers = λ l call s h. h;
   becomes = λ d s h. h;
   tells = λ l event s few h. h;
   hangs = λ l s h. h;

@@ -20,12 +20,15 @@ use Rattle.session.specs.declared.link.Link.{Link}
 use Rattle.session.specs.declared.pending.Pending.{Pending}
 use Rattle.session.specs.declared.terms.Terms.{Terms}
 use Rattle.session.specs.Phases.{first_terms}
+use Rattle.session.specs.References.{referred}
+use Rattle.variables.specs.Laws.{Call}
+use Rattle.variables.specs.Numbers.{Numbers, at_next_stop}
 use Rattle.session.specs.Arrivals.{Arrivals, no_arrivals, all_joined, asks_of, message_fault_of}
 
 -- What a session is now, as far as no past is needed to say it: its limits, and how many bytes of memory a machine gets;
 -- how many connections were made; the present one, if there is one; the requests that came on it and wait for their
--- answers; what has come of the next frame; what closed the present connection or the last one, if something did; and
--- the program that is debugged.
+-- answers; what has come of the next frame; what closed the present connection or the last one, if something did; the
+-- program that is debugged; and the numbers of the references that are good.
 pub record Now : Type 0 where
   pub limits : Limits
   pub size : ℕ
@@ -35,6 +38,7 @@ pub record Now : Type 0 where
   pub tail : Tail
   pub fault : Option LinkFault
   pub debuggee : Debuggee
+  pub numbers : Numbers
 
 -- all that an answer depends on: also how many bytes wait to be sent
 pub record Seen : Type 0 where
@@ -52,6 +56,8 @@ pub data Act : Type 0 where
   Agree : Terms → Act
   -- the program that is debugged is now this
   Become : Debuggee → Act
+  -- references are issued on the connection, or the stop ends for them, or nothing becomes of them
+  Refer : Option Call → Act
   -- the first request that waits is answered
   Reply : Outcome → Act
   -- the editor is told something that it did not ask
@@ -68,15 +74,17 @@ grows Close = false
 grows (Accept piece) = true
 grows (Agree terms) = false
 grows (Become debuggee) = false
+grows (Refer call) = false
 grows (Reply outcome) = true
 grows (Tell event) = true
 grows HangUp = false
 grows (Take n) = false
 
--- An answer: what the program that is debugged is first, and what is agreed then; what became of the request; what the
--- editor is told after it; and whether the connection takes nothing more then.
+-- An answer: what the program that is debugged is first, what becomes of the references, and what is agreed then; what
+-- became of the request; what the editor is told after it; and whether the connection takes nothing more then.
 pub record Answering : Type 0 where
   pub debuggee : Debuggee
+  pub references : Option Call
   pub terms : Terms
   pub outcome : Outcome
   pub events : List Event
@@ -94,9 +102,18 @@ opened now = record now {
   fault = None;
 }
 
--- it has ended
+-- it has ended, and what was issued on it is stale
 abbrev pub closed : Now → Now
-closed now = record now { link = None; arrivals = no_arrivals; tail = Partial [] }
+closed now = record now {
+  link = None;
+  arrivals = no_arrivals;
+  tail = Partial [];
+  numbers = at_next_stop now.numbers;
+}
+
+-- references are issued, or the stop ends for them
+abbrev pub refers : Now → Option Call → Now
+refers now call = record now { numbers = referred call now.numbers }
 
 -- this is agreed on it
 abbrev pub agreed : Now → Link → Terms → Now

@@ -23,6 +23,7 @@ pub record HasBegun (config : Config) (limits : Limits) (k : Kept) : Type 0 wher
     size = config.memory_size;
     program = config.program;
     numbers = right.numbers;
+    memory = right.size;
     image = image;
   }))
 

@@ -43,6 +43,7 @@ with_list other list p = with_instructions list p
 abbrev pub replaces : Now → Terms → Command → ResponseBody → Numbered → Answering
 replaces now terms command body breaks = record {
   debuggee = record { program = on_program (with_list command breaks.list) now.debuggee.program; last_break = breaks.last };
+  references = None;
   terms = terms;
   outcome = Done body;
   events = [];

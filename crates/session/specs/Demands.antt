@@ -24,7 +24,11 @@ asks_alive = record { loaded = true; alive = true; thread = None; still = false 
 abbrev pub asks_thread : ℤ → Demand
 asks_thread number = record { loaded = true; alive = true; thread = Some number; still = false }
 
--- the same, and that it stands still
+-- that it has not ended, and stands still
+abbrev pub asks_stopped : Demand
+asks_stopped = record { loaded = true; alive = true; thread = None; still = true }
+
+-- the same, and that this is its thread
 abbrev pub asks_still : ℤ → Demand
 asks_still number = record { loaded = true; alive = true; thread = Some number; still = true }
 

@@ -9,6 +9,7 @@ use Rattle.debuggee.specs.declared.run.Why.TheVariants as why
 use Rattle.protocol.specs.declared.disconnect.DisconnectArguments.{DisconnectArguments}
 use Rattle.replies.specs.declared.response.Outcome.TheVariants.{Done}
 use Rattle.replies.specs.declared.response.ResponseBody.TheVariants as body
+use Rattle.variables.specs.Laws.Call.{EndStop}
 use Rattle.session.specs.declared.phase.Phase.{Phase}
 use Rattle.session.specs.declared.phase.Phase.TheVariants.{Left}
 use Rattle.session.specs.declared.terms.Terms.{Terms}
@@ -43,6 +44,7 @@ abbrev pub success : Now → Terms → DisconnectArguments → Answering
 success now terms arguments = record {
   debuggee =
       with_program (λ p. departed (is_to_end terms arguments) (is_to_stand terms arguments) (left p)) now.debuggee;
+  references = Some EndStop;
   terms = record terms { phase = Left };
   outcome = Done body.Empty;
   events = [];

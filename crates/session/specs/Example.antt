@@ -23,7 +23,7 @@ header digits = codes "Content-Length: " ++ digits ++ end_of_line ++ end_of_line
 
 -- what the session begins with: one mebibyte for a machine, and no program
 abbrev first : Beginning
-first = record { limits = greatest_limits; size = 1048576; program = None; numbers = refl; image = tt }
+first = record { limits = greatest_limits; size = 1048576; program = None; numbers = refl; memory = refl; image = tt }
 
 -- what the editor sends first: `threads`, and the beginning of `disconnect`
 abbrev first_piece : List ℕ

@@ -1,9 +1,14 @@
 -- What the code of a session keeps, and which sessions with a past it stands for.
 use Rattle.std.specs.Prelude.{◌≡◌, ◌≤◌, ℕ, nat_lt, ◌+◌, ◌==◌, if◌then◌else◌, Bool, true, false, List, [], ◌∷◌, ◌++◌}
-use Rattle.std.specs.Prelude.{length, drop, Option, Some, None, Result, Ok, Err}
+use Rattle.std.specs.Prelude.{length, drop, Option, Some, None, Result, Ok, Err, ⊤}
 use Rattle.replies.specs.declared.message.Message.{Message}
 use Rattle.replies.specs.declared.message.Message.TheVariants.{Response, Event as IsEvent}
 use Rattle.replies.specs.declared.response.Outcome.{Outcome}
+use Rattle.protocol.specs.declared.command.Command.{Command}
+use Rattle.protocol.specs.declared.command.Command.TheVariants.{Launch, ConfigurationDone, SetBreakpoints}
+use Rattle.protocol.specs.declared.command.Command.TheVariants.{SetInstructionBreakpoints, StackTrace, Scopes, Variables}
+use Rattle.protocol.specs.declared.command.Command.TheVariants.{SetVariable, Evaluate, Disassemble, ReadMemory}
+use Rattle.protocol.specs.declared.command.Command.TheVariants.{WriteMemory}
 use Rattle.session.specs.declared.event.Applied.{Applied}
 use Rattle.session.specs.declared.event.Event.{Event}
 use Rattle.session.specs.declared.event.EventError.{EventError}
@@ -13,15 +18,18 @@ use Rattle.session.specs.declared.link.Link.{Link}
 use Rattle.session.specs.declared.pending.Pending.{Pending}
 use Rattle.session.specs.declared.terms.Terms.{Terms}
 use Rattle.debuggee.specs.Programs.{Debuggee, Program, ended, first_run, left, marked, on_program, restarted, resumed, with_instructions}
-use Rattle.debuggee.specs.Programs.{with_program, with_source}
+use Rattle.debuggee.specs.Programs.{with_hart, with_program, with_source, written}
 use Rattle.replies.specs.declared.event.Event.{Event as AnEvent}
 use Rattle.session.specs.declared.answer.Answer.{Answer as AnAnswer}
 use Rattle.session.specs.declared.answer.Change.{Change}
 use Rattle.session.specs.declared.answer.Change.TheVariants as change
 use Rattle.session.specs.Config.{IsSize}
 use Rattle.session.specs.Disconnect.{departed}
-use Rattle.session.specs.Acts.{Now, Seen, Act, Answering, Open, Close, Accept, Agree, Become, Reply, Tell, HangUp, Take}
-use Rattle.session.specs.Acts.{opened, closed, agreed, hung, numbered, accepted, read_on}
+use Rattle.session.specs.Acts.{Now, Seen, Act, Answering, Open, Close, Accept, Agree, Become, Refer, Reply, Tell, HangUp, Take}
+use Rattle.session.specs.References.{referred}
+use Rattle.variables.specs.Laws.{Call}
+use Rattle.variables.specs.Laws.Call.{EndStop, Issue}
+use Rattle.session.specs.Acts.{opened, closed, agreed, hung, numbered, accepted, read_on, refers}
 use Rattle.session.specs.Effects.{World, Ends}
 use Rattle.session.specs.Phases.{is_active}
 use Rattle.session.specs.Prefixes.{IsPrefixOf}
@@ -49,6 +57,10 @@ abbrev pub kept_agreed : Option Link → Terms → Kept → Kept
 kept_agreed None terms k = k
 kept_agreed (Some link) terms k = record k { now = agreed k.now link terms }
 
+abbrev pub kept_referred : Option Link → Option Call → Kept → Kept
+kept_referred None call k = k
+kept_referred (Some link) call k = record k { now = refers k.now call }
+
 abbrev pub kept_said : Option Link → Message → List Pending → Kept → Kept
 kept_said None message rest k = k
 kept_said (Some link) message rest k = if nat_lt link.seq k.now.limits.last_seq then record k {
@@ -70,6 +82,7 @@ kept_performed Close k = record { now = closed k.now; waiting = [] }
 kept_performed (Accept piece) k = kept_accepted k.now.link piece k
 kept_performed (Agree terms) k = kept_agreed k.now.link terms k
 kept_performed (Become debuggee) k = record k { now = record k.now { debuggee = debuggee } }
+kept_performed (Refer call) k = kept_referred k.now.link call k
 kept_performed (Reply outcome) k = kept_replied k.now.arrivals.pending outcome k
 kept_performed (Tell event) k = kept_said k.now.link (IsEvent event) k.now.arrivals.pending k
 kept_performed HangUp k = kept_hung k.now.link k
@@ -99,6 +112,9 @@ changed_one (change.Mark mark) p = marked mark p
 changed_one change.Restart p = first_run (restarted p)
 changed_one (change.SetSource breaks) p = with_source breaks.list p
 changed_one (change.SetInstructions breaks) p = with_instructions breaks.list p
+changed_one (change.SetHart hart) p = with_hart hart p
+changed_one (change.Write address bytes) p = written address bytes.items p
+changed_one (change.Issue targets) p = p
 changed_one change.End p = ended None p
 changed_one (change.Leave ends stands) p = departed ends stands (left p)
 
@@ -114,6 +130,9 @@ changed (change.SetSource breaks) d =
     record { program = on_program (with_source breaks.list) d.program; last_break = breaks.last }
 changed (change.SetInstructions breaks) d =
     record { program = on_program (with_instructions breaks.list) d.program; last_break = breaks.last }
+changed (change.SetHart hart) d = with_program (with_hart hart) d
+changed (change.Write address bytes) d = with_program (written address bytes.items) d
+changed (change.Issue targets) d = d
 changed change.End d = with_program (ended None) d
 changed (change.Leave ends stands) d = with_program (λ p. departed ends stands (left p)) d
 
@@ -122,20 +141,73 @@ abbrev pub events_of : Option AnEvent → List AnEvent
 events_of None = []
 events_of (Some event) = event ∷ []
 
+-- whether the answer to a request may take memory, beside its messages
+abbrev pub takes_memory : Command → Bool
+takes_memory (Launch arguments) = true
+takes_memory ConfigurationDone = true
+takes_memory (SetBreakpoints arguments) = true
+takes_memory (SetInstructionBreakpoints arguments) = true
+takes_memory (StackTrace arguments) = true
+takes_memory (Scopes arguments) = true
+takes_memory (Variables arguments) = true
+takes_memory (SetVariable arguments) = true
+takes_memory (Evaluate arguments) = true
+takes_memory (Disassemble arguments) = true
+takes_memory (ReadMemory arguments) = true
+takes_memory (WriteMemory arguments) = true
+takes_memory other = false
+
+-- whether it changes the program that there is, and no list of breakpoints
+abbrev pub IsOfProgram : Change → Type 0
+IsOfProgram change.Nothing = ⊥
+IsOfProgram (change.Load program) = ⊥
+IsOfProgram (change.SetSource breaks) = ⊥
+IsOfProgram (change.SetInstructions breaks) = ⊥
+IsOfProgram (change.Issue targets) = ⊥
+IsOfProgram (change.SetHart hart) = ⊤
+IsOfProgram (change.Write address bytes) = ⊤
+IsOfProgram change.Begin = ⊤
+IsOfProgram (change.Resume goal) = ⊤
+IsOfProgram (change.Mark mark) = ⊤
+IsOfProgram change.Restart = ⊤
+IsOfProgram change.End = ⊤
+IsOfProgram (change.Leave ends stands) = ⊤
+
+-- what becomes of the references with a change
+abbrev pub call_of : Change → Option Call
+call_of change.Nothing = None
+call_of (change.Load program) = None
+call_of change.Begin = None
+call_of (change.Resume goal) = Some EndStop
+call_of (change.Mark mark) = None
+call_of change.Restart = Some EndStop
+call_of (change.SetSource breaks) = None
+call_of (change.SetInstructions breaks) = None
+call_of (change.SetHart hart) = None
+call_of (change.Write address bytes) = None
+call_of (change.Issue targets) = Some (Issue targets.items)
+call_of change.End = None
+call_of (change.Leave ends stands) = Some EndStop
+
 -- the answer that the code's is, where this is debugged
 abbrev pub answering_as : Debuggee → AnAnswer → Answering
 answering_as d a = record {
   debuggee = changed a.change d;
+  references = call_of a.change;
   terms = a.terms;
   outcome = a.outcome;
   events = events_of a.event;
   closes = a.closes;
 }
 
--- what is kept after a change, and what is agreed with it
+-- what a session is after a change
+abbrev pub now_changed : Change → Now → Now
+now_changed c now =
+    record now { debuggee = changed c now.debuggee; numbers = referred (call_of c) now.numbers }
+
+-- what is kept after a change on a connection, and what is agreed with it
 abbrev pub kept_changed : Change → Terms → Kept → Kept
-kept_changed c terms k =
-    kept_agreed k.now.link terms (record k { now = record k.now { debuggee = changed c k.now.debuggee } })
+kept_changed c terms k = kept_agreed k.now.link terms (record k { now = now_changed c k.now })
 
 -- what an answer is lent is in its ranges
 pub record IsLendable (lent : Lent) : Type 0 where

@@ -48,6 +48,7 @@ loads now terms arguments text = record {
   debuggee = record now.debuggee {
     program = Some (just_loaded (assembled text) arguments.program arguments.stop_on_entry now.size);
   };
+  references = None;
   terms = record terms { phase = Configuring; launched = true };
   outcome = Done body.Empty;
   events = event.Initialized ∷ [];

@@ -4,6 +4,8 @@
 pub mod Arrivals
 -- how far a connection has come, and what was agreed on it
 pub mod Phases
+-- references to frames and variables: their numbers, and all that were ever issued
+pub mod References
 -- what a session is now, and the acts that events and answers are made of
 pub mod Acts
 -- what a request asks of the program that is debugged
@@ -14,6 +16,7 @@ pub mod Successes
 pub mod Initialize
 -- `launch`, and the requests after it, likewise
 pub mod Launch
+pub mod Attach
 pub mod ConfigurationDone
 pub mod Threads
 pub mod Cancel
@@ -28,6 +31,10 @@ pub mod Pause
 pub mod Breaks
 pub mod SetBreakpoints
 pub mod SetInstructionBreakpoints
+-- what looks into the program, and the two requests that set something in it
+pub mod Looking
+pub mod SetVariable
+pub mod WriteMemory
 -- the list of the requests
 pub mod Requests
 -- the answer to a request: the refusals in their order, or its success
@@ -63,6 +70,8 @@ pub mod Begins
 -- ---- what follows
 -- what holds after every list of events
 pub mod Laws
+-- and of references, as long as they last
+pub mod Lifetimes
 -- ---- of the layers below
 -- frames, and each fault of one
 pub use Rattle.framing.specs.Frames

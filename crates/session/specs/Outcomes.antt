@@ -27,7 +27,7 @@ use Rattle.session.specs.declared.event.Turned.TheVariants.{Answered, Nothing, F
 use Rattle.session.specs.declared.link.Link.{Link}
 use Rattle.session.specs.declared.pending.Pending.{Pending}
 use Rattle.session.specs.declared.terms.Terms.{Terms}
-use Rattle.session.specs.Acts.{Now, Seen, Act, Answering, Open, Close, Accept, Agree, Become, Reply, Tell, HangUp, Take}
+use Rattle.session.specs.Acts.{Now, Seen, Act, Answering, Open, Close, Accept, Agree, Become, Refer, Reply, Tell, HangUp, Take}
 use Rattle.session.specs.Acts.{grows}
 use Rattle.session.specs.Refusals.{answer_to}
 use Rattle.session.specs.Slices.{telling}
@@ -75,7 +75,8 @@ closing false = []
 
 -- an answer: its change stands before it is queued, and what is told is queued after it
 abbrev pub answering : Answering → List Act
-answering a = Become a.debuggee ∷ Agree a.terms ∷ Reply a.outcome ∷ (map Tell a.events ++ closing a.closes)
+answering a = Become a.debuggee ∷ Refer a.references ∷ Agree a.terms ∷ Reply a.outcome
+    ∷ (map Tell a.events ++ closing a.closes)
 
 -- what a turn comes to, by the requests that wait
 abbrev pub next_turn : Now → Terms → Option (List ℕ) → List Pending → Outcome

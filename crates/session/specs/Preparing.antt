@@ -6,7 +6,7 @@ use Rattle.session.specs.declared.link.Link.{Link}
 use Rattle.session.specs.declared.pending.Pending.{Pending}
 use Rattle.session.specs.declared.prepared.Prepared.{Prepared}
 use Rattle.session.specs.Acts.{Answering, Now}
-use Rattle.session.specs.Kept.{Drafted, changed, draft_on, drafted, drafted_all}
+use Rattle.session.specs.Kept.{Drafted, call_of, changed, draft_on, drafted, drafted_all}
 use Rattle.session.specs.Refusals.{response_to}
 
 -- an answer with what is told after it, by the answer to the first request
@@ -17,6 +17,7 @@ draft_of limits link p a =
 -- an answer that was written: its change, what is agreed, and whether it closes are those of the answer
 pub record IsPrepared (now : Now) (p : Pending) (a : Answering) (prepared : Prepared) : Type 0 where
   pub debuggee : changed prepared.change now.debuggee ≡ a.debuggee
+  pub references : call_of prepared.change ≡ a.references
   pub terms : prepared.terms ≡ a.terms
   pub closes : prepared.closes ≡ a.closes
   pub draft : prepared.draft ≡ draft_of now.limits now.link p a

@@ -1,12 +1,12 @@
 -- The requests: in which phases each is taken, what it asks of the program that is debugged, and what comes of it. This
 -- is the list of them; what there is to say of one stands in the file of its name.
 --
--- Those of the profile that a session does not serve yet are to it as any name that nobody knows: none is taken in any
--- phase, and nothing comes of it (DAP specification, `Request.command`).
+-- A session serves those of the profile, and no others (DAP specification, `Request.command`).
 use Rattle.std.specs.Prelude.{◌≡◌, ℕ, Bool, true, false, List, [], ◌∷◌, Option, codes, bytes_eq, refl}
 use Rattle.std.specs.List.{list_any}
 use Rattle.protocol.specs.declared.initialize.TheConstants.{NAME as INITIALIZE}
 use Rattle.protocol.specs.declared.launch.TheConstants.{NAME as LAUNCH}
+use Rattle.protocol.specs.declared.attach.TheConstants.{NAME as ATTACH}
 use Rattle.protocol.specs.declared.configuration_done.TheConstants.{NAME as CONFIGURATION_DONE}
 use Rattle.protocol.specs.declared.threads.TheConstants.{NAME as THREADS}
 use Rattle.protocol.specs.declared.cancel.TheConstants.{NAME as CANCEL}
@@ -21,22 +21,31 @@ use Rattle.protocol.specs.declared.next.TheConstants.{NAME as NEXT}
 use Rattle.protocol.specs.declared.step_in.TheConstants.{NAME as STEP_IN}
 use Rattle.protocol.specs.declared.step_out.TheConstants.{NAME as STEP_OUT}
 use Rattle.protocol.specs.declared.pause.TheConstants.{NAME as PAUSE}
-use Rattle.replies.specs.declared.response.ResponseBody.TheVariants as body
+use Rattle.protocol.specs.declared.stack_trace.TheConstants.{NAME as STACK_TRACE}
+use Rattle.protocol.specs.declared.scopes.TheConstants.{NAME as SCOPES}
+use Rattle.protocol.specs.declared.variables.TheConstants.{NAME as VARIABLES}
+use Rattle.protocol.specs.declared.set_variable.TheConstants.{NAME as SET_VARIABLE}
+use Rattle.protocol.specs.declared.evaluate.TheConstants.{NAME as EVALUATE}
+use Rattle.protocol.specs.declared.disassemble.TheConstants.{NAME as DISASSEMBLE}
+use Rattle.protocol.specs.declared.read_memory.TheConstants.{NAME as READ_MEMORY}
+use Rattle.protocol.specs.declared.write_memory.TheConstants.{NAME as WRITE_MEMORY}
 use Rattle.protocol.specs.declared.command.Command.{Command}
-use Rattle.protocol.specs.declared.command.Command.TheVariants.{Initialize, Launch, ConfigurationDone, Threads, Cancel}
+use Rattle.protocol.specs.declared.command.Command.TheVariants.{Initialize, Launch, Attach, ConfigurationDone, Threads, Cancel}
 use Rattle.protocol.specs.declared.command.Command.TheVariants.{Restart, Terminate, Disconnect, SetExceptionBreakpoints}
 use Rattle.protocol.specs.declared.command.Command.TheVariants.{SetBreakpoints, SetInstructionBreakpoints}
 use Rattle.protocol.specs.declared.command.Command.TheVariants.{Continue, Next, StepIn, StepOut, Pause}
+use Rattle.protocol.specs.declared.command.Command.TheVariants.{StackTrace, Scopes, Variables, SetVariable, Evaluate}
+use Rattle.protocol.specs.declared.command.Command.TheVariants.{Disassemble, ReadMemory, WriteMemory}
 use Rattle.stepping.specs.declared.goal.Goal.TheVariants as goal
 use Rattle.session.specs.declared.demand.Demand.{Demand}
 use Rattle.session.specs.declared.phase.Phase.{Phase}
 use Rattle.session.specs.declared.terms.Terms.{Terms}
 use Rattle.session.specs.Acts.{Now, Answering}
-use Rattle.session.specs.Demands.{asks_alive, asks_nothing, asks_program, asks_still, asks_thread}
-use Rattle.session.specs.Successes.{agreeing}
+use Rattle.session.specs.Demands.{asks_alive, asks_nothing, asks_program, asks_still, asks_stopped, asks_thread}
 use Rattle.session.specs.Stepping.{granularity_of}
 use Rattle.session.specs.Initialize as initialize
 use Rattle.session.specs.Launch as launch
+use Rattle.session.specs.Attach as attach
 use Rattle.session.specs.ConfigurationDone as configuration_done
 use Rattle.session.specs.Threads as threads
 use Rattle.session.specs.Cancel as cancel
@@ -49,12 +58,16 @@ use Rattle.session.specs.SetExceptionBreakpoints as set_exception_breakpoints
 use Rattle.session.specs.Continue as continue
 use Rattle.session.specs.Stepping as stepping
 use Rattle.session.specs.Pause as pause
+use Rattle.session.specs.Looking as looking
+use Rattle.session.specs.SetVariable as set_variable
+use Rattle.session.specs.WriteMemory as write_memory
 
 -- the names of the requests that are served
 abbrev pub served : List (List ℕ)
-served = INITIALIZE.now ∷ LAUNCH.now ∷ CONFIGURATION_DONE.now ∷ THREADS.now ∷ CANCEL.now ∷ RESTART.now ∷ TERMINATE.now
+served = INITIALIZE.now ∷ LAUNCH.now ∷ ATTACH.now ∷ CONFIGURATION_DONE.now ∷ THREADS.now ∷ CANCEL.now ∷ RESTART.now ∷ TERMINATE.now
     ∷ DISCONNECT.now ∷ SET_BREAKPOINTS.now ∷ SET_INSTRUCTION_BREAKPOINTS.now ∷ SET_EXCEPTION_BREAKPOINTS.now
-    ∷ CONTINUE.now ∷ NEXT.now ∷ STEP_IN.now ∷ STEP_OUT.now ∷ PAUSE.now ∷ []
+    ∷ CONTINUE.now ∷ NEXT.now ∷ STEP_IN.now ∷ STEP_OUT.now ∷ PAUSE.now ∷ STACK_TRACE.now ∷ SCOPES.now
+    ∷ VARIABLES.now ∷ SET_VARIABLE.now ∷ EVALUATE.now ∷ DISASSEMBLE.now ∷ READ_MEMORY.now ∷ WRITE_MEMORY.now ∷ []
 
 -- whether a request of that name is served
 unfoldable pub is_served : List ℕ → Bool
@@ -72,6 +85,7 @@ one_that_is_not_served = refl
 abbrev pub is_taken_in : Phase → Command → Bool
 is_taken_in phase (Initialize arguments) = initialize.is_taken_in phase
 is_taken_in phase (Launch arguments) = launch.is_taken_in phase
+is_taken_in phase Attach = attach.is_taken_in phase
 is_taken_in phase ConfigurationDone = configuration_done.is_taken_in phase
 is_taken_in phase Threads = threads.is_taken_in phase
 is_taken_in phase (Cancel arguments) = cancel.is_taken_in phase
@@ -86,10 +100,18 @@ is_taken_in phase (Next arguments) = stepping.is_taken_in phase
 is_taken_in phase (StepIn arguments) = stepping.is_taken_in phase
 is_taken_in phase (StepOut arguments) = stepping.is_taken_in phase
 is_taken_in phase (Pause arguments) = pause.is_taken_in phase
-is_taken_in phase not_served = false
+is_taken_in phase (StackTrace arguments) = looking.is_taken_in phase
+is_taken_in phase (Scopes arguments) = looking.is_taken_in phase
+is_taken_in phase (Variables arguments) = looking.is_taken_in phase
+is_taken_in phase (Evaluate arguments) = looking.is_taken_in phase
+is_taken_in phase (Disassemble arguments) = looking.is_taken_in phase
+is_taken_in phase (ReadMemory arguments) = looking.is_taken_in phase
+is_taken_in phase (SetVariable arguments) = set_variable.is_taken_in phase
+is_taken_in phase (WriteMemory arguments) = write_memory.is_taken_in phase
 
 -- what the request asks of the program that is debugged
 abbrev pub demand_of : Command → Demand
+demand_of Attach = asks_alive
 demand_of ConfigurationDone = asks_alive
 demand_of Restart = asks_alive
 demand_of Terminate = asks_alive
@@ -101,12 +123,21 @@ demand_of (Next arguments) = asks_still arguments.thread_id
 demand_of (StepIn arguments) = asks_still arguments.thread_id
 demand_of (StepOut arguments) = asks_still arguments.thread_id
 demand_of (Pause arguments) = asks_thread arguments.thread_id
+demand_of (StackTrace arguments) = asks_still arguments.thread_id
+demand_of (Scopes arguments) = asks_stopped
+demand_of (Variables arguments) = asks_stopped
+demand_of (Evaluate arguments) = asks_stopped
+demand_of (Disassemble arguments) = asks_stopped
+demand_of (ReadMemory arguments) = asks_stopped
+demand_of (SetVariable arguments) = asks_stopped
+demand_of (WriteMemory arguments) = asks_stopped
 demand_of other = asks_nothing
 
 -- what comes of the request where it is taken, and the program is as it asks; it is given the file that it names
 abbrev pub success_of : Now → Terms → Option (List ℕ) → Command → Answering
 success_of now terms file (Initialize arguments) = initialize.success now terms arguments
 success_of now terms file (Launch arguments) = launch.success now terms file arguments
+success_of now terms file Attach = attach.success now terms
 success_of now terms file ConfigurationDone = configuration_done.success now terms
 success_of now terms file Threads = threads.success now terms
 success_of now terms file (Cancel arguments) = cancel.success now terms
@@ -125,4 +156,11 @@ success_of now terms file (StepIn arguments) =
 success_of now terms file (StepOut arguments) =
     stepping.success now terms (goal.Out (granularity_of arguments.granularity))
 success_of now terms file (Pause arguments) = pause.success now terms
-success_of now terms file not_served = agreeing now terms body.Empty
+success_of now terms file (StackTrace arguments) = looking.looks now terms (StackTrace arguments)
+success_of now terms file (Scopes arguments) = looking.looks now terms (Scopes arguments)
+success_of now terms file (Variables arguments) = looking.looks now terms (Variables arguments)
+success_of now terms file (Evaluate arguments) = looking.looks now terms (Evaluate arguments)
+success_of now terms file (Disassemble arguments) = looking.looks now terms (Disassemble arguments)
+success_of now terms file (ReadMemory arguments) = looking.looks now terms (ReadMemory arguments)
+success_of now terms file (SetVariable arguments) = set_variable.success now terms arguments
+success_of now terms file (WriteMemory arguments) = write_memory.success now terms arguments

@@ -7,7 +7,7 @@ use Rattle.session.specs.declared.phase.Phase.{Phase}
 use Rattle.session.specs.declared.terms.Terms.{Terms}
 use Rattle.session.specs.Acts.{Now, Answering}
 use Rattle.session.specs.Phases.{is_active_in}
-use Rattle.session.specs.Successes.{changing}
+use Rattle.session.specs.Successes.{resuming}
 
 -- the phases in which it is taken
 abbrev pub is_taken_in : Phase → Bool
@@ -15,4 +15,4 @@ is_taken_in phase = is_active_in phase
 
 -- what comes of it
 abbrev pub success : Now → Terms → Answering
-success now terms = changing now terms (λ p. first_run (restarted p)) body.Empty
+success now terms = resuming now terms (λ p. first_run (restarted p)) body.Empty

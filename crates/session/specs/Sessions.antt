@@ -21,11 +21,13 @@ use Rattle.session.specs.declared.pending.Ask.{Ask}
 use Rattle.session.specs.declared.pending.Pending.{Pending}
 use Rattle.session.specs.declared.terms.Terms.{Terms}
 use Rattle.debuggee.specs.Programs.{Debuggee, Program}
-use Rattle.session.specs.Acts.{Now, Act, Open, Close, Accept, Agree, Become, Reply, Tell, HangUp, Take, opened, closed}
-use Rattle.session.specs.Acts.{agreed, hung}
+use Rattle.session.specs.Acts.{Now, Act, Open, Close, Accept, Agree, Become, Refer, Reply, Tell, HangUp, Take, opened, closed}
+use Rattle.session.specs.Acts.{agreed, hung, refers}
+use Rattle.session.specs.References.{References, ended, no_numbers, no_references, past_referred}
+use Rattle.variables.specs.Laws.{Call}
 use Rattle.session.specs.Acts.{numbered, accepted, read_on, fault_of_reading}
 use Rattle.session.specs.Arrivals.{no_arrivals, asks_of}
-use Rattle.session.specs.Config.{HasImage, first_program}
+use Rattle.session.specs.Config.{HasImage, first_program, is_size}
 use Rattle.session.specs.Effects.{World, effect, answer, after_all}
 use Rattle.session.specs.Limits.{are_limits}
 use Rattle.session.specs.Refusals.{response_to}
@@ -49,12 +51,13 @@ pub record Life : Type 0 where
 abbrev pub no_life : Life
 no_life = record { accepted = []; heard = []; said = []; taken = [] }
 
--- A session: what it is now, the life of the last connection that was made, and the lives before it. A life stays when
--- its connection ends. The first is that of no connection: nothing happened in it.
+-- A session: what it is now, the life of the last connection that was made, the lives before it, and all references that
+-- were ever issued. A life stays when its connection ends. The first is that of no connection: nothing happened in it.
 pub record Session : Type 0 where
   pub now : Now
   pub before : List Life
   pub life : Life
+  pub references : References
 
 -- the lives, each at the place that is its connection's number
 abbrev pub lives : Session → List Life
@@ -95,7 +98,7 @@ up_to_fault stream (byte ∷ piece) = if is_faulty stream then stream else up_to
 -- a connection is made, if there is none
 abbrev pub opened_on : Option Link → Session → Session
 opened_on (Some link) s = s
-opened_on None s = record { now = opened s.now; before = lives s; life = no_life }
+opened_on None s = record { now = opened s.now; before = lives s; life = no_life; references = s.references }
 
 -- a life in which a piece more came, after what had come of the next frame
 abbrev pub with_piece : Life → Now → List ℕ → Life
@@ -116,6 +119,14 @@ accepted_on (Some link) piece s = if link.is_closing then s else record s {
 abbrev pub agreed_on : Option Link → Terms → Session → Session
 agreed_on None terms s = s
 agreed_on (Some link) terms s = record s { now = agreed s.now link terms }
+
+-- references are issued on it, or the stop ends for them
+abbrev pub referred_on : Option Link → Option Call → Session → Session
+referred_on None call s = s
+referred_on (Some link) call s = record s {
+  now = refers s.now call;
+  references = past_referred s.now.connections call s.references;
+}
 
 -- the message that is said next
 abbrev pub said_next : Now → Link → Message → Said
@@ -150,9 +161,10 @@ with_taken life bytes = record life { taken = life.taken ++ bytes }
 -- a session with its past, after an act
 abbrev pub performed_on : Act → Session → Session
 performed_on Open s = opened_on s.now.link s
-performed_on Close s = record s { now = closed s.now }
+performed_on Close s = record s { now = closed s.now; references = ended s.references }
 performed_on (Accept piece) s = accepted_on s.now.link piece s
 performed_on (Agree terms) s = agreed_on s.now.link terms s
+performed_on (Refer call) s = referred_on s.now.link call s
 performed_on (Become debuggee) s = record s { now = record s.now { debuggee = debuggee } }
 performed_on (Reply outcome) s = replied_on s.now.arrivals.pending outcome s
 performed_on (Tell event) s = said_on s.now.link (IsEvent event) s.now.arrivals.pending s
@@ -171,13 +183,14 @@ Effect s e = effect histories e s
 abbrev pub Answer : Session → Event → Result Applied EventError
 Answer s e = answer histories e s
 
--- what a session begins with: its limits, which are right, how much memory a machine gets, and a program, if one is
+-- what a session begins with: its limits, which are right, how much memory a machine gets, which it can have, and a program, if one is
 -- given: the path of its file, and what that holds, which has an image
 pub record Beginning : Type 0 where
   pub limits : Limits
   pub size : ℕ
   pub program : Option (List ℕ × List ℕ)
   pub numbers : are_limits limits ≡ true
+  pub memory : is_size size ≡ true
   pub image : HasImage program size
 
 -- what a session is before anything happened, by the program that is debugged then
@@ -191,6 +204,7 @@ nothing_with limits size program = record {
   tail = Partial [];
   fault = None;
   debuggee = record { program = program; last_break = 0 };
+  numbers = no_numbers limits.last_ref;
 }
 
 abbrev pub nothing_yet : Beginning → Now
@@ -198,7 +212,7 @@ nothing_yet from = nothing_with from.limits from.size (first_program from.progra
 
 -- a session to which nothing happened
 abbrev pub start : Beginning → Session
-start from = record { now = nothing_yet from; before = []; life = no_life }
+start from = record { now = nothing_yet from; before = []; life = no_life; references = no_references }
 
 -- what a list of events leaves
 abbrev pub After : Beginning → List Event → Session

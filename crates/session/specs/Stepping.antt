@@ -12,7 +12,7 @@ use Rattle.session.specs.declared.phase.Phase.{Phase}
 use Rattle.session.specs.declared.terms.Terms.{Terms}
 use Rattle.session.specs.Acts.{Now, Answering}
 use Rattle.session.specs.Phases.{is_active_in}
-use Rattle.session.specs.Successes.{changing}
+use Rattle.session.specs.Successes.{resuming}
 
 -- what a step is
 abbrev pub granularity_of : Asked → Granularity
@@ -26,4 +26,4 @@ is_taken_in phase = is_active_in phase
 
 -- what comes of it
 abbrev pub success : Now → Terms → Goal → Answering
-success now terms goal = changing now terms (resumed goal) body.Empty
+success now terms goal = resuming now terms (resumed goal) body.Empty

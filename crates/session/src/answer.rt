@@ -2,7 +2,7 @@
 ghost use Rattle.std.specs.Prelude.{◌≡◌, false, []};
 ghost use Rattle.debuggee.specs.Programs.{Debuggee as ADebuggee};
 ghost use Rattle.session.specs.Acts.{Now as ANow};
-ghost use Rattle.session.specs.Kept.{answering_as, changed};
+ghost use Rattle.session.specs.Kept.{answering_as, call_of, changed};
 ghost use Rattle.session.specs.Successes as spec;
 
 use crate::numbered::Numbered;
@@ -10,7 +10,9 @@ use crate::terms::Terms;
 use debuggee::{Mark, Program};
 use protocol::{Refusal, Text};
 use replies::{Event, Outcome, ResponseBody};
+use rv32i::Hart;
 use stepping::Goal;
+use variables::Target;
 
 /// What an answer makes of the program that is debugged.
 #[derive(Drop)]
@@ -29,6 +31,17 @@ pub enum Change {
     SetSource(Numbered),
     /// The breakpoints of its instructions are these.
     SetInstructions(Numbered),
+    /// Its hart has these registers.
+    SetHart(Hart),
+    /// Bytes are written to its memory.
+    Write {
+        /// The address of the first.
+        address: u32,
+        /// They.
+        bytes: Vec<u8>,
+    },
+    /// Nothing, and numbers are issued for these targets.
+    Issue(Vec<Target>),
     /// It is loaded anew, and its first run begins.
     Restart,
     /// It ends.
@@ -67,7 +80,7 @@ pub(crate) fn agreeing(terms: Terms, body: ResponseBody) -> Answer
 /// A success that changes the program that is debugged.
 pub(crate) fn changing(change: Change, terms: Terms, body: ResponseBody) -> Answer
     ensures { (d : ADebuggee) → answering_as d result
-        ≡ record { debuggee = changed change d; terms = terms; outcome = Outcome.Done body; events = []; closes = false } }
+        ≡ record { debuggee = changed change d; references = call_of change; terms = terms; outcome = Outcome.Done body; events = []; closes = false } }
 {
     Answer {
         change,

@@ -64,7 +64,19 @@ impl Demand {
         }
     }
 
-    /// The same, and that it stands still.
+    /// That it has not ended, and stands still.
+    pub(crate) fn stopped() -> Demand
+        ensures { result ≡ spec.asks_stopped }
+    {
+        Demand {
+            loaded: true,
+            alive: true,
+            thread: None,
+            still: true,
+        }
+    }
+
+    /// That it has not ended, that this is its thread, and that it stands still.
     pub(crate) fn still(number: i32) -> Demand
         ensures { result ≡ spec.asks_still number }
     {

@@ -5,6 +5,7 @@ ghost use Rattle.session.specs.declared.event.Event.{Event as AnEvent};
 ghost use Rattle.session.specs.Acts.{Now as ANow};
 ghost use Rattle.session.specs.Sessions.{After, Beginning as ABeginning, Session as ASession};
 ghost use Rattle.session.specs.Laws as law;
+ghost use Rattle.session.specs.Lifetimes.{ReferencesLast, ReferencesRise};
 
 /// Whatever happens, the life of the last connection that was made is at the place that is its number.
 pub fn lives_are_numbered()
@@ -78,4 +79,16 @@ pub fn slices_join()
 pub fn marked_retires_none()
     ensures marked { (s : ASession) → law.MarkedRetiresNone s }
     ensures pause { (now : ANow) → law.PauseMarks now }
+{}
+
+/// Whatever happens, references have the numbers 1, 2, 3 and so on: none is issued twice.
+pub fn references_rise()
+    ensures { (from : ABeginning) (events : List AnEvent) → ReferencesRise (After from events) }
+{}
+
+/// Whatever happened, a request that names a frame or a scope succeeds only with a number that was issued in this stop, on this
+/// connection; it is refused as stale exactly where nothing comes before and the number was issued in an earlier stop, and as unknown
+/// exactly where nothing comes before and the number was never issued, or in this stop for something of another kind.
+pub fn references_last()
+    ensures { (from : ABeginning) (events : List AnEvent) → ReferencesLast (After from events) }
 {}

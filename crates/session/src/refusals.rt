@@ -17,6 +17,7 @@ use debuggee::{Program, Run};
 use protocol::{Command, Refusal};
 use replies::{Outcome, Response};
 use std::alloc::{AllocError, Global};
+use variables::Handles;
 
 /// What a request is answered, by the program that is debugged, if there is one, and by the file that
 /// the request names, if it names one. `Err`: no memory was left.
@@ -24,17 +25,18 @@ pub(crate) fn answer_to(
     alloc: Global,
     terms: Terms,
     program: &Option<Program>,
+    handles: &Handles,
     lent: Lent,
     file: Option<&[u8]>,
     pending: &Pending,
 ) -> Result<Answer, AllocError>
     requires { IsLendable lent }
-    ensures { IfOk result (λ a. (now : ANow) → IsLent lent program.now now
+    ensures { IfOk result (λ a. (now : ANow) → IsLent lent program.now now → now.numbers ≡ handles.now
         → answering_as now.debuggee a ≡ spec.answer_to now terms (option_copied file.entry) pending.now) }
 {
     match refusal_of(run_of(program), terms.phase, pending) {
         Some(refusal) => Ok(refusing(terms, refusal, None)),
-        None => taken(alloc, terms, program, lent, file, &pending.ask),
+        None => taken(alloc, terms, program, handles, lent, file, &pending.ask),
     }
 }
 
@@ -120,16 +122,25 @@ fn taken(
     alloc: Global,
     terms: Terms,
     program: &Option<Program>,
+    handles: &Handles,
     lent: Lent,
     file: Option<&[u8]>,
     ask: &Ask,
 ) -> Result<Answer, AllocError>
     requires { IsLendable lent }
-    ensures { IfOk result (λ a. (now : ANow) → IsLent lent program.now now
+    ensures { IfOk result (λ a. (now : ANow) → IsLent lent program.now now → now.numbers ≡ handles.now
         → answering_as now.debuggee a ≡ spec.answer_by now terms (option_copied file.entry) None ask.now) }
 {
     match ask {
-        Ask::Request(request) => success_of(alloc, terms, program, lent, file, &request.command),
+        Ask::Request(request) => success_of(
+            alloc,
+            terms,
+            program,
+            handles,
+            lent,
+            file,
+            &request.command,
+        ),
         Ask::Bad { refusal, .. } => Ok(refusing(terms, *refusal, None)),
     }
 }

@@ -2,12 +2,10 @@
 ghost use Rattle.std.specs.Prelude.{◌≡◌, false, IfOk};
 ghost use Rattle.std.specs.Option.{option_copied};
 ghost use Rattle.session.specs.Acts.{Now as ANow};
-ghost use Rattle.answers.specs.Answers.{sets_breakpoints};
-ghost use Rattle.session.specs.Kept.{IsLendable, IsLent, answering_as};
-ghost use Rattle.protocol.specs.declared.command.Command.TheVariants as a_command;
-ghost use Rattle.protocol.specs.declared.launch.LaunchArguments.{LaunchArguments};
+ghost use Rattle.session.specs.Kept.{IsLendable, IsLent, answering_as, takes_memory};
 ghost use Rattle.session.specs.Requests.{demand_of, is_served, is_taken_in, success_of};
 
+mod attach;
 mod breaks;
 mod cancel;
 mod configuration_done;
@@ -15,23 +13,26 @@ mod continue_;
 mod disconnect;
 mod initialize;
 mod launch;
+mod looks;
 mod pause;
 mod restart;
 mod set_exception_breakpoints;
+mod set_variable;
 mod steps;
 mod terminate;
 mod threads;
+mod write_memory;
 
-use crate::answer::{Answer, agreeing};
+use crate::answer::Answer;
 use crate::demand::Demand;
 use crate::lent::Lent;
 use crate::phase::Phase;
 use crate::terms::Terms;
 use debuggee::Program;
 use protocol::Command;
-use replies::ResponseBody;
 use std::alloc::{AllocError, Global};
 use stepping::Goal;
+use variables::Handles;
 
 /// Whether a request of that name is served (`Request.command`).
 #[tactic(auto, unfolding(crate::specs::Requests::is_served))]
@@ -42,6 +43,7 @@ pub(crate) fn is_served(name: &str) -> bool
         name,
         protocol::initialize::NAME
             | protocol::launch::NAME
+            | protocol::attach::NAME
             | protocol::configuration_done::NAME
             | protocol::threads::NAME
             | protocol::cancel::NAME
@@ -56,16 +58,24 @@ pub(crate) fn is_served(name: &str) -> bool
             | protocol::step_in::NAME
             | protocol::step_out::NAME
             | protocol::pause::NAME
+            | protocol::stack_trace::NAME
+            | protocol::scopes::NAME
+            | protocol::variables::NAME
+            | protocol::set_variable::NAME
+            | protocol::evaluate::NAME
+            | protocol::disassemble::NAME
+            | protocol::read_memory::NAME
+            | protocol::write_memory::NAME
     )
 }
 
-/// Whether the request is taken in the phase: one that is not served never is.
+/// Whether the request is taken in the phase.
 pub(crate) fn is_taken_in(phase: Phase, command: &Command) -> bool
     ensures { result ≡ is_taken_in phase command.now }
 {
     match command {
         Command::Initialize(_) => phase.is_fresh(),
-        Command::Launch(_) => phase.is_initialized(),
+        Command::Launch(_) | Command::Attach => phase.is_initialized(),
         Command::ConfigurationDone => phase.is_configuring(),
         Command::Threads => phase.is_listening(),
         Command::Cancel(_) | Command::Disconnect(_) => phase.is_there(),
@@ -78,8 +88,15 @@ pub(crate) fn is_taken_in(phase: Phase, command: &Command) -> bool
         | Command::Next(_)
         | Command::StepIn(_)
         | Command::StepOut(_)
-        | Command::Pause(_) => phase.is_active(),
-        _ => false,
+        | Command::Pause(_)
+        | Command::StackTrace(_)
+        | Command::Scopes(_)
+        | Command::Variables(_)
+        | Command::SetVariable(_)
+        | Command::Evaluate(_)
+        | Command::Disassemble(_)
+        | Command::ReadMemory(_)
+        | Command::WriteMemory(_) => phase.is_active(),
     }
 }
 
@@ -88,7 +105,8 @@ pub(crate) fn demand_of(command: &Command) -> Demand
     ensures { result ≡ demand_of command.now }
 {
     match command {
-        Command::ConfigurationDone | Command::Restart | Command::Terminate => Demand::alive(),
+        Command::Attach | Command::ConfigurationDone | Command::Restart | Command::Terminate =>
+            Demand::alive(),
         Command::SetBreakpoints(_)
         | Command::SetInstructionBreakpoints(_)
         | Command::SetExceptionBreakpoints => Demand::program(),
@@ -97,22 +115,30 @@ pub(crate) fn demand_of(command: &Command) -> Demand
         Command::StepIn(arguments) => Demand::still(arguments.thread_id),
         Command::StepOut(arguments) => Demand::still(arguments.thread_id),
         Command::Pause(arguments) => Demand::thread(arguments.thread_id),
+        Command::StackTrace(arguments) => Demand::still(arguments.thread_id),
+        Command::Scopes(_)
+        | Command::Variables(_)
+        | Command::SetVariable(_)
+        | Command::Evaluate(_)
+        | Command::Disassemble(_)
+        | Command::ReadMemory(_)
+        | Command::WriteMemory(_) => Demand::stopped(),
         _ => Demand::nothing(),
     }
 }
 
-/// What comes of the request where it is taken, and the program is as it asks: of one that is not
-/// served, nothing. `Err`: no memory was left.
+/// What comes of the request where it is taken, and the program is as it asks. `Err`: no memory was left.
 pub(crate) fn success_of(
     alloc: Global,
     terms: Terms,
     program: &Option<Program>,
+    handles: &Handles,
     lent: Lent,
     file: Option<&[u8]>,
     command: &Command,
 ) -> Result<Answer, AllocError>
     requires { IsLendable lent }
-    ensures { IfOk result (λ a. (now : ANow) → IsLent lent program.now now
+    ensures { IfOk result (λ a. (now : ANow) → IsLent lent program.now now → now.numbers ≡ handles.now
         → answering_as now.debuggee a ≡ success_of now terms (option_copied file.entry) command.now) }
 {
     match command {
@@ -120,23 +146,43 @@ pub(crate) fn success_of(
         Command::SetBreakpoints(_) | Command::SetInstructionBreakpoints(_) => {
             breaks::success(alloc, terms, program, lent, command)
         }
+        Command::ConfigurationDone => configuration_done::success(alloc, terms, program),
+        Command::StackTrace(_)
+        | Command::Scopes(_)
+        | Command::Variables(_)
+        | Command::Evaluate(_)
+        | Command::Disassemble(_)
+        | Command::ReadMemory(_) => looks::success(alloc, terms, program, handles, command),
+        Command::SetVariable(arguments) => {
+            set_variable::success(alloc, terms, program, handles, arguments)
+        }
+        Command::WriteMemory(arguments) => write_memory::success(alloc, terms, program, arguments),
         other => Ok(plain_success_of(terms, file, other)),
     }
 }
 
 // The same of any other request, which needs no memory.
 fn plain_success_of(terms: Terms, file: Option<&[u8]>, command: &Command) -> Answer
-    requires launch { (arguments : LaunchArguments) → command.now ≡ a_command.Launch arguments → ⊥ }
-    requires sets { sets_breakpoints command.now ≡ false }
+    requires { takes_memory command.now ≡ false }
     ensures { (now : ANow)
         → answering_as now.debuggee result ≡ success_of now terms (option_copied file.entry) command.now }
 {
     let _ = file;
     match command {
         Command::Initialize(arguments) => initialize::success(terms, arguments),
-        Command::Launch(_) | Command::SetBreakpoints(_) | Command::SetInstructionBreakpoints(_) =>
-            unreachable!(),
-        Command::ConfigurationDone => configuration_done::success(terms),
+        Command::Launch(_)
+        | Command::ConfigurationDone
+        | Command::SetBreakpoints(_)
+        | Command::SetInstructionBreakpoints(_)
+        | Command::StackTrace(_)
+        | Command::Scopes(_)
+        | Command::Variables(_)
+        | Command::SetVariable(_)
+        | Command::Evaluate(_)
+        | Command::Disassemble(_)
+        | Command::ReadMemory(_)
+        | Command::WriteMemory(_) => unreachable!(),
+        Command::Attach => attach::success(terms),
         Command::Threads => threads::success(terms),
         Command::Cancel(_) => cancel::success(terms),
         Command::Restart => restart::success(terms),
@@ -157,6 +203,5 @@ fn plain_success_of(terms: Terms, file: Option<&[u8]>, command: &Command) -> Ans
             steps::success(terms, Goal::Out(granularity))
         }
         Command::Pause(_) => pause::success(terms),
-        _ => agreeing(terms, ResponseBody::Empty),
     }
 }

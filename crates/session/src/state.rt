@@ -3,7 +3,7 @@ ghost use Rattle.std.specs.Prelude.{◌≡◌, ◌≤◌, ◌^◌, None, true, [
 ghost use Rattle.std.specs.Option.{option_map};
 ghost use Rattle.session.specs.declared.event.Event.TheVariants as event;
 ghost use Rattle.session.specs.declared.event.Applied.TheVariants as applied;
-ghost use Rattle.session.specs.Kept.{Drafted, Goes, IsLendable, IsLent, answered, changed, changed_one, draft_on, drafted, drafted_all, events_of, kept_agreed, kept_changed, kept_closing, nothing_kept, keepings, see_kept, settled};
+ghost use Rattle.session.specs.Kept.{Drafted, Goes, IsLendable, IsLent, answered, changed, changed_one, draft_on, drafted, drafted_all, events_of, kept_agreed, kept_changed, kept_closing, now_changed, call_of, IsOfProgram, nothing_kept, keepings, see_kept, settled};
 ghost use Rattle.session.specs.Breaks.{Numbered as ANumbered};
 ghost use Rattle.session.specs.Config.{IsSize};
 ghost use Rattle.session.specs.Demands.{run_of};
@@ -11,6 +11,7 @@ ghost use Rattle.std.specs.Option.{option_copied};
 ghost use Rattle.debuggee.specs.Programs.{left, marked, with_program};
 ghost use Rattle.debuggee.specs.declared.run.Mark.TheVariants as a_mark;
 ghost use Rattle.session.specs.Acts as acts;
+ghost use Rattle.session.specs.Acts.{refers};
 ghost use Rattle.session.specs.Arrivals.{no_arrivals, others_pending};
 ghost use Rattle.framing.specs.Reading.Tail.{Partial};
 ghost use Rattle.session.specs.Outcomes as spec;
@@ -22,6 +23,8 @@ ghost use Rattle.session.specs.declared.answer.Change.TheVariants as a_change;
 ghost use Rattle.debuggee.specs.Programs.{Program as AProgram, first_run, restarted};
 ghost use Rattle.session.specs.Slices.{is_runnable};
 ghost use Rattle.session.specs.Effects.{performed};
+ghost use Rattle.variables.specs.Laws.Call.{EndStop, Issue};
+ghost use Rattle.std.specs.Prelude.{if◌then◌else◌};
 
 use crate::BODY_LIMIT;
 use crate::answer::{Answer, Change};
@@ -44,6 +47,7 @@ use protocol::MessageError;
 use replies::{Event, Message, Outcome};
 use std::alloc::{AllocError, Global};
 use std::marker::Model;
+use variables::{Handles, Target};
 
 /// The most bytes of a piece.
 pub const MOST_PIECE: usize = 65_536;
@@ -70,6 +74,7 @@ pub(crate) struct State {
     pub(crate) buffer: Buffer,
     pub(crate) program: Option<Program>,
     last_break: u32,
+    handles: Handles,
 }
 
 impl Model for State {
@@ -95,6 +100,7 @@ impl Model for State {
         tail = s.unframer.tail;
         fault = s.fault;
         debuggee = record { program = s.program; last_break = s.last_break };
+        numbers = s.handles;
       };
       waiting = s.buffer;
     } };
@@ -122,6 +128,7 @@ impl State {
             buffer: Buffer::new(alloc),
             program,
             last_break: 0,
+            handles: Handles::new(alloc, limits.last_ref),
         }
     }
 
@@ -178,6 +185,7 @@ impl State {
         }
         self.link = None;
         self.forget();
+        self.handles.end_stop();
         Ok(())
     }
 
@@ -261,6 +269,7 @@ impl State {
             self.alloc,
             link.terms,
             &self.program,
+            &self.handles,
             self.lent(),
             file,
             first,
@@ -333,7 +342,7 @@ impl State {
 
     // What an answer makes of the program that is debugged.
     fn change(&mut self, change: Change) -> Result<(), AllocError>
-        ensures ok { OnOk result (self.new ≡ record self.old { now = record self.old.now { debuggee = changed change self.old.now.debuggee } }) }
+        ensures ok { OnOk result (self.new ≡ record self.old { now = now_changed change self.old.now }) }
         ensures err { OnErr result (self.new ≡ self.old) }
     {
         match change {
@@ -341,11 +350,35 @@ impl State {
             Change::Load(program) => self.program = Some(program),
             Change::SetSource(breaks) => return self.set_source(breaks),
             Change::SetInstructions(breaks) => return self.set_instructions(breaks),
-            change => {
-                if let Some(program) = &mut self.program {
-                    change_program(program, change)?;
-                }
-            }
+            Change::Issue(targets) => return self.issue(&targets),
+            change => return self.change_it(change),
+        }
+        Ok(())
+    }
+
+    // References are issued for these targets, for which there are numbers: the answer saw to that.
+    fn issue(&mut self, targets: &[Target]) -> Result<(), AllocError>
+        ensures ok { OnOk result (self.new ≡ record self.old { now = refers self.old.now (Some (Issue targets.now)) }) }
+        ensures err { OnErr result (self.new ≡ self.old) }
+    {
+        match self.handles.issue(targets) {
+            Ok(_) => Ok(()),
+            Err(_) => Err(AllocError),
+        }
+    }
+
+    // What it makes of the program that there is, and what becomes of the references then.
+    fn change_it(&mut self, change: Change) -> Result<(), AllocError>
+        requires { IsOfProgram change }
+        ensures ok { OnOk result (self.new ≡ record self.old { now = now_changed change self.old.now }) }
+        ensures err { OnErr result (self.new ≡ self.old) }
+    {
+        let ends = ends_stop(&change);
+        if let Some(program) = &mut self.program {
+            change_program(program, change)?;
+        }
+        if ends {
+            self.handles.end_stop();
         }
         Ok(())
     }
@@ -573,16 +606,20 @@ impl State {
 
 // What an answer makes of the program that is debugged, where there is one.
 fn change_program(program: &mut Program, change: Change) -> Result<(), AllocError>
-    requires nothing { change ≡ a_change.Nothing → ⊥ }
-    requires load { (other : AProgram) → change ≡ a_change.Load other → ⊥ }
-    requires source { (breaks : ANumbered) → change ≡ a_change.SetSource breaks → ⊥ }
-    requires instructions { (breaks : ANumbered) → change ≡ a_change.SetInstructions breaks → ⊥ }
+    requires { IsOfProgram change }
     ensures ok { OnOk result (program.new ≡ changed_one change program.old) }
     ensures err { OnErr result (program.new ≡ program.old) }
 {
     match change {
-        Change::Nothing | Change::Load(_) | Change::SetSource(_) | Change::SetInstructions(_) =>
-            unreachable!(),
+        Change::Nothing
+        | Change::Load(_)
+        | Change::SetSource(_)
+        | Change::SetInstructions(_)
+        | Change::Issue(_) => unreachable!(),
+        Change::SetHart(hart) => program.set_hart(hart),
+        Change::Write { address, bytes } => {
+            let _ = program.write(address, &bytes);
+        }
         Change::Begin => program.begin(),
         Change::Resume(goal) => program.resume(goal),
         Change::Mark(mark) => program.set_mark(mark),
@@ -594,6 +631,17 @@ fn change_program(program: &mut Program, change: Change) -> Result<(), AllocErro
         }
     }
     Ok(())
+}
+
+// Whether a change ends the stop for the references.
+fn ends_stop(change: &Change) -> bool
+    requires { IsOfProgram change.now }
+    ensures { call_of change.now ≡ (if result then Some EndStop else None) }
+{
+    matches!(
+        change,
+        Change::Resume(_) | Change::Restart | Change::Leave { .. }
+    )
 }
 
 // A program is loaded anew, and its first run begins.

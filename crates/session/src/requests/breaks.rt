@@ -66,8 +66,8 @@ fn success_on(
     }
 }
 
-// The program's source, and how the editor counts.
-fn view_of(alloc: Global, terms: Terms, program: &Program) -> Result<View, AllocError>
+/// The program's source, and how the editor counts.
+pub(crate) fn view_of(alloc: Global, terms: Terms, program: &Program) -> Result<View, AllocError>
     ensures { IfOk result (λ view. view ≡ spec.view_of terms program.now) }
 {
     Ok(View {

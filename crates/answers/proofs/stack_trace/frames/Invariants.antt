@@ -1,0 +1,9 @@
+use Rattle.std.proofs.Common.{◌≡◌, ◌+◌, ◌++◌, drop}
+use Rattle.answers.specs.StackTrace.{addresses}
+use Rattle.answers.specs.Steps.{frames_from}
+use Rattle.answers.proofs.stack_trace.frames.Given as goal
+
+abbrev pub invariant-loop-offset : goal.invariant-loop-offset
+invariant-loop-offset l = record {
+  frames : l.frames.items ++ frames_from l.lines l.view (addresses l.runner) (l.first + l.offset) (drop l.offset l.numbers) ≡ frames_from l.lines l.view (addresses l.runner) l.first l.numbers;
+}

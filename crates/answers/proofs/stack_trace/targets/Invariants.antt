@@ -1,0 +1,9 @@
+use Rattle.std.proofs.Common.{◌≡◌, ◌-◌, map}
+use Rattle.std.specs.List.{range_with_len}
+use Rattle.variables.specs.declared.target.Target.TheVariants.{Frame}
+use Rattle.answers.proofs.stack_trace.targets.Given as goal
+
+abbrev pub invariant-loop-index : goal.invariant-loop-index
+invariant-loop-index l = record {
+  targets : l.targets.items ≡ map (λ index. Frame index) (range_with_len l.first (l.index - l.first));
+}

@@ -1,0 +1,9 @@
+pub mod Words
+pub mod Hart
+pub mod Debugging
+pub mod Values
+pub mod Images
+pub mod Base64
+pub mod Requests
+pub mod Settings
+pub mod Programs

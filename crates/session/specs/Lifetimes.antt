@@ -1,0 +1,98 @@
+-- What holds of references after any list of events (DAP specification, "Lifetime of Objects References").
+--
+-- A reference is good in the stop and on the connection on which it was issued. After that it is stale, for ever: its
+-- number is given to nothing else.
+use Rattle.std.specs.Prelude.{◌≡◌, ◌↔◌, ◌⊎◌, ℕ, ℤ, pos, ◌<◌, Bool, true, false, List, length, map, Option, Some, None, slice_get}
+use Rattle.protocol.specs.declared.command.Command.{Command}
+use Rattle.protocol.specs.declared.command.Command.TheVariants.{Scopes, Variables, SetVariable, Evaluate}
+use Rattle.protocol.specs.declared.refusal.Refusal.TheVariants.{StaleReference, UnknownReference}
+use Rattle.protocol.specs.declared.request.Request.{Request}
+use Rattle.replies.specs.declared.response.Outcome.{Outcome}
+use Rattle.replies.specs.declared.response.Outcome.TheVariants.{Done, Refused}
+use Rattle.replies.specs.declared.response.ResponseBody.{ResponseBody}
+use Rattle.session.specs.declared.link.Link.{Link}
+use Rattle.session.specs.declared.pending.Ask.TheVariants as ask
+use Rattle.session.specs.declared.pending.Fate.{Fate}
+use Rattle.session.specs.Demands.{run_of}
+use Rattle.session.specs.References.{Reference}
+use Rattle.session.specs.Refusals.{answer_to, first_refusal, refusals}
+use Rattle.session.specs.Sessions.{Session}
+use Rattle.variables.specs.Laws.{down_from}
+use Rattle.variables.specs.declared.target.Target.{Target}
+use Rattle.variables.specs.declared.target.Target.TheVariants.{Frame, Registers, Stack}
+
+-- ---- what was issued
+
+-- References have the numbers 1, 2, 3 and so on for as long as the server lives: none is issued twice. Newest first,
+-- they fall to 1.
+abbrev pub ReferencesRise : Session → Type 0
+ReferencesRise s = map (λ r. r.number) s.references.issued ≡ down_from (length s.references.issued)
+
+-- a reference that was issued, of which this is so
+pub record WasIssued (s : Session) (IsSo : Reference → Type 0) : Type 0 where
+  pub reference : Reference
+  pub place : ℕ
+  pub there : slice_get s.references.issued place ≡ Some reference
+  pub so : IsSo reference
+
+-- A number names a reference that was issued in this stop, on this connection.
+abbrev pub IsGood : Session → ℤ → Type 0
+IsGood s number = WasIssued s (λ r.
+    (number ≡ pos r.number) × ((r.stop ≡ s.references.stop) × (r.connection ≡ s.now.connections)))
+
+-- It names one that was issued in an earlier stop.
+abbrev pub IsStale : Session → ℤ → Type 0
+IsStale s number = WasIssued s (λ r. (number ≡ pos r.number) × (r.stop < s.references.stop))
+
+-- ---- what requests name
+
+-- the number by which a request names a frame, or a scope of variables
+abbrev pub reference_in : Command → Option ℤ
+reference_in (Scopes arguments) = Some arguments.frame_id
+reference_in (Evaluate arguments) = arguments.frame_id
+reference_in (Variables arguments) = Some arguments.variables_reference
+reference_in (SetVariable arguments) = Some arguments.variables_reference
+reference_in other = None
+
+-- whether what it refers to is of another kind than the request asks for
+abbrev pub is_no_frame : Target → Bool
+is_no_frame (Frame index) = false
+is_no_frame Registers = true
+is_no_frame Stack = true
+
+abbrev pub is_no_scope : Target → Bool
+is_no_scope (Frame index) = true
+is_no_scope Registers = false
+is_no_scope Stack = false
+
+abbrev pub is_of_other_kind : Command → Target → Bool
+is_of_other_kind (Scopes arguments) target = is_no_frame target
+is_of_other_kind (Evaluate arguments) target = is_no_frame target
+is_of_other_kind other target = is_no_scope target
+
+-- A number was never issued, or in this stop for something of another kind.
+abbrev pub IsUnknown : Session → Command → ℤ → Type 0
+IsUnknown s command number = (WasIssued s (λ r. number ≡ pos r.number) → ⊥)
+    ⊎ WasIssued s (λ r. (number ≡ pos r.number) × ((r.stop ≡ s.references.stop) × (is_of_other_kind command r.target ≡ true)))
+
+-- ---- what they are answered
+
+-- the answer to a request, were it the next
+abbrev pub outcome_next : Session → Link → Option (List ℕ) → Request → Fate → Outcome
+outcome_next s link file r fate = (answer_to s.now link.terms file (record { ask = ask.Request r; fate = fate })).outcome
+
+-- no reason that comes earlier in the list of reasons applies to it
+abbrev pub IsNotRefusedBefore : Session → Link → Request → Fate → Type 0
+IsNotRefusedBefore s link r fate =
+    first_refusal (refusals (run_of s.now.debuggee.program) link.terms.phase (record { ask = ask.Request r; fate = fate })) ≡ None
+
+-- Whatever request names a number: it succeeds only with a good one; it is refused as stale exactly where it is not refused
+-- before and the number is stale, and as unknown exactly where it is not refused before and the number is unknown.
+pub record ReferencesAreGood (s : Session) (link : Link) (file : Option (List ℕ)) (r : Request) (fate : Fate) (number : ℤ) : Type 0 where
+  pub good : (body : ResponseBody) → outcome_next s link file r fate ≡ Done body → IsGood s number
+  pub stale : (outcome_next s link file r fate ≡ Refused StaleReference None) ↔ (IsNotRefusedBefore s link r fate × IsStale s number)
+  pub unknown : (outcome_next s link file r fate ≡ Refused UnknownReference None) ↔ (IsNotRefusedBefore s link r fate × IsUnknown s r.command number)
+
+abbrev pub ReferencesLast : Session → Type 0
+ReferencesLast s = (link : Link) (file : Option (List ℕ)) (r : Request) (fate : Fate) (number : ℤ) → s.now.link ≡ Some link
+    → reference_in r.command ≡ Some number → ReferencesAreGood s link file r fate number

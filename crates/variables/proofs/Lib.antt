@@ -1,0 +1,5 @@
+pub mod Targets
+pub mod Standing
+pub mod Calls
+pub mod Loops
+pub mod Ranges

@@ -1,0 +1,8 @@
+use Rattle.std.proofs.Common.{◌≡◌, drop}
+use Rattle.variables.specs.Numbers.{with_all}
+use Rattle.variables.proofs.handles.with_all.Given as goal
+
+abbrev pub invariant-loop-target : goal.invariant-loop-target
+invariant-loop-target l = record {
+  all : with_all l.all.items (drop l.target-index l.targets) ≡ with_all l.known l.targets;
+}

@@ -1,0 +1,10 @@
+use Rattle.std.proofs.Common.{◌≡◌, ◌≤◌, map}
+use Rattle.std.specs.List.{range_with_len}
+use Rattle.variables.specs.Registers.{register}
+use Rattle.variables.proofs.register.registers.Given as goal
+
+abbrev pub invariant-loop-number : goal.invariant-loop-number
+invariant-loop-number l = record {
+  listed : l.variables.items ≡ map (register l.hart) (range_with_len 0 l.number);
+  within : l.number ≤ 32;
+}

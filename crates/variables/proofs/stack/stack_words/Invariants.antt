@@ -1,0 +1,9 @@
+use Rattle.std.proofs.Common.{◌≡◌, ◌-◌, ◌++◌}
+use Rattle.std.specs.List.{range_with_len}
+use Rattle.variables.specs.Stack.{stack_words, words}
+use Rattle.variables.proofs.stack.stack_words.Given as goal
+
+abbrev pub invariant-loop-number : goal.invariant-loop-number
+invariant-loop-number l = record {
+  listed : l.words.items ++ words l.memory l.sp (range_with_len l.number (64 - l.number)) ≡ stack_words l.hart l.memory;
+}
