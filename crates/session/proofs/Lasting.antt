@@ -38,7 +38,7 @@ use Rattle.rv32i.specs.declared.hart.Hart.{Hart}
 use Rattle.session.specs.declared.demand.Demand.{Demand}
 use Rattle.session.specs.Arrivals.{is_repeat}
 use Rattle.session.specs.Demands.{asks_stopped, goes_on, has_ended, has_none, is_no_thread, run_of}
-use Rattle.session.specs.Looking.{lacks_numbers, looks_on, shows_by}
+use Rattle.session.specs.Looking.{looks_on, shows_by}
 use Rattle.session.specs.SetVariable.{sets_by, sets_on}
 use Rattle.session.specs.Refusals.{answer_by, first_refusal, is_cancelled, is_unknown, names_none, refusals, unmet, where_so}
 use Rattle.session.specs.Requests.{demand_of, is_taken_in, success_of}
@@ -51,7 +51,7 @@ use Rattle.session.specs.Lifetimes.{IsStale, IsUnknown, ReferencesAreGood, Refer
 use Rattle.session.specs.References.{Reference, without_connection}
 use Rattle.session.specs.Sessions.{Beginning, Session, After}
 use Rattle.session.proofs.Issuing.{IsMade, Refers, always_refers}
-use Rattle.variables.specs.Numbers.{InOrder, found_in}
+use Rattle.variables.specs.Numbers.{InOrder, found_in, has_room}
 use Rattle.variables.specs.References.{found_among, next_after}
 use Rattle.variables.specs.declared.error.FindError.{FindError}
 use Rattle.variables.specs.declared.error.FindError.TheVariants.{Unknown, Stale}
@@ -207,7 +207,7 @@ IsOtherResult (Err why) = is_about why ≡ false
 
 shows_other : (now : Now) (terms : Terms) (result : Result ResponseBody Refusal) (targets : List Target) → IsOtherResult result → IsOther (shows_by now terms result targets).outcome
 shows_other now terms (Err why) targets h = h
-shows_other now terms (Ok body) targets h = if_keeps (λ (a : Answering). IsOther a.outcome) (lacks_numbers now.numbers targets) _ _ (λ _. refl) (λ _. tt)
+shows_other now terms (Ok body) targets h = if_keeps (λ (a : Answering). IsOther a.outcome) (has_room now.numbers targets) _ _ (λ _. tt) (λ _. refl)
 
 valued_other : (tree : Option Tree) (hart : Hart) (memory : List ℕ) → IsOtherResult (valued tree hart memory)
 valued_other None hart memory = refl

@@ -36,14 +36,14 @@ use Rattle.session.specs.declared.terms.Terms.{Terms}
 use Rattle.session.specs.Acts.{Answering, Now}
 use Rattle.session.specs.Laws.{initializes}
 use Rattle.replies.specs.declared.response.Outcome.TheVariants.{Done}
-use Rattle.session.specs.Looking.{issues, lacks_numbers, looks_on, seen_in, shows_by}
+use Rattle.session.specs.Looking.{issues, looks_on, seen_in, shows_by}
 use Rattle.session.specs.SetVariable.{sets_by, sets_on}
 use Rattle.session.specs.WriteMemory.{writes_by, writes_on}
 use Rattle.session.specs.Successes.{agreeing, changing, refusing}
 use Rattle.session.proofs.Breaking.{IsPlain}
 use Rattle.session.proofs.Reaching.{if_keeps}
 use Rattle.stepping.specs.Ticks.{Debugged}
-use Rattle.variables.specs.Numbers.{Numbers, found_in}
+use Rattle.variables.specs.Numbers.{Numbers, found_in, has_room}
 use Rattle.variables.specs.Registers.{name_answer, number_of, unless_zero}
 use Rattle.variables.specs.Stack.{stack_words}
 use Rattle.variables.specs.Values.{value_of as value_in}
@@ -151,14 +151,14 @@ look_is_plain p now terms command looks = absurd (let no : false ≡ true = look
 pub by_look : (P : Answering → Type 0) (program : Option Program) (now : Now) (terms : Terms) (command : Command) → IsTrue (looks_in command)
     → (program ≡ None → P (agreeing now terms body.Empty))
     → ((refusal : Refusal) → has_text refusal ≡ false → P (refusing now terms refusal None))
-    → ((p : Program) (b : ResponseBody) → program ≡ Some p → (seen_in p now terms command).result ≡ Ok b → initializes (Done b) ≡ 0 → lacks_numbers now.numbers (seen_in p now terms command).targets ≡ false
+    → ((p : Program) (b : ResponseBody) → program ≡ Some p → (seen_in p now terms command).result ≡ Ok b → initializes (Done b) ≡ 0 → has_room now.numbers (seen_in p now terms command).targets ≡ true
     → P (issues now terms b (seen_in p now terms command).targets))
     → P (looks_on program now terms command)
 by_look P None now terms command looks none refuses shown = none refl
 by_look P (Some p) now terms command looks none refuses shown = go (seen_in p now terms command).result refl where
   go : (result : Result ResponseBody Refusal) → (seen_in p now terms command).result ≡ result → P (shows_by now terms result (seen_in p now terms command).targets)
   go (Err refusal) e = refuses refusal (subst IsPlain e (look_is_plain p now terms command looks))
-  go (Ok b) e = if_keeps P (lacks_numbers now.numbers (seen_in p now terms command).targets) _ _ (λ _. refuses ReferencesExhausted refl) (λ room. shown p b refl e (subst IsPlain e (look_is_plain p now terms command looks)) room)
+  go (Ok b) e = if_keeps P (has_room now.numbers (seen_in p now terms command).targets) _ _ (λ room. shown p b refl e (subst IsPlain e (look_is_plain p now terms command looks)) room) (λ _. refuses ReferencesExhausted refl)
 
 -- ---- setting
 

@@ -56,7 +56,7 @@ use Rattle.session.proofs.Reaching.{if_keeps, performed_append, reached}
 use Rattle.session.proofs.ByForms.{on, on_with, accepting, saying}
 use Rattle.session.proofs.Breaking.{by_answer, ids_are_words}
 use Rattle.session.proofs.Looked.{by_look, by_setting, by_writing}
-use Rattle.session.specs.Looking.{lacks_numbers, looks_on, seen_in}
+use Rattle.session.specs.Looking.{looks_on, seen_in}
 use Rattle.answers.specs.Looking.{looks_in}
 use Rattle.answers.specs.SetVariable.{set_in, setting_of}
 use Rattle.answers.specs.Targets.{target_of}
@@ -72,7 +72,7 @@ use Rattle.ranges.proofs.Settings.{registers_stay_in_range, texts_give_words}
 use Rattle.rv32i.specs.declared.hart.Hart.{Hart}
 use Rattle.session.specs.References.{referred}
 use Rattle.std.proofs.lemmas.List.Elements.{All-take}
-use Rattle.variables.specs.Numbers.{Numbers, at_next_stop, next_of, with_targets}
+use Rattle.variables.specs.Numbers.{Numbers, at_next_stop, has_room, next_of, with_targets}
 use Rattle.variables.specs.Registers.{name_answer}
 use Rattle.variables.specs.Values.{value_of}
 use Rattle.variables.specs.declared.target.Target.{Target}
@@ -208,9 +208,9 @@ program_quiet (Some p) seen more h = owed_quiet p.owed seen p more refl h
 ended_given : (numbers : Numbers) → AreGiven numbers → AreGiven (at_next_stop numbers)
 ended_given numbers g = (let few = g.0 in omega (arith, few), g.1)
 
-issued_given : (numbers : Numbers) (targets : List Target) → AreGiven numbers → lacks_numbers numbers targets ≡ false → AreGiven (with_targets numbers targets)
+issued_given : (numbers : Numbers) (targets : List Target) → AreGiven numbers → has_room numbers targets ≡ true → AreGiven (with_targets numbers targets)
 issued_given numbers targets g room = (few (next_of (with_targets numbers targets)) (numbers.last + 1) room, g.1) where
-  few : (n m : ℕ) → ltb m n ≡ false → n ≤ m
+  few : (n m : ℕ) → not (ltb m n) ≡ true → n ≤ m
   few n m e = grind (arith, nat_tests, e)
 
 abbrev Leaves : Now → Answering → Type 0

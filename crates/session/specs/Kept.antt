@@ -29,6 +29,7 @@ use Rattle.session.specs.Acts.{Now, Seen, Act, Answering, Open, Close, Accept, A
 use Rattle.session.specs.References.{referred}
 use Rattle.variables.specs.Laws.{Call}
 use Rattle.variables.specs.Laws.Call.{EndStop, Issue}
+use Rattle.variables.specs.Numbers.{Numbers, has_room}
 use Rattle.session.specs.Acts.{opened, closed, agreed, hung, numbered, accepted, read_on, refers}
 use Rattle.session.specs.Effects.{World, Ends}
 use Rattle.session.specs.Phases.{is_active}
@@ -188,6 +189,12 @@ call_of (change.Write address bytes) = None
 call_of (change.Issue targets) = Some (Issue targets.items)
 call_of change.End = None
 call_of (change.Leave ends stands) = Some EndStop
+
+-- there are numbers for what is issued
+abbrev pub HasNumbers : Option Call → Numbers → Type 0
+HasNumbers None numbers = ⊤
+HasNumbers (Some (Issue targets)) numbers = has_room numbers targets ≡ true
+HasNumbers (Some EndStop) numbers = ⊤
 
 -- the answer that the code's is, where this is debugged
 abbrev pub answering_as : Debuggee → AnAnswer → Answering

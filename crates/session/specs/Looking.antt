@@ -3,7 +3,7 @@
 --
 -- The request is answered by what there is of the program as it stands still, and by the numbers that this stop has.
 -- Frames and scopes that are given get the next numbers. Where they would pass the last one, nothing is given.
-use Rattle.std.specs.Prelude.{ℕ, ◌+◌, nat_lt, Bool, if◌then◌else◌, List, Option, Some, None, Result, Ok, Err}
+use Rattle.std.specs.Prelude.{Bool, if◌then◌else◌, List, Option, Some, None, Result, Ok, Err}
 use Rattle.answers.specs.Looking.{Look, look_answer}
 use Rattle.debuggee.specs.Programs.{Program}
 use Rattle.protocol.specs.declared.command.Command.{Command}
@@ -18,16 +18,12 @@ use Rattle.session.specs.Breaks.{view_of}
 use Rattle.session.specs.Phases.{is_active_in}
 use Rattle.session.specs.Successes.{agreeing, refusing}
 use Rattle.variables.specs.Laws.Call.{Issue}
-use Rattle.variables.specs.Numbers.{Numbers, next_of, with_targets}
+use Rattle.variables.specs.Numbers.{has_room}
 use Rattle.variables.specs.declared.target.Target.{Target}
 
 -- the phases in which each is taken
 abbrev pub is_taken_in : Phase → Bool
 is_taken_in phase = is_active_in phase
-
--- whether the numbers for these targets would pass the last one
-abbrev pub lacks_numbers : Numbers → List Target → Bool
-lacks_numbers numbers targets = nat_lt (numbers.last + 1) (next_of (with_targets numbers targets))
 
 -- something is shown, and numbers are issued for these targets
 abbrev pub issues : Now → Terms → ResponseBody → List Target → Answering
@@ -36,8 +32,8 @@ issues now terms body targets = record (agreeing now terms body) { references = 
 -- the same, unless the numbers are used up
 abbrev pub shows : Now → Terms → ResponseBody → List Target → Answering
 shows now terms body targets =
-    if lacks_numbers now.numbers targets then refusing now terms ReferencesExhausted None
-    else issues now terms body targets
+    if has_room now.numbers targets then issues now terms body targets
+    else refusing now terms ReferencesExhausted None
 
 -- by what is answered
 abbrev pub shows_by : Now → Terms → Result ResponseBody Refusal → List Target → Answering

@@ -14,7 +14,7 @@ use rv32i::Hart;
 use stepping::Goal;
 use variables::Target;
 
-/// What an answer makes of the program that is debugged.
+/// What an answer makes of the program that is debugged, and of the references.
 #[derive(Drop)]
 pub enum Change {
     /// Nothing.
@@ -37,10 +37,10 @@ pub enum Change {
     Write {
         /// The address of the first.
         address: u32,
-        /// They.
+        /// The bytes, in order.
         bytes: Vec<u8>,
     },
-    /// Nothing, and numbers are issued for these targets.
+    /// It stays as it is, and numbers are issued for these targets.
     Issue(Vec<Target>),
     /// It is loaded anew, and its first run begins.
     Restart,

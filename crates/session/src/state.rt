@@ -3,7 +3,7 @@ ghost use Rattle.std.specs.Prelude.{◌≡◌, ◌≤◌, ◌^◌, None, true, [
 ghost use Rattle.std.specs.Option.{option_map};
 ghost use Rattle.session.specs.declared.event.Event.TheVariants as event;
 ghost use Rattle.session.specs.declared.event.Applied.TheVariants as applied;
-ghost use Rattle.session.specs.Kept.{Drafted, Goes, IsLendable, IsLent, answered, changed, changed_one, draft_on, drafted, drafted_all, events_of, kept_agreed, kept_changed, kept_closing, now_changed, call_of, IsOfProgram, nothing_kept, keepings, see_kept, settled};
+ghost use Rattle.session.specs.Kept.{Drafted, Goes, HasNumbers, IsLendable, IsLent, answered, changed, changed_one, draft_on, drafted, drafted_all, events_of, kept_agreed, kept_changed, kept_closing, now_changed, call_of, IsOfProgram, nothing_kept, keepings, see_kept, settled};
 ghost use Rattle.session.specs.Breaks.{Numbered as ANumbered};
 ghost use Rattle.session.specs.Config.{IsSize};
 ghost use Rattle.session.specs.Demands.{run_of};
@@ -24,6 +24,7 @@ ghost use Rattle.debuggee.specs.Programs.{Program as AProgram, first_run, restar
 ghost use Rattle.session.specs.Slices.{is_runnable};
 ghost use Rattle.session.specs.Effects.{performed};
 ghost use Rattle.variables.specs.Laws.Call.{EndStop, Issue};
+ghost use Rattle.variables.specs.Numbers.{has_room};
 ghost use Rattle.std.specs.Prelude.{if◌then◌else◌};
 
 use crate::BODY_LIMIT;
@@ -47,7 +48,7 @@ use protocol::MessageError;
 use replies::{Event, Message, Outcome};
 use std::alloc::{AllocError, Global};
 use std::marker::Model;
-use variables::{Handles, Target};
+use variables::{Handles, IssueError, Target};
 
 /// The most bytes of a piece.
 pub const MOST_PIECE: usize = 65_536;
@@ -235,7 +236,7 @@ impl State {
 
     // Answers the first request that waits on the connection: all growth comes first, then the change,
     // and then the numbers are given.
-    #[tactic(auto, using(crate::proofs::Drafting::first_answers, crate::proofs::Drafting::answer_needs))]
+    #[tactic(auto, using(crate::proofs::Drafting::first_answers, crate::proofs::Drafting::answer_needs, crate::proofs::Numbering::prepared_has_numbers))]
     fn answer_first(&mut self, link: Link, file: Option<&[u8]>) -> Result<Turned, AllocError>
         requires { self.old.now.link ≡ Some link }
         ensures answer { IfOk result (λ turned. (spec.next_turn self.old.now link.terms (option_copied file.entry) self.old.now.arrivals.pending).answer
@@ -324,6 +325,7 @@ impl State {
 
     // What was drafted is queued, and the change stands: both or none.
     fn carry_out(&mut self, change: Change, terms: Terms, draft: &Draft) -> Result<(), AllocError>
+        requires { HasNumbers (call_of change) self.old.now.numbers }
         ensures ok { OnOk result (self.new ≡ kept_changed change terms (record self.old { waiting = self.old.waiting ++ draft.now.bytes })) }
         ensures err { OnErr result (self.new ≡ self.old) }
     {
@@ -340,8 +342,9 @@ impl State {
         }
     }
 
-    // What an answer makes of the program that is debugged.
+    // What an answer makes of the program that is debugged, and of the references.
     fn change(&mut self, change: Change) -> Result<(), AllocError>
+        requires { HasNumbers (call_of change) self.old.now.numbers }
         ensures ok { OnOk result (self.new ≡ record self.old { now = now_changed change self.old.now }) }
         ensures err { OnErr result (self.new ≡ self.old) }
     {
@@ -351,24 +354,26 @@ impl State {
             Change::SetSource(breaks) => return self.set_source(breaks),
             Change::SetInstructions(breaks) => return self.set_instructions(breaks),
             Change::Issue(targets) => return self.issue(&targets),
-            change => return self.change_it(change),
+            change => return self.change_loaded(change),
         }
         Ok(())
     }
 
-    // References are issued for these targets, for which there are numbers: the answer saw to that.
+    // References are issued for these targets.
     fn issue(&mut self, targets: &[Target]) -> Result<(), AllocError>
+        requires { has_room self.old.now.numbers targets.now ≡ true }
         ensures ok { OnOk result (self.new ≡ record self.old { now = refers self.old.now (Some (Issue targets.now)) }) }
         ensures err { OnErr result (self.new ≡ self.old) }
     {
         match self.handles.issue(targets) {
             Ok(_) => Ok(()),
-            Err(_) => Err(AllocError),
+            Err(IssueError::NoMemory) => Err(AllocError),
+            Err(IssueError::Exhausted) => unreachable!(),
         }
     }
 
     // What it makes of the program that there is, and what becomes of the references then.
-    fn change_it(&mut self, change: Change) -> Result<(), AllocError>
+    fn change_loaded(&mut self, change: Change) -> Result<(), AllocError>
         requires { IsOfProgram change }
         ensures ok { OnOk result (self.new ≡ record self.old { now = now_changed change self.old.now }) }
         ensures err { OnErr result (self.new ≡ self.old) }
