@@ -151,7 +151,7 @@ answer_says now terms file p =
 -- ---- every session
 
 abbrev IsSaid : Said → Type 0
-IsSaid m = SaysItsRun m.message m.snapshot
+IsSaid m = SaysItsRun m.message m.snapshot.debuggee
 
 abbrev AllSaid : Life → Type 0
 AllSaid life = All IsSaid life.said

@@ -32,9 +32,10 @@ by_lack : (P : Option Refusal → Type 0) (reason : Bool) (refusal : Refusal) (r
 by_lack P true refusal rest here there = here
 by_lack P false refusal rest here there = there refl
 
--- the program is as the request asks: there is one, and it stands still
+-- the program is as the request asks: there is one, it has not ended, and it stands still
 pub record Meets (run : Option Run) (demand : Demand) : Type 0 where
   pub loaded : (demand.loaded && has_none run) ≡ false
+  pub alive : (demand.alive && has_ended run) ≡ false
   pub still : (demand.still && goes_on run) ≡ false
 
 -- the answer to a request that could be read
@@ -53,10 +54,10 @@ of_request P now terms file r fate refuses succeeds =
       by_demand : (demand : Demand) (run : Option Run) → (Meets run demand → P (success_of now terms file r.command)) → Q (first_refusal (unmet run demand ++ where_so (names_none fate) RequestGone ∷ []))
       by_demand demand run e =
           by_lack Q (demand.loaded && has_none run) NoMachine _ (refuses NoMachine (inr refl))
-          (λ there. by_reason Q (demand.alive && has_ended run) Ended _ (refuses Ended (inr refl))
-          (by_reason Q (is_no_thread demand.thread) NoThread _ (refuses NoThread (inr refl))
+          (λ there. by_lack Q (demand.alive && has_ended run) Ended _ (refuses Ended (inr refl))
+          (λ alive. by_reason Q (is_no_thread demand.thread) NoThread _ (refuses NoThread (inr refl))
           (by_lack Q (demand.still && goes_on run) NotStopped _ (refuses NotStopped (inr refl))
-          (λ still. by_reason Q (names_none fate) RequestGone [] (refuses RequestGone (inr refl)) (e (record { loaded = there; still = still }))))))
+          (λ still. by_reason Q (names_none fate) RequestGone [] (refuses RequestGone (inr refl)) (e (record { loaded = there; alive = alive; still = still }))))))
 
       by_phase : (taken : Bool) → is_taken_in terms.phase r.command ≡ taken → Q (first_refusal (where_so (not taken) WrongPhase ∷ (unmet (run_of now.debuggee.program) (demand_of r.command) ++ where_so (names_none fate) RequestGone ∷ [])))
       by_phase true e = by_demand (demand_of r.command) (run_of now.debuggee.program) (succeeds e)

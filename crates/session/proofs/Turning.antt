@@ -301,10 +301,10 @@ answer_orderly now terms file p read b h =
 
 -- ---- what changes no program
 
-record StaysOrderly (s : Session) : Type 0 where
-  program : OrderlyIn s.now.debuggee
-  bounds : BoundsIn s.now
-  asks : AreRead (asks_that_wait s.now.arrivals.pending)
+pub record StaysOrderly (s : Session) : Type 0 where
+  pub program : OrderlyIn s.now.debuggee
+  pub bounds : BoundsIn s.now
+  pub asks : AreRead (asks_that_wait s.now.arrivals.pending)
 
 agreed_stays : (l : Option Link) (terms : Terms) (s : Session) → StaysOrderly (on l s) → StaysOrderly (agreed_on l terms (on l s))
 agreed_stays None terms s h = h
@@ -380,8 +380,16 @@ few_references limits h =
 none_given : (last : ℕ) → 1 + 0 ≤ last + 1
 none_given last = omega arith
 
+-- it is so at the start
+pub begins_so : (from : Beginning) → StaysOrderly (start from)
+begins_so from = record {
+  program = begins_orderly from.program from.size (memory_ends from.size from.memory) from.image;
+  bounds = record { references = few_references from.limits from.numbers; memory = memory_ends from.size from.memory; numbers = (none_given from.limits.last_ref, few_references from.limits from.numbers) };
+  asks = tt;
+}
+
 module _ (P : Session → Type 0) (k : KeptByEvents P) where
-  abbrev Both : Session → Type 0
+  abbrev pub Both : Session → Type 0
   Both s = P s × StaysOrderly s
 
   became : (d : Debuggee) (s : Session) → OrderlyIn d → Both s → Both (performed_on (Become d) s)
@@ -450,7 +458,7 @@ module _ (P : Session → Type 0) (k : KeptByEvents P) where
     },
   )
 
-  outcome_keeps : (l : Option Link) (e : Event) (s : Session) → Both (on l s) → Both (performed histories (outcome_at (histories.see (on l s)) l e).acts (on l s))
+  pub outcome_keeps : (l : Option Link) (e : Event) (s : Session) → Both (on l s) → Both (performed histories (outcome_at (histories.see (on l s)) l e).acts (on l s))
   outcome_keeps None Connect s h =
       if_keeps (λ (o : Outcome). Both (performed histories o.acts (on None s))) (eqb s.now.connections LAST_CONNECTION) _ _ (λ _. h) (λ _. (k.opens s h.0, record { program = h.1.program; bounds = h.1.bounds; asks = tt }))
   outcome_keeps None (Recv piece) s h = h
@@ -468,14 +476,15 @@ module _ (P : Session → Type 0) (k : KeptByEvents P) where
       if_keeps (λ (o : Outcome). Both (performed histories o.acts (on (Some l) s))) (ltb (length (waiting_of (on (Some l) s))) n) _ _ (λ _. h) (λ _. (k.takes n (on (Some l) s) h.0, record { program = h.1.program; bounds = h.1.bounds; asks = h.1.asks }))
   outcome_keeps (Some l) DropConnection s h = drop_keeps (on (Some l) s) h
 
+  pub beat_keeps : (s : Session) (more : Bool) → Both s → Both (performed histories (beat (histories.see s) more).acts s)
+  beat_keeps s more h = quiet_keeps (beat (histories.see s) more).acts s (program_quiet s.now.debuggee.program (histories.see s) more h.1.program s.now.debuggee) h
+
   beats_keep : (n i : ℕ) (s : Session) → Both s → Both (beats histories n i s).state
   beats_keep n zero s h = h
   beats_keep n (suc i) s h = by (beats histories n i s).ending (beats_keep n i s h) where
     by : (e : Option Ending) → Both (beats histories n i s).state → Both (next_by histories n e (beats histories n i s)).state
     by (Some e) x = x
-    by None x =
-        let t = (beats histories n i s).state in
-        quiet_keeps (beat (histories.see t) (ltb (beats histories n i s).moved n)).acts t (program_quiet t.now.debuggee.program (histories.see t) (ltb (beats histories n i s).moved n) x.1.program t.now.debuggee) x
+    by None x = beat_keeps (beats histories n i s).state (ltb (beats histories n i s).moved n) x
 
   event_keeps : (e : Event) (s : Session) → Both s → Both (Effect s e)
   event_keeps Connect s h = outcome_keeps s.now.link Connect s h
@@ -487,11 +496,4 @@ module _ (P : Session → Type 0) (k : KeptByEvents P) where
   event_keeps DropConnection s h = outcome_keeps s.now.link DropConnection s h
 
   pub reached_by_events : (from : Beginning) → P (start from) → (events : List Event) → P (After from events)
-  reached_by_events from h events = (reached Both event_keeps from (
-    h,
-    record {
-      program = begins_orderly from.program from.size (memory_ends from.size from.memory) from.image;
-      bounds = record { references = few_references from.limits from.numbers; memory = memory_ends from.size from.memory; numbers = (none_given from.limits.last_ref, few_references from.limits from.numbers) };
-      asks = tt;
-    },
-  ) events).0
+  reached_by_events from h events = (reached Both event_keeps from (h, begins_so from) events).0

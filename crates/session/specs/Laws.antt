@@ -201,7 +201,7 @@ SaysItsRun (IsEvent (event.Output output)) d = ⊤
 
 -- Each message says of the program's run what is so of the program as it was when the message was queued.
 abbrev pub RunsAreTold : Session → Type 0
-RunsAreTold s = (c : ℕ) → All (λ (m : Said). SaysItsRun m.message m.snapshot) (life_of c s).said
+RunsAreTold s = (c : ℕ) → All (λ (m : Said). SaysItsRun m.message m.snapshot.debuggee) (life_of c s).said
 
 -- ---- time
 

@@ -25,6 +25,7 @@ use Rattle.session.specs.Acts.{Now, Act, Open, Close, Accept, Agree, Become, Ref
 use Rattle.session.specs.Acts.{agreed, hung, refers}
 use Rattle.session.specs.References.{References, ended, no_numbers, no_references, past_referred}
 use Rattle.variables.specs.Laws.{Call}
+use Rattle.variables.specs.Numbers.{Numbers}
 use Rattle.session.specs.Acts.{numbered, accepted, read_on, fault_of_reading}
 use Rattle.session.specs.Arrivals.{no_arrivals, asks_of}
 use Rattle.session.specs.Config.{HasImage, first_program, is_size}
@@ -33,11 +34,16 @@ use Rattle.session.specs.Limits.{are_limits}
 use Rattle.session.specs.Refusals.{response_to}
 use Rattle.session.specs.Writing.{frame_of}
 
--- a message as it was queued, with its number, and the program that was debugged then
+-- what there is to see at one time: the program that is debugged, and the numbers of its frames and scopes
+pub record Snapshot : Type 0 where
+  pub debuggee : Debuggee
+  pub numbers : Numbers
+
+-- a message as it was queued, with its number, and what there was to see then
 pub record Said : Type 0 where
   pub seq : ℕ
   pub message : Message
-  pub snapshot : Debuggee
+  pub snapshot : Snapshot
 
 -- All of one connection: the bytes that were accepted, up to where a fault is decided, and the requests in them; the
 -- messages that were queued; and the bytes of these that were taken.
@@ -128,9 +134,13 @@ referred_on (Some link) call s = record s {
   references = past_referred s.now.connections call s.references;
 }
 
+-- what there is to see now
+abbrev pub snapshot_of : Now → Snapshot
+snapshot_of now = record { debuggee = now.debuggee; numbers = now.numbers }
+
 -- the message that is said next
 abbrev pub said_next : Now → Link → Message → Said
-said_next now link message = record { seq = link.seq + 1; message = message; snapshot = now.debuggee }
+said_next now link message = record { seq = link.seq + 1; message = message; snapshot = snapshot_of now }
 
 -- a life in which a message more was queued
 abbrev pub with_said : Life → Said → Life

@@ -1,0 +1,8 @@
+-- what is found first among numbers
+pub mod Found
+-- maps and lists as functions
+pub mod Maps
+-- the messages of a stream that comes in pieces
+pub mod Streaming
+-- the laws
+pub mod Lawful

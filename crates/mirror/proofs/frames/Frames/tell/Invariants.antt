@@ -1,0 +1,11 @@
+use Rattle.std.proofs.Common.{◌≡◌, ℕ, ◌+◌, map}
+use Rattle.mirror.specs.Folding.{frame_of, upto}
+use Rattle.mirror.specs.Kept.{PlaceIs, at}
+use Rattle.mirror.proofs.frames.Frames.tell.Given as goal
+
+-- the frames so far are told
+abbrev pub invariant-loop-frame : goal.invariant-loop-frame
+invariant-loop-frame l = record {
+  told : (place : ℕ) → at l.self-inside.map.entries place ≡ upto l.frame-index l.first (map frame_of l.frames) (at l.initial.self-inside.map.entries) place;
+  place : PlaceIs l.place (l.first + l.frame-index);
+}

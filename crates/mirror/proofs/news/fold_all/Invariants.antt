@@ -1,0 +1,9 @@
+use Rattle.std.proofs.Common.{◌≡◌, take}
+use Rattle.std.specs.Prelude.{fold}
+use Rattle.mirror.specs.Folding.{folded}
+use Rattle.mirror.specs.Kept.{at, facts_of}
+use Rattle.mirror.proofs.news.fold_all.Given as goal
+
+-- the messages so far are folded
+abbrev pub invariant-loop-message : goal.invariant-loop-message
+invariant-loop-message l = facts_of l.next ≡ fold (folded (at l.requests)) (facts_of l.initial.next) (take l.message-index l.messages)

@@ -1,0 +1,9 @@
+use Rattle.std.proofs.Common.{ap, rules, ◌∙◌}
+use Rattle.std.specs.Prelude.{bytes_eq, filter, not}
+use Rattle.std.proofs.lemmas.Fn.{filter_same}
+use Rattle.mirror.proofs.sources.Sources.drop_list.Goals as goal
+
+pub returns : goal.returns
+returns c =
+    filter_same _ (λ list. not (bytes_eq list.path c.args.path.now)) _ (λ x b f' r. search rules) _ _ c.retain.ensures.filtered
+    ∙ ap (filter (λ list. not (bytes_eq list.path c.args.path.now))) c.self.view_is

@@ -1,0 +1,27 @@
+//! What an editor may know of the machine: the facts that the messages of the Debug Adapter Protocol tell, kept by the requests that
+//! were told and the bytes that came.
+#![tactic(auto)]
+
+mod asked;
+mod breakpoints;
+mod error;
+mod frames;
+mod known;
+pub mod laws;
+mod memory;
+mod message;
+mod mirror;
+mod name;
+mod news;
+mod reference;
+mod registers;
+mod response;
+mod run;
+mod sources;
+
+pub use breakpoints::BreakInfo;
+pub use error::MirrorError;
+pub use frames::FrameInfo;
+pub use mirror::Mirror;
+pub use name::Name;
+pub use run::RunState;
