@@ -1,6 +1,6 @@
 -- The references that an answer issues have numbers.
-use Rattle.std.proofs.Common.{◌≡◌, ℕ, true, List, Option, Some, None, refl, sym, subst}
-use Rattle.std.specs.Prelude.{⊤, IsTrue}
+use Rattle.std.proofs.Common.{ℕ, List, Option, Some, None, refl, sym, subst}
+use Rattle.std.specs.Prelude.{IsTrue}
 use Rattle.answers.specs.Answers.{sets_breakpoints}
 use Rattle.answers.specs.Looking.{looks_in}
 use Rattle.assembler.specs.Placed.{error_of}

@@ -14,7 +14,6 @@ use Rattle.debuggee.specs.declared.run.Why.TheVariants as why
 use Rattle.mirror.specs.Facts.{Facts, nothing_known}
 use Rattle.mirror.specs.Folding.{in_state, succeeded}
 use Rattle.mirror.specs.Requests.{place_of}
-use Rattle.mirror.specs.declared.asked.Asked.{Asked}
 use Rattle.mirror.specs.declared.asked.Asked.TheVariants as asks
 use Rattle.mirror.specs.declared.run.RunState.TheVariants.{Running}
 use Rattle.protocol.specs.declared.command.Command.{Command}
