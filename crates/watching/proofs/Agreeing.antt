@@ -1,7 +1,7 @@
 -- What an editor knows fits to what there is now, so that what comes next can be told.
 use Rattle.std.proofs.Common.{◌≡◌, ℕ, Bool, true, List, [], Option, Some, None, refl, sym, ◌∙◌, subst}
 use Rattle.std.specs.Prelude.{⊤, slice_get}
-use Rattle.debuggee.specs.Programs.{Program, is_running, marked, marked_by}
+use Rattle.debuggee.specs.Programs.{Program, is_running, marked, marked_by, on_program}
 use Rattle.debuggee.specs.declared.run.Mark.{Mark}
 use Rattle.debuggee.specs.declared.run.Run.{Run}
 use Rattle.debuggee.specs.declared.run.Run.TheVariants as a_run
@@ -138,3 +138,13 @@ nothing_agrees program numbers terms suits =
       moves : (program : Option Program) → MovesUnknown program nothing_known
       moves None = tt
       moves (Some p) = λ _. no_stand
+
+-- a mark changes nothing that is to be seen
+pub marked_agrees : (mark : Mark) (f : Facts) (program : Option Program) (numbers : Numbers) (terms : Terms) → Agrees f program numbers terms → Agrees f (on_program (marked mark) program) numbers terms
+marked_agrees mark f None numbers terms h = h
+marked_agrees mark f (Some p) numbers terms h = record {
+  holds = subst (Holds f) (sym (marked_shown mark p numbers)) h.holds;
+  moving = λ runs. h.moving (subst (λ (r : Run). is_running r ≡ true) (marked_run mark p) runs);
+  numbered = h.numbered;
+  phase = h.phase;
+}

@@ -1,6 +1,6 @@
 -- Each beat of a slice leads to what is known and fits.
 use Rattle.std.proofs.Common.{◌≡◌, ℕ, Bool, true, false, leb, ltb, List, [], ◌∷◌, map, Option, Some, None, Result, Ok, Err, MatchBool, refl, sym, ap, ◌∙◌, subst}
-use Rattle.std.specs.Prelude.{◌&&◌, not}
+use Rattle.std.specs.Prelude.{not}
 use Rattle.std.specs.declared.alloc.AllocError.{AllocError}
 use Rattle.breakpoints.specs.Stops.{Lists, Placed, checked, counted, is_hit, with_hit}
 use Rattle.debuggee.specs.Programs.{Program, entered, is_running, moved, next_tick, why_marked}
@@ -28,6 +28,7 @@ use Rattle.stepping.specs.declared.tick.Tick.{Tick}
 use Rattle.variables.specs.Numbers.{Numbers}
 use Rattle.watching.proofs.Agreeing.{Agrees, OwesOf, OwesRunning, holds_moving, never}
 use Rattle.watching.proofs.Leading.{Leads, SameBut, exits_lead, halts_lead, telling_leads}
+use Rattle.watching.proofs.Owing.{both_true}
 use Rattle.watching.specs.Holding.{HoldsRun}
 use Rattle.watching.specs.Shown.{info_of, listed_at, shown_of, state_of}
 
@@ -124,10 +125,6 @@ module _ (terms : Terms) (numbers : Numbers) (f : Facts) where
     unfolding Leads
     unless_lead (Some mark) p more r h = halts_lead terms numbers f now p (why_marked mark) [] active r h
     unless_lead None p more r h = goes_lead p more r h
-
-  both_true : (a b : Bool) → not (a && b) ≡ false → a ≡ true
-  both_true true b e = refl
-  both_true false b e = absurd (let no : true ≡ false = e in cc)
 
   pub owed_lead : (owed : Option Tick) (seen : Seen) (p : Program) (more : Bool) → is_active_in terms.phase ≡ is_active seen.now.link → p.owed ≡ owed → OwesRunning p → Agrees f (Some p) numbers terms → LeadsOn p (beat_by owed seen p more)
   unfolding Leads

@@ -37,7 +37,8 @@ use Rattle.variables.specs.declared.target.Target.{Target}
 use Rattle.variables.specs.declared.target.Target.TheVariants as target
 use Rattle.watching.proofs.Agreeing.{Agrees, never}
 use Rattle.watching.proofs.Leading.{suits_as}
-use Rattle.watching.proofs.Valuing.{still_moving, value_at}
+use Rattle.watching.proofs.Placing.{first_test, not_below}
+use Rattle.watching.proofs.Valuing.{same_number, still_moving, value_at}
 use Rattle.watching.specs.Holding.{HoldsAt}
 use Rattle.watching.specs.Shown.{register_at}
 
@@ -54,9 +55,6 @@ set_other (x ∷ l) zero v zero e = absurd (let no : false ≡ true = sym e ∙ 
 set_other (x ∷ l) zero v (suc k) e = refl
 set_other (x ∷ l) (suc i) v zero e = refl
 set_other (x ∷ l) (suc i) v (suc k) e = set_other l i v k (let other : eqb i k ≡ false = grind (arith, nat_tests, e) in other)
-
-same_number : (m n : ℕ) → eqb m n ≡ true → m ≡ n
-same_number m n e = grind (arith, nat_tests, e)
 
 -- what is known of the registers, with one more value, is so where that is set
 valued_so : (r value : ℕ) (old was so : ℕ → Option ℕ) → so r ≡ Some value → ((k : ℕ) → eqb r k ≡ false → so k ≡ was k) → HoldsAt old was → HoldsAt (valued (Some r) value old) so
@@ -191,13 +189,6 @@ get_less [] j x e = never x e
 get_less (y ∷ l) zero x e = omega arith
 get_less (y ∷ l) (suc j) x e = let less = get_less l j x e in omega (arith, less)
 
-reaches : (a b c : Bool) → (a && b && c) ≡ true → a ≡ true
-reaches true b c e = refl
-reaches false b c e = absurd (let no : false ≡ true = e in cc)
-
-back : (m n : ℕ) → leb m n ≡ true → m + (n - m) ≡ n
-back m n e = let le = is_low m n e in omega (arith, le)
-
 written_hold : (memory : List ℕ) (address : ℕ) (bytes : List ℕ) (old : ℕ → Option ℕ) → length bytes ≤ 4294967296 - address → has_bytes memory address (length bytes) ≡ true → HoldsAt old (byte_at memory)
     → HoldsAt (over address bytes old) (byte_at (with_bytes memory address bytes))
 unfolding over
@@ -211,7 +202,7 @@ written_hold memory address bytes old fits has h = λ place x e. by place x (leb
 
   by : (place x : ℕ) (b : Bool) → (leb address place && ltb place (address + length bytes) && ltb place (2 ^ 32)) ≡ b → cond b (slice_get bytes (place - address)) (old place) ≡ Some x → byte_at (with_bytes memory address bytes) place ≡ Some x
   by place x true so e =
-      subst (λ (k : ℕ). byte_at (with_bytes memory address bytes) k ≡ Some x) (back address place (reaches (leb address place) (ltb place (address + length bytes)) (ltb place (2 ^ 32)) so))
+      subst (λ (k : ℕ). byte_at (with_bytes memory address bytes) k ≡ Some x) (not_below address place (first_test (leb address place) (ltb place (address + length bytes)) (ltb place (2 ^ 32)) so))
       (writes_bytes memory address (place - address) bytes has (get_less bytes (place - address) x e) ∙ e)
   by place x false so e = kept place x e (outside address (length bytes) place fits so)
 

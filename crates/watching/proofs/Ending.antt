@@ -22,12 +22,9 @@ use Rattle.variables.specs.Numbers.{Numbers}
 use Rattle.watching.proofs.Agreeing.{Agrees, SuitsPhase, WhileConfiguring, holds_in, no_stand_in, none_numbered}
 use Rattle.watching.proofs.Commands.{AnswerLeads}
 use Rattle.watching.proofs.Leading.{Leads}
-use Rattle.watching.proofs.Resuming.{alone, with_event}
+use Rattle.watching.proofs.Resuming.{alone, no_program, with_event}
 use Rattle.watching.specs.Holding.{Holds, HoldsRun}
 use Rattle.watching.specs.Shown.{shown_by, shown_of, state_of}
-
-no_program : {A : Type 0} → true ≡ false → A
-no_program e = absurd (let no : true ≡ false = e in cc)
 
 while_configuring : (phase : Phase) (launched : Bool) (f : Facts) → is_configuring_in phase ≡ true → SuitsPhase phase launched f → WhileConfiguring launched f
 while_configuring Fresh launched f e h = absurd (let no : false ≡ true = e in cc)

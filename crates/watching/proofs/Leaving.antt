@@ -37,7 +37,7 @@ use Rattle.session.specs.declared.terms.Terms.{Terms}
 use Rattle.stepping.specs.declared.goal.Goal.TheVariants as goal
 use Rattle.answers.specs.StackTrace.{frames_given}
 use Rattle.variables.specs.Numbers.{at_next_stop, with_targets}
-use Rattle.watching.proofs.Agreeing.{Agrees, OwesOf, OwesRunning, nothing_agrees}
+use Rattle.watching.proofs.Agreeing.{Agrees, OwesOf, OwesRunning, marked_agrees, nothing_agrees}
 use Rattle.watching.proofs.Changing.{setting_so, writing_so}
 use Rattle.watching.proofs.Commands.{AnswerLeads, Comes, CommandsLead, CommandsOwe, OwesNothing, refusal_leads}
 use Rattle.watching.proofs.Ending.{done_leads, terminate_leads}
@@ -45,7 +45,7 @@ use Rattle.watching.proofs.Framing.{frames_agree}
 use Rattle.watching.proofs.Listing.{instructions_set_so, source_set_so}
 use Rattle.watching.proofs.Owing.{marked_owes}
 use Rattle.watching.proofs.Placing.{read_agrees}
-use Rattle.watching.proofs.Resuming.{alone, attach_leads, goes_on, initialize_agrees, launch_agrees, pause_agrees, restarted_same, resumed_same, with_event}
+use Rattle.watching.proofs.Resuming.{alone, attach_leads, goes_on, initialize_agrees, launch_agrees, restarted_same, resumed_same, with_event}
 use Rattle.watching.proofs.Showing.{look_leads, other_look_leads}
 use Rattle.watching.proofs.Truth.{owes_nothing}
 use Rattle.watching.proofs.Valuing.{that_body, variables_agree}
@@ -191,7 +191,7 @@ commands_lead now terms file (StepIn arguments) f comes h =
 commands_lead now terms file (StepOut arguments) f comes h =
     let g = goal.Out (granularity_of arguments.granularity) in
     alone (in_state Running f) _ (at_next_stop now.numbers) terms (goes_on now terms f (at_next_stop now.numbers) (resumed g) comes.taken (λ p. refl) (resumed_same g) comes.meets.loaded h)
-commands_lead now terms file (Pause arguments) f comes h = alone f _ now.numbers terms (pause_agrees f now.debuggee.program now.numbers terms h)
+commands_lead now terms file (Pause arguments) f comes h = alone f _ now.numbers terms (marked_agrees mark.Pause f now.debuggee.program now.numbers terms h)
 commands_lead now terms file (StackTrace arguments) f comes h =
     look_leads now terms (StackTrace arguments) (asks.StackTrace arguments.start_frame) f refl refl h
     (λ p b is e a. that_body (λ b. Agrees (succeeded b (asks.StackTrace arguments.start_frame) f) (Some p) (with_targets now.numbers (frames_given arguments p.machine)) terms) _ b

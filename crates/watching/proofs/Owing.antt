@@ -90,7 +90,7 @@ unless_owes : (mark : Option Mark) (now : Now) (p : Program) (more : Bool) → p
 unless_owes (Some mark) now p more e r = halts_owe now p (why_marked mark) [] e
 unless_owes None now p more e r = goes_owe now p more e r
 
-both_true : (a b : Bool) → not (a && b) ≡ false → a ≡ true
+pub both_true : (a b : Bool) → not (a && b) ≡ false → a ≡ true
 both_true true b e = refl
 both_true false b e = absurd (let no : true ≡ false = e in cc)
 

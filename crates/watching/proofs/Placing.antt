@@ -23,11 +23,11 @@ use Rattle.watching.proofs.Valuing.{no_body, still_moving, that_body}
 
 -- ---- places
 
-first_test : (a b c : Bool) → (a && b && c) ≡ true → a ≡ true
+pub first_test : (a b c : Bool) → (a && b && c) ≡ true → a ≡ true
 first_test true b c e = refl
 first_test false b c e = absurd (let no : false ≡ true = e in cc)
 
-not_below : (m n : ℕ) → leb m n ≡ true → m + (n - m) ≡ n
+pub not_below : (m n : ℕ) → leb m n ≡ true → m + (n - m) ≡ n
 not_below m n e = let le : m ≤ n = grind (arith, nat_tests, e) in omega (arith, le)
 
 -- what is so of each that a list tells, and of what was known, is so of what is known then

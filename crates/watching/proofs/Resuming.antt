@@ -1,10 +1,8 @@
 -- Requests that let the program go on, end it, or join it: what their successes tell is so.
 use Rattle.std.proofs.Common.{◌≡◌, Bool, true, false, List, [], ◌∷◌, map, Option, Some, None, refl, sym, ap, subst}
 use Rattle.breakpoints.specs.Stops.{Placed, reset}
-use Rattle.debuggee.specs.Programs.{Program, first_run, is_running, marked, on_program, restarted, resumed}
-use Rattle.debuggee.specs.declared.run.Run.{Run}
+use Rattle.debuggee.specs.Programs.{Program, first_run, on_program, restarted, resumed}
 use Rattle.debuggee.specs.declared.run.Run.TheVariants as a_run
-use Rattle.debuggee.specs.declared.run.Mark.TheVariants as mark
 use Rattle.mirror.specs.Facts.{Facts, nothing_known}
 use Rattle.mirror.specs.Folding.{happened, in_state}
 use Rattle.mirror.specs.declared.breakpoints.BreakInfo.{BreakInfo}
@@ -16,7 +14,7 @@ use Rattle.session.specs.declared.phase.Phase.{Phase}
 use Rattle.session.specs.declared.phase.Phase.TheVariants.{Fresh, Initialized, Configuring, Active, Left}
 use Rattle.session.specs.declared.terms.Terms.{Terms}
 use Rattle.variables.specs.Numbers.{Numbers}
-use Rattle.watching.proofs.Agreeing.{Agrees, KnowsNoStand, MovesUnknown, SuitsPhase, holds_in, marked_run, marked_shown, no_stand_in, none_numbered, nothing_holds}
+use Rattle.watching.proofs.Agreeing.{Agrees, KnowsNoStand, MovesUnknown, SuitsPhase, holds_in, no_stand_in, none_numbered, nothing_holds}
 use Rattle.watching.proofs.Leading.{Leads, SameBut, suits_as}
 use Rattle.watching.specs.Holding.{Holds}
 use Rattle.watching.specs.Shown.{info_of, listed_at, shown_by, shown_of, state_of}
@@ -27,7 +25,7 @@ unfolding Leads
 alone f program numbers terms h = (h.holds, h)
 
 -- there is a program
-no_program : {A : Type 0} → true ≡ false → A
+pub no_program : {A : Type 0} → true ≡ false → A
 no_program e = absurd (let no : true ≡ false = e in cc)
 
 -- ---- the program goes on
@@ -59,17 +57,6 @@ resumed_same goal p = record { source = λ _ _. refl; instructions = λ _. refl 
 
 pub first_same : (p : Program) → SameBut p (first_run p)
 first_same p = record { source = λ _ _. refl; instructions = λ _. refl }
-
--- ---- nothing changes that is to be seen
-
-pub pause_agrees : (f : Facts) (program : Option Program) (numbers : Numbers) (terms : Terms) → Agrees f program numbers terms → Agrees f (on_program (marked mark.Pause) program) numbers terms
-pause_agrees f None numbers terms h = h
-pause_agrees f (Some p) numbers terms h = record {
-  holds = subst (Holds f) (sym (marked_shown mark.Pause p numbers)) h.holds;
-  moving = λ runs. h.moving (subst (λ (r : Run). is_running r ≡ true) (marked_run mark.Pause p) runs);
-  numbered = h.numbered;
-  phase = h.phase;
-}
 
 -- ---- `initialize`, `launch`, `attach`
 

@@ -1,5 +1,5 @@
 -- What an editor knows was so, whatever happens: if it is so of each command.
-use Rattle.std.proofs.Common.{◌≡◌, ℕ, zero, suc, Bool, true, eqb, leb, ltb, List, [], ◌∷◌, length, Option, Some, None, refl, sym, ap, ◌∙◌, subst}
+use Rattle.std.proofs.Common.{◌≡◌, ℕ, zero, suc, Bool, true, eqb, leb, ltb, List, [], ◌∷◌, length, Option, Some, None, refl, sym, ◌∙◌, subst}
 use Rattle.std.proofs.lemmas.List.Elements.{All-push, All-nil, All-head}
 use Rattle.debuggee.specs.Programs.{Debuggee, Program, left, marked, on_program, with_program}
 use Rattle.debuggee.specs.declared.run.Mark.TheVariants as mark
@@ -17,7 +17,6 @@ use Rattle.session.specs.Config.{first_program}
 use Rattle.session.specs.Effects.{beats, enough, next_by, performed}
 use Rattle.session.specs.Outcomes.{Outcome, answers_next, holding, leaving, next_turn, outcome_at, turn_by, turn_of}
 use Rattle.session.specs.Phases.{first_terms}
-use Rattle.variables.specs.Numbers.{Numbers}
 use Rattle.session.specs.Refusals.{answer_to}
 use Rattle.session.specs.Requests.{success_of}
 use Rattle.session.specs.Sessions.{After, Beginning, Effect, Session, histories, life_of, start, waiting_of}
@@ -33,7 +32,7 @@ use Rattle.session.specs.declared.pending.Pending.{Pending}
 use Rattle.session.specs.declared.state.TheConstants.{FULL, MOST_PIECE, MOST_PENDING, LAST_CONNECTION}
 use Rattle.session.specs.declared.terms.Terms.{Terms}
 use Rattle.stepping.specs.declared.tick.Tick.{Tick}
-use Rattle.watching.proofs.Agreeing.{Agrees, MovesUnknown, OwesOf, OwesRunning, marked_run, marked_shown, never, no_stand, none_numbered, nothing_holds}
+use Rattle.watching.proofs.Agreeing.{Agrees, OwesOf, OwesRunning, marked_agrees, never, nothing_agrees}
 use Rattle.watching.proofs.Beating.{program_leads}
 use Rattle.watching.proofs.Commands.{AnswerLeads, CommandsLead, CommandsOwe, OwesNothing, refusal_leads}
 use Rattle.watching.proofs.Cutting.{within_was_so}
@@ -43,26 +42,9 @@ use Rattle.watching.proofs.Leading.{Leads, telling_leads}
 use Rattle.watching.proofs.Owing.{beat_owes, left_owes, marked_owes, owes_after, telling_owes}
 use Rattle.watching.proofs.Remembering.{all_hold_same, known_same, remembers}
 use Rattle.watching.specs.Headline.{Headline, remembered}
-use Rattle.watching.specs.Holding.{Holds}
 use Rattle.watching.specs.Known.{AllKnown}
-use Rattle.watching.specs.Shown.{shown_by}
 
 -- ---- what leaves a session faithful that tells nothing
-
--- a connection is made: nothing is known
-fresh_agrees : (program : Option Program) (numbers : Numbers) → Agrees nothing_known program numbers first_terms
-fresh_agrees program numbers = record { holds = nothing_holds (shown_by program numbers); moving = moves program; numbered = none_numbered numbers nothing_known no_stand; phase = refl } where
-  moves : (program : Option Program) → MovesUnknown program nothing_known
-  moves None = tt
-  moves (Some p) = λ _. no_stand
-
-shown_agrees : (f : Facts) (p q : Program) (numbers : Numbers) (terms : Terms) → shown_by (Some q) numbers ≡ shown_by (Some p) numbers → q.run ≡ p.run → Agrees f (Some p) numbers terms → Agrees f (Some q) numbers terms
-shown_agrees f p q numbers terms e r h = record {
-  holds = subst (Holds f) (sym e) h.holds;
-  moving = λ runs. h.moving (subst (λ (x : _). x) (ap (λ (x : _). Rattle.debuggee.specs.Programs.is_running x ≡ true) r) runs);
-  numbered = h.numbered;
-  phase = h.phase;
-}
 
 pub owes_nothing : (program : Option Program) → OwesNothing program → OwesOf program
 owes_nothing None e = tt
@@ -146,13 +128,9 @@ module _ (lead : CommandsLead) (owe : CommandsOwe) where
       (λ _. if_keeps Faithful l.is_closing _ _ (λ _. h) (λ _. accepts_so l piece s k h))))
 
   -- the program is marked
-  marked_agrees : (f : Facts) (program : Option Program) (numbers : Numbers) (terms : Terms) → Agrees f program numbers terms → Agrees f (on_program (marked mark.Hold) program) numbers terms
-  marked_agrees f None numbers terms h = h
-  marked_agrees f (Some p) numbers terms h = shown_agrees f p (marked mark.Hold p) numbers terms (marked_shown mark.Hold p numbers) (marked_run mark.Hold p) h
-
   hold_agrees : (l : Option Link) (s : Session) → Faithful (on l s) → AgreesOn l s.now.limits.last_seq (on_program (marked mark.Hold) s.now.debuggee.program) s.now.numbers (known s.life)
   hold_agrees None s h = tt
-  hold_agrees (Some l) s h = λ few. marked_agrees (known s.life) s.now.debuggee.program s.now.numbers l.terms (h.agrees few)
+  hold_agrees (Some l) s h = λ few. marked_agrees mark.Hold (known s.life) s.now.debuggee.program s.now.numbers l.terms (h.agrees few)
 
   hold_so : (l : Option Link) (s : Session) → Faithful (on l s) → Faithful (performed histories (holding (on l s).now) (on l s))
   hold_so l s h = record {
@@ -171,7 +149,7 @@ module _ (lead : CommandsLead) (owe : CommandsOwe) where
       if_keeps (λ (o : Outcome). Faithful (performed histories o.acts (on None s))) (eqb s.now.connections LAST_CONNECTION) _ _ (λ _. h)
       (λ _. record {
         was = record { before = All-push Held s.before s.life h.was.before h.was.present; present = tt; owes = h.was.owes };
-        agrees = λ _. fresh_agrees s.now.debuggee.program s.now.numbers;
+        agrees = λ _. nothing_agrees s.now.debuggee.program s.now.numbers first_terms refl;
       })
   outcome_so None (Recv piece) s k h = h
   outcome_so None (Turn file) s k h = h

@@ -36,7 +36,7 @@ IsTrueOf hart v = (number : ℕ) → register_of v.name ≡ Some number → regi
 
 -- ---- what is known of registers
 
-same_number : (m n : ℕ) → eqb m n ≡ true → m ≡ n
+pub same_number : (m n : ℕ) → eqb m n ≡ true → m ≡ n
 same_number m n e = grind (arith, nat_tests, e)
 
 pub valued_holds : (register : Option ℕ) (value : ℕ) (old so : ℕ → Option ℕ) → ((number : ℕ) → register ≡ Some number → so number ≡ Some value) → HoldsAt old so → HoldsAt (valued register value old) so
