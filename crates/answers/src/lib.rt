@@ -20,7 +20,7 @@ mod set_instruction_breakpoints;
 pub mod set_variable;
 mod shown;
 mod spaces;
-mod stack_trace;
+pub mod stack_trace;
 mod targets;
 mod terms;
 mod variables_;

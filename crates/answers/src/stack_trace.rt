@@ -85,8 +85,9 @@ fn frames(
     Ok(frames)
 }
 
-// The address of a frame.
-fn address_of(runner: &Runner, index: usize) -> u32
+/// The address of the frame of an index, which is below the number of frames: that of the program counter for the first one, that of
+/// the call for each further one (`StackFrame.instructionPointerReference`).
+pub fn address_of(runner: &Runner, index: usize) -> u32
     requires { index < length (spec.addresses runner.now) }
     ensures { result ≡ slice_index (spec.addresses runner.now) index }
 {
@@ -131,8 +132,9 @@ fn frame(
     }
 }
 
-// What an address is called.
-fn name_at(alloc: Global, lines: &LineTable, address: u32) -> Result<Text, AllocError>
+/// What the frame at an address is called: by its label, and how many bytes it is above that, or by the address itself where there is
+/// no label (`StackFrame.name`). It fails where no memory is left.
+pub fn name_at(alloc: Global, lines: &LineTable, address: u32) -> Result<Text, AllocError>
     ensures { IfOk result (λ name. name ≡ spec.name_at lines.now address) }
 {
     match lines.label_at(address) {

@@ -139,6 +139,20 @@ impl Breaks {
         self.ids.clear();
     }
 
+    /// The breakpoints of source lines, in the order in which they were set.
+    pub fn source(&self) -> &[Breakpoint]
+        ensures { result.now ≡ self.now.source }
+    {
+        &self.source
+    }
+
+    /// The breakpoints of instructions, in the order in which they were set.
+    pub fn instructions(&self) -> &[Breakpoint]
+        ensures { result.now ≡ self.now.instructions }
+    {
+        &self.instructions
+    }
+
     /// The ids of the breakpoints that stopped at the last check, those of the source list first.
     pub fn ids(&self) -> &[u32]
         ensures { result.now ≡ self.now.ids }

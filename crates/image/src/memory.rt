@@ -66,6 +66,15 @@ impl Memory {
         Ok(Memory { bytes })
     }
 
+    /// The same bytes. It fails where no memory is left.
+    pub fn copied(&self, alloc: Global) -> Result<Memory, AllocError>
+        ensures { IfOk result (λ copy. copy ≡ self.now) }
+    {
+        Ok(Memory {
+            bytes: Vec::from_slice(alloc, self.bytes.as_slice())?,
+        })
+    }
+
     /// The byte at an address; `None`: it has none.
     pub fn byte(&self, addr: u32) -> Option<u8>
         ensures { result ≡ byte_at self.now addr }
