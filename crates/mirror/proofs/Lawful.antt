@@ -7,7 +7,7 @@ use Rattle.framing.specs.Streams.{reading_after}
 use Rattle.framing.proofs.Cutting.{reading_of-append}
 use Rattle.protocol.specs.declared.request.MessageError.{MessageError}
 use Rattle.replies.specs.declared.message.Message.{Message}
-use Rattle.mirror.specs.Facts.{Facts}
+use Rattle.facts.specs.Facts.{Facts}
 use Rattle.mirror.specs.Folding.{folded}
 use Rattle.mirror.specs.Laws.{CutsDoNotMatter, FaultsStay, InputsMakePasts, MessagesMakeFacts}
 use Rattle.mirror.specs.Streams.{Past, after_input, nothing_past, body_limit, error_of, fault_in, messages_of, messages_so_far, newly_whole}

@@ -8,10 +8,10 @@ use Rattle.std.specs.Ordering.{nat_cmp, is_eq}
 use Rattle.std.specs.declared.cmp.Ordering.TheVariants.{Less, Equal, Greater}
 use Rattle.std.specs.BTreeMap.{is_at}
 use mathlib.Core.Path.{fun_ext}
-use Rattle.mirror.specs.Facts.{unknown}
+use Rattle.facts.specs.Facts.{unknown}
 use Rattle.mirror.specs.Folding.{listed, over, upto}
 use Rattle.mirror.specs.Kept.{PlaceIs, breaks_of, flat, register_in, source_in}
-use Rattle.mirror.specs.declared.breakpoints.BreakInfo.{BreakInfo}
+use Rattle.facts.specs.declared.breakpoint.BreakInfo.{BreakInfo}
 use Rattle.mirror.specs.declared.sources.Listed.{Listed}
 
 pub at_same : (k q : ℕ) → k ≡ q → is_at (nat_cmp k) q ≡ true

@@ -9,7 +9,7 @@ use Rattle.framing.specs.declared.error.FrameError.{FrameError}
 use Rattle.framing.proofs.Cutting.{reading_of-append}
 use Rattle.protocol.specs.declared.request.MessageError.{MessageError}
 use Rattle.replies.specs.declared.message.Message.{Message}
-use Rattle.mirror.specs.Facts.{Facts}
+use Rattle.facts.specs.Facts.{Facts}
 use Rattle.mirror.specs.Folding.{folded}
 use Rattle.mirror.specs.Kept.{Kept, Link, at, facts_of}
 use Rattle.mirror.specs.Kept.Link.{Open, Closed}

@@ -20,16 +20,16 @@ use Rattle.replies.specs.declared.set_instruction_breakpoints.InstructionBreakpo
 use Rattle.replies.specs.declared.set_instruction_breakpoints.InstructionBreakpoint.TheVariants.{Unverified as UnverifiedAt}
 use Rattle.replies.specs.declared.stack_trace.StackFrame.{StackFrame}
 use Rattle.replies.specs.declared.variables.Variable.{Variable}
-use Rattle.mirror.specs.Facts.{Facts, nothing_known, unknown}
+use Rattle.facts.specs.Facts.{Facts, nothing_known, unknown}
 use Rattle.mirror.specs.Requests.{register_of}
 use Rattle.mirror.specs.declared.asked.Asked.{Asked}
 use Rattle.mirror.specs.declared.asked.Asked.TheVariants.{Continue, Resume, ConfigurationDone, Launch, Terminate, Disconnect}
 use Rattle.mirror.specs.declared.asked.Asked.TheVariants.{SetBreakpoints, SetInstructionBreakpoints, StackTrace, Variables}
 use Rattle.mirror.specs.declared.asked.Asked.TheVariants.{SetVariable, ReadMemory, WriteMemory}
-use Rattle.mirror.specs.declared.breakpoints.BreakInfo.{BreakInfo}
-use Rattle.mirror.specs.declared.frames.FrameInfo.{FrameInfo}
-use Rattle.mirror.specs.declared.run.RunState.{RunState}
-use Rattle.mirror.specs.declared.run.RunState.TheVariants.{Unknown, Running, Stopped, Ended}
+use Rattle.facts.specs.declared.breakpoint.BreakInfo.{BreakInfo}
+use Rattle.facts.specs.declared.frame.FrameInfo.{FrameInfo}
+use Rattle.facts.specs.declared.run.RunState.{RunState}
+use Rattle.facts.specs.declared.run.RunState.TheVariants.{Unknown, Running, Stopped, Ended}
 use Rattle.replies.specs.declared.response.ResponseBody.TheVariants.{Initialize, Threads, Scopes, Evaluate, Disassemble, Empty}
 use Rattle.replies.specs.declared.response.ResponseBody.TheVariants.{Continue as GoesOn, SetBreakpoints as SourceList}
 use Rattle.replies.specs.declared.response.ResponseBody.TheVariants.{SetInstructionBreakpoints as InstructionList}

@@ -4,9 +4,9 @@ use Rattle.std.specs.Ordering.{nat_cmp}
 use Rattle.std.specs.BTreeMap.{is_at}
 use Rattle.std.specs.Map.{lookup}
 use Rattle.framing.specs.Reading.{Tail}
-use Rattle.mirror.specs.Facts.{Facts}
+use Rattle.facts.specs.Facts.{Facts}
 use Rattle.mirror.specs.declared.asked.Asked.{Asked}
-use Rattle.mirror.specs.declared.breakpoints.BreakInfo.{BreakInfo}
+use Rattle.facts.specs.declared.breakpoint.BreakInfo.{BreakInfo}
 use Rattle.mirror.specs.declared.error.MirrorError.{MirrorError}
 use Rattle.mirror.specs.declared.known.Known.{Known}
 use Rattle.mirror.specs.declared.sources.Listed.{Listed}

@@ -1,6 +1,6 @@
 -- What holds of every stream and of every past. Each of these statements is the contract of a function of the module `laws`.
 use Rattle.std.specs.Prelude.{◌≡◌, ℕ, List, [], ◌∷◌, ◌++◌, fold, Option, Some}
-use Rattle.mirror.specs.Facts.{Facts}
+use Rattle.facts.specs.Facts.{Facts}
 use Rattle.mirror.specs.Folding.{folded}
 use Rattle.mirror.specs.Streams.{Input, Past, after, after_input, messages_so_far, stream_fault, with_piece}
 use Rattle.mirror.specs.declared.asked.Asked.{Asked}

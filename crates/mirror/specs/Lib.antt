@@ -1,7 +1,5 @@
 -- What an editor may know of the machine, and what tells it.
 
--- the facts
-pub mod Facts
 -- what a request would tell, once it succeeds
 pub mod Requests
 -- what a message makes of the facts
@@ -14,6 +12,8 @@ pub mod Laws
 -- what is kept of it
 pub mod Kept
 -- ---- of the crates below
+-- the facts
+pub use Rattle.facts.specs.Facts
 -- how a stream is read, and what a body is
 pub use Rattle.framing.specs.Reading
 pub use Rattle.replies.specs.Messages

@@ -12,7 +12,7 @@ use Rattle.protocol.specs.declared.request.MessageError.{MessageError}
 use Rattle.protocol.specs.declared.request.Request.{Request}
 use Rattle.replies.specs.Reading.{reading_of as message_read}
 use Rattle.replies.specs.declared.message.Message.{Message}
-use Rattle.mirror.specs.Facts.{Facts, nothing_known, unknown}
+use Rattle.facts.specs.Facts.{Facts, nothing_known, unknown}
 use Rattle.mirror.specs.Folding.{folded}
 use Rattle.mirror.specs.Kept.{Kept, Link, at, facts_of}
 use Rattle.mirror.specs.Kept.Link.{Open, Closed}

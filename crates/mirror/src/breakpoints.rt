@@ -2,18 +2,10 @@
 ghost use Rattle.std.specs.Prelude.{◌≡◌, IfOk, Some, slice_get, filter_map};
 ghost use Rattle.mirror.specs.Folding.{verified_at, verified_instruction};
 
+use facts::BreakInfo;
 use replies::{InstructionBreakpoint, SourceBreakpoint};
 use std::alloc::{AllocError, Global};
 use std::marker::Model;
-
-/// A breakpoint that is set (`Breakpoint`).
-#[derive(Clone, Copy, Debug, PartialEq, Eq)]
-pub struct BreakInfo {
-    /// The number by which a stop names it.
-    pub id: u32,
-    /// The address at which it stops.
-    pub address: u32,
-}
 
 /// Breakpoints that are set, in the order in which they were asked for. A contract sees them as a list.
 #[derive(Drop)]
@@ -23,7 +15,7 @@ pub(crate) struct Breaks {
 
 impl Model for Breaks {
     ghost use Rattle.std.specs.Prelude.{List};
-    ghost use Rattle.mirror.specs.declared.breakpoints.BreakInfo.{BreakInfo};
+    ghost use Rattle.facts.specs.declared.breakpoint.BreakInfo.{BreakInfo};
 
     ghost Value = { List BreakInfo };
 

@@ -1,51 +1,14 @@
 //! Frames of the call stack.
 ghost use Rattle.std.specs.Prelude.{◌≡◌, IfOk, OnOk, [], map, option_copied};
+ghost use Rattle.mirror.specs.Folding.{frame_of};
 ghost use Rattle.mirror.specs.Kept.{at};
 
 use crate::memory::after;
-use crate::name::Name;
+use facts::{FrameInfo, Name};
 use replies::StackFrame;
 use std::alloc::{AllocError, Global};
 use std::collections::BTreeMap;
 use std::marker::Model;
-
-/// A frame (`StackFrame`).
-#[derive(Drop)]
-pub struct FrameInfo {
-    /// The number by which a request names it.
-    pub id: u32,
-    /// The address at which it is.
-    pub address: u32,
-    /// What a person sees.
-    pub name: Name,
-}
-
-impl FrameInfo {
-    ghost use Rattle.mirror.specs.Folding.{frame_of};
-
-    // The frame that an entry tells.
-    fn of(alloc: Global, frame: &StackFrame) -> Result<FrameInfo, AllocError>
-        ensures { IfOk result (λ info. info ≡ frame_of frame.now) }
-    {
-        Ok(FrameInfo {
-            id: frame.id,
-            address: frame.instruction_pointer_reference,
-            name: Name::of(alloc, frame.name.as_str())?,
-        })
-    }
-}
-
-impl Clone for FrameInfo {
-    ghost is_clone = { λ frame copy. copy ≡ frame };
-
-    fn clone(&self) -> Result<FrameInfo, AllocError> {
-        Ok(FrameInfo {
-            id: self.id,
-            address: self.address,
-            name: self.name.clone()?,
-        })
-    }
-}
 
 /// The frames that were told, by index. A contract sees the entries.
 #[derive(Drop)]
@@ -55,7 +18,7 @@ pub(crate) struct Frames {
 
 impl Model for Frames {
     ghost use Rattle.std.specs.Prelude.{List, ℕ};
-    ghost use Rattle.mirror.specs.declared.frames.FrameInfo.{FrameInfo};
+    ghost use Rattle.facts.specs.declared.frame.FrameInfo.{FrameInfo};
 
     ghost Value = { List (ℕ × FrameInfo) };
 
@@ -63,7 +26,7 @@ impl Model for Frames {
 }
 
 impl Frames {
-    ghost use Rattle.mirror.specs.Folding.{frame_of, over};
+    ghost use Rattle.mirror.specs.Folding.{over};
 
     /// None was told. It takes no memory.
     pub(crate) fn new(alloc: Global) -> Frames
@@ -103,7 +66,7 @@ impl Frames {
         for frame in frames {
             match place {
                 Some(index) => {
-                    self.map.insert(index, FrameInfo::of(alloc, frame)?)?;
+                    self.map.insert(index, told_frame(alloc, frame)?)?;
                     place = after(index);
                 }
                 None => break,
@@ -111,4 +74,15 @@ impl Frames {
         }
         Ok(())
     }
+}
+
+// The frame that an entry tells.
+fn told_frame(alloc: Global, frame: &StackFrame) -> Result<FrameInfo, AllocError>
+    ensures { IfOk result (λ info. info ≡ frame_of frame.now) }
+{
+    Ok(FrameInfo {
+        id: frame.id,
+        address: frame.instruction_pointer_reference,
+        name: Name::of(alloc, frame.name.as_str())?,
+    })
 }

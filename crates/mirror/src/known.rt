@@ -1,13 +1,13 @@
 //! The facts that are kept.
 ghost use Rattle.std.specs.Prelude.{◌≡◌, IfOk};
-ghost use Rattle.mirror.specs.Facts.{nothing_known};
+ghost use Rattle.facts.specs.Facts.{nothing_known};
 
 use crate::breakpoints::Breaks;
 use crate::frames::Frames;
 use crate::memory::Memory;
 use crate::registers::Registers;
-use crate::run::RunState;
 use crate::sources::Sources;
+use facts::RunState;
 use std::alloc::{AllocError, Global};
 
 /// What is known of the machine.

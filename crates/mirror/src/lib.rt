@@ -11,17 +11,12 @@ pub mod laws;
 mod memory;
 mod message;
 mod mirror;
-mod name;
 mod news;
 mod reference;
 mod registers;
 mod response;
-mod run;
 mod sources;
 
-pub use breakpoints::BreakInfo;
 pub use error::MirrorError;
-pub use frames::FrameInfo;
+pub use facts::{BreakInfo, FrameInfo, Name, RunState};
 pub use mirror::Mirror;
-pub use name::Name;
-pub use run::RunState;

@@ -7,7 +7,7 @@ ghost use Rattle.std.specs.Prelude.{option_copied};
 use crate::asked::{Asked, Requests};
 use crate::known::Known;
 use crate::response::succeed;
-use crate::run::RunState;
+use facts::RunState;
 use replies::{Event, Message, Outcome};
 use std::alloc::{AllocError, Global};
 

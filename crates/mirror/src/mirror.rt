@@ -14,12 +14,10 @@ ghost use Rattle.mirror.specs.Streams.{
 ghost use Rattle.mirror.specs.declared.error.MirrorError.TheVariants.{NoMemory};
 
 use crate::asked::Requests;
-use crate::breakpoints::BreakInfo;
 use crate::error::MirrorError;
-use crate::frames::FrameInfo;
 use crate::known::Known;
 use crate::news::{take_news, take_piece};
-use crate::run::RunState;
+use facts::{BreakInfo, FrameInfo, RunState};
 use framing::{FrameError, Unframer};
 use protocol::{MessageError, Request};
 use std::alloc::Global;

@@ -29,7 +29,7 @@ impl Model for Registers {
 }
 
 impl Registers {
-    ghost use Rattle.mirror.specs.Facts.{unknown};
+    ghost use Rattle.facts.specs.Facts.{unknown};
 
     /// None was told.
     pub(crate) fn new() -> Registers

@@ -7,7 +7,7 @@ use crate::asked::Asked;
 use crate::breakpoints::Breaks;
 use crate::known::Known;
 use crate::registers::register_of;
-use crate::run::RunState;
+use facts::RunState;
 use replies::{InstructionBreakpoint, ResponseBody, SourceBreakpoint, StackFrame, Variable};
 use std::alloc::{AllocError, Global};
 

@@ -3,8 +3,9 @@ ghost use Rattle.std.specs.Prelude.{◌≡◌, IfOk, OnOk, [], bytes_eq, filter,
 ghost use Rattle.mirror.specs.Kept.{source_in};
 
 use crate::asked;
-use crate::breakpoints::{BreakInfo, Breaks};
+use crate::breakpoints::Breaks;
 use byte_strings::Bytes;
+use facts::BreakInfo;
 use std::alloc::{AllocError, Global};
 use std::marker::Model;
 

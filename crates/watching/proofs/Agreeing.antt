@@ -5,11 +5,11 @@ use Rattle.debuggee.specs.Programs.{Program, is_running, marked, marked_by, on_p
 use Rattle.debuggee.specs.declared.run.Mark.{Mark}
 use Rattle.debuggee.specs.declared.run.Run.{Run}
 use Rattle.debuggee.specs.declared.run.Run.TheVariants as a_run
-use Rattle.mirror.specs.Facts.{Facts, nothing_known, unknown}
+use Rattle.facts.specs.Facts.{Facts, nothing_known, unknown}
 use Rattle.mirror.specs.Folding.{in_state}
-use Rattle.mirror.specs.declared.frames.FrameInfo.{FrameInfo}
-use Rattle.mirror.specs.declared.run.RunState.{RunState}
-use Rattle.mirror.specs.declared.run.RunState.TheVariants.{Unknown, Running, Stopped, Ended}
+use Rattle.facts.specs.declared.frame.FrameInfo.{FrameInfo}
+use Rattle.facts.specs.declared.run.RunState.{RunState}
+use Rattle.facts.specs.declared.run.RunState.TheVariants.{Unknown, Running, Stopped, Ended}
 use Rattle.session.specs.declared.phase.Phase.{Phase}
 use Rattle.session.specs.declared.phase.Phase.TheVariants.{Fresh, Initialized, Configuring, Active, Left}
 use Rattle.session.specs.declared.terms.Terms.{Terms}

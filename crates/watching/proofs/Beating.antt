@@ -7,8 +7,8 @@ use Rattle.debuggee.specs.Programs.{Program, entered, is_running, moved, next_ti
 use Rattle.debuggee.specs.declared.run.Mark.{Mark}
 use Rattle.debuggee.specs.declared.run.Run.{Run}
 use Rattle.debuggee.specs.declared.run.Why.TheVariants as why
-use Rattle.mirror.specs.Facts.{Facts}
-use Rattle.mirror.specs.declared.breakpoints.BreakInfo.{BreakInfo}
+use Rattle.facts.specs.Facts.{Facts}
+use Rattle.facts.specs.declared.breakpoint.BreakInfo.{BreakInfo}
 use Rattle.rv32i.specs.declared.hart.Hart.{Hart}
 use Rattle.rv32i.specs.declared.instr.Instr.{Instr}
 use Rattle.rv32i.specs.declared.stepped.Stepped.{Stepped}

@@ -16,7 +16,7 @@ use Rattle.image.proofs.Maps.{keeps_above, keeps_below, writes_bytes}
 use Rattle.image.specs.Memory.{byte_at, fault_at, has_bytes, memory_after, with_bytes}
 use Rattle.image.specs.declared.fault.MemFault.{MemFault}
 use Rattle.image.specs.declared.fault.MemFault.TheVariants.{Misaligned, Outside}
-use Rattle.mirror.specs.Facts.{Facts}
+use Rattle.facts.specs.Facts.{Facts}
 use Rattle.mirror.specs.Folding.{over, succeeded, valued}
 use Rattle.mirror.specs.Requests.{named, place_of, register_of}
 use Rattle.mirror.specs.declared.asked.Asked.TheVariants as asks

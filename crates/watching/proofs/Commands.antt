@@ -1,7 +1,7 @@
 -- What there is to show of the success of a command: that what it tells is so, and that what is known then fits.
 use Rattle.std.proofs.Common.{◌≡◌, ℕ, true, List, map, Option, Some, None, sym, subst}
 use Rattle.debuggee.specs.Programs.{Program}
-use Rattle.mirror.specs.Facts.{Facts}
+use Rattle.facts.specs.Facts.{Facts}
 use Rattle.mirror.specs.Folding.{answered}
 use Rattle.mirror.specs.Requests.{asked_of}
 use Rattle.mirror.specs.declared.asked.Asked.{Asked}

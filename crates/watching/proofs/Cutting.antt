@@ -1,7 +1,7 @@
 -- What was so at each message was so at the last one of any prefix.
 use Rattle.std.proofs.Common.{◌≡◌, ℕ, List, [], ◌∷◌, ◌++◌, length, Option, Some, refl}
 use Rattle.std.specs.Prelude.{⊤, nat_le, ◌-◌}
-use Rattle.mirror.specs.Facts.{Facts}
+use Rattle.facts.specs.Facts.{Facts}
 use Rattle.mirror.specs.Folding.{folded}
 use Rattle.mirror.specs.declared.asked.Asked.{Asked}
 use Rattle.session.proofs.Reaching.{if_keeps}

@@ -3,11 +3,11 @@ use Rattle.std.proofs.Common.{◌≡◌, ℕ, Bool, true, false, cond, List, [],
 use Rattle.debuggee.specs.Programs.{Program, ended, first_run, is_ended, on_program}
 use Rattle.debuggee.specs.declared.run.Run.{Run}
 use Rattle.debuggee.specs.declared.run.Run.TheVariants as a_run
-use Rattle.mirror.specs.Facts.{Facts}
+use Rattle.facts.specs.Facts.{Facts}
 use Rattle.mirror.specs.Folding.{in_state, ended as ended_as}
 use Rattle.mirror.specs.declared.asked.Asked.TheVariants as asks
-use Rattle.mirror.specs.declared.run.RunState.{RunState}
-use Rattle.mirror.specs.declared.run.RunState.TheVariants.{Unknown, Running, Stopped, Ended}
+use Rattle.facts.specs.declared.run.RunState.{RunState}
+use Rattle.facts.specs.declared.run.RunState.TheVariants.{Unknown, Running, Stopped, Ended}
 use Rattle.replies.specs.declared.event.Event.TheVariants as event
 use Rattle.session.proofs.Serving.{Meets}
 use Rattle.session.specs.Acts.{Now, Tell}

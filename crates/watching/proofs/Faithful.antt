@@ -3,7 +3,7 @@ use Rattle.std.proofs.Common.{◌≡◌, ℕ, ◌<◌, Bool, true, false, ltb, L
 use Rattle.std.specs.Prelude.{All, ⊤}
 use Rattle.std.proofs.lemmas.Bool.Decides.{nat_tests}
 use Rattle.debuggee.specs.Programs.{Program}
-use Rattle.mirror.specs.Facts.{Facts, nothing_known}
+use Rattle.facts.specs.Facts.{Facts, nothing_known}
 use Rattle.mirror.specs.Folding.{folded}
 use Rattle.replies.specs.declared.event.Event.{Event as Told}
 use Rattle.replies.specs.declared.message.Message.{Message}

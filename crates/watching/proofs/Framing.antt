@@ -8,9 +8,9 @@ use Rattle.answers.specs.StackTrace.{addresses, frame_at as frame_told, frames_g
 use Rattle.answers.specs.Targets.{number_for}
 use Rattle.answers.specs.declared.view.View.{View}
 use Rattle.debuggee.specs.Programs.{Program, is_running}
-use Rattle.mirror.specs.Facts.{Facts}
+use Rattle.facts.specs.Facts.{Facts}
 use Rattle.mirror.specs.Folding.{frame_of, over}
-use Rattle.mirror.specs.declared.frames.FrameInfo.{FrameInfo}
+use Rattle.facts.specs.declared.frame.FrameInfo.{FrameInfo}
 use Rattle.protocol.specs.declared.stack_trace.StackTraceArguments.{StackTraceArguments}
 use Rattle.session.specs.Phases.{is_active_in}
 use Rattle.session.specs.declared.terms.Terms.{Terms}

@@ -6,10 +6,10 @@ use Rattle.debuggee.specs.declared.run.Run.{Run}
 use Rattle.debuggee.specs.declared.run.Run.TheVariants as a_run
 use Rattle.debuggee.specs.declared.run.Why.{Why}
 use Rattle.debuggee.specs.declared.run.Why.TheVariants as why
-use Rattle.mirror.specs.Facts.{Facts}
+use Rattle.facts.specs.Facts.{Facts}
 use Rattle.mirror.specs.Folding.{happened, in_state}
-use Rattle.mirror.specs.declared.run.RunState.{RunState}
-use Rattle.mirror.specs.declared.run.RunState.TheVariants.{Unknown, Running, Stopped, Ended}
+use Rattle.facts.specs.declared.run.RunState.{RunState}
+use Rattle.facts.specs.declared.run.RunState.TheVariants.{Unknown, Running, Stopped, Ended}
 use Rattle.replies.specs.declared.event.Event.{Event as Told}
 use Rattle.session.specs.declared.phase.Phase.{Phase}
 use Rattle.session.specs.declared.phase.Phase.TheVariants.{Fresh, Initialized, Configuring, Active, Left}

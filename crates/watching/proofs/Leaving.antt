@@ -11,11 +11,11 @@ use Rattle.assembler.specs.declared.error.AsmError.{AsmError}
 use Rattle.debuggee.specs.Programs.{Program, ended, first_run, is_ended, is_running, left, marked, on_program, restarted, resumed, stopped, with_hart, with_instructions, with_source, written}
 use Rattle.debuggee.specs.declared.run.Mark.TheVariants as mark
 use Rattle.debuggee.specs.declared.run.Why.TheVariants as why
-use Rattle.mirror.specs.Facts.{Facts, nothing_known}
+use Rattle.facts.specs.Facts.{Facts, nothing_known}
 use Rattle.mirror.specs.Folding.{in_state, succeeded}
 use Rattle.mirror.specs.Requests.{place_of}
 use Rattle.mirror.specs.declared.asked.Asked.TheVariants as asks
-use Rattle.mirror.specs.declared.run.RunState.TheVariants.{Running}
+use Rattle.facts.specs.declared.run.RunState.TheVariants.{Running}
 use Rattle.protocol.specs.declared.command.Command.{Command}
 use Rattle.protocol.specs.declared.command.Command.TheVariants.{Initialize, Launch, Attach, ConfigurationDone, Threads, Cancel, Restart, Terminate, Disconnect, SetBreakpoints, SetInstructionBreakpoints, SetExceptionBreakpoints, Continue, Next, StepIn, StepOut, Pause, StackTrace, Scopes, Variables, SetVariable, Evaluate, Disassemble, ReadMemory, WriteMemory}
 use Rattle.replies.specs.declared.event.Event.TheVariants as event

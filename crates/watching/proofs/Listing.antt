@@ -12,11 +12,11 @@ use Rattle.answers.specs.declared.view.View.{View}
 use Rattle.breakpoints.specs.Stops.{Wanted, fresh}
 use Rattle.debuggee.specs.Programs.{Program, is_running, with_instructions, with_source}
 use Rattle.image.specs.Lines.{Table}
-use Rattle.mirror.specs.Facts.{Facts}
+use Rattle.facts.specs.Facts.{Facts}
 use Rattle.mirror.specs.Folding.{listed, source_listed, succeeded, verified_at, verified_instruction}
 use Rattle.mirror.specs.declared.asked.Asked.{Asked}
 use Rattle.mirror.specs.declared.asked.Asked.TheVariants as asks
-use Rattle.mirror.specs.declared.breakpoints.BreakInfo.{BreakInfo}
+use Rattle.facts.specs.declared.breakpoint.BreakInfo.{BreakInfo}
 use Rattle.protocol.specs.declared.refusal.Refusal.{Refusal}
 use Rattle.protocol.specs.declared.set_breakpoints.SetBreakpointsArguments.{SetBreakpointsArguments}
 use Rattle.protocol.specs.declared.set_breakpoints.SourceBreakpoint.{SourceBreakpoint}
@@ -32,7 +32,7 @@ use Rattle.watching.proofs.Agreeing.{Agrees, IsQuiet, KnowsNoStand, SuitsPhase, 
 use Rattle.watching.proofs.Valuing.{no_body, that_body}
 use Rattle.watching.specs.Holding.{HoldsAt, HoldsRun}
 use Rattle.watching.specs.Shown.{info_of, shown_of, state_of}
-use Rattle.mirror.specs.declared.run.RunState.{RunState}
+use Rattle.facts.specs.declared.run.RunState.{RunState}
 use Rattle.debuggee.specs.declared.run.Run.{Run}
 
 -- ---- the entries of an answer, and the list that is set

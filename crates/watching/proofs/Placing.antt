@@ -7,7 +7,7 @@ use Rattle.answers.specs.ReadMemory.{bytes_from, can_begin, read, start_at, star
 use Rattle.answers.specs.References.{offset_by}
 use Rattle.debuggee.specs.Programs.{Program, is_running}
 use Rattle.image.specs.Memory.{byte_at, first_address}
-use Rattle.mirror.specs.Facts.{Facts}
+use Rattle.facts.specs.Facts.{Facts}
 use Rattle.mirror.specs.Folding.{over, succeeded}
 use Rattle.mirror.specs.declared.asked.Asked.TheVariants as asks
 use Rattle.protocol.specs.declared.read_memory.ReadMemoryArguments.{ReadMemoryArguments}

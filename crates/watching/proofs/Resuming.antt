@@ -3,10 +3,10 @@ use Rattle.std.proofs.Common.{◌≡◌, Bool, true, false, List, [], ◌∷◌,
 use Rattle.breakpoints.specs.Stops.{Placed, reset}
 use Rattle.debuggee.specs.Programs.{Program, first_run, on_program, restarted, resumed}
 use Rattle.debuggee.specs.declared.run.Run.TheVariants as a_run
-use Rattle.mirror.specs.Facts.{Facts, nothing_known}
+use Rattle.facts.specs.Facts.{Facts, nothing_known}
 use Rattle.mirror.specs.Folding.{happened, in_state}
-use Rattle.mirror.specs.declared.breakpoints.BreakInfo.{BreakInfo}
-use Rattle.mirror.specs.declared.run.RunState.TheVariants.{Running}
+use Rattle.facts.specs.declared.breakpoint.BreakInfo.{BreakInfo}
+use Rattle.facts.specs.declared.run.RunState.TheVariants.{Running}
 use Rattle.session.specs.Acts.{Now, Tell}
 use Rattle.session.specs.Demands.{has_none, run_of}
 use Rattle.session.specs.Phases.{is_active_in, is_fresh_in, is_initialized_in}

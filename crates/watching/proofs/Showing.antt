@@ -5,11 +5,11 @@ use Rattle.answers.specs.Looking.{looks_in}
 use Rattle.answers.specs.StackTrace.{addresses}
 use Rattle.debuggee.specs.Programs.{Program}
 use Rattle.image.specs.Lines.{Table}
-use Rattle.mirror.specs.Facts.{Facts}
+use Rattle.facts.specs.Facts.{Facts}
 use Rattle.mirror.specs.Folding.{succeeded}
 use Rattle.mirror.specs.declared.asked.Asked.{Asked}
 use Rattle.mirror.specs.declared.asked.Asked.TheVariants as asks
-use Rattle.mirror.specs.declared.frames.FrameInfo.{FrameInfo}
+use Rattle.facts.specs.declared.frame.FrameInfo.{FrameInfo}
 use Rattle.protocol.specs.declared.command.Command.{Command}
 use Rattle.replies.specs.declared.response.ResponseBody.{ResponseBody}
 use Rattle.replies.specs.declared.response.ResponseBody.TheVariants as body

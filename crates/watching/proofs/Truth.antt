@@ -3,7 +3,7 @@ use Rattle.std.proofs.Common.{◌≡◌, ℕ, zero, suc, Bool, true, eqb, leb, l
 use Rattle.std.proofs.lemmas.List.Elements.{All-push, All-nil, All-head}
 use Rattle.debuggee.specs.Programs.{Debuggee, Program, left, marked, on_program, with_program}
 use Rattle.debuggee.specs.declared.run.Mark.TheVariants as mark
-use Rattle.mirror.specs.Facts.{Facts, nothing_known}
+use Rattle.facts.specs.Facts.{Facts, nothing_known}
 use Rattle.mirror.specs.declared.asked.Asked.{Asked}
 use Rattle.session.proofs.Asked.{IsRead}
 use Rattle.session.proofs.ByForms.{accepting, on, on_with}

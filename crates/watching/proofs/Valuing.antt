@@ -6,7 +6,7 @@ use Rattle.std.proofs.lemmas.List.Elements.{All-cons, All-push, All-nil, All-hea
 use Rattle.answers.specs.Parts.{at_most}
 use Rattle.answers.specs.Variables.{asked_of, body_by, of_kind, variables_in}
 use Rattle.debuggee.specs.Programs.{Program, is_running}
-use Rattle.mirror.specs.Facts.{Facts}
+use Rattle.facts.specs.Facts.{Facts}
 use Rattle.mirror.specs.Folding.{after_variable, after_variables, valued}
 use Rattle.mirror.specs.Requests.{named, register_of}
 use Rattle.mirror.specs.declared.asked.Asked.TheVariants as asks

@@ -4,7 +4,7 @@
 -- it have been told. An editor folds them, one after the other, into what it knows, and for that it remembers its own
 -- requests. Whatever it then knows was so when the last of these messages was queued.
 use Rattle.std.specs.Prelude.{ℕ, ◌-◌, nat_le, if◌then◌else◌, List, [], ◌∷◌, length, Option, Some, None, option_map, ⊤}
-use Rattle.mirror.specs.Facts.{Facts, nothing_known}
+use Rattle.facts.specs.Facts.{Facts, nothing_known}
 use Rattle.mirror.specs.Folding.{folded}
 use Rattle.mirror.specs.Requests.{asked_of}
 use Rattle.mirror.specs.declared.asked.Asked.{Asked}

@@ -4,9 +4,9 @@
 -- its number, address and name, each register and each byte. What is unknown holds. That the machine has ended, without
 -- a code, holds also where it has ended with one.
 use Rattle.std.specs.Prelude.{◌≡◌, ℕ, List, Option, Some, None, slice_get, ⊤}
-use Rattle.mirror.specs.Facts.{Facts}
-use Rattle.mirror.specs.declared.run.RunState.{RunState}
-use Rattle.mirror.specs.declared.run.RunState.TheVariants.{Unknown, Running, Stopped, Ended}
+use Rattle.facts.specs.Facts.{Facts}
+use Rattle.facts.specs.declared.run.RunState.{RunState}
+use Rattle.facts.specs.declared.run.RunState.TheVariants.{Unknown, Running, Stopped, Ended}
 
 -- it has ended, in whatever way
 abbrev pub HasEnded : RunState → Type 0

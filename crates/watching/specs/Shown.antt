@@ -10,11 +10,11 @@ use Rattle.debuggee.specs.declared.run.Run.{Run}
 use Rattle.debuggee.specs.declared.run.Run.TheVariants as run
 use Rattle.image.specs.Lines.{Table}
 use Rattle.image.specs.Memory.{byte_at}
-use Rattle.mirror.specs.Facts.{Facts, nothing_known}
-use Rattle.mirror.specs.declared.breakpoints.BreakInfo.{BreakInfo}
-use Rattle.mirror.specs.declared.frames.FrameInfo.{FrameInfo}
-use Rattle.mirror.specs.declared.run.RunState.{RunState}
-use Rattle.mirror.specs.declared.run.RunState.TheVariants.{Running, Stopped, Ended}
+use Rattle.facts.specs.Facts.{Facts, nothing_known}
+use Rattle.facts.specs.declared.breakpoint.BreakInfo.{BreakInfo}
+use Rattle.facts.specs.declared.frame.FrameInfo.{FrameInfo}
+use Rattle.facts.specs.declared.run.RunState.{RunState}
+use Rattle.facts.specs.declared.run.RunState.TheVariants.{Running, Stopped, Ended}
 use Rattle.rv32i.specs.declared.hart.Hart.{Hart}
 use Rattle.session.specs.Sessions.{Snapshot}
 use Rattle.variables.specs.Numbers.{Numbers, number_in}

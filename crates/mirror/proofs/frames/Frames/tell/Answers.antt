@@ -4,7 +4,7 @@ use Rattle.std.proofs.lemmas.List.{length-map}
 use Rattle.std.proofs.lemmas.Option.{slice_get-map, slice_get_read}
 use Rattle.mirror.specs.Folding.{frame_of, over}
 use Rattle.mirror.specs.Kept.{at}
-use Rattle.mirror.specs.declared.frames.FrameInfo.{FrameInfo}
+use Rattle.facts.specs.declared.frame.FrameInfo.{FrameInfo}
 use Rattle.mirror.proofs.Maps.{place_next, upto_last, upto_none, upto_step, upto_whole}
 use Rattle.mirror.proofs.frames.Frames.tell.Goals as goal
 
@@ -19,7 +19,7 @@ loop-frame-preserved c =
       told = upto_step c.args.first c.loop-frame.frame-index c.in-Some.index (map frame_of c.args.frames.now) _ _ _ _ here fits
           (slice_get-map frame_of c.args.frames.now c.loop-frame.frame-index
           ∙ ap (option_map frame_of) (slice_get_read c.args.frames.now (length c.args.frames.now) c.loop-frame.frame-index c.frame-item.result refl c.loop-frame-test.true c.frame-item.is)
-          ∙ ap Some (sym c.in_ok-of-in-Some.ensures))
+          ∙ ap Some (sym c.in_ok-told_frame-in-Some.ensures))
           c.loop-frame.invariant.told c.in_ok-insert-in-Some.ensures.updates.0;
       place = place_next c.after-place.result c.in-Some.index c.args.first c.loop-frame.frame-index here c.after-place.ensures;
     }

@@ -20,7 +20,7 @@ impl Model for Name {
 
 impl Name {
     /// A copy of a text. It fails where no memory is left.
-    pub(crate) fn of(alloc: Global, text: &str) -> Result<Name, AllocError>
+    pub fn of(alloc: Global, text: &str) -> Result<Name, AllocError>
         ensures { IfOk result (λ name. name ≡ text.now) }
     {
         Ok(Name {

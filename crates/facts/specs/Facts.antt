@@ -4,10 +4,10 @@
 -- breakpoints are set, and, of a machine that stands still, its frames, its registers and bytes of its memory. Whatever was
 -- not told is unknown. A fact may be old: it says what the machine was when the message was made.
 use Rattle.std.specs.Prelude.{ℕ, List, [], Bool, false, Option, None}
-use Rattle.mirror.specs.declared.breakpoints.BreakInfo.{BreakInfo}
-use Rattle.mirror.specs.declared.frames.FrameInfo.{FrameInfo}
-use Rattle.mirror.specs.declared.run.RunState.{RunState}
-use Rattle.mirror.specs.declared.run.RunState.TheVariants.{Unknown}
+use Rattle.facts.specs.declared.breakpoint.BreakInfo.{BreakInfo}
+use Rattle.facts.specs.declared.frame.FrameInfo.{FrameInfo}
+use Rattle.facts.specs.declared.run.RunState.{RunState}
+use Rattle.facts.specs.declared.run.RunState.TheVariants.{Unknown}
 
 pub record Facts : Type 0 where
   -- whether the machine runs
