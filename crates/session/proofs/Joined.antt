@@ -115,11 +115,11 @@ beat_alike : (seen : Seen) → Alike (beat seen true) (beat seen false)
 beat_alike seen = program_alike seen.now.debuggee.program seen
 
 -- How far a beat moves, and how it can end: without more moves it makes none, and says Spent only then.
-record Bounded (more : Bool) (b : Beat) : Type 0 where
-  few : b.moved ≤ 1
-  none : more ≡ false → b.moved ≡ 0
-  spent : b.ending ≡ Some ending.Spent → more ≡ false
-  still : b.ending ≡ Some ending.Spent → b.acts ≡ []
+pub record Bounded (more : Bool) (b : Beat) : Type 0 where
+  pub few : b.moved ≤ 1
+  pub none : more ≡ false → b.moved ≡ 0
+  pub spent : b.ending ≡ Some ending.Spent → more ≡ false
+  pub still : b.ending ≡ Some ending.Spent → b.acts ≡ []
 
 rests : (more : Bool) (acts : List Act) (e : Option Ending) → (e ≡ Some ending.Spent → ⊥) → Bounded more (record { acts = acts; moved = 0; ending = e })
 rests more acts e never = record { few = omega arith; none = λ _. refl; spent = λ h. absurd (never h); still = λ h. absurd (never h) }
@@ -127,7 +127,7 @@ rests more acts e never = record { few = omega arith; none = λ _. refl; spent =
 spends : (more : Bool) → more ≡ false → Bounded more (ends ending.Spent)
 spends more e = record { few = omega arith; none = λ _. refl; spent = λ _. e; still = λ _. refl }
 
-never_spent : (outcome : Outcome) → ending_of outcome ≡ Some ending.Spent → ⊥
+pub never_spent : (outcome : Outcome) → ending_of outcome ≡ Some ending.Spent → ⊥
 never_spent Went h = cc
 never_spent (Stopped reason) h = cc
 never_spent (Ended code) h = cc
@@ -170,12 +170,12 @@ program_bounded : (program : Option Program) (seen : Seen) (more : Bool) → Bou
 program_bounded None seen more = rests more [] (Some ending.Idle) (λ h. cc)
 program_bounded (Some p) seen more = owed_bounded p.owed seen p more
 
-bounded : (seen : Seen) (more : Bool) → Bounded more (beat seen more)
+pub bounded : (seen : Seen) (more : Bool) → Bounded more (beat seen more)
 bounded seen more = program_bounded seen.now.debuggee.program seen more
 
 -- ---- after an end each beat ends at once
 
-abbrev Still : Session → Type 0
+abbrev pub Still : Session → Type 0
 Still s = (more : Bool) → (e : Ending) × (beat (histories.see s) more ≡ ends e)
 
 still_as : (s : Session) (program : Option Program) → program_of s ≡ program → ((more : Bool) → (e : Ending) × (beat_of program (histories.see s) more ≡ ends e)) → Still s
@@ -278,16 +278,16 @@ next_few n d None h = by (ltb d.moved n) refl where
   by true e = let one = (bounded (histories.see d.state) (ltb d.moved n)).few in let less : d.moved < n = grind (arith, nat_tests) in omega (arith, one, less)
   by false e = let none = (bounded (histories.see d.state) (ltb d.moved n)).none e in omega (arith, none, h)
 
-moved_few : (n i : ℕ) (s : Session) → (beats histories n i s).moved ≤ n
+pub moved_few : (n i : ℕ) (s : Session) → (beats histories n i s).moved ≤ n
 moved_few n zero s = omega arith
 moved_few n (suc i) s = next_few n (beats histories n i s) (beats histories n i s).ending (moved_few n i s)
 
 -- ---- what the last beat left
 
 -- a slice that has ended for want of moves made them all, and would end so again; after another end each beat ends
-record AtEnd (n : ℕ) (d : Slicing Session) : Type 0 where
-  spent : d.ending ≡ Some ending.Spent → (n ≤ d.moved) × (beat (histories.see d.state) false ≡ ends ending.Spent)
-  still : (e : Ending) → d.ending ≡ Some e → (e ≡ ending.Spent → ⊥) → Still d.state
+pub record AtEnd (n : ℕ) (d : Slicing Session) : Type 0 where
+  pub spent : d.ending ≡ Some ending.Spent → (n ≤ d.moved) × (beat (histories.see d.state) false ≡ ends ending.Spent)
+  pub still : (e : Ending) → d.ending ≡ Some e → (e ≡ ending.Spent → ⊥) → Still d.state
 
 spent_again : (s : Session) (more : Bool) → (beat (histories.see s) more).ending ≡ Some ending.Spent → beat (histories.see (after_beat histories (beat (histories.see s) more) s)) false ≡ ends ending.Spent
 spent_again s more e =
@@ -312,7 +312,7 @@ next_at_end n d None is h = record {
   still = beat_still d.state (ltb d.moved n);
 }
 
-at_end : (n i : ℕ) (s : Session) → AtEnd n (beats histories n i s)
+pub at_end : (n i : ℕ) (s : Session) → AtEnd n (beats histories n i s)
 at_end n zero s = record { spent = λ e. absurd (no_ending e); still = λ e is never. absurd (let no : None ≡ Some e = is in cc) }
 at_end n (suc i) s = next_at_end n (beats histories n i s) (beats histories n i s).ending refl (at_end n i s)
 
@@ -441,7 +441,7 @@ some_of : (e : Option Ending) → (e ≡ None → ⊥) → (x : Ending) × (e �
 some_of None h = absurd (h refl)
 some_of (Some x) h = (x, refl)
 
-each_ends : (n : ℕ) (s : Session) → (e : Ending) × ((sliced histories n s).ending ≡ Some e)
+pub each_ends : (n : ℕ) (s : Session) → (e : Ending) × ((sliced histories n s).ending ≡ Some e)
 each_ends n s = some_of (sliced histories n s).ending (λ on. let h = lowered n (enough n) s on in omega (arith, h))
 
 -- ---- and stays so
@@ -566,7 +566,7 @@ beats_after n j (suc i) d = let e : j + suc i ≡ suc (j + i) = omega arith in a
 -- ---- so they join
 
 -- a slice that ends at once
-at_once : (b : ℕ) (x : Session) (e : Ending) → beat (histories.see x) (ltb 0 b) ≡ ends e → sliced histories b x ≡ record { state = x; moved = 0; ending = Some e }
+pub at_once : (b : ℕ) (x : Session) (e : Ending) → beat (histories.see x) (ltb 0 b) ≡ ends e → sliced histories b x ≡ record { state = x; moved = 0; ending = Some e }
 at_once b x e is =
     let one : beats histories b 1 x ≡ record { state = x; moved = 0; ending = Some e } = ap (λ (y : Beat). with_beat histories y (from_here x)) is in
     sym (is_sliced b 1 x e (ap (λ (d : Slicing Session). d.ending) one)) ∙ one

@@ -34,3 +34,4 @@ pub mod Paused
 pub mod Reading
 pub mod Refusing
 pub mod Wanting
+pub mod Seeing

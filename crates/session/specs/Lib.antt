@@ -56,6 +56,10 @@ pub mod Outcomes
 pub mod Effects
 -- a session with all of its past, act by act, and its bytes
 pub mod Sessions
+-- what there is to see of the program that is debugged, as facts
+pub mod Shown
+-- what a snapshot keeps of it
+pub mod Snapshots
 -- a whole session, computed: the bytes that it gets and those that it sends
 pub mod Example
 -- a prefix of a list
@@ -83,3 +87,5 @@ pub use Rattle.framing.specs.Streams
 pub use Rattle.protocol.specs.Commands
 -- a message with its number, as text
 pub use Rattle.replies.specs.Messages
+-- what can be known of a machine
+pub use Rattle.facts.specs.Facts

@@ -4,6 +4,7 @@
 mod answer;
 mod arrivals;
 mod buffer;
+mod captured;
 mod config;
 mod demand;
 mod draft;
@@ -21,6 +22,7 @@ mod refusals;
 mod requests;
 mod session;
 mod slices;
+mod snapshot;
 mod state;
 mod telling;
 mod terms;
@@ -30,9 +32,11 @@ pub use buffer::Buffer;
 pub use byte_strings::Bytes;
 pub use config::{Config, ConfigError};
 pub use event::{Applied, Ending, Event, EventError, LinkFault, Sliced, Turned};
+pub use facts::{BreakInfo, FrameInfo, Name, RunState};
 pub use feeding::feed;
 pub use limits::Limits;
 pub use session::Session;
+pub use snapshot::Snapshot;
 pub use state::MOST_PIECE;
 pub use writing::framed;
 

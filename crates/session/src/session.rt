@@ -1,5 +1,5 @@
 //! A session: one event after another.
-ghost use Rattle.std.specs.Prelude.{◌≡◌, length, OnErr, Result, Ok, Err, option_map};
+ghost use Rattle.std.specs.Prelude.{◌≡◌, length, IfOk, OnErr, Result, Ok, Err, option_map};
 ghost use Rattle.std.specs.Option.{option_copied};
 ghost use Rattle.session.specs.declared.event.Event.TheVariants as event;
 ghost use Rattle.session.specs.declared.event.Applied.TheVariants as applied;
@@ -7,14 +7,16 @@ ghost use Rattle.session.specs.Begins.{Begins};
 ghost use Rattle.session.specs.Refusals.{wanted_on};
 ghost use Rattle.session.specs.Slices.{is_runnable};
 ghost use Rattle.session.specs.Outcomes.{is_finished};
-ghost use Rattle.session.specs.Sessions.{start, waiting_of, histories};
+ghost use Rattle.session.specs.Sessions.{snapshot_of, start, waiting_of, histories};
+ghost use Rattle.session.specs.Snapshots.{IsTaken};
 ghost use Rattle.session.specs.Kept.{Happens, OfEach, Stands, answered, see_kept};
 
 use crate::config::{Config, ConfigError, first_program, is_size};
 use crate::event::{Applied, Event, EventError, LinkFault, Sliced, Turned};
 use crate::limits::Limits;
+use crate::snapshot::Snapshot;
 use crate::state::State;
-use std::alloc::Global;
+use std::alloc::{AllocError, Global};
 use std::marker::Model;
 
 /// A debug session: at most one editor is connected at a time, one after the other.
@@ -208,6 +210,16 @@ impl Session {
         ensures stands { OfEach self.now (λ s. option_map (λ path. path.now) result ≡ wanted_on s.now s.now.link) }
     {
         self.state.wants_file()
+    }
+
+    /// What there is to see now: a copy of all that an editor could be told of the program that is debugged.
+    ///
+    /// `Err`: no memory was left.
+    pub fn snapshot(&self) -> Result<Snapshot, AllocError>
+        ensures now { IfOk result (λ taken. IsTaken taken (snapshot_of self.now.now)) }
+        ensures stands { OfEach self.now (λ s. IfOk result (λ taken. IsTaken taken (snapshot_of s.now))) }
+    {
+        self.state.snapshot()
     }
 
     /// What closed the connection, if what came on it was no frame or no message. It is kept after the

@@ -21,7 +21,9 @@ ghost use Rattle.session.specs.Preparing.{IsPrepared};
 ghost use Rattle.session.specs.Disconnect.{departed};
 ghost use Rattle.session.specs.declared.answer.Change.TheVariants as a_change;
 ghost use Rattle.debuggee.specs.Programs.{Program as AProgram, first_run, restarted};
+ghost use Rattle.session.specs.Sessions.{snapshot_of};
 ghost use Rattle.session.specs.Slices.{is_runnable};
+ghost use Rattle.session.specs.Snapshots.{IsTaken};
 ghost use Rattle.session.specs.Effects.{performed};
 ghost use Rattle.variables.specs.Laws.Call.{EndStop, Issue};
 ghost use Rattle.variables.specs.Numbers.{has_room};
@@ -41,6 +43,7 @@ use crate::numbered::Numbered;
 use crate::pending::Pending;
 use crate::prepared::Prepared;
 use crate::refusals::{answer_to, response_to, run_of, wanted_by};
+use crate::snapshot::Snapshot;
 use crate::terms::Terms;
 use debuggee::{Mark, Program, Run, Why};
 use framing::{FrameError, Unframer};
@@ -599,6 +602,14 @@ impl State {
             },
             None => None,
         }
+    }
+
+    /// What there is to see. It fails where no memory is left.
+    #[tactic(auto, using(crate::proofs::Seeing::is_taken))]
+    pub(crate) fn snapshot(&self) -> Result<Snapshot, AllocError>
+        ensures { IfOk result (λ taken. IsTaken taken (snapshot_of self.now.now)) }
+    {
+        Snapshot::of(self.alloc, &self.program, &self.handles)
     }
 
     /// What closed the connection, or the last one.

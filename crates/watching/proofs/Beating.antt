@@ -30,7 +30,7 @@ use Rattle.watching.proofs.Agreeing.{Agrees, OwesOf, OwesRunning, holds_moving, 
 use Rattle.watching.proofs.Leading.{Leads, SameBut, exits_lead, halts_lead, telling_leads}
 use Rattle.watching.proofs.Owing.{both_true}
 use Rattle.watching.specs.Holding.{HoldsRun}
-use Rattle.watching.specs.Shown.{info_of, listed_at, shown_of, state_of}
+use Rattle.session.specs.Shown.{info_of, listed_at, shown_of, state_of}
 
 -- ---- a tick leaves the breakpoints where they are
 

@@ -40,7 +40,7 @@ use Rattle.watching.proofs.Leading.{suits_as}
 use Rattle.watching.proofs.Placing.{first_test, not_below}
 use Rattle.watching.proofs.Valuing.{same_number, still_moving, value_at}
 use Rattle.watching.specs.Holding.{HoldsAt}
-use Rattle.watching.specs.Shown.{register_at}
+use Rattle.session.specs.Shown.{register_at}
 
 -- ---- one register is set
 

@@ -21,7 +21,7 @@ use Rattle.watching.proofs.Agreeing.{Agrees, OwesOf}
 use Rattle.watching.proofs.Leading.{Leads}
 use Rattle.watching.proofs.Remembering.{refused_tells}
 use Rattle.watching.specs.Holding.{Holds}
-use Rattle.watching.specs.Shown.{shown_by}
+use Rattle.session.specs.Shown.{shown_by}
 
 -- an answer is so, and so is what is told after it
 abbrev pub AnswerLeads : Now → Facts → Option Asked → Answering → Type 0

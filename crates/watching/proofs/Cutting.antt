@@ -8,7 +8,7 @@ use Rattle.session.proofs.Reaching.{if_keeps}
 use Rattle.session.specs.Sessions.{Said, Snapshot, frame_said}
 use Rattle.watching.specs.Headline.{WasSo, known_after, last_seen, told_within}
 use Rattle.watching.specs.Holding.{Holds}
-use Rattle.watching.specs.Shown.{shown}
+use Rattle.session.specs.Shown.{shown}
 
 -- what is known after each of these messages was so when it was queued
 abbrev pub AllHold : (ℕ → Option Asked) → Facts → List Said → Type 0

@@ -24,7 +24,7 @@ use Rattle.watching.proofs.Commands.{AnswerLeads}
 use Rattle.watching.proofs.Leading.{Leads}
 use Rattle.watching.proofs.Resuming.{alone, no_program, with_event}
 use Rattle.watching.specs.Holding.{Holds, HoldsRun}
-use Rattle.watching.specs.Shown.{shown_by, shown_of, state_of}
+use Rattle.session.specs.Shown.{shown_by, shown_of, state_of}
 
 while_configuring : (phase : Phase) (launched : Bool) (f : Facts) → is_configuring_in phase ≡ true → SuitsPhase phase launched f → WhileConfiguring launched f
 while_configuring Fresh launched f e h = absurd (let no : false ≡ true = e in cc)

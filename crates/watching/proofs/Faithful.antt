@@ -27,7 +27,7 @@ use Rattle.watching.proofs.Leading.{Leads}
 use Rattle.watching.proofs.Owing.{AllOwe}
 use Rattle.watching.specs.Headline.{known_after, remembered}
 use Rattle.watching.specs.Holding.{Holds}
-use Rattle.watching.specs.Shown.{shown}
+use Rattle.session.specs.Shown.{shown}
 
 -- ---- what is so of a session
 

@@ -25,7 +25,7 @@ use Rattle.watching.proofs.Leading.{suits_as}
 use Rattle.watching.proofs.Placing.{get_take, over_all}
 use Rattle.watching.proofs.Showing.{issued_agrees, number_all}
 use Rattle.watching.proofs.Valuing.{still_moving}
-use Rattle.watching.specs.Shown.{frame_at, frame_in, shown_of}
+use Rattle.session.specs.Shown.{frame_at, frame_in, shown_of}
 
 -- ---- lists
 

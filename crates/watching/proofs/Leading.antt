@@ -24,7 +24,7 @@ use Rattle.stepping.specs.declared.tick.Tick.{Tick}
 use Rattle.variables.specs.Numbers.{Numbers}
 use Rattle.watching.proofs.Agreeing.{Agrees, IsQuiet, SuitsPhase, holds_in, holds_moving, no_stand_in, none_numbered, nothing_holds}
 use Rattle.watching.specs.Holding.{HasEnded as HasEndedSo, Holds, HoldsRun}
-use Rattle.watching.specs.Shown.{shown_by, shown_of, state_of}
+use Rattle.session.specs.Shown.{shown_by, shown_of, state_of}
 
 -- what these acts tell is so, and what is known after them fits
 unfoldable pub Leads : Terms → Numbers → Facts → Option Program → List Act → Type 0

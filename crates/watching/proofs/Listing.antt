@@ -31,7 +31,7 @@ use Rattle.session.proofs.Reaching.{if_keeps}
 use Rattle.watching.proofs.Agreeing.{Agrees, IsQuiet, KnowsNoStand, SuitsPhase, never}
 use Rattle.watching.proofs.Valuing.{no_body, that_body}
 use Rattle.watching.specs.Holding.{HoldsAt, HoldsRun}
-use Rattle.watching.specs.Shown.{info_of, shown_of, state_of}
+use Rattle.session.specs.Shown.{info_of, shown_of, state_of}
 use Rattle.facts.specs.declared.run.RunState.{RunState}
 use Rattle.debuggee.specs.declared.run.Run.{Run}
 

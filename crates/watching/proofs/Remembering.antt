@@ -18,7 +18,7 @@ use Rattle.watching.proofs.Knowing.{first_more}
 use Rattle.watching.specs.Headline.{known_after, remembered}
 use Rattle.watching.specs.Holding.{Holds}
 use Rattle.watching.specs.Known.{IsKnownBy, IsKnownIn, first_asked}
-use Rattle.watching.specs.Shown.{shown}
+use Rattle.session.specs.Shown.{shown}
 
 -- what is remembered of a request that is the first of its number
 pub remembers : (asks : List Ask) (number : ℕ) (r : ARequest) → first_asked asks number ≡ Some r → remembered asks number ≡ Some (asked_of r.command)

@@ -27,7 +27,7 @@ use Rattle.watching.proofs.Commands.{AnswerLeads, refusal_leads}
 use Rattle.watching.proofs.Leading.{Leads}
 use Rattle.watching.proofs.Resuming.{alone}
 use Rattle.watching.specs.Holding.{Holds, HoldsAt}
-use Rattle.watching.specs.Shown.{frame_at, frame_in, or_zero, shown_by, shown_of}
+use Rattle.session.specs.Shown.{frame_at, frame_in, or_zero, shown_by, shown_of}
 
 -- ---- numbers that were issued stay
 

@@ -28,7 +28,7 @@ use Rattle.variables.specs.declared.target.Target.TheVariants as target
 use Rattle.watching.proofs.Agreeing.{Agrees, never}
 use Rattle.watching.proofs.Leading.{suits_as}
 use Rattle.watching.specs.Holding.{HoldsAt}
-use Rattle.watching.specs.Shown.{register_at}
+use Rattle.session.specs.Shown.{register_at}
 
 -- a variable that has a register's name has its value
 abbrev pub IsTrueOf : Hart → Variable → Type 0

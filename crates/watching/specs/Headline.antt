@@ -12,7 +12,7 @@ use Rattle.session.specs.declared.pending.Ask.{Ask}
 use Rattle.session.specs.Sessions.{Session, Said, Snapshot, frame_said, life_of}
 use Rattle.watching.specs.Holding.{Holds}
 use Rattle.watching.specs.Known.{first_asked}
-use Rattle.watching.specs.Shown.{shown}
+use Rattle.session.specs.Shown.{shown}
 
 -- what an editor remembers of its requests: of each number the first
 abbrev pub remembered : List Ask → ℕ → Option Asked

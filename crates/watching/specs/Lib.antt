@@ -2,9 +2,10 @@
 
 -- the request that a success answers
 pub mod Known
--- what there is to see of a program
-pub mod Shown
 -- whether what is known is so
 pub mod Holding
 -- what an editor knows by the bytes that it got, and that it was so
 pub mod Headline
+-- ---- of the crates below
+-- what there is to see of a program
+pub use Rattle.session.specs.Shown
