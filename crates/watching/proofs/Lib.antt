@@ -17,3 +17,4 @@ pub mod Framing
 pub mod Changing
 pub mod Listing
 pub mod Leaving
+pub mod Printed

@@ -76,7 +76,7 @@ module _ (lead : CommandsLead) (owe : CommandsOwe) where
 
   -- ---- events
 
-  abbrev Kept : Session → Type 0
+  abbrev pub Kept : Session → Type 0
   Kept s = Both Knows knows s
 
   turn_so : (l : Link) (file : Option (List ℕ)) (pending : List Pending) (s : Session) → let t = on_with (Some l) pending s in Kept t → OwesNothing s.now.debuggee.program → Faithful t → Faithful (performed histories (next_turn t.now l.terms file pending).acts t)
@@ -176,10 +176,10 @@ module _ (lead : CommandsLead) (owe : CommandsOwe) where
   beat_so : (l : Option Link) (s : Session) (more : Bool) → Faithful (on l s) → Faithful (performed histories (beat (histories.see (on l s)) more).acts (on l s))
   beat_so l s more h = quiet_faithful (beat (histories.see (on l s)) more).acts l s (beat_owes s.now.debuggee.program (histories.see (on l s)) more) (beat_leads l s more h) h.was
 
-  abbrev Told : Session → Type 0
+  abbrev pub Told : Session → Type 0
   Told s = Kept s × Faithful s
 
-  beats_so : (n i : ℕ) (s : Session) → Told s → Told (beats histories n i s).state
+  pub beats_so : (n i : ℕ) (s : Session) → Told s → Told (beats histories n i s).state
   beats_so n zero s h = h
   beats_so n (suc i) s h = by (beats histories n i s).ending (beats_so n i s h) where
     by : (e : Option Ending) → Told (beats histories n i s).state → Told (next_by histories n e (beats histories n i s)).state
@@ -189,7 +189,7 @@ module _ (lead : CommandsLead) (owe : CommandsOwe) where
         let more = ltb (beats histories n i s).moved n in
         (beat_keeps Knows knows t more x.0, beat_so t.now.link t more x.1)
 
-  event_so : (e : Event) (s : Session) → Told s → Told (Effect s e)
+  pub event_so : (e : Event) (s : Session) → Told s → Told (Effect s e)
   event_so Connect s h = (outcome_keeps Knows knows s.now.link Connect s h.0, outcome_so s.now.link Connect s h.0 h.1)
   event_so (Recv piece) s h = (outcome_keeps Knows knows s.now.link (Recv piece) s h.0, outcome_so s.now.link (Recv piece) s h.0 h.1)
   event_so (Turn file) s h = (outcome_keeps Knows knows s.now.link (Turn file) s h.0, outcome_so s.now.link (Turn file) s h.0 h.1)
@@ -202,7 +202,7 @@ module _ (lead : CommandsLead) (owe : CommandsOwe) where
   owes_first None size = tt
   owes_first (Some g) size = λ some. absurd (some refl)
 
-  told_at_first : (from : Beginning) → Told (start from)
+  pub told_at_first : (from : Beginning) → Told (start from)
   told_at_first from = (
     (record { before = All-nil AllKnown; present = none_said; asks = tt }, begins_so from),
     record { was = record { before = All-nil Held; present = tt; owes = owes_first from.program from.size }; agrees = tt },

@@ -4,6 +4,7 @@ ghost use Rattle.session.specs.declared.event.Event.{Event as AnEvent};
 ghost use Rattle.session.specs.Sessions.{After, Beginning as ABeginning};
 ghost use Rattle.watching.specs.Headline.{Headline};
 ghost use Rattle.watching.specs.Known.{SuccessesAreKnown};
+ghost use Rattle.watching.specs.Printed.{WhatIsPrintedRuns};
 
 /// Whatever happens, each success answers the first request that came with its number, and names it.
 pub fn successes_are_known()
@@ -14,4 +15,9 @@ pub fn successes_are_known()
 /// wholly in them was queued: how the program runs, its breakpoints, its frames, its registers and its memory.
 pub fn what_an_editor_knows_was_so()
     ensures { (from : ABeginning) (events : List AnEvent) (connection count : ℕ) → Headline (After from events) connection count }
+{}
+
+/// Whatever happens, what the program prints is told while it runs, also where it stops with it.
+pub fn what_is_printed_runs()
+    ensures { (from : ABeginning) (events : List AnEvent) → WhatIsPrintedRuns (After from events) }
 {}
