@@ -76,7 +76,7 @@ breaks_same p d same owed = record {
 moved_same : (p : Program) → SameBut p (moved p)
 moved_same p = let t = the_tick p.machine in breaks_same p t.after (tick_same p.machine t.after (Ok t.tick) t.is) (moved p).owed
 
-entered_same : (p : Program) → SameBut p (entered p)
+pub entered_same : (p : Program) → SameBut p (entered p)
 entered_same p = breaks_same p (entry_checked p.machine) (checked_same p.machine.hart.pc p.machine.hart p.machine.memory p.machine.lists) (entered p).owed
 
 -- ---- beats

@@ -17,4 +17,16 @@ pub mod Framing
 pub mod Changing
 pub mod Listing
 pub mod Leaving
+pub mod Small
+pub mod Frames
+pub mod Readable
+pub mod Numbered
+pub mod Mirrored
+pub mod Newly
+pub mod Following
+pub mod Slicing
 pub mod Printed
+pub mod Turned
+pub mod Tracking
+pub mod Events
+pub mod Seen

@@ -4,6 +4,8 @@ ghost use Rattle.session.specs.declared.event.Event.{Event as AnEvent};
 ghost use Rattle.session.specs.Sessions.{After, Beginning as ABeginning};
 ghost use Rattle.watching.specs.Headline.{Headline};
 ghost use Rattle.watching.specs.Known.{SuccessesAreKnown};
+ghost use Rattle.watching.specs.Mirrors.{MirrorsKnow};
+ghost use Rattle.watching.specs.News.{IsSeenAfter};
 ghost use Rattle.watching.specs.Printed.{WhatIsPrintedRuns};
 
 /// Whatever happens, each success answers the first request that came with its number, and names it.
@@ -17,7 +19,19 @@ pub fn what_an_editor_knows_was_so()
     ensures { (from : ABeginning) (events : List AnEvent) (connection count : ℕ) → Headline (After from events) connection count }
 {}
 
+/// Whatever happens, a mirror (`mirror::Mirror`) that is told the requests of a connection, and fed the first bytes of it, however many,
+/// knows what the law above speaks of; where it finds no fault in them, and the bytes of the connection are at most 4,294,967,295.
+pub fn a_mirror_knows_what_was_so()
+    ensures { (from : ABeginning) (events : List AnEvent) (connection count : ℕ) → MirrorsKnow (After from events) connection count }
+{}
+
 /// Whatever happens, what the program prints is told while it runs, also where it stops with it.
 pub fn what_is_printed_runs()
     ensures { (from : ABeginning) (events : List AnEvent) → WhatIsPrintedRuns (After from events) }
+{}
+
+/// Whatever happened, after a turn, and after a slice that makes no move, or one where nothing is left to be told before it, there is to see
+/// what there was at each message that it queued; of what the program printed, while the program ran.
+pub fn what_was_seen_is_seen_after()
+    ensures { (from : ABeginning) (events : List AnEvent) → IsSeenAfter (After from events) }
 {}

@@ -1,0 +1,75 @@
+-- What an event queues, and what there is to see once it is done.
+--
+-- A message comes with what there was to see when it was queued. Whoever replays a session event by event sees it between
+-- events only. That is enough: after a turn, and after a slice that makes no move, or one move where nothing is left to
+-- be told before it, there is to see what there was at each message that it queued. There is one exception: what the
+-- program printed is told while it runs, and it may have stopped since.
+use Rattle.std.specs.Prelude.{◌≡◌, ℕ, Bool, true, false, List, [], ◌++◌, All, is_some, Option}
+use Rattle.facts.specs.Facts.{Facts}
+use Rattle.facts.specs.declared.run.RunState.TheVariants.{Running}
+use Rattle.replies.specs.declared.event.Event.TheVariants as event
+use Rattle.replies.specs.declared.message.Message.{Message}
+use Rattle.replies.specs.declared.message.Message.TheVariants.{Response as IsResponse, Event as IsEvent}
+use Rattle.session.specs.Effects.{ended_as, sliced}
+use Rattle.session.specs.Sessions.{Effect, Said, Session, histories, snapshot_of}
+use Rattle.session.specs.Shown.{shown}
+use Rattle.session.specs.Slices.{beat, ends}
+use Rattle.session.specs.declared.event.Ending.TheVariants as ending
+use Rattle.session.specs.declared.event.Event.TheVariants.{Slice, Turn}
+
+-- what there is to see
+abbrev pub seen_now : Session → Facts
+seen_now s = shown (snapshot_of s.now)
+
+-- the same of a program that runs
+abbrev pub as_running : Facts → Facts
+as_running f = record f { run = Running }
+
+-- whether a message says what the program printed
+abbrev pub says_output : Message → Bool
+says_output (IsResponse r) = false
+says_output (IsEvent (event.Output o)) = true
+says_output (IsEvent event.Initialized) = false
+says_output (IsEvent (event.Stopped b)) = false
+says_output (IsEvent event.Continued) = false
+says_output (IsEvent (event.Exited b)) = false
+says_output (IsEvent event.Terminated) = false
+
+-- what there was to see at such a message, by what there is to see now
+abbrev pub seen_at : Bool → Facts → Facts
+seen_at true f = as_running f
+seen_at false f = f
+
+-- there was to see what there is now
+abbrev pub Fits : Session → Said → Type 0
+Fits t m = shown m.snapshot ≡ seen_at (says_output m.message) (seen_now t)
+
+-- These messages were queued between two times, and nothing else happened to the lives.
+pub record Newly (s t : Session) (news : List Said) : Type 0 where
+  pub life : t.life ≡ record s.life { said = s.life.said ++ news }
+  pub before : t.before ≡ s.before
+  pub connections : t.now.connections ≡ s.now.connections
+  pub linked : is_some t.now.link ≡ is_some s.now.link
+  pub silent : is_some s.now.link ≡ false → news ≡ []
+  pub fits : All (Fits t) news
+
+-- Some messages were.
+pub record IsFollowed (s t : Session) : Type 0 where
+  pub news : List Said
+  pub newly : Newly s t news
+
+-- nothing is left to be told before a move, or to be done: a slice without moves would be spent
+abbrev pub IsAtRest : Session → Type 0
+IsAtRest s = beat (histories.see s) false ≡ ends ending.Spent
+
+-- a slice of so many moves ends because they were made
+abbrev pub Spends : ℕ → Session → Type 0
+Spends n s = ended_as (sliced histories n s).ending ≡ ending.Spent
+
+-- There is to see at the end of an event what there was at each message that it queued.
+pub record IsSeenAfter (s : Session) : Type 0 where
+  pub turn : (file : Option (List ℕ)) → IsFollowed s (Effect s (Turn file))
+  pub none : IsFollowed s (Effect s (Slice 0))
+  pub one : IsAtRest s → IsFollowed s (Effect s (Slice 1))
+  -- a slice that is spent leaves nothing
+  pub rests : (n : ℕ) → Spends n s → IsAtRest (Effect s (Slice n))
