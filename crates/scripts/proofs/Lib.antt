@@ -1,0 +1,10 @@
+-- The proofs of `scripts`.
+
+-- digits and what they write
+mod Digits
+-- a text, its first line and the lines after it
+mod Dividing
+-- paths are UTF-8
+mod Paths
+-- the lines that were read and those that are left
+mod Going

@@ -1,0 +1,13 @@
+-- The definitions of `scripts`, in reading order.
+
+-- what a line says
+pub mod Lines
+-- what a script says, and its first wrong line
+pub mod Scripts
+-- ---- for private clauses alone: how the code goes over the lines
+pub mod Steps
+-- ---- of the crates below
+-- a frame
+pub use Rattle.framing.specs.Frames
+-- the number that digits write
+pub use Rattle.numerals.specs.Numerals
