@@ -1,5 +1,5 @@
 -- For private clauses alone: what `poll` is asked, and what its answer comes to (POSIX, `poll`).
-use Rattle.std.specs.Prelude.{ℤ, pos, negsuc, Bool, true}
+use Rattle.std.specs.Prelude.{zero, suc, ℤ, pos, negsuc, Bool, true, false}
 use Rattle.std.specs.IoError.{os_error_kind}
 use Rattle.descriptors.specs.Passing.{passes}
 use Rattle.descriptors.specs.declared.ready.Direction.{Direction}
@@ -15,3 +15,10 @@ events_of Write = pos 4
 abbrev pub has_ended : ℤ → ℤ → Bool
 has_ended (pos count) errno = true
 has_ended (negsuc n) errno = passes (os_error_kind errno)
+
+-- Whether a descriptor is ready, by the answer of a `poll` that does not wait: it counts the descriptors that are. A
+-- broken one is, too.
+abbrev pub is_ready : ℤ → Bool
+is_ready (pos zero) = false
+is_ready (pos (suc n)) = true
+is_ready (negsuc n) = false

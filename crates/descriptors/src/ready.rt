@@ -1,14 +1,14 @@
 //! Waiting until a descriptor is ready.
-ghost use Rattle.std.specs.Prelude.{◌≡◌, Err, ◌↔◌, IsOk, IfErr, Some, true, false};
+ghost use Rattle.std.specs.Prelude.{◌≡◌, Err, ◌↔◌, IsOk, IfOk, IfErr, Some, true, false};
 ghost use Rattle.std.specs.IoError.{error_kind, raw_os_error};
 ghost use Rattle.descriptors.specs.Passing.{passes};
-ghost use Rattle.descriptors.specs.Polling.{events_of, has_ended};
+ghost use Rattle.descriptors.specs.Polling.{events_of, has_ended, is_ready};
 
 use libc::net;
 use libc::types::pollfd;
 use std::io;
 use std::io::ErrorKind;
-use std::os::fd::RawFd;
+use std::os::fd::{AsRawFd, RawFd};
 
 /// Which way bytes go through a descriptor.
 #[derive(Clone, Copy)]
@@ -22,6 +22,9 @@ pub(crate) enum Direction {
 // The timeout of a `poll` that waits however long it takes.
 const NO_LIMIT: i32 = -1;
 
+// The timeout of a `poll` that does not wait.
+const AT_ONCE: i32 = 0;
+
 /// After an error that passes, waits until the call would not block, however long it takes: it may then
 /// be made again. A signal may end the wait early. Any other error stays.
 pub(crate) fn wait_after(error: io::Error, fd: RawFd, direction: Direction) -> io::Result<()>
@@ -33,6 +36,28 @@ pub(crate) fn wait_after(error: io::Error, fd: RawFd, direction: Direction) -> i
     } else {
         Err(error)
     }
+}
+
+/// Whether a read of the stream would not block: there is something to read, or its input has ended or is
+/// broken, which the read then tells. It does not wait; where a signal interrupts it, it found nothing.
+pub fn can_read<S: AsRawFd>(stream: &S) -> io::Result<bool>
+    ensures err { IfErr result (λ e. passes (error_kind e) ≡ false) }
+{
+    let mut asked = [pollfd {
+        fd: stream.as_raw_fd(),
+        events: events_of(Direction::Read),
+        revents: 0,
+    }];
+    let count = net::poll(&mut asked, AT_ONCE);
+    after_poll(count, os::errno())?;
+    Ok(is_ready(count))
+}
+
+// Whether a descriptor is ready, by the answer of a `poll` that does not wait.
+fn is_ready(count: i32) -> bool
+    ensures { result ≡ is_ready count }
+{
+    count > 0
 }
 
 // Whether an error passes by itself, so that the call may be made again: a signal interrupted it, or

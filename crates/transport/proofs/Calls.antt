@@ -3,14 +3,13 @@ use Rattle.std.proofs.Common.{◌≡◌, ℕ, ◌+◌, suc, List, [], ◌∷◌,
 use Rattle.std.specs.Io.KnownBytes.{Appends}
 use Rattle.std.proofs.KnownBytes.{Appends-nil, Appends-trans}
 use Rattle.protocol.specs.declared.request.Incoming.{Incoming}
-use Rattle.replies.specs.declared.response.Response.{Response}
-use Rattle.replies.specs.declared.message.Message.TheVariants.{Response as IsResponse}
+use Rattle.replies.specs.declared.message.Message.{Message as AMessage}
 use Rattle.session.specs.Writing.{frame_of}
 use Rattle.transport.specs.Outbox.{Queued}
-use Rattle.transport.specs.Servers.{Responds}
+use Rattle.transport.specs.Servers.{Writes}
 use Rattle.transport.specs.declared.server.ServerError.{ServerError}
 use Rattle.transport.specs.declared.server.ServerError.TheVariants.{Frame, Message, Read, Write, TooManyReads, NoMemory, SeqSpent}
-use Rattle.transport.specs.Laws.{Served, Call, Poll, Respond, Polled, Responded, DidAll, written, frames_from, IsPartOfNext, Wrote, ResponsesAreFramedInOrder}
+use Rattle.transport.specs.Laws.{Served, Call, Poll, Say, Polled, Said, DidAll, written, frames_from, IsPartOfNext, Wrote, MessagesAreFramedInOrder}
 
 -- ---- after a lasting error
 
@@ -24,10 +23,10 @@ stays_by [] a last e f d = record { same = d; none = refl }
 stays_by (Poll result ∷ calls) a last e f d =
     let p = subst (λ (o : Option ServerError). IfSome o (λ x. (result ≡ Err x) × (d.0 ≡ a))) f d.1.stays in
     let m = stays_by calls d.0 last e (ap (λ (s : Served). s.fault) p.1 ∙ f) d.2 in record { same = m.same ∙ p.1; none = m.none }
-stays_by (Respond response result ∷ calls) a last e f d =
+stays_by (Say message result ∷ calls) a last e f d =
     let p = subst (λ (o : Option ServerError). IfSome o (λ x. (result ≡ Err x) × (d.0 ≡ a))) f d.1.stays in
     let m = stays_by calls d.0 last e (ap (λ (s : Served). s.fault) p.1 ∙ f) d.2 in
-    record { same = m.same ∙ p.1; none = ap (λ r. written (Respond response r ∷ calls)) p.0 ∙ m.none }
+    record { same = m.same ∙ p.1; none = ap (λ r. written (Say message r ∷ calls)) p.0 ∙ m.none }
 
 -- ---- before one
 
@@ -46,17 +45,17 @@ after_none n calls a mid last none w = record {
 wrote_part : (n : ℕ) (calls : List Call) (a mid last : Served) (part : List ℕ) → Appends a.held mid.held part → Stays mid calls last → IsPartOfNext (n + 0 + 1) mid.fault part → Wrote n calls a.held last.held last.fault
 wrote_part n calls a mid last part p s next = record {
   part = part;
-  appended = subst (λ (ws : List Response). Appends a.held last.held (frames_from (n + 1) ws ++ part)) (sym s.none) (subst (λ (t : Served). Appends a.held t.held part) (sym s.same) p);
-  rest = subst (λ (ws : List Response). IsPartOfNext (n + length ws + 1) last.fault part) (sym s.none) (subst (λ (t : Served). IsPartOfNext (n + 0 + 1) t.fault part) (sym s.same) next);
+  appended = subst (λ (ws : List AMessage). Appends a.held last.held (frames_from (n + 1) ws ++ part)) (sym s.none) (subst (λ (t : Served). Appends a.held t.held part) (sym s.same) p);
+  rest = subst (λ (ws : List AMessage). IsPartOfNext (n + length ws + 1) last.fault part) (sym s.none) (subst (λ (t : Served). IsPartOfNext (n + 0 + 1) t.fault part) (sym s.same) next);
 }
 
 abbrev empty_after : ℕ → Queued
 empty_after n = record { count = n; waiting = [] }
 
-responded : (n : ℕ) (a mid : Served) (response : Response) (result : Result (Unit {0}) ServerError) → a.fault ≡ None → a.outbox ≡ empty_after n → Responded a response result mid
-    → Responds a.held mid.held (empty_after n) response result mid.outbox mid.fault
-responded n a mid response result f o q =
-    subst (λ (u : Queued). Responds a.held mid.held u response result mid.outbox mid.fault) o (q.responds f (ap (λ (u : Queued). u.waiting) o))
+said : (n : ℕ) (a mid : Served) (message : AMessage) (result : Result (Unit {0}) ServerError) → a.fault ≡ None → a.outbox ≡ empty_after n → Said a message result mid
+    → Writes a.held mid.held (empty_after n) message result mid.outbox mid.fault
+said n a mid message result f o q =
+    subst (λ (u : Queued). Writes a.held mid.held u message result mid.outbox mid.fault) o (q.writes f (ap (λ (u : Queued). u.waiting) o))
 
 polled : (n : ℕ) (calls : List Call) (a mid last : Served) (result : Result (Option Incoming) ServerError) → Polled a result mid → DidAll mid calls last → (mid.fault ≡ None → Wrote n calls mid.held last.held last.fault)
     → (w : Option ServerError) → mid.fault ≡ w → Wrote n (Poll result ∷ calls) a.held last.held last.fault
@@ -68,10 +67,10 @@ polled n calls a mid last result p d goes_on (Some e) g =
 framed : (calls : List Call) (n : ℕ) (a last : Served) → a.fault ≡ None → a.outbox ≡ empty_after n → DidAll a calls last → Wrote n calls a.held last.held last.fault
 framed [] n a last f o d = record { part = []; appended = subst (λ (s : Served). Appends a.held s.held []) (sym d) (Appends-nil a.held); rest = inl refl }
 framed (Poll result ∷ calls) n a last f o d = polled n calls a d.0 last result d.1 d.2 (λ g. framed calls n d.0 last g (d.1.outbox ∙ o) d.2) d.0.fault refl
-framed (Respond response (Ok x) ∷ calls) n a last f o d =
-    let r = responded n a d.0 response (Ok x) f o d.1 in
+framed (Say message (Ok x) ∷ calls) n a last f o d =
+    let r = said n a d.0 message (Ok x) f o d.1 in
     let w = framed calls (n + 1) d.0 last r.2 r.1 d.2 in
-    let frame = frame_of (n + 1) (IsResponse response) in
+    let frame = frame_of (n + 1) message in
     let others = frames_from (n + 1 + 1) (written calls) in
     let number : n + 1 + length (written calls) + 1 ≡ n + suc (length (written calls)) + 1 = omega arith in
     record {
@@ -79,24 +78,24 @@ framed (Respond response (Ok x) ∷ calls) n a last f o d =
       appended = subst (Appends a.held last.held) (sym (append_assoc frame others w.part)) (Appends-trans a.held d.0.held last.held frame (others ++ w.part) r.0 w.appended);
       rest = subst (λ k. IsPartOfNext k last.fault w.part) number w.rest;
     }
-framed (Respond response (Err Write) ∷ calls) n a last f o d =
-    let r = responded n a d.0 response (Err Write) f o d.1 in
+framed (Say message (Err Write) ∷ calls) n a last f o d =
+    let r = said n a d.0 message (Err Write) f o d.1 in
     let number : n + 1 ≡ n + 0 + 1 = omega arith in
-    let next : IsPartOfNext (n + 1) d.0.fault r.0 = inr (r.4, (response, (d.0.outbox.waiting, r.2))) in
+    let next : IsPartOfNext (n + 1) d.0.fault r.0 = inr (r.4, (message, (d.0.outbox.waiting, r.2))) in
     let w = wrote_part n calls a d.0 last r.0 r.1 (stays_by calls d.0 last Write r.4 d.2) (subst (λ k. IsPartOfNext k d.0.fault r.0) number next) in
     record { part = w.part; appended = w.appended; rest = w.rest }
-framed (Respond response (Err NoMemory) ∷ calls) n a last f o d =
-    let r = responded n a d.0 response (Err NoMemory) f o d.1 in
+framed (Say message (Err NoMemory) ∷ calls) n a last f o d =
+    let r = said n a d.0 message (Err NoMemory) f o d.1 in
     let w = after_none n calls a d.0 last r.0 (framed calls n d.0 last r.2 r.1 d.2) in
     record { part = w.part; appended = w.appended; rest = w.rest }
-framed (Respond response (Err SeqSpent) ∷ calls) n a last f o d =
-    let r = responded n a d.0 response (Err SeqSpent) f o d.1 in
+framed (Say message (Err SeqSpent) ∷ calls) n a last f o d =
+    let r = said n a d.0 message (Err SeqSpent) f o d.1 in
     let w = after_none n calls a d.0 last r.0 (framed calls n d.0 last r.2 r.1 d.2) in
     record { part = w.part; appended = w.appended; rest = w.rest }
-framed (Respond response (Err Frame) ∷ calls) n a last f o d = absurd (responded n a d.0 response (Err Frame) f o d.1)
-framed (Respond response (Err Message) ∷ calls) n a last f o d = absurd (responded n a d.0 response (Err Message) f o d.1)
-framed (Respond response (Err Read) ∷ calls) n a last f o d = absurd (responded n a d.0 response (Err Read) f o d.1)
-framed (Respond response (Err TooManyReads) ∷ calls) n a last f o d = absurd (responded n a d.0 response (Err TooManyReads) f o d.1)
+framed (Say message (Err Frame) ∷ calls) n a last f o d = absurd (said n a d.0 message (Err Frame) f o d.1)
+framed (Say message (Err Message) ∷ calls) n a last f o d = absurd (said n a d.0 message (Err Message) f o d.1)
+framed (Say message (Err Read) ∷ calls) n a last f o d = absurd (said n a d.0 message (Err Read) f o d.1)
+framed (Say message (Err TooManyReads) ∷ calls) n a last f o d = absurd (said n a d.0 message (Err TooManyReads) f o d.1)
 
-pub responses_are_framed_in_order : ResponsesAreFramedInOrder
-responses_are_framed_in_order held calls last d = framed calls 0 _ last refl refl d
+pub messages_are_framed_in_order : MessagesAreFramedInOrder
+messages_are_framed_in_order held calls last d = framed calls 0 _ last refl refl d

@@ -6,12 +6,11 @@ use Rattle.std.specs.Prelude.{◌≡◌, ℕ, ◌+◌, List, [], ◌∷◌, ◌+
 use Rattle.std.specs.Prelude.{◌⊎◌}
 use Rattle.std.specs.Io.KnownBytes.{Appends}
 use Rattle.protocol.specs.declared.request.Incoming.{Incoming}
-use Rattle.replies.specs.declared.response.Response.{Response}
-use Rattle.replies.specs.declared.message.Message.TheVariants.{Response as IsResponse}
+use Rattle.replies.specs.declared.message.Message.{Message}
 use Rattle.session.specs.Prefixes.{IsPrefixOf}
 use Rattle.session.specs.Writing.{frame_of}
 use Rattle.transport.specs.Outbox.{Queued}
-use Rattle.transport.specs.Servers.{Responds, lasting}
+use Rattle.transport.specs.Servers.{Writes, lasting}
 use Rattle.transport.specs.declared.server.ServerError.{ServerError}
 use Rattle.transport.specs.declared.server.ServerError.TheVariants.{Write}
 
@@ -24,7 +23,7 @@ pub record Served : Type 0 where
 -- a call, with its answer
 pub data Call : Type 0 where
   Poll : Result (Option Incoming) ServerError → Call
-  Respond : Response → Result (Unit {0}) ServerError → Call
+  Say : Message → Result (Unit {0}) ServerError → Call
 
 -- What a poll leaves. After a lasting error it answers that; else it writes nothing.
 pub record Polled (old : Served) (result : Result (Option Incoming) ServerError) (new : Served) : Type 0 where
@@ -33,39 +32,39 @@ pub record Polled (old : Served) (result : Result (Option Incoming) ServerError)
   pub outbox : new.outbox ≡ old.outbox
   pub held : new.held ≡ old.held
 
--- What a response leaves. After a lasting error it is answered that; else it is written.
-pub record Responded (old : Served) (response : Response) (result : Result (Unit {0}) ServerError) (new : Served)
+-- What saying a message leaves. After a lasting error it is answered that; else it is written.
+pub record Said (old : Served) (message : Message) (result : Result (Unit {0}) ServerError) (new : Served)
     : Type 0 where
   pub stays : IfSome old.fault (λ e. (result ≡ Err e) × (new ≡ old))
-  pub responds : old.fault ≡ None → old.outbox.waiting ≡ []
-      → Responds old.held new.held old.outbox response result new.outbox new.fault
+  pub writes : old.fault ≡ None → old.outbox.waiting ≡ []
+      → Writes old.held new.held old.outbox message result new.outbox new.fault
 
 -- what a call leaves
 abbrev pub Did : Served → Call → Served → Type 0
 Did old (Poll result) new = Polled old result new
-Did old (Respond response result) new = Responded old response result new
+Did old (Say message result) new = Said old message result new
 
 -- what calls leave, one after the other
 abbrev pub DidAll : Served → List Call → Served → Type 0
 DidAll old [] new = new ≡ old
 DidAll old (call ∷ calls) new = (mid : Served) × Did old call mid × DidAll mid calls new
 
--- the responses that were answered with success
-abbrev pub written : List Call → List Response
+-- the messages that were said with success
+abbrev pub written : List Call → List Message
 written [] = []
 written (Poll result ∷ calls) = written calls
-written (Respond response (Ok x) ∷ calls) = response ∷ written calls
-written (Respond response (Err e) ∷ calls) = written calls
+written (Say message (Ok x) ∷ calls) = message ∷ written calls
+written (Say message (Err e) ∷ calls) = written calls
 
--- the frames of responses, with the numbers from this one on
-abbrev pub frames_from : ℕ → List Response → List ℕ
+-- the frames of messages, with the numbers from this one on
+abbrev pub frames_from : ℕ → List Message → List ℕ
 frames_from n [] = []
-frames_from n (response ∷ responses) = frame_of n (IsResponse response) ++ frames_from (n + 1) responses
+frames_from n (message ∷ messages) = frame_of n message ++ frames_from (n + 1) messages
 
 -- a part of the next frame, where the writer failed in it, and else nothing
 abbrev pub IsPartOfNext : ℕ → Option ServerError → List ℕ → Type 0
 IsPartOfNext n fault part = (part ≡ [])
-    ⊎ ((fault ≡ Some Write) × ((response : Response) × IsPrefixOf part (frame_of n (IsResponse response))))
+    ⊎ ((fault ≡ Some Write) × ((message : Message) × IsPrefixOf part (frame_of n message)))
 
 -- What calls wrote, where so many messages were written before.
 pub record Wrote (n : ℕ) (calls : List Call) (held_before held : Option (List ℕ)) (fault : Option ServerError)
@@ -74,9 +73,9 @@ pub record Wrote (n : ℕ) (calls : List Call) (held_before held : Option (List 
   pub appended : Appends held_before held (frames_from (n + 1) (written calls) ++ part)
   pub rest : IsPartOfNext (n + length (written calls) + 1) fault part
 
--- Whatever calls are made of a new server, its writer gets the frames of the responses that succeeded, with the numbers
+-- Whatever calls are made of a new server, its writer gets the frames of the messages that succeeded, with the numbers
 -- 1, 2 and so on, and after a fault of the writer a part of one more.
-abbrev pub ResponsesAreFramedInOrder : Type 0
-ResponsesAreFramedInOrder = (held : Option (List ℕ)) (calls : List Call) (last : Served)
+abbrev pub MessagesAreFramedInOrder : Type 0
+MessagesAreFramedInOrder = (held : Option (List ℕ)) (calls : List Call) (last : Served)
     → DidAll (record { fault = None; outbox = record { count = 0; waiting = [] }; held = held }) calls last
     → Wrote 0 calls held last.held last.fault

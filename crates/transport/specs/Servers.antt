@@ -10,8 +10,7 @@ use Rattle.framing.specs.Reading.{reading_of}
 use Rattle.protocol.specs.declared.request.Incoming.{Incoming}
 use Rattle.session.specs.declared.TheConstants.{BODY_LIMIT}
 use Rattle.transport.specs.Heard.{Heard, and_gave, Unread, HasRead, and_read, AllGiven, IsUnfinished, IsNoMessage}
-use Rattle.replies.specs.declared.response.Response.{Response}
-use Rattle.replies.specs.declared.message.Message.TheVariants.{Response as IsResponse}
+use Rattle.replies.specs.declared.message.Message.{Message as AMessage}
 use Rattle.transport.specs.Outbox.{Queued}
 use Rattle.session.specs.Writing.{frame_of}
 use Rattle.transport.specs.declared.server.TheConstants.{MOST_READS}
@@ -70,18 +69,18 @@ lasting (Err SeqSpent) = None
 
 -- ---- writing
 
--- What a response comes to: its frame, with the next number, is written, or nothing of it, or after a fault a part of
+-- What a message comes to: its frame, with the next number, is written, or nothing of it, or after a fault a part of
 -- it: then it is counted, and the rest of it still waits.
-abbrev pub Responds : Option (List ℕ) → Option (List ℕ) → Queued → Response → Result (Unit {0}) ServerError → Queued
+abbrev pub Writes : Option (List ℕ) → Option (List ℕ) → Queued → AMessage → Result (Unit {0}) ServerError → Queued
     → Option ServerError → Type 0
-Responds held holds old r (Ok x) new fault = Appends held holds (frame_of (old.count + 1) (IsResponse r))
+Writes held holds old m (Ok x) new fault = Appends held holds (frame_of (old.count + 1) m)
     × (new ≡ record { count = old.count + 1; waiting = [] }) × (fault ≡ None)
-Responds held holds old r (Err Write) new fault = (sent : List ℕ) × Appends held holds sent
-    × (frame_of (old.count + 1) (IsResponse r) ≡ sent ++ new.waiting) × (new.count ≡ old.count + 1)
+Writes held holds old m (Err Write) new fault = (sent : List ℕ) × Appends held holds sent
+    × (frame_of (old.count + 1) m ≡ sent ++ new.waiting) × (new.count ≡ old.count + 1)
     × (fault ≡ Some Write)
-Responds held holds old r (Err NoMemoryLeft) new fault = Appends held holds [] × (new ≡ old) × (fault ≡ None)
-Responds held holds old r (Err SeqSpent) new fault = Appends held holds [] × (new ≡ old) × (fault ≡ None)
-Responds held holds old r (Err Frame) new fault = ⊥
-Responds held holds old r (Err Message) new fault = ⊥
-Responds held holds old r (Err Read) new fault = ⊥
-Responds held holds old r (Err TooManyReads) new fault = ⊥
+Writes held holds old m (Err NoMemoryLeft) new fault = Appends held holds [] × (new ≡ old) × (fault ≡ None)
+Writes held holds old m (Err SeqSpent) new fault = Appends held holds [] × (new ≡ old) × (fault ≡ None)
+Writes held holds old m (Err Frame) new fault = ⊥
+Writes held holds old m (Err Message) new fault = ⊥
+Writes held holds old m (Err Read) new fault = ⊥
+Writes held holds old m (Err TooManyReads) new fault = ⊥

@@ -1,16 +1,16 @@
-//! A server for programs that answer by themselves: requests are polled, and responses written.
+//! A server for programs that answer by themselves: requests are polled, and responses and events written.
 ghost use Rattle.std.specs.Prelude.{◌≡◌, ◌+◌, ◌<◌, ◌↔◌, [], None, Some, Err, Option, IfSome, OnOk, OnErr, IsErrOf};
 ghost use Rattle.std.specs.Io.KnownBytes.{Appends};
 ghost use Rattle.replies.specs.declared.message.Message.TheVariants as messages;
 ghost use Rattle.session.specs.Writing.{frame_of};
 ghost use Rattle.transport.specs.Heard.{Heard, HasRead};
-ghost use Rattle.transport.specs.Laws.{Polled, Responded};
-ghost use Rattle.transport.specs.Servers.{Polls, Responds, lasting};
+ghost use Rattle.transport.specs.Laws.{Polled, Said};
+ghost use Rattle.transport.specs.Servers.{Polls, Writes, lasting};
 
 use crate::inbox::Inbox;
 use crate::outbox::{Outbox, QueueError};
 use protocol::{Incoming, LAST_SEQ};
-use replies::{Message, Response};
+use replies::{Event, Message, Response};
 use std::alloc::Global;
 use std::io::{Read, Write};
 use thiserror::Error;
@@ -18,7 +18,7 @@ use thiserror::Error;
 /// The most reads that one call of `poll_request` makes.
 pub const MOST_READS: u32 = 2_097_152;
 
-/// Why a server gives no request, or wrote no response.
+/// Why a server gives no request, or wrote no message.
 #[derive(Clone, Copy, Debug, PartialEq, Eq, Error)]
 pub enum ServerError {
     /// What was read is no frame.
@@ -93,22 +93,53 @@ impl<R: Read, W: Write> Server<R, W> {
         polled
     }
 
-    /// Writes a response, as the next message of the connection: the first has number 1.
+    /// Writes a response, as the next message of the connection: the first has number 1. Responses and
+    /// events are numbered together.
     pub fn respond(&mut self, response: Response) -> Result<(), ServerError>
         ensures stays { IfSome self.old.fault (λ e. (result ≡ Err e) × (self.new ≡ self.old)) }
-        ensures responds { self.old.fault ≡ None → self.old.outbox.waiting ≡ []
-            → Responds (W.contents self.old.writer) (W.contents self.new.writer) self.old.outbox response result
+        ensures writes { self.old.fault ≡ None → self.old.outbox.waiting ≡ []
+            → Writes (W.contents self.old.writer) (W.contents self.new.writer) self.old.outbox (messages.Response response) result
             self.new.outbox self.new.fault }
         ensures spent { self.old.fault ≡ None
             → (IsErrOf result ServerError.SeqSpent ↔ (self.old.outbox.count ≡ LAST_SEQ)) }
         ensures reads_nothing { (self.new.reader ≡ self.old.reader) × (self.new.inbox ≡ self.old.inbox) }
-        ensures did { Responded (record { fault = self.old.fault; outbox = self.old.outbox; held = W.contents self.old.writer }) response result
+        ensures did { Said (record { fault = self.old.fault; outbox = self.old.outbox; held = W.contents self.old.writer }) (messages.Response response) result
+            (record { fault = self.new.fault; outbox = self.new.outbox; held = W.contents self.new.writer }) }
+    {
+        self.say(&Message::Response(response))
+    }
+
+    /// Writes an event, as the next message of the connection.
+    pub fn send_event(&mut self, event: Event) -> Result<(), ServerError>
+        ensures stays { IfSome self.old.fault (λ e. (result ≡ Err e) × (self.new ≡ self.old)) }
+        ensures writes { self.old.fault ≡ None → self.old.outbox.waiting ≡ []
+            → Writes (W.contents self.old.writer) (W.contents self.new.writer) self.old.outbox (messages.Event event) result
+            self.new.outbox self.new.fault }
+        ensures spent { self.old.fault ≡ None
+            → (IsErrOf result ServerError.SeqSpent ↔ (self.old.outbox.count ≡ LAST_SEQ)) }
+        ensures reads_nothing { (self.new.reader ≡ self.old.reader) × (self.new.inbox ≡ self.old.inbox) }
+        ensures did { Said (record { fault = self.old.fault; outbox = self.old.outbox; held = W.contents self.old.writer }) (messages.Event event) result
+            (record { fault = self.new.fault; outbox = self.new.outbox; held = W.contents self.new.writer }) }
+    {
+        self.say(&Message::Event(event))
+    }
+
+    // Writes a message with the next number.
+    fn say(&mut self, message: &Message) -> Result<(), ServerError>
+        ensures stays { IfSome self.old.fault (λ e. (result ≡ Err e) × (self.new ≡ self.old)) }
+        ensures writes { self.old.fault ≡ None → self.old.outbox.waiting ≡ []
+            → Writes (W.contents self.old.writer) (W.contents self.new.writer) self.old.outbox message.now result
+            self.new.outbox self.new.fault }
+        ensures spent { self.old.fault ≡ None
+            → (IsErrOf result ServerError.SeqSpent ↔ (self.old.outbox.count ≡ LAST_SEQ)) }
+        ensures reads_nothing { (self.new.reader ≡ self.old.reader) × (self.new.inbox ≡ self.old.inbox) }
+        ensures did { Said (record { fault = self.old.fault; outbox = self.old.outbox; held = W.contents self.old.writer }) message.now result
             (record { fault = self.new.fault; outbox = self.new.outbox; held = W.contents self.new.writer }) }
     {
         if let Some(fault) = self.fault {
             return Err(fault);
         }
-        match self.outbox.queue(&Message::Response(response)) {
+        match self.outbox.queue(message) {
             Ok(()) => {}
             Err(QueueError::SeqSpent) => return Err(ServerError::SeqSpent),
             Err(QueueError::NoMemory) => return Err(ServerError::NoMemory),
