@@ -3,9 +3,10 @@
 //! - `new SIZE SEQ REF RETIRED [PATH TEXT]`: a session with so many bytes of memory, these limits, and this program.
 //! - an event by its name, with its arguments: `turn FILE` is given what a file holds. `apply EVENT` does the same.
 //! - `slice_once MOVES`: a slice that is not made again where it found no memory.
-//! - a query by its name.
+//! - a query by its name; `seen QUERY` takes a snapshot, and asks that.
 #![tactic(auto)]
 
+mod seen;
 mod texts;
 
 use play::{Fault, Player, bytes_of, hexadecimal, parsed, play, shown};
@@ -53,6 +54,7 @@ impl Player for Events {
             ["greatest"] => Ok(format!(in alloc; "{:?}", Limits::greatest())?),
             ["text", kind, name] => text_of(alloc, kind, name),
             ["apply", event @ ..] => applied(alloc, self.session.apply(&event_of(alloc, event)?)),
+            ["seen", query @ ..] => seen::seen(alloc, &self.session, query),
             [name] => self.call(alloc, name),
             [name, argument] => self.call_with(alloc, name, argument),
             _ => Err(Fault::NoCommand),
