@@ -1,6 +1,5 @@
 pub mod Taking
 pub mod Serving
-pub mod Pieces
 pub mod ServerLemmas
 pub mod Sending
 pub mod Calls

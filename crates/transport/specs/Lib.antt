@@ -3,8 +3,6 @@
 -- what is due in each round, the rounds, and how serving ends; at the end of the file one turn of the loop, which
 -- private clauses cite alone
 pub mod Rounds
--- what a wire does
-pub mod Wires
 -- ---- a server, for a program that answers by itself
 -- the messages of what was read, and those that were given
 pub mod Heard

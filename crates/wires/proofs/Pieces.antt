@@ -2,7 +2,7 @@
 use Rattle.std.proofs.Common.{◌≡◌, ℕ, ◌+◌, ◌≤◌, List, [], ◌++◌, ◌-◌, length, take, drop, Bool, Some, refl, sym, ap, ◌∙◌, subst, append-nil, take-append-drop}
 use Rattle.std.proofs.lemmas.List.{length-take-le, length-drop, drop-drop}
 use Rattle.std.proofs.Math.Seq.{take-append_seam, take-length}
-use Rattle.transport.specs.Wires.{Line, Moved}
+use Rattle.wires.specs.Wires.{Line, Moved}
 
 slice_is : (start : ℕ) (l : List ℕ) → take (length l - start) (drop start l) ≡ drop start l
 slice_is start l = let e : length (drop start l) ≡ length l - start = length-drop start l in ap (λ k. take k (drop start l)) (sym e) ∙ take-length (drop start l)

@@ -1,7 +1,7 @@
 //! A wire in memory.
 ghost use Rattle.std.specs.Prelude.{◌≡◌, ◌<◌, ◌≤◌, ◌++◌, List, ℕ, [], Some, true, false, length, take, IfOk, OnOk, OnErr};
 ghost use Rattle.std.specs.Io.KnownBytes.{Appends, IsAtEnd};
-ghost use Rattle.transport.specs.Wires.{Line, Failed, Gave, Moved, Still, Took, one_more};
+ghost use Rattle.wires.specs.Wires.{Line, Failed, Gave, Moved, Still, Took, one_more};
 
 use crate::wire::{Received, Wire, WireFault};
 use std::alloc::{AllocError, Global};
@@ -37,7 +37,7 @@ pub struct MemoryWire {
 
 impl Model for MemoryWire {
     ghost use Rattle.std.specs.Prelude.{◌≤◌, Some, drop, vec_len};
-    ghost use Rattle.transport.specs.Wires.{Line};
+    ghost use Rattle.wires.specs.Wires.{Line};
 
     ghost Value = { Line };
 

@@ -1,6 +1,6 @@
 //! A wire: what bytes come over and are sent over, and what may fail.
 ghost use Rattle.std.specs.Prelude.{◌≡◌, ◌<◌, ◌≤◌, length, IfOk};
-ghost use Rattle.transport.specs.Wires.{Line, Looks, Waits, Sends, IsWithin};
+ghost use Rattle.wires.specs.Wires.{Line, Looks, Waits, Sends, IsWithin};
 
 /// What a look for bytes found.
 #[derive(Clone, Copy, Debug, PartialEq, Eq)]

@@ -5,9 +5,9 @@
 -- that has reached its last value stays there, and a fault at that value counts as growth.
 use Rattle.std.specs.Prelude.{◌≡◌, ℕ, ◌+◌, ◌<◌, ◌≤◌, nat_lt, Bool, if◌then◌else◌, List, [], length, take, Option, Result, Ok, Err}
 use Rattle.std.specs.Io.KnownBytes.{Consumes, Appends, IsAtEnd}
-use Rattle.transport.specs.declared.wire.Received.{Received}
-use Rattle.transport.specs.declared.wire.Received.TheVariants.{Bytes, Nothing, End}
-use Rattle.transport.specs.declared.wire.WireFault.{WireFault}
+use Rattle.wires.specs.declared.wire.Received.{Received}
+use Rattle.wires.specs.declared.wire.Received.TheVariants.{Bytes, Nothing, End}
+use Rattle.wires.specs.declared.wire.WireFault.{WireFault}
 
 -- a wire, as it is seen: the bytes that it has left to give and those that it took, where they are known, how many calls
 -- failed, how many looks found nothing, and whether it can be looked at without waiting

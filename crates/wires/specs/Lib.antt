@@ -1,0 +1,4 @@
+-- What a program is talked to over.
+
+-- what a wire does
+pub mod Wires
