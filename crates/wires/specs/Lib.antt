@@ -2,3 +2,6 @@
 
 -- what a wire does
 pub mod Wires
+
+-- what a door does
+pub mod Doors

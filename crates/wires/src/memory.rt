@@ -3,6 +3,7 @@ ghost use Rattle.std.specs.Prelude.{◌≡◌, ◌<◌, ◌≤◌, ◌++◌, Lis
 ghost use Rattle.std.specs.Io.KnownBytes.{Appends, IsAtEnd};
 ghost use Rattle.wires.specs.Wires.{Line, Failed, Gave, Moved, Still, Took, one_more};
 
+use crate::count::one_more;
 use crate::wire::{Received, Wire, WireFault};
 use std::alloc::{AllocError, Global};
 use std::cmp;
@@ -142,13 +143,6 @@ fn first_with_bytes(ends: &[usize], from: usize, start: usize) -> usize {
         }
     }
     ends.len()
-}
-
-// A count that grows by one.
-fn one_more(count: u64) -> u64
-    ensures { result ≡ one_more count }
-{
-    if count < u64::MAX { count + 1 } else { count }
 }
 
 impl Wire for MemoryWire {

@@ -1,0 +1,44 @@
+//! A door: what wires come through, and what may fail.
+ghost use Rattle.std.specs.Prelude.{◌≡◌};
+ghost use Rattle.wires.specs.Doors.{Doorway, Knocks, Admits};
+
+use crate::wire::Wire;
+
+/// What a look at a door found.
+#[derive(Drop)]
+pub enum Came<W: Drop> {
+    /// An editor came, over this wire.
+    Wire(W),
+    /// Nobody is there yet.
+    Nothing,
+    /// Nobody will come any more.
+    End,
+}
+
+/// A call of a door failed.
+#[derive(Clone, Copy, Debug, PartialEq, Eq)]
+pub struct DoorFault;
+
+/// Where editors come in, each over a wire of its own. A call that a signal interrupted is made again by the door
+/// itself.
+pub trait Door {
+    type Wire: Wire + Drop;
+
+    ghost doorway: { Self → Doorway };
+
+    /// Takes the editor that is first of those who wait, and does not wait for one.
+    fn accept_now(&mut self) -> Result<Came<Self::Wire>, DoorFault>
+        ensures { Knocks (doorway self.old) (doorway self.new) result };
+
+    /// Takes the next editor, and waits for it. It gives none where nobody will come any more.
+    fn accept_wait(&mut self) -> Result<Option<Self::Wire>, DoorFault>
+        ensures { Admits (doorway self.old) (doorway self.new) result };
+
+    /// How many calls failed, counted up to 2^64 - 1.
+    fn faults(&self) -> u64
+        ensures { result ≡ (doorway self.now).faults };
+
+    /// How many looks found nobody, counted up to 2^64 - 1.
+    fn idle(&self) -> u64
+        ensures { result ≡ (doorway self.now).idle };
+}
