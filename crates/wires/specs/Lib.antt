@@ -2,6 +2,5 @@
 
 -- what a wire does
 pub mod Wires
-
 -- what a door does
 pub mod Doors

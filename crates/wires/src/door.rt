@@ -28,11 +28,11 @@ pub trait Door {
 
     /// Takes the editor that is first of those who wait, and does not wait for one.
     fn accept_now(&mut self) -> Result<Came<Self::Wire>, DoorFault>
-        ensures { Knocks (doorway self.old) (doorway self.new) result };
+        ensures { Knocks Self.Wire.line (doorway self.old) (doorway self.new) result };
 
     /// Takes the next editor, and waits for it. It gives none where nobody will come any more.
     fn accept_wait(&mut self) -> Result<Option<Self::Wire>, DoorFault>
-        ensures { Admits (doorway self.old) (doorway self.new) result };
+        ensures { Admits Self.Wire.line (doorway self.old) (doorway self.new) result };
 
     /// How many calls failed, counted up to 2^64 - 1.
     fn faults(&self) -> u64

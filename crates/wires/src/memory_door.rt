@@ -1,51 +1,26 @@
 //! A door in memory.
-ghost use Rattle.std.specs.Prelude.{◌≡◌};
+ghost use Rattle.std.specs.Prelude.{◌≡◌, Some, if◌then◌else◌};
+ghost use Rattle.std.specs.Slice.Iter.{iter_mut_rest};
 ghost use Rattle.wires.specs.Doors.{Doorway};
+ghost use Rattle.wires.specs.Wires.{one_more};
 
 use crate::count::one_more;
 use crate::door::{Came, Door, DoorFault};
 use crate::memory::MemoryWire;
-use crate::wire::{Received, Wire, WireFault};
 use std::slice::IterMut;
-
-impl<W: Wire> Wire for &mut W {
-    ghost line = { λ w. W.line w.now };
-
-    fn recv_now(&mut self, room: &mut [u8]) -> Result<Received, WireFault> {
-        Wire::recv_now(&mut **self, room)
-    }
-
-    fn recv_wait(&mut self, room: &mut [u8]) -> Result<usize, WireFault> {
-        Wire::recv_wait(&mut **self, room)
-    }
-
-    fn send(&mut self, piece: &[u8]) -> Result<usize, WireFault> {
-        Wire::send(&mut **self, piece)
-    }
-
-    fn can_poll(&self) -> bool {
-        Wire::can_poll(&**self)
-    }
-
-    fn faults(&self) -> u64 {
-        Wire::faults(&**self)
-    }
-
-    fn idle(&self) -> u64 {
-        Wire::idle(&**self)
-    }
-}
 
 /// How a door in memory goes.
 #[derive(Clone, Copy, Debug, PartialEq, Eq)]
 pub struct Visits {
-    /// Which of its looks finds nobody, of `accept_now` and `accept_wait` counted together from 1; none if 0.
-    pub empty: u64,
+    /// Which of its calls finds nobody, of `accept_now` and `accept_wait` counted together from 1; none if 0.
+    /// `accept_wait` passes it over.
+    pub nobody: u64,
     /// Which of its calls fails, counted likewise; none if 0.
     pub failing: u64,
 }
 
-/// A door in memory: it lends wires that are its maker's, one after the other.
+/// A door in memory: it lends wires of its maker's, one after the other. After the last one nobody will come any
+/// more.
 #[derive(Drop)]
 pub struct MemoryDoor<'a> {
     wires: IterMut<'a, MemoryWire>,
@@ -56,10 +31,9 @@ pub struct MemoryDoor<'a> {
 }
 
 impl<'a> MemoryDoor<'a> {
-    /// A door with these wires.
+    /// A door that lends these wires.
     pub fn new(wires: &'a mut [MemoryWire], visits: Visits) -> MemoryDoor<'a>
-        ensures faults { result.faults ≡ 0 }
-        ensures idle { result.idle ≡ 0 }
+        ensures { ⟦<MemoryDoor<'a> as Door>⟧.doorway result ≡ record { wires = Some wires.old; faults = 0; idle = 0 } }
     {
         MemoryDoor {
             wires: wires.iter_mut(),
@@ -69,20 +43,32 @@ impl<'a> MemoryDoor<'a> {
             idle: 0,
         }
     }
+
+    // Counts a call, and says whether it is the one that fails.
+    fn counts(&mut self) -> bool
+        ensures wires { self.new.wires ≡ self.old.wires }
+        ensures idle { self.new.idle ≡ self.old.idle }
+        ensures faults { self.new.faults ≡ (if result then one_more self.old.faults else self.old.faults) }
+    {
+        self.calls = self.calls.saturating_add(1);
+        if self.calls != self.visits.failing {
+            return false;
+        }
+        self.faults = one_more(self.faults);
+        true
+    }
 }
 
 impl<'a> Door for MemoryDoor<'a> {
     type Wire = &'a mut MemoryWire;
 
-    ghost doorway = { λ d. record { faults = d.faults; idle = d.idle } };
+    ghost doorway = { λ d. record { wires = Some (iter_mut_rest d.wires); faults = d.faults; idle = d.idle } };
 
     fn accept_now(&mut self) -> Result<Came<&'a mut MemoryWire>, DoorFault> {
-        self.calls = self.calls.saturating_add(1);
-        if self.calls == self.visits.failing {
-            self.faults = one_more(self.faults);
+        if self.counts() {
             return Err(DoorFault);
         }
-        if self.calls == self.visits.empty {
+        if self.calls == self.visits.nobody {
             self.idle = one_more(self.idle);
             return Ok(Came::Nothing);
         }
@@ -93,9 +79,7 @@ impl<'a> Door for MemoryDoor<'a> {
     }
 
     fn accept_wait(&mut self) -> Result<Option<&'a mut MemoryWire>, DoorFault> {
-        self.calls = self.calls.saturating_add(1);
-        if self.calls == self.visits.failing {
-            self.faults = one_more(self.faults);
+        if self.counts() {
             return Err(DoorFault);
         }
         Ok(self.wires.next())

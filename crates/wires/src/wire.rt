@@ -49,3 +49,31 @@ pub trait Wire {
     fn idle(&self) -> u64
         ensures { result ≡ (line self.now).idle };
 }
+
+impl<W: Wire> Wire for &mut W {
+    ghost line = { λ w. W.line w.now };
+
+    fn recv_now(&mut self, room: &mut [u8]) -> Result<Received, WireFault> {
+        Wire::recv_now(&mut **self, room)
+    }
+
+    fn recv_wait(&mut self, room: &mut [u8]) -> Result<usize, WireFault> {
+        Wire::recv_wait(&mut **self, room)
+    }
+
+    fn send(&mut self, piece: &[u8]) -> Result<usize, WireFault> {
+        Wire::send(&mut **self, piece)
+    }
+
+    fn can_poll(&self) -> bool {
+        Wire::can_poll(&**self)
+    }
+
+    fn faults(&self) -> u64 {
+        Wire::faults(&**self)
+    }
+
+    fn idle(&self) -> u64 {
+        Wire::idle(&**self)
+    }
+}
