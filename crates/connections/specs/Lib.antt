@@ -1,0 +1,3 @@
+-- Wires and doors of the system.
+-- what a failed call comes to
+pub mod Failures

@@ -1,0 +1,8 @@
+//! Wires and doors of the system: streams over descriptors, and TCP.
+#![tactic(auto)]
+
+mod failure;
+mod reading;
+mod stream;
+
+pub use stream::StreamWire;

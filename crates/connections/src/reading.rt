@@ -1,0 +1,82 @@
+//! Reads that do not fail where a signal interrupted them, and reads that wait.
+ghost use Rattle.std.specs.Prelude.{◌≡◌, IfErr, ◌≢◌};
+ghost use Rattle.std.specs.Io.{ReadsAtMost};
+ghost use Rattle.std.specs.Io.KnownBytes.{ReadConsumes};
+ghost use Rattle.std.specs.IoError.{error_kind};
+ghost use Rattle.connections.specs.declared.failure.Failure.TheVariants.{Again, Nothing};
+ghost use Rattle.connections.specs.Failures.{failed_read};
+
+use crate::failure::{Failure, failed_read};
+use descriptors::{Waiting, can_read};
+use std::io;
+use std::io::{ErrorKind, Read};
+use std::os::fd::{AsRawFd, RawFd};
+
+/// Reads once. A call that a signal interrupted is made again.
+pub(crate) fn read_once<R: Read>(reader: &mut R, room: &mut [u8]) -> io::Result<usize>
+    ensures bound { ReadsAtMost result room.new }
+    ensures bytes { ReadConsumes (R.remaining reader.old) (R.remaining reader.new) result room.new }
+    ensures again { IfErr result (λ e. failed_read (error_kind e) ≢ Again) }
+{
+    'reading: for _ in 0..u64::MAX {
+        match reader.read(room) {
+            Ok(count) => return Ok(count),
+            Err(error) => {
+                if failed_read(&error) != Failure::Again {
+                    return Err(error);
+                }
+            }
+        }
+    }
+    Err(ErrorKind::TimedOut.into())
+}
+
+/// Reads, and waits where nothing has come yet, also where the descriptor is non-blocking.
+pub(crate) fn read_waiting<R: Read + AsRawFd>(reader: &mut R, room: &mut [u8]) -> io::Result<usize>
+    ensures bound { ReadsAtMost result room.new }
+    ensures bytes { ReadConsumes (R.remaining reader.old) (R.remaining reader.new) result room.new }
+    ensures waited { IfErr result (λ e. failed_read (error_kind e) ≢ Nothing) }
+{
+    'reading: for _ in 0..u64::MAX {
+        match read_once(reader, room) {
+            Ok(count) => return Ok(count),
+            Err(error) => {
+                if failed_read(&error) != Failure::Nothing {
+                    return Err(error);
+                }
+                wait_to_read(reader.as_raw_fd())?;
+            }
+        }
+    }
+    Err(ErrorKind::TimedOut.into())
+}
+
+// A stream of no bytes: a read of it would block exactly where one of this descriptor would.
+#[derive(Drop)]
+struct Readiness {
+    descriptor: RawFd,
+}
+
+impl Read for Readiness {
+    fn read(&mut self, _room: &mut [u8]) -> io::Result<usize> {
+        if can_read(&self.descriptor)? {
+            Ok(0)
+        } else {
+            Err(ErrorKind::WouldBlock.into())
+        }
+    }
+}
+
+impl AsRawFd for Readiness {
+    fn as_raw_fd(&self) -> RawFd {
+        self.descriptor
+    }
+}
+
+// Waits until a read of this descriptor would not block.
+fn wait_to_read(descriptor: RawFd) -> io::Result<()>
+    ensures { IfErr result (λ e. failed_read (error_kind e) ≢ Nothing) }
+{
+    Waiting::new(Readiness { descriptor }).read(&mut [])?;
+    Ok(())
+}
