@@ -2,6 +2,7 @@
 #![tactic(auto)]
 
 mod failure;
+mod outcome;
 mod reading;
 mod stream;
 

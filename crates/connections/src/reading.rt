@@ -5,12 +5,16 @@ ghost use Rattle.std.specs.Io.KnownBytes.{ReadConsumes};
 ghost use Rattle.std.specs.IoError.{error_kind};
 ghost use Rattle.connections.specs.declared.failure.Failure.TheVariants.{Again, Nothing};
 ghost use Rattle.connections.specs.Failures.{failed_read};
+ghost use Rattle.connections.specs.Readers.{LooksInto};
+ghost use Rattle.wires.specs.Wires.{IsWithin};
 
 use crate::failure::{Failure, failed_read};
+use crate::outcome::received;
 use descriptors::{Waiting, can_read};
 use std::io;
 use std::io::{ErrorKind, Read};
 use std::os::fd::{AsRawFd, RawFd};
+use wires::{Received, WireFault};
 
 /// Reads once. A call that a signal interrupted is made again.
 pub(crate) fn read_once<R: Read>(reader: &mut R, room: &mut [u8]) -> io::Result<usize>
@@ -29,6 +33,18 @@ pub(crate) fn read_once<R: Read>(reader: &mut R, room: &mut [u8]) -> io::Result<
         }
     }
     Err(ErrorKind::TimedOut.into())
+}
+
+/// Reads what has come, and does not wait.
+pub(crate) fn look<R: Read + AsRawFd>(reader: &mut R, room: &mut [u8]) -> Result<Received, WireFault>
+    ensures bound { IsWithin result room.new }
+    ensures bytes { LooksInto (R.remaining reader.old) (R.remaining reader.new) result room.new }
+{
+    match can_read(reader) {
+        Ok(true) => received(read_once(reader, room), !room.is_empty()),
+        Ok(false) => Ok(Received::Nothing),
+        Err(_) => Err(WireFault),
+    }
 }
 
 /// Reads, and waits where nothing has come yet, also where the descriptor is non-blocking.

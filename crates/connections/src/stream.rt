@@ -1,16 +1,17 @@
 //! A wire over streams that have descriptors.
 ghost use Rattle.std.specs.Prelude.{◌≡◌};
-ghost use Rattle.wires.specs.Wires.{Line, Moved, Failed, one_more};
+ghost use Rattle.wires.specs.Wires.{Line};
+ghost use Rattle.connections.specs.Readers.{Begins};
 
-use crate::failure::{Failure, failed_read};
-use crate::reading::{read_once, read_waiting};
+use crate::outcome::sent;
+use crate::reading::{look, read_waiting};
 use descriptors::{Waiting, can_read};
 use std::io::{Read, Write};
 use std::os::fd::AsRawFd;
 use wires::{Received, Wire, WireFault};
 
 /// A wire over a stream that is read and one that is written, as standard input and standard output. Both may be
-/// non-blocking. They keep no bytes of their own: what they were given or gave is the system's.
+/// non-blocking. They keep no bytes of their own: what there is to read is with the system, and what was written too.
 #[derive(Drop)]
 pub struct StreamWire<R, W> {
     reader: R,
@@ -23,11 +24,17 @@ pub struct StreamWire<R, W> {
 impl<R: Read + AsRawFd, W: Write + AsRawFd> StreamWire<R, W> {
     /// A wire over these. It can poll where the system can say whether there is something to read.
     pub fn new(reader: R, writer: W) -> StreamWire<R, W>
-        ensures faults { result.faults ≡ 0 }
-        ensures idle { result.idle ≡ 0 }
-        ensures reader { result.reader ≡ reader }
+        ensures { Begins (⟦<StreamWire<R, W> as Wire>⟧.line result) (R.remaining reader) (W.contents writer) }
     {
         let polls = can_read(&reader).is_ok();
+        StreamWire::with_polling(reader, writer, polls)
+    }
+
+    /// A wire over these, which can poll or not.
+    pub(crate) fn with_polling(reader: R, writer: W, polls: bool) -> StreamWire<R, W>
+        ensures line { Begins (⟦<StreamWire<R, W> as Wire>⟧.line result) (R.remaining reader) (W.contents writer) }
+        ensures polls { (⟦<StreamWire<R, W> as Wire>⟧.line result).polls ≡ polls }
+    {
         StreamWire {
             reader,
             writer: Waiting::new(writer),
@@ -48,29 +55,13 @@ impl<R: Read + AsRawFd, W: Write + AsRawFd> Wire for StreamWire<R, W> {
     } };
 
     fn recv_now(&mut self, room: &mut [u8]) -> Result<Received, WireFault> {
-        match can_read(&self.reader) {
-            Ok(true) => {}
-            Ok(false) => {
-                self.idle = self.idle.saturating_add(1);
-                return Ok(Received::Nothing);
-            }
-            Err(_) => {
-                self.faults = self.faults.saturating_add(1);
-                return Err(WireFault);
-            }
+        let found = look(&mut self.reader, room);
+        match found {
+            Ok(Received::Nothing) => self.idle = self.idle.saturating_add(1),
+            Ok(Received::Bytes(_) | Received::End) => {}
+            Err(WireFault) => self.faults = self.faults.saturating_add(1),
         }
-        match read_once(&mut self.reader, room) {
-            Ok(count) if count > 0 || room.is_empty() => Ok(Received::Bytes(count)),
-            Ok(_) => Ok(Received::End),
-            Err(error) if failed_read(&error) == Failure::Nothing => {
-                self.idle = self.idle.saturating_add(1);
-                Ok(Received::Nothing)
-            }
-            Err(_) => {
-                self.faults = self.faults.saturating_add(1);
-                Err(WireFault)
-            }
-        }
+        found
     }
 
     fn recv_wait(&mut self, room: &mut [u8]) -> Result<usize, WireFault> {
@@ -84,13 +75,11 @@ impl<R: Read + AsRawFd, W: Write + AsRawFd> Wire for StreamWire<R, W> {
     }
 
     fn send(&mut self, piece: &[u8]) -> Result<usize, WireFault> {
-        match self.writer.write(piece) {
-            Ok(count) if count > 0 || piece.is_empty() => Ok(count),
-            Ok(_) | Err(_) => {
-                self.faults = self.faults.saturating_add(1);
-                Err(WireFault)
-            }
+        let taken = sent(self.writer.write(piece), !piece.is_empty());
+        if taken.is_err() {
+            self.faults = self.faults.saturating_add(1);
         }
+        taken
     }
 
     fn can_poll(&self) -> bool {
