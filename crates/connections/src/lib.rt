@@ -5,5 +5,7 @@ mod failure;
 mod outcome;
 mod reading;
 mod stream;
+mod tcp;
 
 pub use stream::StreamWire;
+pub use tcp::{TcpDoor, TcpWire, tcp_wire};

@@ -36,7 +36,10 @@ pub(crate) fn read_once<R: Read>(reader: &mut R, room: &mut [u8]) -> io::Result<
 }
 
 /// Reads what has come, and does not wait.
-pub(crate) fn look<R: Read + AsRawFd>(reader: &mut R, room: &mut [u8]) -> Result<Received, WireFault>
+pub(crate) fn look<R: Read + AsRawFd>(
+    reader: &mut R,
+    room: &mut [u8],
+) -> Result<Received, WireFault>
     ensures bound { IsWithin result room.new }
     ensures bytes { LooksInto (R.remaining reader.old) (R.remaining reader.new) result room.new }
 {
@@ -89,8 +92,8 @@ impl AsRawFd for Readiness {
     }
 }
 
-// Waits until a read of this descriptor would not block.
-fn wait_to_read(descriptor: RawFd) -> io::Result<()>
+/// Waits until a read of this descriptor would not block.
+pub(crate) fn wait_to_read(descriptor: RawFd) -> io::Result<()>
     ensures { IfErr result (λ e. failed_read (error_kind e) ≢ Nothing) }
 {
     Waiting::new(Readiness { descriptor }).read(&mut [])?;

@@ -1,0 +1,137 @@
+//! Wires and doors over TCP.
+ghost use Rattle.std.specs.Prelude.{◌≡◌, ◌≢◌, IfOk, IfErr, IsSome, Ok, None, true};
+ghost use Rattle.std.specs.IoError.{error_kind};
+ghost use Rattle.wires.specs.Doors.{Doorway, Knocks, Admits};
+ghost use Rattle.wires.specs.declared.door.Came.TheVariants.{End};
+ghost use Rattle.connections.specs.declared.failure.Failure.TheVariants.{Again};
+ghost use Rattle.connections.specs.Failures.{failed_accept};
+ghost use Rattle.connections.specs.Readers.{Begins};
+
+use crate::failure::{Failure, failed_accept};
+use crate::outcome::came;
+use crate::reading::wait_to_read;
+use crate::stream::StreamWire;
+use std::io;
+use std::io::ErrorKind;
+use std::net::{TcpListener, TcpStream};
+use std::os::fd::AsRawFd;
+use wires::{Came, Door, DoorFault, Wire};
+
+/// A wire over a connection of TCP. It can poll. The connection is closed where the wire is dropped.
+pub type TcpWire = StreamWire<TcpStream, TcpStream>;
+
+/// A wire over this connection. What is sent goes out at once, and does not wait for what the peer acknowledges
+/// (RFC 9293, section 3.7.4: the Nagle algorithm is off). The error is `ConnectionAborted` where that cannot be set, as
+/// of a connection that broke, and else that of the system where it has no descriptor left.
+pub fn tcp_wire(stream: TcpStream) -> io::Result<TcpWire>
+    ensures line { IfOk result (λ wire. Begins (⟦<TcpWire as Wire>⟧.line wire) None None) }
+    ensures polls { IfOk result (λ wire. (⟦<TcpWire as Wire>⟧.line wire).polls ≡ true) }
+{
+    if stream.set_nodelay(true).is_err() {
+        return Err(ErrorKind::ConnectionAborted.into());
+    }
+    let writer = stream.try_clone()?;
+    Ok(StreamWire::with_polling(stream, writer, true))
+}
+
+/// A door where the peers of a listener come in. It never says that nobody will come any more.
+#[derive(Drop)]
+pub struct TcpDoor {
+    listener: TcpListener,
+    faults: u64,
+    idle: u64,
+}
+
+impl TcpDoor {
+    /// A door at this listener, which is made non-blocking: so a look never waits, also where a peer has left again.
+    pub fn new(listener: TcpListener) -> io::Result<TcpDoor>
+        ensures { IfOk result (λ door. ⟦<TcpDoor as Door>⟧.doorway door ≡ record { wires = None; faults = 0; idle = 0 }) }
+    {
+        listener.set_nonblocking(true)?;
+        Ok(TcpDoor {
+            listener,
+            faults: 0,
+            idle: 0,
+        })
+    }
+}
+
+// Takes the peer that is first of those who wait, and passes over those whose connection broke.
+fn accept_once(listener: &TcpListener) -> io::Result<TcpWire>
+    ensures { IfErr result (λ e. failed_accept (error_kind e) ≢ Again) }
+{
+    for _ in 0..u64::MAX {
+        match first_peer(listener) {
+            Ok(wire) => return Ok(wire),
+            Err(error) => {
+                if failed_accept(&error) != Failure::Again {
+                    return Err(error);
+                }
+            }
+        }
+    }
+    Err(ErrorKind::TimedOut.into())
+}
+
+fn first_peer(listener: &TcpListener) -> io::Result<TcpWire> {
+    let (stream, _address) = listener.accept()?;
+    tcp_wire(stream)
+}
+
+// Takes the next peer, and waits for it.
+fn accept_waiting(listener: &TcpListener) -> io::Result<TcpWire>
+    ensures { IfErr result (λ e. failed_accept (error_kind e) ≢ Failure.Nothing) }
+{
+    for _ in 0..u64::MAX {
+        match accept_once(listener) {
+            Ok(wire) => return Ok(wire),
+            Err(error) => {
+                if failed_accept(&error) != Failure::Nothing {
+                    return Err(error);
+                }
+                wait_to_read(listener.as_raw_fd())?;
+            }
+        }
+    }
+    Err(ErrorKind::TimedOut.into())
+}
+
+impl Door for TcpDoor {
+    type Wire = TcpWire;
+
+    ghost doorway = { λ d. record { wires = None; faults = d.faults; idle = d.idle } };
+
+    fn accept_now(&mut self) -> Result<Came<TcpWire>, DoorFault>
+        ensures counts { Knocks ⟦<TcpWire as Wire>⟧.line (⟦<TcpDoor as Door>⟧.doorway self.old) (⟦<TcpDoor as Door>⟧.doorway self.new) result }
+        ensures stays { result ≢ Ok Came.End }
+    {
+        let found = came(accept_once(&self.listener));
+        match &found {
+            Ok(Came::Nothing) => self.idle = self.idle.saturating_add(1),
+            Ok(Came::Wire(_) | Came::End) => {}
+            Err(DoorFault) => self.faults = self.faults.saturating_add(1),
+        }
+        found
+    }
+
+    fn accept_wait(&mut self) -> Result<Option<TcpWire>, DoorFault>
+        ensures counts { Admits ⟦<TcpWire as Wire>⟧.line (⟦<TcpDoor as Door>⟧.doorway self.old) (⟦<TcpDoor as Door>⟧.doorway self.new) result }
+        ensures stays { IfOk result IsSome }
+    {
+        match accept_waiting(&self.listener) {
+            Ok(wire) => Ok(Some(wire)),
+            Err(_) => {
+                self.faults = self.faults.saturating_add(1);
+                Err(DoorFault)
+            }
+        }
+    }
+
+    fn faults(&self) -> u64 {
+        self.faults
+    }
+
+    fn idle(&self) -> u64 {
+        self.idle
+    }
+}
