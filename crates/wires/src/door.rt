@@ -6,7 +6,7 @@ use crate::wire::Wire;
 
 /// What a look at a door found.
 #[derive(Drop)]
-pub enum Came<W: Drop> {
+pub enum Came<W> {
     /// An editor came, over this wire.
     Wire(W),
     /// Nobody is there yet.
