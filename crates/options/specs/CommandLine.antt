@@ -1,0 +1,43 @@
+-- The command line as clap is told of it: what clap's definitions take for a command.
+--
+--   rvdap [--memory KIB]
+--   rvdap --listen ADDR [--program FILE] [--once] [--memory KIB]
+--   rvdap asm FILE
+--   rvdap watch SCRIPT
+--
+-- clap gets the words after the program's name. It takes each option at most once, a value after a blank or after `=`,
+-- and adds `--help` and `--version`. That options stand beside one another as above is said in `Options`.
+use Rattle.std.specs.Prelude.{◌≡◌, ◌∷◌, List, ℕ, [], Some, codes, refl, true}
+use Rattle.clap.specs.Words.{App, Rule, Shape, Text, is_simple_and_free, new_app, new_rule, with_rule, with_subcommand}
+use Rattle.clap.specs.declared.builder.action.ArgAction.TheVariants.{SetTrue}
+
+-- an option with a value, by its long name
+abbrev pub option : Text → Rule
+option name = record (new_rule name) { long = Some name; value_names = 1 }
+
+-- an option without one
+abbrev pub flag : Text → Rule
+flag name = record (new_rule name) { long = Some name; action = Some SetTrue }
+
+-- a command with a file, which has to be there
+abbrev pub with_file : Text → Text → App
+with_file name file = with_rule (new_app name) (record (new_rule file) { required = true })
+
+-- the command: it has a version, no command `help`, and its words begin after the program's name
+abbrev pub plain : App
+plain = record (new_app (codes "rvdap")) {
+  top = record (new_app (codes "rvdap")).top { has_version = true; no_binary_name = true; disable_help_subcommand = true };
+}
+
+-- its options
+abbrev pub with_options : App
+with_options = with_rule (with_rule (with_rule (with_rule plain (option (codes "memory"))) (option (codes "listen"))) (option (codes "program"))) (flag (codes "once"))
+
+-- the whole
+unfoldable pub command_line : App
+command_line = with_subcommand (with_subcommand with_options (with_file (codes "asm") (codes "FILE")).top) (with_file (codes "watch") (codes "SCRIPT")).top
+
+-- clap's definitions say exactly what it makes of words
+pub is_exact : is_simple_and_free command_line ≡ true
+unfolding command_line
+is_exact = refl

@@ -1,0 +1,11 @@
+-- The definitions of `options`, in reading order.
+
+-- the command line as clap is told of it
+pub mod CommandLine
+-- how much memory is asked for
+pub mod Memory
+-- what words ask for, and which are refused
+pub mod Options
+-- ---- of the crates below
+-- the number that digits write
+pub use Rattle.numerals.specs.Numerals

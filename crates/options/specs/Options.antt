@@ -1,0 +1,111 @@
+-- What the words after the program's name ask for, and which words are refused.
+--
+-- clap reads the words, by its own definitions: which words it refuses, and what it finds in the others. Of what it finds
+--
+-- - a command, `asm` or `watch`, stands by itself, with its file: no option stands beside it;
+-- - without a command, `--program` and `--once` stand only beside `--listen`, and `--memory` has a value as in `Memory`.
+use Rattle.std.specs.Prelude.{◌≡◌, ◌⊎◌, ◌∷◌, ◌||◌, ◌&&◌, Bool, true, false, not, ℕ, List, [], Option, Some, None, Result, Ok, Err, IsErr, codes, if◌then◌else◌, is_some, refl, unwrap_or}
+use Rattle.std.specs.Option.{option_map_or}
+use Rattle.std.specs.Str.{bytes_eq}
+use Rattle.clap.specs.Words.{App, Kinds, IsAmong, Row, Text, fault_of, first_of, kind_of, matches_of, subcommand_of}
+use Rattle.clap.specs.declared.error.Error.{Error}
+use Rattle.clap.specs.declared.error.kind.ErrorKind.{ErrorKind}
+use Rattle.clap.specs.declared.error.kind.ErrorKind.TheVariants as kind
+use Rattle.clap.proofs.OnLiterals.{clap_on_literals}
+use Rattle.options.specs.CommandLine.{command_line}
+use Rattle.options.specs.Memory.{default_memory, kib_for}
+use Rattle.options.specs.declared.asked.Mode.{Mode}
+use Rattle.options.specs.declared.asked.Mode.TheVariants.{Serve, Asm, Watch}
+use Rattle.options.specs.declared.asked.Options.{Options}
+use Rattle.options.specs.declared.fault.Fault.{Fault}
+use Rattle.options.specs.declared.fault.Fault.TheVariants as fault
+use Rattle.options.specs.declared.usage.Usage.{Usage}
+use Rattle.options.specs.declared.usage.Usage.TheVariants as usage
+
+-- ---- what clap found
+
+-- a flag is set: its value is `true`
+abbrev pub is_set : Text → List Row → Bool
+is_set id rows = option_map_or (λ value. bytes_eq value (codes "true")) (first_of id rows) false
+
+-- an option is given
+abbrev pub has_option : List Row → Bool
+has_option rows = is_some (first_of (codes "memory") rows) || is_some (first_of (codes "listen") rows)
+    || is_some (first_of (codes "program") rows) || is_set (codes "once") rows
+
+-- ---- without a command
+
+-- what stands only beside `--listen`
+abbrev pub lacks_listen : Option Text → Option Text → Bool → Bool
+lacks_listen listen program once = not (is_some listen) && (is_some program || once)
+
+abbrev pub serving : Option Text → Option Text → Bool → Option ℕ → Result Options Kinds
+serving listen program once None = Err (kind.ValueValidation ∷ [])
+serving listen program once (Some memory) = if lacks_listen listen program once then Err (kind.MissingRequiredArgument ∷ []) else Ok (record {
+  mode = Serve;
+  file = None;
+  listen = listen;
+  program = program;
+  once = once;
+  memory = memory;
+})
+
+-- ---- a command
+
+abbrev pub running : Mode → Option Text → Result Options Kinds
+running mode None = Err (kind.MissingRequiredArgument ∷ [])
+running mode (Some file) = Ok (record {
+  mode = mode;
+  file = Some file;
+  listen = None;
+  program = None;
+  once = false;
+  memory = default_memory;
+})
+
+-- the command of a name, with what clap found for it
+abbrev pub commanded : Text → List Row → Result Options Kinds
+commanded name rows = if bytes_eq name (codes "asm") then running Asm (first_of (codes "FILE") rows) else running Watch (first_of (codes "SCRIPT") rows)
+
+-- ---- the whole
+
+-- what is asked for by what clap found, and by the command that it met, or the kind of error that it is
+abbrev pub asked_of : List Row → Option (Text × List Row) → Result Options Kinds
+asked_of rows None = serving (first_of (codes "listen") rows) (first_of (codes "program") rows) (is_set (codes "once") rows)
+    (kib_for (first_of (codes "memory") rows))
+asked_of rows (Some command) = if has_option rows then Err (kind.ArgumentConflict ∷ []) else commanded command.0 command.1
+
+-- what clap refuses is refused, by one of these kinds of error
+abbrev pub unless_refused : Kinds → Result Options Kinds → Result Options Kinds
+unless_refused [] asked = asked
+unless_refused (kind ∷ kinds) asked = Err (kind ∷ kinds)
+
+-- what words ask for, or the kinds of error of which one is reported
+unfoldable pub asked : List Text → Result Options Kinds
+asked words = unless_refused (fault_of command_line words) (asked_of (matches_of command_line words) (subcommand_of command_line words))
+
+-- ---- what is answered
+
+-- the options that are asked for; or an error of one of the kinds; or no memory was left
+abbrev pub Tells : Result Options Error → Result Options Kinds → Type 0
+Tells (Ok options) asked = asked ≡ Ok options
+Tells (Err error) asked = (kind_of error ≡ kind.OutOfMemory) ⊎ ((kinds : Kinds) × (asked ≡ Err kinds) × IsAmong (kind_of error) kinds)
+
+-- the options that are asked for; or that words are refused, where they are; or no memory was left
+abbrev pub Answers : Result Options Usage → Result Options Kinds → Type 0
+Answers (Ok options) asked = asked ≡ Ok options
+Answers (Err usage.Words) asked = IsErr asked
+Answers (Err usage.NoMemory) asked = Unit {0}
+
+-- the kind of error of a rule that is broken
+abbrev pub kind_of_fault : Fault → ErrorKind
+kind_of_fault (fault.Memory text) = kind.ValueValidation
+kind_of_fault (fault.WithoutListen option) = kind.MissingRequiredArgument
+kind_of_fault fault.BesideCommand = kind.ArgumentConflict
+kind_of_fault fault.WithoutFile = kind.MissingRequiredArgument
+kind_of_fault fault.NoMemory = kind.OutOfMemory
+
+-- the same of a rule that is broken in place of the error that is reported of it
+abbrev pub Finds : Result Options Fault → Result Options Kinds → Type 0
+Finds (Ok options) asked = asked ≡ Ok options
+Finds (Err fault) asked = (kind_of_fault fault ≡ kind.OutOfMemory) ⊎ (asked ≡ Err (kind_of_fault fault ∷ []))

@@ -1,0 +1,65 @@
+//! What a command line asks for.
+ghost use Rattle.std.specs.Prelude.{◌≡◌, IfOk};
+
+use std::alloc::{AllocError, Global};
+use std::marker::Model;
+
+/// What the program is to do.
+#[derive(Clone, Copy, Debug, PartialEq, Eq)]
+pub enum Mode {
+    /// Serve editors.
+    Serve,
+    /// List the instructions of a file.
+    Asm,
+    /// Play a script, and print what is watched.
+    Watch,
+}
+
+/// What a command line asks for.
+#[derive(Debug, Drop)]
+pub struct Options {
+    /// What the program is to do.
+    pub mode: Mode,
+    /// The file that is listed, or the script that is played.
+    pub file: Option<Text>,
+    /// The address to listen on, where editors are not served over standard streams.
+    pub listen: Option<Text>,
+    /// The file of the program whose machine an editor joins by `attach`.
+    pub program: Option<Text>,
+    /// Whether the program ends after the first connection.
+    pub once: bool,
+    /// The memory of a machine, in KiB: a multiple of 4, from 4 to 16,384.
+    pub memory: u32,
+}
+
+/// A text of a command line. A contract sees it as the list of its bytes, which are UTF-8.
+#[derive(Debug, Drop)]
+pub struct Text {
+    string: String,
+}
+
+impl Model for Text {
+    ghost use Rattle.std.specs.Prelude.{List, ℕ, string_bytes};
+
+    ghost Value = { List ℕ };
+
+    ghost view = { λ t. string_bytes t.string };
+}
+
+impl Text {
+    /// A copy of a text. It fails where no memory is left.
+    pub(crate) fn of(alloc: Global, text: &str) -> Result<Text, AllocError>
+        ensures { IfOk result (λ copy. copy ≡ text.now) }
+    {
+        Ok(Text {
+            string: String::from_str(alloc, text)?,
+        })
+    }
+
+    /// The text, lent.
+    pub fn as_str(&self) -> &str
+        ensures { result.now ≡ self.now }
+    {
+        self.string.as_str()
+    }
+}

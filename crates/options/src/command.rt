@@ -1,0 +1,164 @@
+//! The command line as clap is told of it, with what help says.
+ghost use Rattle.std.specs.Prelude.{◌≡◌, IfOk, codes, false};
+ghost use Rattle.clap.specs.Words.{app_of, rule_of};
+ghost use Rattle.clap.specs.declared.builder.command.Command.TheViews.{out-Command as fields_of};
+ghost use Rattle.options.specs.CommandLine as spec;
+
+use clap::{Arg, ArgAction, Command};
+use std::alloc::{AllocError, Global};
+
+// What help says after the options.
+const AFTER_HELP: &str = "\
+    Without a command, rvdap speaks the Debug Adapter Protocol (DAP): on standard\
+    \ninput and output, as an editor starts it, or with --listen to editors that\
+    \nconnect to ADDR, one after the other. In a terminal it waits for requests until\
+    \nthe input ends (Ctrl-D). docs/PROTOCOL.md has the requests that it answers,\
+    \nbyte by byte.\
+    \n\
+    \nStatus: 0 if all went well; 1 if not, with a line on standard error; and 2 if\
+    \nthe words on the command line are not as above.";
+
+// What help of `asm` says after its options.
+const AFTER_HELP_OF_ASM: &str = "\
+    Example:\
+    \n  $ rvdap asm examples/increment.s\
+    \n  00010000 00500513 addi a0, zero, 5\
+    \n  00010004 00000097 auipc ra, 0x0\
+    \n  ..\
+    \n\
+    \nEach line is an instruction: its address, its word and its text.\
+    \n\
+    \nErrors, as in `rvdap: FILE: line 2: OutOfRange`. One is reported at a time: that\
+    \nof the first pass that finds one, on the earliest line. So `bogus` on line 4 is\
+    \nreported before `j x` on line 2, where no line defines x.\
+    \n\
+    \nPass 0, the text as a whole:\
+    \n  NotUtf8             a byte that is not UTF-8: save the file as UTF-8\
+    \nPass 1, each line by itself:\
+    \n  Syntax              not labels and then one statement: look at its colons and\
+    \n                      commas\
+    \n  UnknownInstruction  no such mnemonic or directive: look at its spelling\
+    \n  BadOperand          too few, too many or of another form: look at registers,\
+    \n                      immediates and brackets\
+    \n  OutOfRange          a number is too large or too small for its place\
+    \nPass 2, each line at its address:\
+    \n  TwiceDefined        an earlier label has this name: rename one of them\
+    \n  OutOfRange          an instruction is not at a multiple of 4: put `.align 2`\
+    \n                      after the data before it\
+    \n  TooLarge            memory (1 MiB) ends before this line: look at `.space`\
+    \nPass 3, each line with its labels:\
+    \n  Undefined           no line defines this label: look at its spelling\
+    \n  OutOfRange          a branch or a jump does not reach its target: look at how\
+    \n                      far it is\
+    \n\
+    \n`cannot read` in place of an error: FILE is not there, is not a file, or is too\
+    \nlong. docs/MACHINE.md has the language, and examples of each error.";
+
+// What help of `watch` says after its options.
+const AFTER_HELP_OF_WATCH: &str = "\
+    Each line of SCRIPT is an event of a session, and the last says which connection\
+    \nis watched, and how far. `rvdap: SCRIPT: line K`: line K is the first that is not\
+    \nas it is to be. `cannot read` in place of that: SCRIPT is not there, is not a\
+    \nfile, or is too long.";
+
+/// The command line as clap is told of it.
+pub(crate) fn command<'a>(alloc: Global) -> Result<Command<'a>, AllocError>
+    ensures { IfOk result (λ c. app_of c ≡ spec.command_line) }
+{
+    plain(alloc)
+        .arg(memory(alloc))?
+        .arg(listen(alloc))?
+        .arg(program(alloc))?
+        .arg(once(alloc))?
+        .subcommand(asm(alloc)?)?
+        .subcommand(watch(alloc)?)
+}
+
+// The command, before it is told of options.
+fn plain<'a>(alloc: Global) -> Command<'a>
+    ensures app { app_of result ≡ spec.plain }
+    ensures local { (fields_of result).has_globals ≡ false }
+{
+    Command::new(alloc, "rvdap")
+        .version("0.1.0")
+        .about("A debug adapter for assembly programs on one simulated RISC-V hart")
+        .override_usage(
+            "rvdap [--memory <KIB>]\n       \
+             rvdap --listen <ADDR> [--program <FILE>] [--once] [--memory <KIB>]\n       \
+             rvdap asm <FILE>\n       \
+             rvdap watch <SCRIPT>",
+        )
+        .after_help(AFTER_HELP)
+        .no_binary_name(true)
+        .disable_help_subcommand(true)
+}
+
+fn memory<'a>(alloc: Global) -> Arg<'a>
+    ensures rule { rule_of result ≡ spec.option (codes "memory") }
+    ensures local { result.global ≡ false }
+{
+    Arg::new(alloc, "memory")
+        .long("memory")
+        .value_name("KIB")
+        .help(
+            "Memory of a program, in KiB: a multiple of 4 from 4 to\n16384; 1024 if it is not given",
+        )
+}
+
+fn listen<'a>(alloc: Global) -> Arg<'a>
+    ensures rule { rule_of result ≡ spec.option (codes "listen") }
+    ensures local { result.global ≡ false }
+{
+    Arg::new(alloc, "listen")
+        .long("listen")
+        .value_name("ADDR")
+        .help(
+            "Serve editors over TCP: the address to listen on, as\n127.0.0.1:4711; with port 0 any port that is free",
+        )
+}
+
+fn program<'a>(alloc: Global) -> Arg<'a>
+    ensures rule { rule_of result ≡ spec.option (codes "program") }
+    ensures local { result.global ≡ false }
+{
+    Arg::new(alloc, "program")
+        .long("program")
+        .value_name("FILE")
+        .help("With --listen: a text of assembly, the program whose\nmachine an editor joins by `attach`")
+}
+
+fn once<'a>(alloc: Global) -> Arg<'a>
+    ensures rule { rule_of result ≡ spec.flag (codes "once") }
+    ensures local { result.global ≡ false }
+{
+    Arg::new(alloc, "once")
+        .long("once")
+        .action(ArgAction::SetTrue)
+        .help("With --listen: end after the first connection")
+}
+
+fn asm<'a>(alloc: Global) -> Result<Command<'a>, AllocError>
+    ensures { IfOk result (λ c. (app_of c ≡ spec.with_file (codes "asm") (codes "FILE")) × ((fields_of c).has_globals ≡ false)) }
+{
+    let file = Arg::new(alloc, "FILE")
+        .required(true)
+        .help("A text of assembly, of at most 1,048,576 bytes");
+    Command::new(alloc, "asm")
+        .about("Assembles FILE and lists its instructions")
+        .override_usage("rvdap asm <FILE>")
+        .after_help(AFTER_HELP_OF_ASM)
+        .arg(file)
+}
+
+fn watch<'a>(alloc: Global) -> Result<Command<'a>, AllocError>
+    ensures { IfOk result (λ c. (app_of c ≡ spec.with_file (codes "watch") (codes "SCRIPT")) × ((fields_of c).has_globals ≡ false)) }
+{
+    let script = Arg::new(alloc, "SCRIPT")
+        .required(true)
+        .help("Events of a session, line by line, and what is watched");
+    Command::new(alloc, "watch")
+        .about("Plays SCRIPT and prints what an editor knows then")
+        .override_usage("rvdap watch <SCRIPT>")
+        .after_help(AFTER_HELP_OF_WATCH)
+        .arg(script)
+}

@@ -1,0 +1,43 @@
+//! What the words after the program's name ask for.
+ghost use Rattle.std.specs.Prelude.{◌≡◌, IfOk, map, string_bytes};
+ghost use Rattle.options.specs.Options.{Answers, Tells, asked};
+
+use crate::asked::Options;
+use crate::command::command;
+use crate::fault::error_of;
+use crate::rules;
+use crate::usage::Usage;
+use clap::Error;
+use clap::error::ErrorKind;
+use std::alloc::Global;
+
+/// What the words after the program's name ask for:
+///
+/// - `[--memory KIB]`: editors are served over standard streams,
+/// - `--listen ADDR [--program FILE] [--once] [--memory KIB]`: or over TCP,
+/// - `asm FILE`: a file is listed,
+/// - `watch SCRIPT`: a script is played.
+///
+/// `Words`: they are none of these, or ask for help or the version. `NoMemory`: no memory was left.
+pub fn options(alloc: Global, words: &[String]) -> Result<Options, Usage>
+    ensures { Answers result (asked (map string_bytes words.now)) }
+{
+    match try_options(alloc, words) {
+        Ok(options) => Ok(options),
+        Err(error) if error.kind() == ErrorKind::OutOfMemory => Err(Usage::NoMemory),
+        Err(_) => Err(Usage::Words),
+    }
+}
+
+/// The same, with the error that says why there are no options, in clap's form: what the program prints,
+/// help and the version too. Its kind is `OutOfMemory` where no memory was left.
+pub fn try_options(alloc: Global, words: &[String]) -> Result<Options, Error>
+    ensures { Tells result (asked (map string_bytes words.now)) }
+{
+    let mut command = command(alloc)?;
+    let matches = command.try_get_matches_from_mut(words)?;
+    match rules::asked(alloc, &matches) {
+        Ok(options) => Ok(options),
+        Err(fault) => Err(error_of(alloc, &mut command, fault)),
+    }
+}
