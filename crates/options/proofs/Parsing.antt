@@ -1,6 +1,6 @@
 -- From what clap says of a parse to what words ask for.
-use Rattle.std.proofs.Common.{◌≡◌, ◌∙◌, ◌⊎◌, inl, inr, refl, sym, ap, ap₂, subst, true, List, [], ◌∷◌, Option, Result, Ok, Err}
-use Rattle.std.specs.Result.{IsErrAnd}
+use Rattle.std.proofs.Common.{◌≡◌, ◌∙◌, ◌⊎◌, inl, inr, refl, sym, ap, ap₂, subst, true, List, [], ◌∷◌, Option, Result, Ok, Err, IfOk}
+use Rattle.std.specs.Result.{IsErr, IsErrAnd}
 use Rattle.clap.specs.Words.{App, FailsBy, HasKind, HasMatchesOf, IsAmong, Kinds, Row, Text, fault_of, found_of, is_simple, is_simple_and_free, kind_of, matches_of, rows_of, subcommand_of, subcommand_rows_of}
 use Rattle.clap.specs.declared.error.Error.{Error}
 use Rattle.clap.specs.declared.error.kind.ErrorKind.TheVariants as kind
@@ -57,3 +57,8 @@ pub broken : (words : List Text) (found : Result Options Kinds) (fault : Fault) 
 broken words found fault error e finds (inl h) = inl h
 broken words found fault error e (inl none) (inr h) = inl (h ∙ none)
 broken words found fault error e (inr is) (inr h) = inr (kind_of_fault fault ∷ [], e ∙ is, inl h)
+
+-- a clause on an answer says nothing of a refusal
+pub not_ok : (r : Result Options Error) (P : Options → Type 0) → IsErr r → IfOk r P
+not_ok (Ok options) P is = absurd (cc is)
+not_ok (Err error) P is = tt

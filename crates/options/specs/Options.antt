@@ -13,7 +13,7 @@ use Rattle.clap.specs.declared.error.kind.ErrorKind.{ErrorKind}
 use Rattle.clap.specs.declared.error.kind.ErrorKind.TheVariants as kind
 use Rattle.clap.proofs.OnLiterals.{clap_on_literals}
 use Rattle.options.specs.CommandLine.{command_line}
-use Rattle.options.specs.Memory.{default_memory, kib_for}
+use Rattle.options.specs.Memory.{IsOffered, default_memory, kib_for}
 use Rattle.options.specs.declared.asked.Mode.{Mode}
 use Rattle.options.specs.declared.asked.Mode.TheVariants.{Serve, Asm, Watch}
 use Rattle.options.specs.declared.asked.Options.{Options}
@@ -109,3 +109,117 @@ kind_of_fault fault.NoMemory = kind.OutOfMemory
 abbrev pub Finds : Result Options Fault → Result Options Kinds → Type 0
 Finds (Ok options) asked = asked ≡ Ok options
 Finds (Err fault) asked = (kind_of_fault fault ≡ kind.OutOfMemory) ⊎ (asked ≡ Err (kind_of_fault fault ∷ []))
+
+-- ---- what holds of options, whatever the words
+
+-- a mode is a command's
+abbrev pub is_command : Mode → Bool
+is_command Serve = false
+is_command Asm = true
+is_command Watch = true
+
+pub record IsConsistent (options : Options) : Type 0 where
+  -- the memory is a number of KiB that may be asked for
+  pub memory : IsOffered options.memory
+  -- a program, or an end after the first connection, stands only beside an address
+  pub program : options.listen ≡ None → options.program ≡ None
+  pub once : options.listen ≡ None → options.once ≡ false
+  -- a command has a file, and nothing else does
+  pub file : is_some options.file ≡ is_command options.mode
+  -- and no option stands beside it
+  pub address : is_command options.mode ≡ true → options.listen ≡ None
+  pub default : is_command options.mode ≡ true → options.memory ≡ default_memory
+
+-- ---- examples
+
+-- what is asked for where nothing is said
+abbrev pub defaults : Options
+defaults = record {
+  mode = Serve;
+  file = None;
+  listen = None;
+  program = None;
+  once = false;
+  memory = 1024;
+}
+
+nothing_said : asked [] ≡ Ok defaults
+unfolding clap_on_literals asked command_line
+nothing_said = refl
+
+memory_said : asked (codes "--memory" ∷ codes "16384" ∷ []) ≡ Ok (record defaults { memory = 16384 })
+unfolding clap_on_literals asked command_line
+memory_said = refl
+
+no_multiple_of_4 : asked (codes "--memory" ∷ codes "5" ∷ []) ≡ Err (kind.ValueValidation ∷ [])
+unfolding clap_on_literals asked command_line
+no_multiple_of_4 = refl
+
+no_number : asked (codes "--memory=much" ∷ []) ≡ Err (kind.ValueValidation ∷ [])
+unfolding clap_on_literals asked command_line
+no_number = refl
+
+no_value : asked (codes "--memory" ∷ []) ≡ Err (kind.InvalidValue ∷ [])
+unfolding clap_on_literals asked command_line
+no_value = refl
+
+twice : asked (codes "--memory" ∷ codes "8" ∷ codes "--memory" ∷ codes "8" ∷ []) ≡ Err (kind.ArgumentConflict ∷ [])
+unfolding clap_on_literals asked command_line
+twice = refl
+
+all_said : asked (codes "--once" ∷ codes "--listen" ∷ codes "[::1]:4711" ∷ codes "--program=a.s" ∷ codes "--memory" ∷ codes "8" ∷ []) ≡ Ok (record defaults {
+  listen = Some (codes "[::1]:4711");
+  program = Some (codes "a.s");
+  once = true;
+  memory = 8;
+})
+unfolding clap_on_literals asked command_line
+all_said = refl
+
+no_listen : asked (codes "--program" ∷ codes "a.s" ∷ []) ≡ Err (kind.MissingRequiredArgument ∷ [])
+unfolding clap_on_literals asked command_line
+no_listen = refl
+
+once_without_listen : asked (codes "--once" ∷ []) ≡ Err (kind.MissingRequiredArgument ∷ [])
+unfolding clap_on_literals asked command_line
+once_without_listen = refl
+
+asm_said : asked (codes "asm" ∷ codes "a.s" ∷ []) ≡ Ok (record defaults { mode = Asm; file = Some (codes "a.s") })
+unfolding clap_on_literals asked command_line
+asm_said = refl
+
+watch_said : asked (codes "watch" ∷ codes "s" ∷ []) ≡ Ok (record defaults { mode = Watch; file = Some (codes "s") })
+unfolding clap_on_literals asked command_line
+watch_said = refl
+
+no_file : asked (codes "asm" ∷ []) ≡ Err (kind.MissingRequiredArgument ∷ [])
+unfolding clap_on_literals asked command_line
+no_file = refl
+
+a_word_too_many : asked (codes "watch" ∷ codes "s" ∷ codes "t" ∷ []) ≡ Err (kind.UnknownArgument ∷ [])
+unfolding clap_on_literals asked command_line
+a_word_too_many = refl
+
+option_before_asm : asked (codes "--memory" ∷ codes "8" ∷ codes "asm" ∷ codes "a.s" ∷ []) ≡ Err (kind.ArgumentConflict ∷ [])
+unfolding clap_on_literals asked command_line
+option_before_asm = refl
+
+option_after_asm : asked (codes "asm" ∷ codes "--once" ∷ codes "a.s" ∷ []) ≡ Err (kind.UnknownArgument ∷ [])
+unfolding clap_on_literals asked command_line
+option_after_asm = refl
+
+unknown_option : asked (codes "--memories" ∷ []) ≡ Err (kind.UnknownArgument ∷ [])
+unfolding clap_on_literals asked command_line
+unknown_option = refl
+
+unknown_command : asked (codes "as" ∷ []) ≡ Err (kind.UnknownArgument ∷ kind.InvalidSubcommand ∷ [])
+unfolding clap_on_literals asked command_line
+unknown_command = refl
+
+help_is_asked : asked (codes "--help" ∷ []) ≡ Err (kind.DisplayHelp ∷ [])
+unfolding clap_on_literals asked command_line
+help_is_asked = refl
+
+version_is_asked : asked (codes "--version" ∷ []) ≡ Err (kind.DisplayVersion ∷ [])
+unfolding clap_on_literals asked command_line
+version_is_asked = refl

@@ -23,8 +23,10 @@ pub(crate) fn memory_for<'a>(asked: Option<&'a str>) -> Result<u32, &'a str>
 
 /// The KiB that a text asks for: decimal digits, one or more and nothing else, that write a multiple of 4
 /// from 4 to 16,384; leading zeros are fine. `None`: any other text.
+#[tactic(auto, using(crate::proofs::Asking::answers_some, crate::proofs::Asking::answers_none, crate::proofs::Asking::answers_err))]
 pub(crate) fn memory_in(text: &str) -> Option<u32>
     ensures value { result ≡ kib_in text.now }
+    ensures answers { Answers text.now result }
 {
     match numeral(10, text.as_bytes()) {
         Ok(kib) if is_offered(kib) => Some(kib),

@@ -1,6 +1,6 @@
 //! What the words after the program's name ask for.
-ghost use Rattle.std.specs.Prelude.{◌≡◌, IfOk, map, string_bytes};
-ghost use Rattle.options.specs.Options.{Answers, Tells, asked};
+ghost use Rattle.std.specs.Prelude.{IfOk, map, string_bytes};
+ghost use Rattle.options.specs.Options.{Answers, IsConsistent, Tells, asked};
 
 use crate::asked::Options;
 use crate::command::command;
@@ -20,7 +20,8 @@ use std::alloc::Global;
 ///
 /// `Words`: they are none of these, or ask for help or the version. `NoMemory`: no memory was left.
 pub fn options(alloc: Global, words: &[String]) -> Result<Options, Usage>
-    ensures { Answers result (asked (map string_bytes words.now)) }
+    ensures answers { Answers result (asked (map string_bytes words.now)) }
+    ensures consistent { IfOk result IsConsistent }
 {
     match try_options(alloc, words) {
         Ok(options) => Ok(options),
@@ -32,7 +33,8 @@ pub fn options(alloc: Global, words: &[String]) -> Result<Options, Usage>
 /// The same, with the error that says why there are no options, in clap's form: what the program prints,
 /// help and the version too. Its kind is `OutOfMemory` where no memory was left.
 pub fn try_options(alloc: Global, words: &[String]) -> Result<Options, Error>
-    ensures { Tells result (asked (map string_bytes words.now)) }
+    ensures answers { Tells result (asked (map string_bytes words.now)) }
+    ensures consistent { IfOk result IsConsistent }
 {
     let mut command = command(alloc)?;
     let matches = command.try_get_matches_from_mut(words)?;

@@ -1,0 +1,99 @@
+-- What holds of options, whatever the words.
+use Rattle.std.proofs.Common.{◌≡◌, ℕ, Bool, true, false, List, [], ◌∷◌, Option, Some, None, Result, Ok, Err, refl, arith, subst, cond}
+use Rattle.std.specs.Prelude.{is_some, codes}
+use Rattle.std.specs.Str.{bytes_eq}
+use Rattle.clap.specs.Words.{Kinds, Row, Text, fault_of, first_of, matches_of, subcommand_of}
+use Rattle.numerals.specs.Numerals.{numeral}
+use Rattle.numerals.specs.declared.NumeralError.{NumeralError}
+use Rattle.options.specs.CommandLine.{command_line}
+use Rattle.options.specs.Memory.{IsOffered, default_memory, is_offered, kib_for, kib_in, offered}
+use Rattle.options.specs.Options.{IsConsistent, asked, asked_of, commanded, has_option, is_command, is_set, running, serving, unless_refused}
+use Rattle.options.specs.declared.asked.Mode.{Mode}
+use Rattle.options.specs.declared.asked.Mode.TheVariants.{Serve, Asm, Watch}
+use Rattle.options.specs.declared.asked.Options.{Options}
+use Rattle.options.proofs.Asking.{is_offered-true}
+
+is_default : IsOffered default_memory
+is_default = record { least = omega arith; greatest = omega arith; whole = refl }
+
+offered-some : (read : Result ℕ NumeralError) (kib : ℕ) → offered read ≡ Some kib → IsOffered kib
+offered-some (Err error) kib e = absurd (cc e)
+offered-some (Ok n) kib e = tested (is_offered n) refl e where
+  tested : (test : Bool) → is_offered n ≡ test → cond test (Some n) None ≡ Some kib → IsOffered kib
+  tested true passed e = subst IsOffered (cc e) (is_offered-true n passed)
+  tested false failed e = absurd (cc e)
+
+kib_for-some : (text : Option Text) (kib : ℕ) → kib_for text ≡ Some kib → IsOffered kib
+kib_for-some None kib e = subst IsOffered (cc e) is_default
+kib_for-some (Some text) kib e = offered-some (numeral 10 text) kib e
+
+abbrev made_of : Options → Result Options Kinds
+made_of options = Ok options
+
+same : (made options : Options) → made_of made ≡ made_of options → IsConsistent made → IsConsistent options
+same made options e h =
+    let is : made ≡ options = cc e in
+    subst IsConsistent is h
+
+served : (listen program : Option Text) (once : Bool) (memory : Option ℕ) → ((kib : ℕ) → memory ≡ Some kib → IsOffered kib)
+    → (options : Options) → serving listen program once memory ≡ Ok options → IsConsistent options
+served listen program once None fits options e = absurd (cc e)
+served None (Some program) once (Some kib) fits options e = absurd (cc e)
+served None None true (Some kib) fits options e = absurd (cc e)
+served None None false (Some kib) fits options e = same _ options e (record {
+  memory = fits kib refl;
+  program = λ none. refl;
+  once = λ none. refl;
+  file = refl;
+  address = λ command. absurd (cc command);
+  default = λ command. absurd (cc command);
+})
+served (Some listen) program once (Some kib) fits options e = same _ options e (record {
+  memory = fits kib refl;
+  program = λ none. absurd (cc none);
+  once = λ none. absurd (cc none);
+  file = refl;
+  address = λ command. absurd (cc command);
+  default = λ command. absurd (cc command);
+})
+
+run : (mode : Mode) (file : Option Text) → is_command mode ≡ true → (options : Options) → running mode file ≡ Ok options → IsConsistent options
+run mode None command options e = absurd (cc e)
+run Serve (Some file) command options e = absurd (cc command)
+run Asm (Some file) command options e = same _ options e (record {
+  memory = is_default;
+  program = λ none. refl;
+  once = λ none. refl;
+  file = refl;
+  address = λ is. refl;
+  default = λ is. refl;
+})
+run Watch (Some file) command options e = same _ options e (record {
+  memory = is_default;
+  program = λ none. refl;
+  once = λ none. refl;
+  file = refl;
+  address = λ is. refl;
+  default = λ is. refl;
+})
+
+by_name : (is_asm : Bool) (file script : Option Text) (options : Options) → cond is_asm (running Asm file) (running Watch script) ≡ Ok options → IsConsistent options
+by_name true file script options e = run Asm file refl options e
+by_name false file script options e = run Watch script refl options e
+
+by_command : (beside : Bool) (name : Text) (rows : List Row) (options : Options) (refusal : Kinds) → cond beside (Err refusal) (commanded name rows) ≡ Ok options → IsConsistent options
+by_command true name rows options refusal e = absurd (cc e)
+by_command false name rows options refusal e = by_name (bytes_eq name (codes "asm")) (first_of (codes "FILE") rows) (first_of (codes "SCRIPT") rows) options e
+
+found : (rows : List Row) (command : Option (Text × List Row)) (options : Options) → asked_of rows command ≡ Ok options → IsConsistent options
+found rows None options e = served (first_of (codes "listen") rows) (first_of (codes "program") rows) (is_set (codes "once") rows)
+    (kib_for (first_of (codes "memory") rows)) (kib_for-some (first_of (codes "memory") rows)) options e
+found rows (Some command) options e = by_command (has_option rows) command.0 command.1 options _ e
+
+taken : (kinds : Kinds) (rows : List Row) (command : Option (Text × List Row)) (options : Options) → unless_refused kinds (asked_of rows command) ≡ Ok options → IsConsistent options
+taken [] rows command options e = found rows command options e
+taken (k ∷ ks) rows command options e = absurd (cc e)
+
+pub consistent : (words : List Text) (options : Options) → asked words ≡ Ok options → IsConsistent options
+unfolding asked
+consistent words options e = taken (fault_of command_line words) (matches_of command_line words) (subcommand_of command_line words) options e
