@@ -1,12 +1,12 @@
 -- What holds of options, whatever the words.
 use Rattle.std.proofs.Common.{◌≡◌, ℕ, Bool, true, false, List, [], ◌∷◌, Option, Some, None, Result, Ok, Err, refl, arith, subst, cond}
-use Rattle.std.specs.Prelude.{is_some, codes}
+use Rattle.std.specs.Prelude.{codes}
 use Rattle.std.specs.Str.{bytes_eq}
 use Rattle.clap.specs.Words.{Kinds, Row, Text, fault_of, first_of, matches_of, subcommand_of}
 use Rattle.numerals.specs.Numerals.{numeral}
 use Rattle.numerals.specs.declared.NumeralError.{NumeralError}
 use Rattle.options.specs.CommandLine.{command_line}
-use Rattle.options.specs.Memory.{IsOffered, default_memory, is_offered, kib_for, kib_in, offered}
+use Rattle.options.specs.Memory.{IsOffered, default_memory, is_offered, kib_for, offered}
 use Rattle.options.specs.Options.{IsConsistent, asked, asked_of, commanded, has_option, is_command, is_set, running, serving, unless_refused}
 use Rattle.options.specs.declared.asked.Mode.{Mode}
 use Rattle.options.specs.declared.asked.Mode.TheVariants.{Serve, Asm, Watch}

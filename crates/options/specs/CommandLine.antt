@@ -7,8 +7,8 @@
 --
 -- clap gets the words after the program's name. It takes each option at most once, a value after a blank or after `=`,
 -- and adds `--help` and `--version`. That options stand beside one another as above is said in `Options`.
-use Rattle.std.specs.Prelude.{◌≡◌, ◌∷◌, List, ℕ, [], Some, codes, refl, true}
-use Rattle.clap.specs.Words.{App, Rule, Shape, Text, is_simple_and_free, new_app, new_rule, with_rule, with_subcommand}
+use Rattle.std.specs.Prelude.{◌≡◌, Some, codes, refl, true}
+use Rattle.clap.specs.Words.{App, Rule, Text, is_simple_and_free, new_app, new_rule, with_rule, with_subcommand}
 use Rattle.clap.specs.declared.builder.action.ArgAction.TheVariants.{SetTrue}
 
 -- an option with a value, by its long name
@@ -19,9 +19,13 @@ option name = record (new_rule name) { long = Some name; value_names = 1 }
 abbrev pub flag : Text → Rule
 flag name = record (new_rule name) { long = Some name; action = Some SetTrue }
 
--- a command with a file, which has to be there
+-- the file of a command, which has to be there
+abbrev pub file : Text → Rule
+file id = record (new_rule id) { required = true }
+
+-- a command with a file
 abbrev pub with_file : Text → Text → App
-with_file name file = with_rule (new_app name) (record (new_rule file) { required = true })
+with_file name id = with_rule (new_app name) (file id)
 
 -- the command: it has a version, no command `help`, and its words begin after the program's name
 abbrev pub plain : App

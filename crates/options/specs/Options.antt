@@ -4,10 +4,10 @@
 --
 -- - a command, `asm` or `watch`, stands by itself, with its file: no option stands beside it;
 -- - without a command, `--program` and `--once` stand only beside `--listen`, and `--memory` has a value as in `Memory`.
-use Rattle.std.specs.Prelude.{◌≡◌, ◌⊎◌, ◌∷◌, ◌||◌, ◌&&◌, Bool, true, false, not, ℕ, List, [], Option, Some, None, Result, Ok, Err, IsErr, codes, if◌then◌else◌, is_some, refl, unwrap_or}
+use Rattle.std.specs.Prelude.{◌≡◌, ◌⊎◌, ◌∷◌, ◌||◌, ◌&&◌, Bool, true, false, not, ℕ, List, [], Option, Some, None, Result, Ok, Err, IsErr, codes, if◌then◌else◌, is_some, refl}
 use Rattle.std.specs.Option.{option_map_or}
 use Rattle.std.specs.Str.{bytes_eq}
-use Rattle.clap.specs.Words.{App, Kinds, IsAmong, Row, Text, fault_of, first_of, kind_of, matches_of, subcommand_of}
+use Rattle.clap.specs.Words.{Kinds, IsAmong, Row, Text, fault_of, first_of, kind_of, matches_of, subcommand_of}
 use Rattle.clap.specs.declared.error.Error.{Error}
 use Rattle.clap.specs.declared.error.kind.ErrorKind.{ErrorKind}
 use Rattle.clap.specs.declared.error.kind.ErrorKind.TheVariants as kind

@@ -15,6 +15,9 @@ const AFTER_HELP: &str = "\
     \nthe input ends (Ctrl-D). docs/PROTOCOL.md has the requests that it answers,\
     \nbyte by byte.\
     \n\
+    \nWith --listen, `listening on ADDR` is written to standard error first. With\
+    \n--program, FILE is read before that.\
+    \n\
     \nStatus: 0 if all went well; 1 if not, with a line on standard error; and 2 if\
     \nthe words on the command line are not as above.";
 
@@ -56,10 +59,25 @@ const AFTER_HELP_OF_ASM: &str = "\
 
 // What help of `watch` says after its options.
 const AFTER_HELP_OF_WATCH: &str = "\
-    Each line of SCRIPT is an event of a session, and the last says which connection\
-    \nis watched, and how far. `rvdap: SCRIPT: line K`: line K is the first that is not\
-    \nas it is to be. `cannot read` in place of that: SCRIPT is not there, is not a\
-    \nfile, or is too long.";
+    SCRIPT is played on a session with 1 MiB of memory and no program. Each of its\
+    \nlines is an event, and the last says what is watched:\
+    \n  connect        an editor connects\
+    \n  send JSON      a message with this body comes, in one piece\
+    \n  bytes HEX      these bytes come, in one piece\
+    \n  turn           a request is answered, with no file\
+    \n  turn FILE      the same, with what FILE holds\
+    \n  slice N        the program is given time for N moves\
+    \n  hold           the program is to stand still\
+    \n  sent N         N of the waiting bytes were sent\
+    \n  drop           the connection ends\
+    \n  watch C N      the first N bytes for the connection C are watched\
+    \n  watch C all    all of them are\
+    \n\
+    \nA line is printed for each fact that is known then: its name, what the editor\
+    \nknows by the bytes that it got, and what was so when they were written, or `-`.\
+    \n\
+    \n`rvdap: SCRIPT: line K`: line K is the first that is no such line. `cannot read`\
+    \nin place of that: SCRIPT is not there, is not a file, or is too long.";
 
 /// The command line as clap is told of it.
 pub(crate) fn command<'a>(alloc: Global) -> Result<Command<'a>, AllocError>
@@ -124,7 +142,9 @@ fn program<'a>(alloc: Global) -> Arg<'a>
     Arg::new(alloc, "program")
         .long("program")
         .value_name("FILE")
-        .help("With --listen: a text of assembly, the program whose\nmachine an editor joins by `attach`")
+        .help(
+            "With --listen: a text of assembly, the program whose\nmachine an editor joins by `attach`",
+        )
 }
 
 fn once<'a>(alloc: Global) -> Arg<'a>
@@ -140,25 +160,35 @@ fn once<'a>(alloc: Global) -> Arg<'a>
 fn asm<'a>(alloc: Global) -> Result<Command<'a>, AllocError>
     ensures { IfOk result (λ c. (app_of c ≡ spec.with_file (codes "asm") (codes "FILE")) × ((fields_of c).has_globals ≡ false)) }
 {
-    let file = Arg::new(alloc, "FILE")
-        .required(true)
-        .help("A text of assembly, of at most 1,048,576 bytes");
     Command::new(alloc, "asm")
         .about("Assembles FILE and lists its instructions")
         .override_usage("rvdap asm <FILE>")
         .after_help(AFTER_HELP_OF_ASM)
-        .arg(file)
+        .arg(file(
+            alloc,
+            "FILE",
+            "A text of assembly, of at most 1,048,576 bytes",
+        ))
 }
 
 fn watch<'a>(alloc: Global) -> Result<Command<'a>, AllocError>
     ensures { IfOk result (λ c. (app_of c ≡ spec.with_file (codes "watch") (codes "SCRIPT")) × ((fields_of c).has_globals ≡ false)) }
 {
-    let script = Arg::new(alloc, "SCRIPT")
-        .required(true)
-        .help("Events of a session, line by line, and what is watched");
     Command::new(alloc, "watch")
         .about("Plays SCRIPT and prints what an editor knows then")
         .override_usage("rvdap watch <SCRIPT>")
         .after_help(AFTER_HELP_OF_WATCH)
-        .arg(script)
+        .arg(file(
+            alloc,
+            "SCRIPT",
+            "Events of a session, line by line, and what is watched",
+        ))
+}
+
+// The file of a command, which has to be there.
+fn file<'a>(alloc: Global, id: &'a str, help: &'a str) -> Arg<'a>
+    ensures rule { rule_of result ≡ spec.file id.entry.now }
+    ensures local { result.global ≡ false }
+{
+    Arg::new(alloc, id).required(true).help(help)
 }

@@ -34,11 +34,7 @@ fn has_option(matches: &ArgMatches<'_>) -> bool
 }
 
 // What the command of a name asks for.
-fn commanded<'a>(
-    alloc: Global,
-    name: &str,
-    matches: &ArgMatches<'_>,
-) -> Result<Options, Fault<'a>>
+fn commanded<'a>(alloc: Global, name: &str, matches: &ArgMatches<'_>) -> Result<Options, Fault<'a>>
     ensures { Finds result (spec.commanded name.now (rows_of (found_of matches.now))) }
 {
     if name == "asm" {

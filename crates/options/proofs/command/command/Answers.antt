@@ -1,7 +1,7 @@
-use Rattle.std.proofs.Common.{◌≡◌, ◌∙◌, ap, ap₂, codes}
+use Rattle.std.proofs.Common.{◌∙◌, ap, ap₂}
 use Rattle.std.proofs.lemmas.Result.{IfOk-weaker}
-use Rattle.clap.specs.Words.{App, app_of, with_rule, with_subcommand}
-use Rattle.options.specs.CommandLine.{command_line, flag, option, plain, with_file}
+use Rattle.clap.specs.Words.{App, with_rule, with_subcommand}
+use Rattle.options.specs.CommandLine.{command_line}
 use Rattle.options.proofs.command.command.Goals as goal
 
 pub returns : goal.returns
