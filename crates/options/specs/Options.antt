@@ -4,7 +4,7 @@
 --
 -- - a command, `asm` or `watch`, stands by itself, with its file: no option stands beside it;
 -- - without a command, `--program` and `--once` stand only beside `--listen`, and `--memory` has a value as in `Memory`.
-use Rattle.std.specs.Prelude.{◌≡◌, ◌⊎◌, ◌∷◌, ◌||◌, ◌&&◌, Bool, true, false, not, ℕ, List, [], Option, Some, None, Result, Ok, Err, IsErr, codes, if◌then◌else◌, is_some, refl}
+use Rattle.std.specs.Prelude.{◌≡◌, ◌⊎◌, ◌∷◌, ◌||◌, ◌&&◌, ◌++◌, Bool, true, false, not, ℕ, List, [], Option, Some, None, Result, Ok, Err, IsErr, codes, if◌then◌else◌, is_some, refl}
 use Rattle.std.specs.Option.{option_map_or}
 use Rattle.std.specs.Str.{bytes_eq}
 use Rattle.clap.specs.Words.{Kinds, IsAmong, Row, Text, fault_of, first_of, kind_of, matches_of, subcommand_of}
@@ -13,7 +13,7 @@ use Rattle.clap.specs.declared.error.kind.ErrorKind.{ErrorKind}
 use Rattle.clap.specs.declared.error.kind.ErrorKind.TheVariants as kind
 use Rattle.clap.proofs.OnLiterals.{clap_on_literals}
 use Rattle.options.specs.CommandLine.{command_line}
-use Rattle.options.specs.Memory.{IsOffered, default_memory, kib_for}
+use Rattle.options.specs.Memory.{IsOffered, default_memory, kib_for, kib_in}
 use Rattle.options.specs.declared.asked.Mode.{Mode}
 use Rattle.options.specs.declared.asked.Mode.TheVariants.{Serve, Asm, Watch}
 use Rattle.options.specs.declared.asked.Options.{Options}
@@ -223,3 +223,24 @@ help_is_asked = refl
 version_is_asked : asked (codes "--version" ∷ []) ≡ Err (kind.DisplayVersion ∷ [])
 unfolding clap_on_literals asked command_line
 version_is_asked = refl
+
+-- ---- examples with every text
+
+-- each text can stand after `=`
+each_memory : (text : Text) → asked ((codes "--memory=" ++ text) ∷ []) ≡ serving None None false (kib_in text)
+unfolding clap_on_literals asked command_line
+each_memory text = refl
+
+each_address : (address program text : Text) → asked ((codes "--listen=" ++ address) ∷ (codes "--program=" ++ program) ∷ codes "--once" ∷ (codes "--memory=" ++ text) ∷ [])
+    ≡ serving (Some address) (Some program) true (kib_in text)
+unfolding clap_on_literals asked command_line
+each_address address program text = refl
+
+-- and each can name a file, after `--` also one that looks like an option
+each_file : (file : Text) → asked (codes "asm" ∷ codes "--" ∷ file ∷ []) ≡ Ok (record defaults { mode = Asm; file = Some file })
+unfolding clap_on_literals asked command_line
+each_file file = refl
+
+each_script : (file : Text) → asked (codes "watch" ∷ codes "--" ∷ file ∷ []) ≡ Ok (record defaults { mode = Watch; file = Some file })
+unfolding clap_on_literals asked command_line
+each_script file = refl
