@@ -6,6 +6,8 @@ pub mod CommandLine
 pub mod Memory
 -- what words ask for, and which are refused
 pub mod Options
+-- ---- for private clauses alone: which rule is broken
+pub mod Broken
 -- ---- of the crates below
 -- the number that digits write
 pub use Rattle.numerals.specs.Numerals

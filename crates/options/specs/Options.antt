@@ -9,7 +9,6 @@ use Rattle.std.specs.Option.{option_map_or}
 use Rattle.std.specs.Str.{bytes_eq}
 use Rattle.clap.specs.Words.{Kinds, IsAmong, Row, Text, fault_of, first_of, kind_of, matches_of, subcommand_of}
 use Rattle.clap.specs.declared.error.Error.{Error}
-use Rattle.clap.specs.declared.error.kind.ErrorKind.{ErrorKind}
 use Rattle.clap.specs.declared.error.kind.ErrorKind.TheVariants as kind
 use Rattle.clap.proofs.OnLiterals.{clap_on_literals}
 use Rattle.options.specs.CommandLine.{command_line}
@@ -17,8 +16,6 @@ use Rattle.options.specs.Memory.{IsOffered, default_memory, kib_for, kib_in}
 use Rattle.options.specs.declared.asked.Mode.{Mode}
 use Rattle.options.specs.declared.asked.Mode.TheVariants.{Serve, Asm, Watch}
 use Rattle.options.specs.declared.asked.Options.{Options}
-use Rattle.options.specs.declared.fault.Fault.{Fault}
-use Rattle.options.specs.declared.fault.Fault.TheVariants as fault
 use Rattle.options.specs.declared.usage.Usage.{Usage}
 use Rattle.options.specs.declared.usage.Usage.TheVariants as usage
 
@@ -96,19 +93,6 @@ abbrev pub Answers : Result Options Usage → Result Options Kinds → Type 0
 Answers (Ok options) asked = asked ≡ Ok options
 Answers (Err usage.Words) asked = IsErr asked
 Answers (Err usage.NoMemory) asked = Unit {0}
-
--- the kind of error of a rule that is broken
-abbrev pub kind_of_fault : Fault → ErrorKind
-kind_of_fault (fault.Memory text) = kind.ValueValidation
-kind_of_fault (fault.WithoutListen option) = kind.MissingRequiredArgument
-kind_of_fault fault.BesideCommand = kind.ArgumentConflict
-kind_of_fault fault.WithoutFile = kind.MissingRequiredArgument
-kind_of_fault fault.NoMemory = kind.OutOfMemory
-
--- the same of a rule that is broken in place of the error that is reported of it
-abbrev pub Finds : Result Options Fault → Result Options Kinds → Type 0
-Finds (Ok options) asked = asked ≡ Ok options
-Finds (Err fault) asked = (kind_of_fault fault ≡ kind.OutOfMemory) ⊎ (asked ≡ Err (kind_of_fault fault ∷ []))
 
 -- ---- what holds of options, whatever the words
 

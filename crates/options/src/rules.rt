@@ -3,7 +3,7 @@ ghost use Rattle.std.specs.Prelude.{◌≡◌, IfOk, Some, None};
 ghost use Rattle.std.specs.Option.{option_map};
 ghost use Rattle.clap.specs.Words.{found_of, rows_of, subcommand_rows_of};
 ghost use Rattle.options.specs.Options as spec;
-ghost use Rattle.options.specs.Options.{Finds};
+ghost use Rattle.options.specs.Broken.{Finds};
 
 use crate::asked::{Mode, Options, Text};
 use crate::fault::Fault;
