@@ -1,51 +1,109 @@
-//! `rvdap`, a debug adapter: an editor that speaks the Debug Adapter Protocol over standard streams. By
-//! `rvdap asm FILE` it lists the instructions of a file.
+//! `rvdap`, a debug adapter: editors that speak the Debug Adapter Protocol are served over standard streams or over TCP. By
+//! `rvdap asm FILE` it lists the instructions of a file, and by `rvdap watch SCRIPT` it shows what an editor knows by a script.
 #![tactic(auto)]
 
+mod arguments;
 mod asm;
 mod disk;
 mod ending;
+mod listen;
 mod memory;
-mod options;
 mod serving;
+mod watch;
 
+ghost use Rattle.options.specs.Memory.{IsOffered};
+
+use arguments::{Unasked, options_of};
 use asm::{AsmFault, list_file};
-use descriptors::Waiting;
+use connections::StreamWire;
 use disk::Disk;
 use ending::Ending;
+use listen::{Visitors, listen};
 use listing::ListFault;
 use memory::MemorySize;
-use options::{Task, task_of};
-use serving::{new_session, serve};
+use options::{Mode, Options};
+use protocol::Text;
+use replay::ScriptFault;
+use serving::{NoSession, new_session, serve_one};
+use session::{Bytes, Session};
+use std::alloc::AllocError;
 use std::fmt::Display;
 use std::process::ExitCode;
+use transport::Files;
+use watch::{WatchFault, play_file};
 
-/// Status 0 where the input ended or a `disconnect` succeeded, where a file was listed, and where help or
-/// the version was asked; 1 with one line on standard error where serving or listing failed; 2 where the
-/// arguments are not taken.
+/// Status 0 where the input ended or a `disconnect` succeeded, where a file was listed or a script was played, and where help or the
+/// version was asked; 1 with one line on standard error where serving, listing or playing failed; 2 where the arguments are not taken.
 fn main(rt: HostRuntime) -> ExitCode {
-    match task_of(&rt) {
-        Task::Serve(memory) => end(&rt, serve_editor(&rt, memory)),
-        Task::List(file) => list(&rt, file.as_str()),
-        Task::Printed(status) => ExitCode::from(status),
-        Task::NoMemory => end(&rt, Ending::NoMemory),
+    match options_of(&rt) {
+        Ok(options) => run(&rt, &options),
+        Err(Unasked::Printed(status)) => ExitCode::from(status),
+        Err(Unasked::NoMemory) => end(&rt, Ending::NoMemory),
     }
 }
 
-fn serve_editor(rt: &HostRuntime, memory: MemorySize) -> Ending {
-    let Ok(mut session) = new_session(rt.alloc(), memory) else {
-        return Ending::NoMemory;
-    };
+fn run(rt: &HostRuntime, options: &Options) -> ExitCode
+    requires { IsOffered options.now.memory }
+{
+    match (options.mode, &options.file) {
+        (Mode::Asm, Some(file)) => list(rt, file.as_str()),
+        (Mode::Watch, Some(script)) => watch(rt, script.as_str()),
+        _ => serve(rt, options),
+    }
+}
+
+// Serves editors, with the program that is given, if one is.
+fn serve(rt: &HostRuntime, options: &Options) -> ExitCode
+    requires { IsOffered options.now.memory }
+{
+    match &options.program {
+        None => serve_with(rt, options, None, ""),
+        Some(file) => match program_in(rt, file.as_str()) {
+            Ok(Some(program)) => serve_with(rt, options, Some(program), file.as_str()),
+            Ok(None) => fail_at(rt, file.as_str(), "cannot read"),
+            Err(_) => end(rt, Ending::NoMemory),
+        },
+    }
+}
+
+// A program: the path of its file, and what that holds. `None`: it cannot be read.
+fn program_in(rt: &HostRuntime, file: &str) -> Result<Option<(Text, Bytes)>, AllocError> {
+    match Disk::new(rt).read(rt.alloc(), file)? {
+        None => Ok(None),
+        Some(text) => {
+            let path = String::from_str(rt.alloc(), file)?;
+            Ok(Some((Text::from_string(path), text)))
+        }
+    }
+}
+
+fn serve_with(
+    rt: &HostRuntime,
+    options: &Options,
+    program: Option<(Text, Bytes)>,
+    file: &str,
+) -> ExitCode
+    requires { IsOffered options.now.memory }
+{
+    match new_session(rt.alloc(), MemorySize::of(options.memory), program) {
+        Ok(mut session) => end(rt, serve_editors(rt, options, &mut session)),
+        Err(NoSession::Assembly(error)) => fail_at(rt, file, error),
+        Err(NoSession::NoMemory) => end(rt, Ending::NoMemory),
+    }
+}
+
+fn serve_editors(rt: &HostRuntime, options: &Options, session: &mut Session) -> Ending {
+    match &options.listen {
+        None => serve_streams(rt, session),
+        Some(address) if options.once => listen(rt, session, address.as_str(), Visitors::One),
+        Some(address) => listen(rt, session, address.as_str(), Visitors::All),
+    }
+}
+
+fn serve_streams(rt: &HostRuntime, session: &mut Session) -> Ending {
     let _ = session.connect();
-    let mut input = Waiting::new(rt.stdin());
-    let mut output = Waiting::new(rt.stdout());
-    serve(
-        rt.alloc(),
-        &mut session,
-        &mut input,
-        &mut output,
-        &Disk::new(rt),
-    )
+    let mut wire = StreamWire::new(rt.stdin(), rt.stdout());
+    serve_one(rt.alloc(), session, &mut wire, &Disk::new(rt))
 }
 
 fn list(rt: &HostRuntime, file: &str) -> ExitCode {
@@ -58,6 +116,16 @@ fn list(rt: &HostRuntime, file: &str) -> ExitCode {
     }
 }
 
+fn watch(rt: &HostRuntime, script: &str) -> ExitCode {
+    match play_file(rt, script) {
+        Ok(()) => ExitCode::SUCCESS,
+        Err(WatchFault::Unreadable) => fail_at(rt, script, "cannot read"),
+        Err(WatchFault::Unplayed(ScriptFault::Write)) => end(rt, Ending::ReadOrWriteFault),
+        Err(WatchFault::Unplayed(ScriptFault::NoMemory)) => end(rt, Ending::NoMemory),
+        Err(WatchFault::Unplayed(fault)) => fail_at(rt, script, fault),
+    }
+}
+
 // The line on standard error, if there is one, and the status. Where the line can't be written, the
 // status still says it.
 fn end(rt: &impl Eprint, ending: Ending) -> ExitCode {
@@ -67,7 +135,7 @@ fn end(rt: &impl Eprint, ending: Ending) -> ExitCode {
     ExitCode::from(ending.status())
 }
 
-// The same of a file that cannot be listed.
+// The same of a file.
 fn fail_at<D: Display + Drop>(rt: &impl Eprint, file: &str, reason: D) -> ExitCode {
     let _ = eprintln!(rt; "rvdap: {file}: {reason}");
     ExitCode::FAILURE
