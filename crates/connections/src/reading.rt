@@ -1,10 +1,11 @@
 //! Reads that do not fail where a signal interrupted them, and reads that wait.
-ghost use Rattle.std.specs.Prelude.{◌≡◌, IfErr, ◌≢◌};
+ghost use Rattle.std.specs.Prelude.{◌≡◌, IfErr, ◌≢◌, Some};
 ghost use Rattle.std.specs.Io.{ReadsAtMost};
 ghost use Rattle.std.specs.Io.KnownBytes.{ReadConsumes};
 ghost use Rattle.std.specs.IoError.{error_kind};
 ghost use Rattle.connections.specs.declared.failure.Failure.TheVariants.{Again, Nothing};
 ghost use Rattle.connections.specs.Failures.{failed_read};
+ghost use Rattle.connections.specs.Outcomes.{IsReadiness};
 ghost use Rattle.connections.specs.Readers.{LooksInto};
 ghost use Rattle.wires.specs.Wires.{IsWithin};
 
@@ -78,17 +79,26 @@ struct Readiness {
 
 impl Read for Readiness {
     fn read(&mut self, _room: &mut [u8]) -> io::Result<usize> {
-        if can_read(&self.descriptor)? {
-            Ok(0)
-        } else {
-            Err(ErrorKind::WouldBlock.into())
-        }
+        read_no_bytes(can_read(&self.descriptor))
     }
 }
 
 impl AsRawFd for Readiness {
+    ghost raw_fd = { λ r. Some r.descriptor };
+
     fn as_raw_fd(&self) -> RawFd {
         self.descriptor
+    }
+}
+
+// What a read of no bytes comes to, by whether there is something to read.
+fn read_no_bytes(ready: io::Result<bool>) -> io::Result<usize>
+    ensures { IsReadiness ready result }
+{
+    if ready? {
+        Ok(0)
+    } else {
+        Err(ErrorKind::WouldBlock.into())
     }
 }
 

@@ -11,7 +11,8 @@ use std::os::fd::AsRawFd;
 use wires::{Received, Wire, WireFault};
 
 /// A wire over a stream that is read and one that is written, as standard input and standard output. Both may be
-/// non-blocking. They keep no bytes of their own: what there is to read is with the system, and what was written too.
+/// non-blocking. They keep no bytes of their own, so that the system knows what there is to read. A look asks it, and then
+/// reads once: it waits only where another process took these bytes, and the descriptor blocks.
 #[derive(Drop)]
 pub struct StreamWire<R, W> {
     reader: R,
