@@ -1,8 +1,8 @@
 -- What a failed call of a stream or of a door comes to.
 --
--- POSIX, `read`: the error is EINTR where a signal came before any byte, and EAGAIN or EWOULDBLOCK where the descriptor is
--- non-blocking and the call would block. POSIX, `accept`: these two likewise, and ECONNABORTED where a connection was aborted
--- before it was accepted. All else, as the want of descriptors (EMFILE, ENFILE), is a fault.
+-- POSIX, `read`: the error is EINTR where a signal came before any byte, and EAGAIN or EWOULDBLOCK where the descriptor
+-- is non-blocking and the call would block. POSIX, `accept`: these two likewise, and ECONNABORTED where a connection was
+-- aborted before it was accepted. All else, as the want of descriptors (EMFILE, ENFILE), is a fault.
 use Rattle.std.specs.declared.io.ErrorKind.{ErrorKind}
 use Rattle.std.specs.declared.io.ErrorKind.TheVariants.{Interrupted, WouldBlock, ConnectionAborted}
 use Rattle.connections.specs.declared.failure.Failure.{Failure}

@@ -1,9 +1,7 @@
 //! Wires and doors over TCP.
 ghost use Rattle.std.specs.Prelude.{◌≡◌, ◌≢◌, IfOk, IfErr, IsSome, Ok, None, true};
 ghost use Rattle.std.specs.IoError.{error_kind};
-ghost use Rattle.wires.specs.Doors.{Doorway, Knocks, Admits};
-ghost use Rattle.wires.specs.declared.door.Came.TheVariants.{End};
-ghost use Rattle.connections.specs.declared.failure.Failure.TheVariants.{Again};
+ghost use Rattle.wires.specs.Doors.{Knocks, Admits};
 ghost use Rattle.connections.specs.Failures.{failed_accept};
 ghost use Rattle.connections.specs.Readers.{Begins};
 
@@ -45,7 +43,8 @@ pub struct TcpDoor {
 impl TcpDoor {
     /// A door at this listener, which is made non-blocking: so a look never waits, also where a peer has left again.
     pub fn new(listener: TcpListener) -> io::Result<TcpDoor>
-        ensures { IfOk result (λ door. ⟦<TcpDoor as Door>⟧.doorway door ≡ record { wires = None; faults = 0; idle = 0 }) }
+        ensures { IfOk result (λ door. ⟦<TcpDoor as Door>⟧.doorway door
+            ≡ record { wires = None; faults = 0; idle = 0 }) }
     {
         listener.set_nonblocking(true)?;
         Ok(TcpDoor {
@@ -58,7 +57,7 @@ impl TcpDoor {
 
 // Takes the peer that is first of those who wait, and passes over those whose connection broke.
 fn accept_once(listener: &TcpListener) -> io::Result<TcpWire>
-    ensures { IfErr result (λ e. failed_accept (error_kind e) ≢ Again) }
+    ensures { IfErr result (λ e. failed_accept (error_kind e) ≢ Failure.Again) }
 {
     for _ in 0..u64::MAX {
         match first_peer(listener) {
@@ -73,6 +72,7 @@ fn accept_once(listener: &TcpListener) -> io::Result<TcpWire>
     Err(ErrorKind::TimedOut.into())
 }
 
+// Takes the peer that is first of those who wait, where its connection stands.
 fn first_peer(listener: &TcpListener) -> io::Result<TcpWire> {
     let (stream, _address) = listener.accept()?;
     tcp_wire(stream)
@@ -102,8 +102,9 @@ impl Door for TcpDoor {
     ghost doorway = { λ d. record { wires = None; faults = d.faults; idle = d.idle } };
 
     fn accept_now(&mut self) -> Result<Came<TcpWire>, DoorFault>
-        ensures counts { Knocks ⟦<TcpWire as Wire>⟧.line (⟦<TcpDoor as Door>⟧.doorway self.old) (⟦<TcpDoor as Door>⟧.doorway self.new) result }
-        ensures stays { result ≢ Ok Came.End }
+        ensures counts { Knocks ⟦<TcpWire as Wire>⟧.line (⟦<TcpDoor as Door>⟧.doorway self.old)
+            (⟦<TcpDoor as Door>⟧.doorway self.new) result }
+        ensures stays_open { result ≢ Ok Came.End }
     {
         let found = came(accept_once(&self.listener));
         match &found {
@@ -115,8 +116,9 @@ impl Door for TcpDoor {
     }
 
     fn accept_wait(&mut self) -> Result<Option<TcpWire>, DoorFault>
-        ensures counts { Admits ⟦<TcpWire as Wire>⟧.line (⟦<TcpDoor as Door>⟧.doorway self.old) (⟦<TcpDoor as Door>⟧.doorway self.new) result }
-        ensures stays { IfOk result IsSome }
+        ensures counts { Admits ⟦<TcpWire as Wire>⟧.line (⟦<TcpDoor as Door>⟧.doorway self.old)
+            (⟦<TcpDoor as Door>⟧.doorway self.new) result }
+        ensures stays_open { IfOk result IsSome }
     {
         match accept_waiting(&self.listener) {
             Ok(wire) => Ok(Some(wire)),
