@@ -1,5 +1,6 @@
 pub mod Taking
 pub mod Serving
+pub mod Driving
 pub mod ServerLemmas
 pub mod Sending
 pub mod Calls

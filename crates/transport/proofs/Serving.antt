@@ -38,7 +38,7 @@ left_by s e x (Some moved) P h w = absurd (is_none h) where
   is_none h = cc
 
 -- an event that found memory happened, or was refused
-happened : {X : Type 0} (f : X → Applied) (old : Kept) (e : Event) (r : Result X EventError) (new : Kept) (s : Session) → ((x : X) → ran_out (f x) ≡ None) → Happens old e (answered f r) new → (r ≡ Err NoMemory → ⊥) → Stands old s
+pub happened : {X : Type 0} (f : X → Applied) (old : Kept) (e : Event) (r : Result X EventError) (new : Kept) (s : Session) → ((x : X) → ran_out (f x) ≡ None) → Happens old e (answered f r) new → (r ≡ Err NoMemory → ⊥) → Stands old s
     → Stands new (Effect s e)
 happened f old e (Ok x) new s q h n st = left_by s e (f x) (ran_out (f x)) (λ t. Stands new t) (q x) (h.to_each s st)
 happened f old e (Err NoMemory) new s q h n st = absurd (n refl)
@@ -85,7 +85,7 @@ sends known since left held held' k new n r d h ok some most a s st =
     }
 
 -- what the next answer wants is the same for what is kept and for what it stands for
-given_there : (known : KnownFiles) (k : Kept) (s : Session) (file : Option (List ℕ)) → Stands k s → IsGiven known (wanted_on k.now k.now.link) file → IsGiven known (wanted s) file
+pub given_there : (known : KnownFiles) (k : Kept) (s : Session) (file : Option (List ℕ)) → Stands k s → IsGiven known (wanted_on k.now k.now.link) file → IsGiven known (wanted s) file
 given_there known k s file st g = subst (λ n. IsGiven known (wanted_on n n.link) file) st.now g
 
 -- a request was answered
@@ -115,14 +115,14 @@ same_answer : (a b : Sliced) → (let r : Result Applied EventError = Ok (applie
 same_answer a b h = cc
 
 -- a slice that found memory: how many moves it made, and what it left
-record Goes (k mid : Kept) (n moved : ℕ) (s : Session) : Type 0 where
-  made : (sliced histories n s).moved ≡ moved
-  stands : Stands mid (Effect s (Slice n))
+pub record Goes (k mid : Kept) (n moved : ℕ) (s : Session) : Type 0 where
+  pub made : (sliced histories n s).moved ≡ moved
+  pub stands : Stands mid (Effect s (Slice n))
 
 goes_as : (k mid : Kept) (n : ℕ) (r : Sliced) (s : Session) → answer_of s (Slice n) ≡ Ok (applied.Slice r) → Stands mid (Effect s (Slice n)) → Goes k mid n r.moved s
 goes_as k mid n r s a st = record { made = ap (λ (x : Sliced). x.moved) (same_answer (slice_answer (sliced histories n s)) r a); stands = st }
 
-goes_with : (k mid : Kept) (n moved : ℕ) (e : Ending) (s : Session) → (e ≡ ending.NoMemory → ⊥) → Happens k (Slice n) (Ok (applied.Slice (record { moved = moved; ending = e }))) mid → Stands k s → Goes k mid n moved s
+pub goes_with : (k mid : Kept) (n moved : ℕ) (e : Ending) (s : Session) → (e ≡ ending.NoMemory → ⊥) → Happens k (Slice n) (Ok (applied.Slice (record { moved = moved; ending = e }))) mid → Stands k s → Goes k mid n moved s
 goes_with k mid n moved ending.Spent s ok h st = let x = h.to_each s st in goes_as k mid n _ s x.0 x.1
 goes_with k mid n moved ending.Full s ok h st = let x = h.to_each s st in goes_as k mid n _ s x.0 x.1
 goes_with k mid n moved ending.Idle s ok h st = let x = h.to_each s st in goes_as k mid n _ s x.0 x.1
@@ -149,7 +149,7 @@ pub runs : (n : ℕ) (known : KnownFiles) (since : ℕ) (left held : Option (Lis
 runs n known since left held k mid new r next e d h ok c holds s st =
     runs_for n e known since left held k mid new r.moved next s (goes_with k mid n r.moved r.ending s ok h st) st d c holds
 
-breaks_off : (k mid : Kept) (n moved : ℕ) (e : Ending) (s : Session) → e ≡ ending.NoMemory → Happens k (Slice n) (Ok (applied.Slice (record { moved = moved; ending = e }))) mid → Stands k s → BreaksOff histories n moved s (λ t. Stands mid t)
+pub breaks_off : (k mid : Kept) (n moved : ℕ) (e : Ending) (s : Session) → e ≡ ending.NoMemory → Happens k (Slice n) (Ok (applied.Slice (record { moved = moved; ending = e }))) mid → Stands k s → BreaksOff histories n moved s (λ t. Stands mid t)
 breaks_off k mid n moved e s h =
     subst (λ (e : Ending). Happens k (Slice n) (Ok (applied.Slice (record { moved = moved; ending = e }))) mid → Stands k s → BreaksOff histories n moved s (λ t. Stands mid t)) (sym h) (λ happens st. happens.to_each s st)
 
@@ -319,19 +319,19 @@ write_some n h = moved_some n Fault h
 
 -- ---- rounds after rounds
 
-after_rounds-append : (s : Session) (xs ys : List Round) → after_rounds s (xs ++ ys) ≡ after_rounds (after_rounds s xs) ys
+pub after_rounds-append : (s : Session) (xs ys : List Round) → after_rounds s (xs ++ ys) ≡ after_rounds (after_rounds s xs) ys
 after_rounds-append s [] ys = refl
 after_rounds-append s (x ∷ xs) ys = after_rounds-append (after_round s x) xs ys
 
-received-append : (xs ys : List Round) → received (xs ++ ys) ≡ received xs ++ received ys
+pub received-append : (xs ys : List Round) → received (xs ++ ys) ≡ received xs ++ received ys
 received-append [] ys = refl
 received-append (x ∷ xs) ys = ap (λ l. received_in x ++ l) (received-append xs ys) ∙ sym (append_assoc (received_in x) (received xs) (received ys))
 
-sent-append : (s : Session) (xs ys : List Round) → sent s (xs ++ ys) ≡ sent s xs ++ sent (after_rounds s xs) ys
+pub sent-append : (s : Session) (xs ys : List Round) → sent s (xs ++ ys) ≡ sent s xs ++ sent (after_rounds s xs) ys
 sent-append s [] ys = refl
 sent-append s (x ∷ xs) ys = ap (λ l. sent_in s x ++ l) (sent-append (after_round s x) xs ys) ∙ sym (append_assoc (sent_in s x) (sent (after_round s x) xs) (sent (after_rounds (after_round s x) xs) ys))
 
-since_rounds-append : (since : ℕ) (s : Session) (xs ys : List Round) → since_rounds since s (xs ++ ys) ≡ since_rounds (since_rounds since s xs) (after_rounds s xs) ys
+pub since_rounds-append : (since : ℕ) (s : Session) (xs ys : List Round) → since_rounds since s (xs ++ ys) ≡ since_rounds (since_rounds since s xs) (after_rounds s xs) ys
 since_rounds-append since s [] ys = refl
 since_rounds-append since s (x ∷ xs) ys = since_rounds-append (since_round since s x) (after_round s x) xs ys
 

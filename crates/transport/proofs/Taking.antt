@@ -13,7 +13,7 @@ use Rattle.session.specs.Slices.{is_runnable}
 use Rattle.transport.specs.Rounds.{Send, Leave, Answer, Run, Receive, due}
 
 -- what the tests say of which something is due
-send_test : (a b c d : Bool) → cond a Send (cond b Leave (cond c Answer (cond d Run Receive))) ≡ Send → a ≡ true
+pub send_test : (a b c d : Bool) → cond a Send (cond b Leave (cond c Answer (cond d Run Receive))) ≡ Send → a ≡ true
 send_test true b c d h = refl
 send_test false true c d h = cc
 send_test false false true d h = cc
@@ -26,6 +26,13 @@ receive_tests false true c d h = cc
 receive_tests false false true d h = cc
 receive_tests false false false true h = cc
 receive_tests false false false false h = (refl, refl, refl)
+
+run_tests : (a b c d : Bool) → cond a Send (cond b Leave (cond c Answer (cond d Run Receive))) ≡ Run → (a ≡ false) × (b ≡ false) × (c ≡ false)
+run_tests true b c d h = cc
+run_tests false true c d h = cc
+run_tests false false true d h = cc
+run_tests false false false true h = (refl, refl, refl)
+run_tests false false false false h = cc
 
 open_still : (x y z : Bool) → ((x && y) && z) ≡ false → y ≡ true → z ≡ true → x ≡ false
 open_still false y z h a b = refl
@@ -74,10 +81,9 @@ takes_turn seen file =
     ]
 
 -- a piece is received where nothing waits, so the session takes it
-pub takes_received : (seen : Seen) (piece : List ℕ) → due seen ≡ Receive → length piece ≤ 65536 → (seen.now.link ≡ None) ⊎ IsOk (outcome seen (Recv piece)).answer
-takes_received seen piece d few =
+takes_where_none_wait : (seen : Seen) (piece : List ℕ) → (ltb 0 seen.waits ≡ false) × (is_finished seen ≡ false) × (ltb 0 (length seen.now.arrivals.pending) ≡ false) → length piece ≤ 65536 → (seen.now.link ≡ None) ⊎ IsOk (outcome seen (Recv piece)).answer
+takes_where_none_wait seen piece t few =
     let pending : List Pending = seen.now.arrivals.pending in
-    let t = receive_tests (ltb 0 seen.waits) (is_finished seen) (ltb 0 (length pending)) (is_runnable seen.now) d in
     let waits : ltb 0 seen.waits ≡ false = t.0 in
     let waiting : ltb 0 (length pending) ≡ false = t.2 in
     let none : eqb (length pending) 0 ≡ true = grind (arith, nat_tests) in
@@ -89,3 +95,12 @@ takes_received seen piece d few =
       | None ↦ λ h. inl refl
       | Some link ↦ λ h. (let taking : link.is_closing ≡ false = open_still link.is_closing _ _ h none nothing in inr (rw (taking, short, free) refl))
     ] in go t.1
+
+pub takes_received : (seen : Seen) (piece : List ℕ) → due seen ≡ Receive → length piece ≤ 65536 → (seen.now.link ≡ None) ⊎ IsOk (outcome seen (Recv piece)).answer
+takes_received seen piece d few =
+    takes_where_none_wait seen piece (receive_tests (ltb 0 seen.waits) (is_finished seen) (ltb 0 (length seen.now.arrivals.pending)) (is_runnable seen.now) d) few
+
+-- also while a program runs
+pub takes_running : (seen : Seen) (piece : List ℕ) → due seen ≡ Run → length piece ≤ 65536 → (seen.now.link ≡ None) ⊎ IsOk (outcome seen (Recv piece)).answer
+takes_running seen piece d few =
+    takes_where_none_wait seen piece (run_tests (ltb 0 seen.waits) (is_finished seen) (ltb 0 (length seen.now.arrivals.pending)) (is_runnable seen.now) d) few

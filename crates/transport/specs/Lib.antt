@@ -1,8 +1,10 @@
--- What serving an editor over streams comes to. First a session over a reader and a writer.
+-- What serving an editor over a wire or over streams comes to. First a session over a reader and a writer.
 
 -- what is due in each round, the rounds, and how serving ends; at the end of the file one turn of the loop, which
 -- private clauses cite alone
 pub mod Rounds
+-- the same over a wire
+pub mod Drives
 -- ---- a server, for a program that answers by itself
 -- the messages of what was read, and those that were given
 pub mod Heard
@@ -24,3 +26,6 @@ pub use Rattle.session.specs.Sessions
 pub use Rattle.session.specs.Kept
 -- the frame of a message with its number
 pub use Rattle.session.specs.Writing
+-- ---- of `wires`
+-- a wire, as it is seen
+pub use Rattle.wires.specs.Wires

@@ -1,6 +1,7 @@
-//! A session or a server over a reader and a writer.
+//! A session over a wire, or over a reader and a writer; a server over a reader and a writer.
 #![tactic(auto)]
 
+pub mod drives;
 mod end;
 mod files;
 mod inbox;
@@ -10,6 +11,7 @@ mod room;
 pub mod serve;
 pub mod server;
 
+pub use drives::drive;
 pub use end::StreamEnd;
 pub use files::{Files, LONGEST_TEXT};
 pub use serve::serve_streams;

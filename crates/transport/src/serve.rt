@@ -19,10 +19,10 @@ use std::io::{Read, Write};
 use std::{cmp, io};
 
 /// The moves for which a program is given time in one turn.
-const MOVES_GRANTED: u32 = 100_000;
+pub(crate) const MOVES_GRANTED: u32 = 100_000;
 
 /// A program is held once it made so many since bytes came.
-const MOST_MOVES: u64 = 10_000_000;
+pub(crate) const MOST_MOVES: u64 = 10_000_000;
 
 /// Serves the editor that is connected: reads what it sends from `reader`, and writes what waits to
 /// be sent to `writer`. When it ends other than by `Turns` and `NoMemory`, the connection has ended
@@ -149,7 +149,7 @@ fn answer<F: Files>(
 }
 
 // The file that the next answer wants, if it wants one.
-fn file_wanted<F: Files>(
+pub(crate) fn file_wanted<F: Files>(
     alloc: Global,
     session: &Session,
     files: &F,
@@ -163,7 +163,7 @@ fn file_wanted<F: Files>(
 }
 
 // Answers with this file.
-fn turn_with(session: &mut Session, file: Option<Bytes>) -> Result<Turned, EventError>
+pub(crate) fn turn_with(session: &mut Session, file: Option<Bytes>) -> Result<Turned, EventError>
     ensures stands { Happens session.old (event.Turn file) (answered applied.Turn result) session.new }
     ensures err { OnErr result (session.new ≡ session.old) }
 {
@@ -245,8 +245,7 @@ fn came(
 }
 
 // Takes a piece: no move was made since.
-fn take(session: &mut Session, piece: &[u8]) -> Result<u64, StreamEnd>
-    requires due { due (see_kept session.old) ≡ spec.Due.Receive }
+pub(crate) fn take(session: &mut Session, piece: &[u8]) -> Result<u64, StreamEnd>
     ensures took { OfEach session.old (λ s. Took result piece.now s session.new) }
     ensures none { IfOk result (λ moves. moves ≡ 0) }
 {
@@ -260,7 +259,7 @@ fn take(session: &mut Session, piece: &[u8]) -> Result<u64, StreamEnd>
 }
 
 // The connection ends, and serving with it.
-fn leave(session: &mut Session, end: StreamEnd) -> Result<u64, StreamEnd>
+pub(crate) fn leave(session: &mut Session, end: StreamEnd) -> Result<u64, StreamEnd>
     ensures end { result ≡ Err end }
     ensures dropped { OfEach session.old (λ s. Stands session.new (Effect s event.DropConnection)) }
 {

@@ -1,0 +1,286 @@
+-- Round by round over a wire, until driving ends.
+use Rattle.std.proofs.Common.{◌≡◌, ℕ, zero, suc, ◌+◌, ◌≤◌, ◌<◌, List, [], ◌∷◌, ◌++◌, length, take, drop, Bool, true, false, ltb, Option, Result, Ok, Err, refl, sym, ap, ◌∙◌, subst, arith, append-nil, take-append-drop}
+use Rattle.std.specs.Io.KnownBytes.{Consumes, Appends, IsAtEnd}
+use Rattle.std.specs.Prelude.{IfOk}
+use Rattle.std.proofs.KnownBytes.{Consumes-nil, Appends-nil, Consumes-trans, Appends-trans}
+use Rattle.std.proofs.lemmas.List.{length-append, length-take-le}
+use Rattle.std.proofs.lemmas.Bool.Decides.{nat_tests}
+use Rattle.transport.specs.declared.end.StreamEnd.{StreamEnd}
+use Rattle.transport.specs.declared.end.StreamEnd.TheVariants.{Closed, Fault, Turns, NoMemory as OutOfMemory}
+use Rattle.session.specs.declared.event.Applied.TheVariants as applied
+use Rattle.session.specs.declared.event.Ending.TheVariants as ending
+use Rattle.session.specs.declared.event.Event.{Event}
+use Rattle.session.specs.declared.event.Event.TheVariants.{Recv, Turn, Slice, Sent, DropConnection}
+use Rattle.session.specs.declared.event.EventError.{EventError}
+use Rattle.session.specs.declared.event.EventError.TheVariants.{NoMemory}
+use Rattle.session.specs.declared.event.Sliced.{Sliced}
+use Rattle.session.specs.declared.event.Turned.{Turned}
+use Rattle.session.specs.Effects.{BreaksOff, sliced}
+use Rattle.session.specs.Kept.{Kept, OfEach, Stands, Happens, answered, see_kept}
+use Rattle.session.specs.Outcomes.{is_finished}
+use Rattle.session.specs.Prefixes.{IsPrefixOf}
+use Rattle.session.specs.Refusals.{wanted_on}
+use Rattle.session.specs.Sessions.{Session, Effect, histories, waiting_of}
+use Rattle.session.specs.Slices.{is_runnable}
+use Rattle.wires.specs.Wires.{Line, Moved, one_more}
+use Rattle.transport.specs.Rounds.{KnownFiles, IsGiven, Took, Due, Send, Leave, Answer, Run, Receive, due, due_in, Round, Did, Ran, IsTaken, after_round, after_rounds, received_in, received, sent_in, sent, since_round, since_rounds, counted, held_after, moves_granted, moves_made}
+use Rattle.transport.specs.Drives.{MayCome, MayFail, is_held, IsRound, AreRounds, idle_looked, idle_after, idle_after_rounds, AllSaid, InputEnded, CallFailed, NoRoom, NoAnswer, PieceLost, TimeCut, TurnsMade, end_of, lost_by, written_by, failed_by, idle_by, EndsBy, Driven, Passed, GoesOn, Stops, Went, Driving}
+use Rattle.transport.proofs.Serving.{happened, due_there, given_there, Goes, goes_with, breaks_off, after_rounds-append, received-append, sent-append, since_rounds-append}
+use Rattle.transport.proofs.Taking.{send_test, takes_sent, takes_turn, takes_received, takes_running}
+
+-- ---- what moved over a wire
+
+-- nothing did
+pub still : (a : Line) → Moved a a [] [] a.faults a.idle
+still a = record { consumed = Consumes-nil a.remaining; appended = Appends-nil a.contents; faults = refl; idle = refl; polls = refl }
+
+-- first these bytes, and then those
+moved-trans : (a b c : Line) (read read' written written' : List ℕ) (f f' i i' : ℕ) → Moved a b read written f i → Moved b c read' written' f' i' → Moved a c (read ++ read') (written ++ written') f' i'
+moved-trans a b c read read' written written' f f' i i' m n = record {
+  consumed = Consumes-trans a.remaining b.remaining c.remaining read read' m.consumed n.consumed;
+  appended = Appends-trans a.contents b.contents c.contents written written' m.appended n.appended;
+  faults = n.faults;
+  idle = n.idle;
+  polls = n.polls ∙ m.polls;
+}
+
+moved_as : (a c : Line) (read read' written written' : List ℕ) (f f' i i' : ℕ) → read ≡ read' → written ≡ written' → f ≡ f' → i ≡ i' → Moved a c read written f i → Moved a c read' written' f' i'
+moved_as a c read read' written written' f f' i i' p q e g m = record {
+  consumed = subst (Consumes a.remaining c.remaining) p m.consumed;
+  appended = subst (Appends a.contents c.contents) q m.appended;
+  faults = m.faults ∙ e;
+  idle = m.idle ∙ g;
+  polls = m.polls;
+}
+
+-- ---- one round
+
+bytes_wait : (k : Kept) → due (see_kept k) ≡ Send → 0 < length k.waiting
+bytes_wait k d =
+    let some : ltb 0 (length k.waiting) ≡ true = send_test (ltb 0 (length k.waiting)) (is_finished (see_kept k)) (ltb 0 (length k.now.arrivals.pending)) (is_runnable k.now) d in
+    grind (arith, nat_tests)
+
+-- bytes were sent
+pub sends_over : {X : Type 0} (known : KnownFiles) (since : ℕ) (old new : Line) (k kept : Kept) (n : ℕ) (r : Result X EventError) (waiting : List ℕ) → waiting ≡ k.waiting → due (see_kept k) ≡ Send → Happens k (Sent n) (answered (λ _. applied.Sent) r) kept → (r ≡ Err NoMemory → ⊥)
+    → n ≤ length waiting → (0 < length waiting → 1 ≤ n) → Moved old new [] (take n waiting) old.faults old.idle → (s : Session) → Stands k s → GoesOn known since since old new s kept
+sends_over known since old new k kept n r waiting w d h ok most some m s st =
+    let few : n ≤ length (waiting_of s) = subst (λ (l : List ℕ). n ≤ length l) (w ∙ st.waiting) most in
+    let wait : 0 < length waiting = subst (λ (l : List ℕ). 0 < length l) (sym w) (bytes_wait k d) in record {
+      round = Did (Sent n);
+      is_round = ((due_there k s Send st d, some wait, few), takes_sent (histories.see s) n few);
+      counts = refl;
+      moved = subst (λ (l : List ℕ). Moved old new [] (take n l) old.faults old.idle) (w ∙ st.waiting) m;
+      stands = happened (λ _. applied.Sent) k (Sent n) r kept s (λ x. refl) h ok st;
+    }
+
+-- or the wire failed, after it took some
+pub sends_fail : (old new : Line) (k kept : Kept) (waiting : List ℕ) → waiting ≡ k.waiting → due (see_kept k) ≡ Send → (n : ℕ) × Moved old new [] (take n waiting) (one_more old.faults) old.idle
+    → ((s : Session) → Stands k s → Stands kept (Effect s DropConnection)) → (s : Session) → Stands k s → Stops Fault old new s kept
+sends_fail old new k kept waiting w d m dropped s st =
+    let part : List ℕ = take m.0 waiting in
+    let prefix : IsPrefixOf part (waiting_of s) = subst (IsPrefixOf part) (w ∙ st.waiting) (drop m.0 waiting, sym (take-append-drop m.0 waiting)) in record {
+      cause = CallFailed part;
+      moved = m.1;
+      is_end = refl;
+      ends = λ turns made. (dropped s st, subst (λ (x : Due). MayFail old.polls x (waiting_of s) part) (sym (due_there k s Send st d)) prefix);
+    }
+
+-- a request was answered
+pub answers_over : (known : KnownFiles) (since : ℕ) (line : Line) (k kept : Kept) (file : Option (List ℕ)) (r : Result Turned EventError) → due (see_kept k) ≡ Answer → IsGiven known (wanted_on k.now k.now.link) file → Happens k (Turn file) (answered applied.Turn r) kept → (r ≡ Err NoMemory → ⊥)
+    → (s : Session) → Stands k s → GoesOn known since since line line s kept
+answers_over known since line k kept file r d g h ok s st = record {
+  round = Did (Turn file);
+  is_round = ((due_there k s Answer st d, given_there known k s file st g), takes_turn (histories.see s) file);
+  counts = refl;
+  moved = still line;
+  stands = happened applied.Turn k (Turn file) r kept s (λ x. refl) h ok st;
+}
+
+-- no memory was left to answer, or to read what an answer wants
+pub answers_none : (line : Line) (k : Kept) → due (see_kept k) ≡ Answer → (s : Session) → Stands k s → Stops OutOfMemory line line s k
+answers_none line k d s st = record { cause = NoAnswer; moved = still line; is_end = refl; ends = λ turns made. (st, due_there k s Answer st d) }
+
+-- all was said
+pub leave_is_due : (k : Kept) (waiting : List ℕ) → waiting ≡ k.waiting → length waiting ≡ 0 → is_finished (see_kept k) ≡ true → due (see_kept k) ≡ Leave
+leave_is_due k waiting w none done =
+    let n : length k.waiting ≡ 0 = subst (λ (l : List ℕ). length l ≡ 0) w none in
+    let test : ltb 0 (length k.waiting) ≡ false = grind (arith, nat_tests) in
+    rw (test, done) refl
+
+pub all_said : (line : Line) (k kept : Kept) → due (see_kept k) ≡ Leave → ((s : Session) → Stands k s → Stands kept (Effect s DropConnection)) → (s : Session) → Stands k s → Stops Closed line line s kept
+all_said line k kept d dropped s st = record { cause = AllSaid; moved = still line; is_end = refl; ends = λ turns made. (dropped s st, due_there k s Leave st d) }
+
+-- ---- the time of a program
+
+-- over a wire that cannot be looked at, nothing moves before it
+pub passed_by : (line : Line) → line.polls ≡ false → Passed false line line
+passed_by line e = (e, still line)
+
+passed_in : (polls : Bool) (old new : Line) → Passed polls old new → Moved old new [] [] old.faults (idle_looked old.polls old.idle)
+passed_in polls old new p = subst (λ (b : Bool). Moved old new [] [] old.faults (idle_looked b old.idle)) (sym p.0) p.1
+
+runs_for : (n : ℕ) → n ≡ moves_granted → (known : KnownFiles) (since : ℕ) (polls : Bool) (old new : Line) (k mid kept : Kept) (moved next : ℕ) (s : Session) → Passed polls old new → Goes k mid n moved s → Stands k s → due (see_kept k) ≡ Run → next ≡ counted (since + moved)
+    → OfEach mid (λ t. Stands kept (held_after (is_held polls (since + moved)) t)) → GoesOn known since next old new s kept
+runs_for n e known since polls old new k mid kept moved next s p g st d c holds =
+    let made : moves_made s ≡ moved = subst (λ m. (sliced histories m s).moved ≡ moved) e g.made in
+    let stands : Stands mid (Effect s (Slice moves_granted)) = subst (λ m. Stands mid (Effect s (Slice m))) e g.stands in record {
+      round = Ran (is_held polls (since + moved));
+      is_round = (due_there k s Run st d, ap (λ m. is_held polls (since + m)) (sym made) ∙ ap (λ b. is_held b (since + moves_made s)) (sym p.0));
+      counts = ap (λ m. counted (since + m)) made ∙ sym c;
+      moved = passed_in polls old new p;
+      stands = holds (Effect s (Slice moves_granted)) stands;
+    }
+
+-- the program made moves, and is held, or not
+pub runs_over : (n : ℕ) (known : KnownFiles) (since : ℕ) (polls : Bool) (old new : Line) (k mid kept : Kept) (r : Sliced) (next : ℕ) → n ≡ moves_granted → Passed polls old new → due (see_kept k) ≡ Run → Happens k (Slice n) (Ok (applied.Slice r)) mid → (r.ending ≡ ending.NoMemory → ⊥)
+    → next ≡ counted (since + r.moved) → OfEach mid (λ t. Stands kept (held_after (is_held polls (since + r.moved)) t)) → (s : Session) → Stands k s → GoesOn known since next old new s kept
+runs_over n known since polls old new k mid kept r next e p d h ok c holds s st =
+    runs_for n e known since polls old new k mid kept r.moved next s p (goes_with k mid n r.moved r.ending s ok h st) st d c holds
+
+-- no memory was left to tell what it did
+pub time_is_cut : (n : ℕ) (polls : Bool) (old new : Line) (k mid : Kept) (r : Sliced) → n ≡ moves_granted → Passed polls old new → due (see_kept k) ≡ Run → Happens k (Slice n) (Ok (applied.Slice r)) mid → r.ending ≡ ending.NoMemory → (s : Session) → Stands k s
+    → Stops OutOfMemory old new s mid
+time_is_cut n polls old new k mid r e p d h out s st =
+    let broke : BreaksOff histories moves_granted r.moved s (λ t. Stands mid t) = subst (λ m. BreaksOff histories m r.moved s (λ t. Stands mid t)) e (breaks_off k mid n r.moved r.ending s out h st) in record {
+      cause = TimeCut;
+      moved = passed_in polls old new p;
+      is_end = refl;
+      ends = λ turns made. ((r.moved, broke), due_there k s Run st d);
+    }
+
+-- ---- a piece
+
+may_come_there : (polls : Bool) (k : Kept) (s : Session) (d : Due) → Stands k s → due (see_kept k) ≡ d → MayCome polls d → MayCome polls (due_in s)
+may_come_there polls k s d st e may = subst (MayCome polls) (sym (due_there k s d st e)) may
+
+takes_piece : (polls : Bool) (s : Session) (piece : List ℕ) (d : Due) → due_in s ≡ d → MayCome polls d → length piece ≤ 65536 → IsTaken s (Recv piece)
+takes_piece polls s piece Send e may few = absurd may
+takes_piece polls s piece Leave e may few = absurd may
+takes_piece polls s piece Answer e may few = absurd may
+takes_piece polls s piece Run e may few = takes_running (histories.see s) piece e few
+takes_piece polls s piece Receive e may few = takes_received (histories.see s) piece e few
+
+-- a piece came, and was taken; or no memory was left for it
+piece_came : (known : KnownFiles) (since : ℕ) (old new : Line) (k kept : Kept) (d : Due) (piece : List ℕ) (result : Result ℕ StreamEnd) → due (see_kept k) ≡ d → MayCome old.polls d → 1 ≤ length piece → length piece ≤ 65536 → Moved old new piece [] old.faults old.idle
+    → ((s : Session) → Stands k s → Took result piece s kept) → IfOk result (λ n. n ≡ 0) → (s : Session) → Stands k s → Went known since result old new s kept
+piece_came known since old new k kept d piece (Ok next) e may some few m took none s st = record {
+  round = Did (Recv piece);
+  is_round = ((may_come_there old.polls k s d st e may, some), takes_piece old.polls s piece d (due_there k s d st e) may few);
+  counts = sym none;
+  moved = m;
+  stands = took s st;
+}
+piece_came known since old new k kept d piece (Err end) e may some few m took none s st = record {
+  cause = PieceLost piece;
+  moved = m;
+  is_end = sym (took s st).0;
+  ends = λ turns made. ((took s st).1, may_come_there old.polls k s d st e may, some);
+}
+
+-- what a look or a wait gave, of what there is room for
+pub bytes_came : (known : KnownFiles) (since : ℕ) (old new : Line) (k kept : Kept) (d : Due) (room : List ℕ) (n : ℕ) (result : Result ℕ StreamEnd) → due (see_kept k) ≡ d → MayCome old.polls d → 1 ≤ n → n ≤ length room → length room ≤ 65536 → Moved old new (take n room) [] old.faults old.idle
+    → ((s : Session) → Stands k s → Took result (take n room) s kept) → IfOk result (λ n. n ≡ 0) → (s : Session) → Stands k s → Went known since result old new s kept
+bytes_came known since old new k kept d room n result e may some few most m took none =
+    let long : length (take n room) ≡ n = length-take-le n room few in
+    piece_came known since old new k kept d (take n room) result e may (subst (λ (l : ℕ). 1 ≤ l) (sym long) some) (subst (λ (l : ℕ). l ≤ 65536) (sym long) (omega arith)) m took none
+
+-- no more will come
+pub input_ended : (old new : Line) (k kept : Kept) (d : Due) → due (see_kept k) ≡ d → MayCome old.polls d → Moved old new [] [] old.faults old.idle → IsAtEnd new.remaining → ((s : Session) → Stands k s → Stands kept (Effect s DropConnection)) → (s : Session) → Stands k s
+    → Stops Closed old new s kept
+input_ended old new k kept d e may m at_end dropped s st = record {
+  cause = InputEnded;
+  moved = m;
+  is_end = refl;
+  ends = λ turns made. (dropped s st, may_come_there old.polls k s d st e may, at_end);
+}
+
+may_fail : (polls : Bool) (d : Due) (waiting : List ℕ) → MayCome polls d → MayFail polls d waiting []
+may_fail polls Send waiting may = absurd may
+may_fail polls Leave waiting may = absurd may
+may_fail polls Answer waiting may = absurd may
+may_fail polls Run waiting may = (may, refl)
+may_fail polls Receive waiting may = refl
+
+-- a look or a wait failed
+pub comes_fail : (old new : Line) (k kept : Kept) (d : Due) → due (see_kept k) ≡ d → MayCome old.polls d → Moved old new [] [] (one_more old.faults) old.idle → ((s : Session) → Stands k s → Stands kept (Effect s DropConnection)) → (s : Session) → Stands k s
+    → Stops Fault old new s kept
+comes_fail old new k kept d e may m dropped s st = record {
+  cause = CallFailed [];
+  moved = m;
+  is_end = refl;
+  ends = λ turns made. (dropped s st, may_fail old.polls (due_in s) (waiting_of s) (may_come_there old.polls k s d st e may));
+}
+
+-- ---- rounds after rounds
+
+idle_after_rounds-append : (polls : Bool) (count : ℕ) (xs ys : List Round) → idle_after_rounds polls count (xs ++ ys) ≡ idle_after_rounds polls (idle_after_rounds polls count xs) ys
+idle_after_rounds-append polls count [] ys = refl
+idle_after_rounds-append polls count (x ∷ xs) ys = idle_after_rounds-append polls (idle_after polls count x) xs ys
+
+are_rounds-append : (known : KnownFiles) (polls : Bool) (since : ℕ) (s : Session) (xs ys : List Round) → AreRounds known polls since s xs → AreRounds known polls (since_rounds since s xs) (after_rounds s xs) ys → AreRounds known polls since s (xs ++ ys)
+are_rounds-append known polls since s [] ys a b = b
+are_rounds-append known polls since s (x ∷ xs) ys a b = (a.0, are_rounds-append known polls (since_round since s x) (after_round s x) xs ys a.1 b)
+
+-- ---- the loop
+
+pub begins_driving : (known : KnownFiles) (line : Line) (k : Kept) (s : Session) → Stands k s → Driving known line line 0 0 s k
+begins_driving known line k s st = record { rounds = []; are_rounds = tt; count = refl; counts = refl; moved = still line; stands = st }
+
+received_then : (xs : List Round) (x : Round) → received xs ++ received_in x ≡ received (xs ++ x ∷ [])
+received_then xs x = sym (received-append xs (x ∷ []) ∙ ap (λ l. received xs ++ l) (append-nil (received_in x)))
+
+sent_then : (s : Session) (xs : List Round) (x : Round) → sent s xs ++ sent_in (after_rounds s xs) x ≡ sent s (xs ++ x ∷ [])
+sent_then s xs x = sym (sent-append s xs (x ∷ []) ∙ ap (λ l. sent s xs ++ l) (append-nil (sent_in (after_rounds s xs) x)))
+
+idle_then : (a b : Line) (xs : List Round) (x : Round) → b.polls ≡ a.polls → b.idle ≡ idle_after_rounds a.polls a.idle xs → idle_after b.polls b.idle x ≡ idle_after_rounds a.polls a.idle (xs ++ x ∷ [])
+idle_then a b xs x p i = ap (λ (p : Bool). idle_after p b.idle x) p ∙ ap (λ (n : ℕ). idle_after a.polls n x) i ∙ sym (idle_after_rounds-append a.polls a.idle xs (x ∷ []))
+
+goes_on_driving : (known : KnownFiles) (a b c : Line) (made since next : ℕ) (s : Session) (k new : Kept) (v : Driving known a b made since s k) → GoesOn known since next b c (after_rounds s v.rounds) new → Driving known a c (made + 1) next s new
+goes_on_driving known a b c made since next s k new v w =
+    let t = after_rounds s v.rounds in
+    let here : IsRound known a.polls since t w.round = subst (λ (p : Bool). IsRound known p since t w.round) v.moved.polls w.is_round in
+    let is_round : IsRound known a.polls (since_rounds 0 s v.rounds) t w.round = subst (λ (n : ℕ). IsRound known a.polls n t w.round) (sym v.counts) here in record {
+      rounds = v.rounds ++ w.round ∷ [];
+      are_rounds = are_rounds-append known a.polls 0 s v.rounds (w.round ∷ []) v.are_rounds (is_round, tt);
+      count = length-append v.rounds (w.round ∷ []) ∙ ap (λ n. n + 1) v.count;
+      counts = since_rounds-append 0 s v.rounds (w.round ∷ []) ∙ ap (λ n. since_round n t w.round) v.counts ∙ w.counts;
+      moved = moved_as a c _ _ _ _ _ _ _ _ (received_then v.rounds w.round) (sent_then s v.rounds w.round) v.moved.faults (idle_then a b v.rounds w.round v.moved.polls v.moved.idle) (moved-trans a b c _ _ _ _ _ _ _ _ v.moved w.moved);
+      stands = subst (Stands new) (sym (after_rounds-append s v.rounds (w.round ∷ []))) w.stands;
+    }
+
+-- where a turn answered how many moves there are
+pub goes_on_with : (known : KnownFiles) (a b c : Line) (made since : ℕ) (s : Session) (k new : Kept) (result : Result ℕ StreamEnd) (next : ℕ) → result ≡ Ok next → ((t : Session) → Stands k t → Went known since result b c t new) → Driving known a b made since s k
+    → Driving known a c (made + 1) next s new
+goes_on_with known a b c made since s k new result next e g v =
+    let t = after_rounds s v.rounds in
+    goes_on_driving known a b c made since next s k new v (subst (λ (r : Result ℕ StreamEnd). Went known since r b c t new) e (g t v.stands))
+
+ends_after : (known : KnownFiles) (a b c : Line) (made since turns : ℕ) (s : Session) (k new : Kept) (end : StreamEnd) → made ≤ turns → (v : Driving known a b made since s k) → Stops end b c (after_rounds s v.rounds) new → Driven known a c turns s new end
+ends_after known a b c made since turns s k new end few v w = record {
+  rounds = v.rounds;
+  cause = w.cause;
+  are_rounds = v.are_rounds;
+  few = subst (λ (n : ℕ). n ≤ turns) (sym v.count) few;
+  moved = moved_as a c _ _ _ _ _ _ _ _ refl refl (ap (failed_by w.cause) v.moved.faults) (ap (λ (p : Bool). idle_by p w.cause b.idle) v.moved.polls ∙ ap (idle_by a.polls w.cause) v.moved.idle) (moved-trans a b c _ _ _ _ _ _ _ _ v.moved w.moved);
+  is_end = w.is_end;
+  ends = subst (λ (p : Bool). EndsBy p w.cause c.remaining turns (length v.rounds) (after_rounds s v.rounds) new) v.moved.polls (w.ends turns (length v.rounds));
+}
+
+pub ends_driving : (known : KnownFiles) (a b c : Line) (made since turns : ℕ) (s : Session) (k new : Kept) (end : StreamEnd) → made ≤ turns → ((t : Session) → Stands k t → Stops end b c t new) → Driving known a b made since s k → Driven known a c turns s new end
+ends_driving known a b c made since turns s k new end few g v = ends_after known a b c made since turns s k new end few v (g (after_rounds s v.rounds) v.stands)
+
+-- without room for a piece no round is made
+pub no_room_to_drive : (known : KnownFiles) (line : Line) (turns : ℕ) (s : Session) (k : Kept) → Stands k s → Driven known line line turns s k OutOfMemory
+no_room_to_drive known line turns s k st = record { rounds = []; cause = NoRoom; are_rounds = tt; few = omega arith; moved = still line; is_end = refl; ends = (st, refl) }
+
+-- all turns were made
+pub stops_driving : (known : KnownFiles) (a b : Line) (made since turns : ℕ) (s : Session) (k : Kept) → made ≡ turns → Driving known a b made since s k → Driven known a b turns s k Turns
+stops_driving known a b made since turns s k all v = record {
+  rounds = v.rounds;
+  cause = TurnsMade;
+  are_rounds = v.are_rounds;
+  few = subst (λ (n : ℕ). n ≤ turns) (sym (v.count ∙ all)) (omega arith);
+  moved = moved_as a b _ _ _ _ _ _ _ _ (sym (append-nil (received v.rounds))) (sym (append-nil (sent s v.rounds))) refl refl v.moved;
+  is_end = refl;
+  ends = (v.stands, v.count ∙ all);
+}

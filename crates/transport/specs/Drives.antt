@@ -1,0 +1,218 @@
+-- The rounds in which a connection is driven over a wire, and how driving ends.
+--
+-- What is to be done next is decided anew in each round (`due` of `Rounds`): while bytes wait, they are sent; when all is
+-- said, the connection ends; a request that waits is answered, with the file that it wants, if it wants one; a program
+-- that runs is given time for 100,000 moves; and else a piece is received, and waited for. So nothing waits unsent while
+-- a wait for bytes may last.
+--
+-- The editor is heard while a program runs. A wire that can be looked at without waiting is looked at before each slice:
+-- a piece that has come is received, and time is given only where none has. On another wire the program is held once it
+-- made 10,000,000 moves since bytes came, or since driving began where none came yet: it stops then, and a piece is
+-- received.
+--
+-- A round is an event of the session, or two where the program is held after its time. The end of the input ends the
+-- connection, and so does a call of the wire that fails.
+--
+-- A wire may say which bytes it has left to give and which it has taken, and it counts the calls that failed and the
+-- looks that found nothing (`Line` of `Wires`); what is said here of bytes and counts is held against these.
+use Rattle.std.specs.Prelude.{◌≡◌, ℕ, ◌+◌, ◌≤◌, nat_le, Bool, true, false, List, [], ◌∷◌, ◌++◌, length}
+use Rattle.std.specs.Prelude.{Option, Result, Ok, Err, ◌⊎◌}
+use Rattle.std.specs.Io.KnownBytes.{IsAtEnd}
+use Rattle.session.specs.declared.event.Event.{Event}
+use Rattle.session.specs.declared.event.Event.TheVariants.{Connect, Recv, Turn, Slice, Hold, Sent, DropConnection}
+use Rattle.session.specs.Kept.{Kept, Stands}
+use Rattle.session.specs.Prefixes.{IsPrefixOf}
+use Rattle.session.specs.Sessions.{Session, Effect, waiting_of}
+use Rattle.wires.specs.Wires.{Line, Moved, one_more}
+use Rattle.transport.specs.declared.end.StreamEnd.{StreamEnd}
+use Rattle.transport.specs.declared.end.StreamEnd.TheVariants.{Closed, Fault, Turns, NoMemory}
+use Rattle.transport.specs.Rounds.{KnownFiles, IsGiven, wanted, most_moves, moves_made, Due, Send, Leave, Answer, Run}
+use Rattle.transport.specs.Rounds.{Receive, due_in, Round, Did, Ran, Interrupted, IsTaken, after_round, since_round}
+use Rattle.transport.specs.Rounds.{received_in, sent_in, after_rounds, since_rounds, received, sent, RunsOut}
+
+-- ---- one round
+
+-- A piece may be received where nothing else is due, and also while a program runs, over a wire that can be looked at.
+abbrev pub MayCome : Bool → Due → Type 0
+MayCome polls Send = ⊥
+MayCome polls Leave = ⊥
+MayCome polls Answer = ⊥
+MayCome polls Run = polls ≡ true
+MayCome polls Receive = Unit {0}
+
+-- whether the event is what is to be done: at least one of the bytes that wait is sent, a request is answered with the
+-- file that it wants, or a piece of at least one byte is received
+abbrev pub DoesWhatIsDue : KnownFiles → Bool → Session → Event → Type 0
+DoesWhatIsDue known polls s (Sent n) = (due_in s ≡ Send) × (1 ≤ n) × (n ≤ length (waiting_of s))
+DoesWhatIsDue known polls s (Turn file) = (due_in s ≡ Answer) × IsGiven known (wanted s) file
+DoesWhatIsDue known polls s (Recv piece) = MayCome polls (due_in s) × (1 ≤ length piece)
+DoesWhatIsDue known polls s Connect = ⊥
+DoesWhatIsDue known polls s (Slice n) = ⊥
+DoesWhatIsDue known polls s Hold = ⊥
+DoesWhatIsDue known polls s DropConnection = ⊥
+
+-- whether a program that made so many moves since bytes came is held: never over a wire that can be looked at
+abbrev pub is_held : Bool → ℕ → Bool
+is_held true made = false
+is_held false made = nat_le most_moves made
+
+-- The round is one of this session over a wire, where the program made so many moves since bytes came. A wire makes a
+-- call that was interrupted again by itself.
+abbrev pub IsRound : KnownFiles → Bool → ℕ → Session → Round → Type 0
+IsRound known polls since s (Did e) = DoesWhatIsDue known polls s e × IsTaken s e
+IsRound known polls since s (Ran holds) = (due_in s ≡ Run) × (holds ≡ is_held polls (since + moves_made s))
+IsRound known polls since s Interrupted = ⊥
+
+-- how many looks found nothing, by how many did before a program was given time: one more, where the wire can be looked
+-- at
+abbrev pub idle_looked : Bool → ℕ → ℕ
+idle_looked true count = one_more count
+idle_looked false count = count
+
+-- and after a round
+abbrev pub idle_after : Bool → ℕ → Round → ℕ
+idle_after polls count (Did e) = count
+idle_after polls count (Ran holds) = idle_looked polls count
+idle_after polls count Interrupted = count
+
+-- ---- one round after the other
+
+-- each is a round of the session after those before it
+abbrev pub AreRounds : KnownFiles → Bool → ℕ → Session → List Round → Type 0
+AreRounds known polls since s [] = Unit {0}
+AreRounds known polls since s (r ∷ rounds) =
+    IsRound known polls since s r × AreRounds known polls (since_round since s r) (after_round s r) rounds
+
+-- how many looks found nothing, after rounds
+abbrev pub idle_after_rounds : Bool → ℕ → List Round → ℕ
+idle_after_rounds polls count [] = count
+idle_after_rounds polls count (r ∷ rounds) = idle_after_rounds polls (idle_after polls count r) rounds
+
+-- ---- the end
+
+-- why driving ends
+pub data Cause : Type 0 where
+  -- all was said
+  AllSaid : Cause
+  -- no more will come
+  InputEnded : Cause
+  -- a call of the wire failed, after it wrote these bytes
+  CallFailed : List ℕ → Cause
+  -- no memory was left before the first round
+  NoRoom : Cause
+  -- none was left to answer the request that is due, or to read the file that it wants
+  NoAnswer : Cause
+  -- none was left for this piece, which had come, and is lost
+  PieceLost : List ℕ → Cause
+  -- none was left in the time of the program
+  TimeCut : Cause
+  -- all turns were made
+  TurnsMade : Cause
+
+-- how it ends then
+abbrev pub end_of : Cause → StreamEnd
+end_of AllSaid = Closed
+end_of InputEnded = Closed
+end_of (CallFailed part) = Fault
+end_of NoRoom = NoMemory
+end_of NoAnswer = NoMemory
+end_of (PieceLost piece) = NoMemory
+end_of TimeCut = NoMemory
+end_of TurnsMade = Turns
+
+-- the bytes that came over the wire in no round
+abbrev pub lost_by : Cause → List ℕ
+lost_by (PieceLost piece) = piece
+lost_by _ = []
+
+-- the bytes that were written in no round
+abbrev pub written_by : Cause → List ℕ
+written_by (CallFailed part) = part
+written_by _ = []
+
+-- how many calls of the wire failed, by how many did before
+abbrev pub failed_by : Cause → ℕ → ℕ
+failed_by (CallFailed part) count = one_more count
+failed_by _ count = count
+
+-- how many looks found nothing, by how many did before
+abbrev pub idle_by : Bool → Cause → ℕ → ℕ
+idle_by polls TimeCut count = idle_looked polls count
+idle_by polls _ count = count
+
+-- A call of the wire may fail where one is due. One that sends may have written a prefix of the bytes that wait.
+abbrev pub MayFail : Bool → Due → List ℕ → List ℕ → Type 0
+MayFail polls Send waiting part = IsPrefixOf part waiting
+MayFail polls Leave waiting part = ⊥
+MayFail polls Answer waiting part = ⊥
+MayFail polls Run waiting part = (polls ≡ true) × (part ≡ [])
+MayFail polls Receive waiting part = part ≡ []
+
+-- Driving ends for this cause, after so many rounds of at most so many; the session was this one after them, and this is
+-- left of it. The connection ends but where no memory is left to answer or in the time of the program, which then stands
+-- where its slice says, and is not held; and where all turns were made.
+abbrev pub EndsBy : Bool → Cause → Option (List ℕ) → ℕ → ℕ → Session → Kept → Type 0
+EndsBy polls AllSaid left turns made s new = Stands new (Effect s DropConnection) × (due_in s ≡ Leave)
+EndsBy polls InputEnded left turns made s new =
+    Stands new (Effect s DropConnection) × MayCome polls (due_in s) × IsAtEnd left
+EndsBy polls (CallFailed part) left turns made s new =
+    Stands new (Effect s DropConnection) × MayFail polls (due_in s) (waiting_of s) part
+EndsBy polls NoRoom left turns made s new = Stands new s × (made ≡ 0)
+EndsBy polls NoAnswer left turns made s new = Stands new s × (due_in s ≡ Answer)
+EndsBy polls (PieceLost piece) left turns made s new =
+    Stands new (Effect s DropConnection) × MayCome polls (due_in s) × (1 ≤ length piece)
+EndsBy polls TimeCut left turns made s new = RunsOut s new × (due_in s ≡ Run)
+EndsBy polls TurnsMade left turns made s new = Stands new s × (made ≡ turns)
+
+-- There are rounds, each of which does what is due; the files that answers were given are what reads of the files gave;
+-- and after them driving ends, for a cause. The pieces that they received are what the wire gave, but for a piece that
+-- was lost at the end; the bytes that they sent are what it took, but for what a call that failed had written. The wire
+-- counts one call that failed where it ends as a fault, and else none; and one look that found nothing for each time
+-- that a program got, where it can be looked at, and else none.
+pub record Driven (known : KnownFiles) (old new : Line) (turns : ℕ) (s : Session) (kept : Kept) (end : StreamEnd)
+    : Type 0 where
+  pub rounds : List Round
+  pub cause : Cause
+  pub are_rounds : AreRounds known old.polls 0 s rounds
+  pub few : length rounds ≤ turns
+  pub moved : Moved old new (received rounds ++ lost_by cause) (sent s rounds ++ written_by cause)
+      (failed_by cause old.faults) (idle_by old.polls cause (idle_after_rounds old.polls old.idle rounds))
+  pub is_end : end_of cause ≡ end
+  pub ends : EndsBy old.polls cause new.remaining turns (length rounds) (after_rounds s rounds) kept
+
+-- ---- one turn of the loop, for private clauses alone
+
+-- Nothing moved before a program is given time; a wire that can be looked at found nothing.
+abbrev pub Passed : Bool → Line → Line → Type 0
+Passed polls old new = (old.polls ≡ polls) × Moved old new [] [] old.faults (idle_looked polls old.idle)
+
+-- It makes one round, and then driving goes on, with another count of moves.
+pub record GoesOn (known : KnownFiles) (since next : ℕ) (old new : Line) (s : Session) (kept : Kept) : Type 0 where
+  pub round : Round
+  pub is_round : IsRound known old.polls since s round
+  pub counts : since_round since s round ≡ next
+  pub moved : Moved old new (received_in round) (sent_in s round) old.faults (idle_after old.polls old.idle round)
+  pub stands : Stands kept (after_round s round)
+
+-- Or it ends driving, however many rounds there were.
+pub record Stops (end : StreamEnd) (old new : Line) (s : Session) (kept : Kept) : Type 0 where
+  pub cause : Cause
+  pub moved : Moved old new (lost_by cause) (written_by cause) (failed_by cause old.faults)
+      (idle_by old.polls cause old.idle)
+  pub is_end : end_of cause ≡ end
+  pub ends : (turns made : ℕ) → EndsBy old.polls cause new.remaining turns made s kept
+
+-- It makes a round, or it ends driving.
+abbrev pub Went : KnownFiles → ℕ → Result ℕ StreamEnd → Line → Line → Session → Kept → Type 0
+Went known since (Ok next) old new s kept = GoesOn known since next old new s kept
+Went known since (Err end) old new s kept = Stops end old new s kept
+
+-- A session has been driven since it was this one, for so many rounds.
+pub record Driving (known : KnownFiles) (old new : Line) (made since : ℕ) (s : Session) (kept : Kept) : Type 0 where
+  pub rounds : List Round
+  pub are_rounds : AreRounds known old.polls 0 s rounds
+  pub count : length rounds ≡ made
+  pub counts : since_rounds 0 s rounds ≡ since
+  pub moved : Moved old new (received rounds) (sent s rounds) old.faults
+      (idle_after_rounds old.polls old.idle rounds)
+  pub stands : Stands kept (after_rounds s rounds)

@@ -1,0 +1,201 @@
+//! A session over a wire.
+ghost use Rattle.std.specs.Prelude.{◌≡◌, ◌+◌, ◌<◌, ◌≤◌, length, true, Err, IfOk, ℕ};
+ghost use Rattle.session.specs.Kept.{OfEach, Stands, see_kept};
+ghost use Rattle.transport.specs.Drives.{Driven, Passed, Went, is_held};
+ghost use Rattle.transport.specs.Rounds as rounds;
+ghost use Rattle.transport.specs.Rounds.{KnownFiles, due};
+ghost use Rattle.wires.specs.Wires.{Line};
+
+use crate::end::StreamEnd;
+use crate::files::Files;
+use crate::room::room_of;
+use crate::serve::{MOST_MOVES, MOVES_GRANTED, file_wanted, leave, take, turn_with};
+use session::{Ending, EventError, Session};
+use std::alloc::Global;
+use std::cmp;
+use wires::{Received, Wire};
+
+/// Drives the connection of a session over a wire: receives what the editor sends, and sends what waits
+/// for it. When it ends other than by `Turns` and `NoMemory`, the connection has ended too. What closed
+/// it, if the editor sent no frame or no message, `Session::link_fault` says.
+///
+/// A turn does what is due: while bytes wait, it sends some; when all is said on the connection, it ends
+/// it; where a request waits, it answers it, with the file that it wants, out of `files`; where no program
+/// runs, it waits for a piece. While a program runs, it looks for a piece over a wire that can poll, and
+/// grants a slice of 100,000 moves where none has come; over another wire it grants the slice, and holds
+/// the program once it made 10,000,000 moves since bytes came, or since the call where none came yet. A
+/// piece has at most 65,536 bytes. At most `turns` are made.
+///
+/// - `Closed`: the input ended, or all was said on the connection.
+/// - `Fault`: a call of the wire failed, which its `faults` counts.
+/// - `Turns`: all turns were made.
+/// - `NoMemory`: no memory was left. Where it was left for a piece that had come, the piece is lost, and
+///   the connection has ended; else nothing is lost, and a later call goes on.
+pub fn drive<W: Wire, F: Files>(
+    alloc: Global,
+    session: &mut Session,
+    wire: &mut W,
+    files: &F,
+    turns: u64,
+) -> StreamEnd
+    ensures { OfEach session.old (λ s. Driven (F.known files.now) (W.line wire.old) (W.line wire.new) turns s session.new
+        result) }
+{
+    let Ok(mut room) = room_of(alloc) else {
+        return StreamEnd::NoMemory;
+    };
+    let mut since = 0;
+    'driving: for _made in 0..turns {
+        match turn(alloc, session, wire, files, &mut room, since) {
+            Ok(moves) => since = moves,
+            Err(end) => return end,
+        }
+    }
+    StreamEnd::Turns
+}
+
+// Does what is due, where a program made so many moves since bytes came, and answers how many it is then;
+// or how driving ends.
+fn turn<W: Wire, F: Files>(
+    alloc: Global,
+    session: &mut Session,
+    wire: &mut W,
+    files: &F,
+    room: &mut [u8],
+    since: u64,
+) -> Result<u64, StreamEnd>
+    requires room { 0 < length room.old }
+    requires piece { length room.old ≤ 65536 }
+    requires since { since ≤ 10000000 }
+    ensures went { OfEach session.old (λ s. Went (F.known files.now) since result (W.line wire.old) (W.line wire.new) s
+        session.new) }
+    ensures since { IfOk result (λ moves. moves ≤ 10000000) }
+{
+    if !session.waiting().is_empty() {
+        return send(session, wire, since);
+    }
+    if session.finished() {
+        return leave(session, StreamEnd::Closed);
+    }
+    if session.pending() > 0 {
+        return answer(alloc, session, files, since);
+    }
+    if !session.runnable() {
+        return receive(session, wire, room, since);
+    }
+    if wire.can_poll() {
+        return look(session, wire, room, since);
+    }
+    run(session, MOVES_GRANTED, since, false)
+}
+
+fn send<W: Wire>(session: &mut Session, wire: &mut W, since: u64) -> Result<u64, StreamEnd>
+    requires { due (see_kept session.old) ≡ rounds.Due.Send }
+    ensures went { (known : KnownFiles) → OfEach session.old (λ s. Went known since result (W.line wire.old)
+        (W.line wire.new) s session.new) }
+    ensures same { IfOk result (λ moves. moves ≡ since) }
+{
+    match wire.send(session.waiting()) {
+        Ok(count) => {
+            let _ = session.sent(count);
+            Ok(since)
+        }
+        Err(_) => leave(session, StreamEnd::Fault),
+    }
+}
+
+fn answer<F: Files>(
+    alloc: Global,
+    session: &mut Session,
+    files: &F,
+    since: u64,
+) -> Result<u64, StreamEnd>
+    requires { due (see_kept session.old) ≡ rounds.Due.Answer }
+    ensures went { (line : Line) → OfEach session.old (λ s. Went (F.known files.now) since result line line s session.new) }
+    ensures same { IfOk result (λ moves. moves ≡ since) }
+{
+    let Ok(file) = file_wanted(alloc, session, files) else {
+        return Err(StreamEnd::NoMemory);
+    };
+    match turn_with(session, file) {
+        Ok(_) => Ok(since),
+        Err(error) => match error {
+            EventError::NoMemory => Err(StreamEnd::NoMemory),
+            _ => Ok(since),
+        },
+    }
+}
+
+// Looks for a piece, and gives the program time where none has come.
+fn look<W: Wire>(
+    session: &mut Session,
+    wire: &mut W,
+    room: &mut [u8],
+    since: u64,
+) -> Result<u64, StreamEnd>
+    requires room { 0 < length room.old }
+    requires piece { length room.old ≤ 65536 }
+    requires since { since ≤ 10000000 }
+    requires due { due (see_kept session.old) ≡ rounds.Due.Run }
+    requires polls { (W.line wire.old).polls ≡ true }
+    ensures went { (known : KnownFiles) → OfEach session.old (λ s. Went known since result (W.line wire.old)
+        (W.line wire.new) s session.new) }
+    ensures since { IfOk result (λ moves. moves ≤ 10000000) }
+{
+    match wire.recv_now(room) {
+        Ok(Received::Bytes(count)) => take(session, &room[..count]),
+        Ok(Received::Nothing) => run(session, MOVES_GRANTED, since, true),
+        Ok(Received::End) => leave(session, StreamEnd::Closed),
+        Err(_) => leave(session, StreamEnd::Fault),
+    }
+}
+
+// Gives the program time for so many moves, over a wire that was looked at before, if it can be.
+fn run(session: &mut Session, moves: u32, since: u64, polls: bool) -> Result<u64, StreamEnd>
+    requires moves { moves ≡ rounds.moves_granted }
+    requires since { since ≤ 10000000 }
+    requires due { due (see_kept session.old) ≡ rounds.Due.Run }
+    ensures went { (known : KnownFiles) (line line' : Line) → Passed polls line line' → OfEach session.old (λ s. Went known
+        since result line line' s session.new) }
+    ensures since { IfOk result (λ moves. moves ≤ 10000000) }
+{
+    let sliced = session.slice(moves);
+    match sliced.ending {
+        Ending::NoMemory => Err(StreamEnd::NoMemory),
+        _ => Ok(hold_after(session, since, sliced.moved, polls)),
+    }
+}
+
+// Holds the program if it has made so many moves that it is to be held, and answers how many it made.
+fn hold_after(session: &mut Session, since: u64, moved: u32, polls: bool) -> u64
+    requires { since ≤ 10000000 }
+    ensures counts { result ≡ rounds.counted (since + moved) }
+    ensures holds { OfEach session.old (λ s. Stands session.new (rounds.held_after (is_held polls (since + moved)) s)) }
+{
+    let made = since + u64::from(moved);
+    if !polls && made >= MOST_MOVES {
+        session.hold();
+    }
+    cmp::min(made, MOST_MOVES)
+}
+
+// Waits for a piece.
+fn receive<W: Wire>(
+    session: &mut Session,
+    wire: &mut W,
+    room: &mut [u8],
+    since: u64,
+) -> Result<u64, StreamEnd>
+    requires room { 0 < length room.old }
+    requires piece { length room.old ≤ 65536 }
+    requires due { due (see_kept session.old) ≡ rounds.Due.Receive }
+    ensures went { (known : KnownFiles) → OfEach session.old (λ s. Went known since result (W.line wire.old)
+        (W.line wire.new) s session.new) }
+    ensures fewer { IfOk result (λ moves. moves ≤ since) }
+{
+    match wire.recv_wait(room) {
+        Ok(0) => leave(session, StreamEnd::Closed),
+        Ok(count) => take(session, &room[..count]),
+        Err(_) => leave(session, StreamEnd::Fault),
+    }
+}
