@@ -1,4 +1,4 @@
-"""Whole connections and servers over streams that give and take a few bytes at a time, are interrupted, and fail."""
+"""Whole connections over wires and streams, and servers over streams, that give and take a few bytes at a time, are interrupted, and fail."""
 from playing import Row
 from program import frame
 from texts import ANSWERS, FIRST, FIRST_ANSWER, SESSION, THREADS, refused, request
@@ -36,6 +36,27 @@ def writes(most=EVERY, calls=EVERY, interruptions=0):
 
 def serves(end, turns=TURNS):
     return "serve %d" % turns, end
+
+
+def wire(polls=False, most=EVERY, failing=0):
+    """Whether it polls, how many bytes a send takes, and which call fails."""
+    return "wire new %s %d %d" % (str(polls).lower(), most, failing), "ok"
+
+
+def pieces(*given):
+    return [(("wire piece " + piece.hex()).strip(), "ok") for piece in given]
+
+
+def drives(end, turns=TURNS):
+    return "wire drive %d" % turns, end
+
+
+def taken(data):
+    return "wire taken", data.hex()
+
+
+def counts(faults=0, idle=0):
+    return [("wire faults", str(faults)), ("wire idle", str(idle))]
 
 
 def written(data):
@@ -88,6 +109,25 @@ def fails(reads_made, writes_made, most, count):
             NO_FAULT] + ENDED
 
 
+def drives_in_turns(turns):
+    """Driving that ends for its turns goes on where it stopped."""
+    return [wire()] + pieces(SESSION) + [CONNECT, drives("Turns", turns), taken(WRITTEN_AFTER[turns]), drives("Closed", 8 - turns), taken(ANSWERS)] \
+        + counts() + ENDED
+
+
+def is_driven(polls, most, size):
+    """The first session in pieces of so many bytes, over a wire that takes so many at once."""
+    given = SESSION + EVENT
+    return [wire(polls, most)] + pieces(*(given[at:at + size] for at in range(0, len(given), size))) \
+        + [CONNECT, drives("Closed"), taken(ANSWERS), NO_FAULT] + counts() + ENDED
+
+
+def is_dropped(failing, most, count):
+    """Which call fails, how many bytes a send takes, and how many were taken."""
+    return [wire(most=most, failing=failing)] + pieces(SESSION[:120], SESSION[120:]) + [CONNECT, drives("Fault"), taken(ANSWERS[:count]), NO_FAULT] \
+        + counts(faults=1) + ENDED
+
+
 P = b"_start: li a0, 5\ncall f\nli a7, 93\necall\nf: addi a0, a0, 1\nret\n"
 FOREVER = b"e: j e\n"
 
@@ -106,6 +146,12 @@ def bare(command, seq, number):
 
 LAUNCHED = FIRST_ANSWER + bare("launch", 2, 2) + frame('{"event":"initialized","seq":3,"type":"event"}') + bare("configurationDone", 3, 4)
 STOPPED = '{"body":{"allThreadsStopped":true,"reason":"%s","threadId":1},"event":"stopped","seq":%d,"type":"event"}'
+STOPPED_AT_ENTRY = LAUNCHED + frame(STOPPED % ("entry", 5))
+HELD = LAUNCHED + frame(STOPPED % ("pause", 5))
+PAUSED = LAUNCHED + bare("pause", 4, 5) + frame(STOPPED % ("pause", 6))
+RAN = frame('{"body":{"allThreadsContinued":true},"command":"continue","request_seq":4,"seq":6,"success":true,"type":"response"}') \
+    + frame('{"body":{"exitCode":6},"event":"exited","seq":7,"type":"event"}') + frame('{"event":"terminated","seq":8,"type":"event"}')
+GO_ON, PAUSE = request(4, "continue", threadId=1), request(4, "pause", threadId=1)
 UNREADABLE = FIRST_ANSWER + refused("fileUnreadable", 21, "launch", 2, 2)
 
 POLLED = ("poll", "2:threads")
@@ -133,16 +179,13 @@ ROWS = [Row("the first session is answered however it is cut: %d bytes at a time
         given(FIRST), CONNECT, ("recv " + NO_FRAME.hex(), "ok"), serves("Closed", 1), faulty("Frame(NoLength)"), left(FIRST), written(b"")] + ENDED,
         PROFILE),
     Row("a program is launched, stops at its entry and runs to its end", [
-        file(P), given(FIRST + launch(stopOnEntry=True) + request(4, "continue", threadId=1)), reads(len(FIRST + launch(stopOnEntry=True))), CONNECT,
-        serves("Closed"), written(LAUNCHED + frame(STOPPED % ("entry", 5))
-                                  + frame('{"body":{"allThreadsContinued":true},"command":"continue","request_seq":4,"seq":6,"success":true,"type":"response"}')
-                                  + frame('{"body":{"exitCode":6},"event":"exited","seq":7,"type":"event"}')
-                                  + frame('{"event":"terminated","seq":8,"type":"event"}')), NO_FAULT] + ENDED, PROFILE),
+        file(P), given(FIRST + launch(stopOnEntry=True) + GO_ON), reads(len(FIRST + launch(stopOnEntry=True))), CONNECT,
+        serves("Closed"), written(STOPPED_AT_ENTRY + RAN), NO_FAULT] + ENDED, PROFILE),
     Row("a program that does not end is held, and the end of the input is read then", [
-        file(FOREVER), given(FIRST + launch()), CONNECT, serves("Closed"), written(LAUNCHED + frame(STOPPED % ("pause", 5))), NO_FAULT], PROFILE),
+        file(FOREVER), given(FIRST + launch()), CONNECT, serves("Closed"), written(HELD), NO_FAULT], PROFILE),
     Row("a program that does not end runs for 100 slices before it is held", [
         file(FOREVER), given(FIRST + launch()), CONNECT, serves("Turns", 8 + 99), ("runnable", "true"), written(LAUNCHED), serves("Closed"),
-        written(LAUNCHED + frame(STOPPED % ("pause", 5)))], PROFILE),
+        written(HELD)], PROFILE),
     Row("a file that is not there is not launched", [
         file(P, "/w/q.s"), given(FIRST + request(2, "launch", program="/w/p.s")), CONNECT, serves("Closed"), written(UNREADABLE), NO_FAULT], PROFILE),
     Row("a server polls requests and writes responses", [
@@ -172,9 +215,39 @@ ROWS = [Row("the first session is answered however it is cut: %d bytes at a time
         text("Frame", "not a frame"), text("Message", "not a message"), text("Read", "read fault"), text("Write", "write fault"),
         text("TooManyReads", "too many reads"), text("NoMemory", "no memory"), text("SeqSpent", "no sequence number is left"),
     ], "the doc comments of the errors"),
+    Row("over a wire a program is launched, stops at its entry and runs to its end", [
+        file(P), wire()] + pieces(FIRST + launch(stopOnEntry=True), GO_ON) + [
+            CONNECT, drives("Closed"), taken(STOPPED_AT_ENTRY + RAN), NO_FAULT] + counts() + ENDED, PROFILE),
+    Row("over a wire that polls the editor is heard while a program runs", [
+        file(FOREVER), wire(polls=True)] + pieces(FIRST + launch(), b"", PAUSE, b"") + [
+            CONNECT, drives("Closed"), taken(PAUSED), NO_FAULT] + counts(idle=2) + ENDED, PROFILE),
+    Row("over a wire that polls the end of the input is met while a program runs", [
+        file(FOREVER), wire(polls=True)] + pieces(FIRST + launch(), b"", b"", b"") + [
+            CONNECT, drives("Closed"), taken(LAUNCHED), ("runnable", "true")] + counts(idle=3) + ENDED[:1], PROFILE),
+    Row("over a wire that polls a fault is met while a program runs", [
+        file(FOREVER), wire(polls=True, failing=8)] + pieces(FIRST + launch(), b"", b"", b"") + [
+            CONNECT, drives("Fault"), taken(LAUNCHED), ("runnable", "true")] + counts(faults=1, idle=3), PROFILE),
+    Row("over a wire that cannot poll a program that does not end is held, and the editor is heard then", [
+        file(FOREVER), wire()] + pieces(FIRST + launch(), PAUSE) + [
+            CONNECT, drives("Closed"), taken(HELD + bare("pause", 4, 6)), NO_FAULT] + counts() + ENDED, PROFILE),
+    Row("over a wire that cannot poll a program runs for 100 slices before it is held", [
+        file(FOREVER), wire()] + pieces(FIRST + launch()) + [
+            CONNECT, drives("Turns", 8 + 99), ("runnable", "true"), taken(LAUNCHED), drives("Closed"), taken(HELD)] + counts(), PROFILE),
+    Row("over a wire a file that is not there is not launched", [
+        file(P, "/w/q.s"), wire()] + pieces(FIRST + request(2, "launch", program="/w/p.s")) + [
+            CONNECT, drives("Closed"), taken(UNREADABLE), NO_FAULT], PROFILE),
+    Row("what is no frame ends a connection over a wire", [wire()] + pieces(FIRST + HARTS, NO_FRAME) + [
+        CONNECT, drives("Closed"), taken(FIRST_ANSWER + HARTS_ANSWER), faulty("Frame(NoLength)")] + counts() + ENDED, PROFILE),
+    Row("a session over a wire is driven again after it found no memory", [
+        ("wire whole " + SESSION.hex(), "Closed " + ANSWERS.hex())], PROFILE, refused=True),
 ] + [Row("%d turns end with a prefix of the answers" % turns, stops_after(turns), PROFILE) for turns in range(8)] \
   + [Row("%d turns are enough for a whole session" % turns, closes_within(turns), PROFILE) for turns in (8, 9)] \
   + [Row("a fault of a stream after %d reads and %d writes of %d bytes" % (reads_made, writes_made, most), fails(reads_made, writes_made, most, count),
          PROFILE)
      for reads_made, writes_made, most, count in (
-         (0, 9, 1000, 0), (1, 9, 1000, 619), (9, 0, 1000, 0), (9, 1, 1000, 619), (9, 2, 1000, 766), (9, 2, 100, 200), (9, 9, 0, 0))]
+         (0, 9, 1000, 0), (1, 9, 1000, 619), (9, 0, 1000, 0), (9, 1, 1000, 619), (9, 2, 1000, 766), (9, 2, 100, 200), (9, 9, 0, 0))] \
+  + [Row("over a wire %d turns end with a prefix of the answers" % turns, drives_in_turns(turns), PROFILE) for turns in range(8)] \
+  + [Row("over a wire the first session is answered however it is cut: pieces of %d, sends of %d" % (size, most), is_driven(polls, most, size), PROFILE)
+     for polls, most, size in ((False, 1, 7), (True, 7, 1), (False, 83, 1000), (True, 1000, 64))] \
+  + [Row("a call of a wire that fails ends the connection: call %d, sends of %d" % (failing, most), is_dropped(failing, most, count), PROFILE)
+     for failing, most, count in ((1, 1000, 0), (2, 1000, 0), (3, 1000, 0))]

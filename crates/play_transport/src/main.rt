@@ -1,10 +1,11 @@
-//! Plays `transport`: a session and a server over streams that give and take a few bytes at a time,
-//! are interrupted, and fail.
+//! Plays `transport`: a session over a wire in memory, and a session and a server over streams, that give
+//! and take a few bytes at a time, are interrupted, and fail.
 #![tactic(auto)]
 
 mod polling;
 mod shelf;
 mod streams;
+mod wired;
 
 use play::{Fault, Player, bytes_of, hexadecimal, parsed, play, shown};
 use polling::polled;
@@ -14,13 +15,16 @@ use std::alloc::Global;
 use std::process::ExitCode;
 use streams::{Drip, Pace, Sink};
 use transport::{ServerError, StreamEnd, serve_streams};
+use wires::MemoryWire;
 
-/// What is played. The first session is not connected; the first streams give and take all at once.
+/// What is played. The first session is not connected; the first streams give and take all at once, and the
+/// first wire has no piece.
 #[derive(Drop)]
 struct Connection {
     session: Session,
     reader: Drip,
     writer: Sink,
+    wire: MemoryWire,
     files: Shelf,
 }
 
@@ -37,6 +41,7 @@ fn main(rt: HostRuntime) -> ExitCode {
         session,
         reader,
         writer,
+        wire: wired::new_wire(alloc),
         files: Shelf::new(alloc),
     };
     play(&rt, &mut connection)
@@ -74,6 +79,7 @@ impl Player for Connection {
                 shown(alloc, "ok")
             }
             ["whole", input] => whole(alloc, bytes_of(alloc, input)?),
+            ["wire", words @ ..] => self.over_wire(alloc, words),
             ["server", calls @ ..] => polled(alloc, &mut self.reader, &mut self.writer, calls),
             ["text", name] => text_of(alloc, name),
             ["serve", turns] => {
@@ -159,16 +165,21 @@ fn done(alloc: Global, answer: Result<(), EventError>) -> Result<String, Fault> 
 /// A session from its first byte to its end: how it ended, and what was written. It is served in a method,
 /// since with each part in a variable of its own this takes minutes to prove.
 fn whole(alloc: Global, input: Vec<u8>) -> Result<String, Fault> {
+    let mut connection = new_connection(alloc, input)?;
+    connection.served(alloc)
+}
+
+fn new_connection(alloc: Global, input: Vec<u8>) -> Result<Connection, Fault> {
     let Some(session) = new_session(alloc) else {
         return Err(Fault::NoCommand);
     };
-    let mut connection = Connection {
+    Ok(Connection {
         session,
         reader: Drip::new(input),
         writer: Sink::new(alloc)?,
+        wire: wired::new_wire(alloc),
         files: Shelf::new(alloc),
-    };
-    connection.served(alloc)
+    })
 }
 
 /// The text of the error of this name.
