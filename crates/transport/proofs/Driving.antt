@@ -24,7 +24,7 @@ use Rattle.session.specs.Sessions.{Session, Effect, histories, waiting_of}
 use Rattle.session.specs.Slices.{is_runnable}
 use Rattle.wires.specs.Wires.{Line, Moved, one_more}
 use Rattle.transport.specs.Rounds.{KnownFiles, IsGiven, Took, Due, Send, Leave, Answer, Run, Receive, due, due_in, Round, Did, Ran, IsTaken, after_round, after_rounds, received_in, received, sent_in, sent, since_round, since_rounds, counted, held_after, moves_granted, moves_made}
-use Rattle.transport.specs.Drives.{MayCome, MayFail, is_held, IsRound, AreRounds, idle_looked, idle_after, idle_after_rounds, AllSaid, InputEnded, CallFailed, NoRoom, NoAnswer, PieceLost, TimeCut, TurnsMade, end_of, lost_by, written_by, failed_by, idle_by, EndsBy, Driven, Passed, GoesOn, Stops, Went, Driving}
+use Rattle.transport.specs.Drives.{MayCome, MayFail, is_held, IsRound, AreRounds, idle_looked, idle_after, idle_after_rounds, AllSaid, InputEnded, CallFailed, NoRoom, NoAnswer, PieceLost, TimeCut, TurnsMade, end_of, lost_by, written_by, failed_by, idle_by, IsCause, Leaves, Driven, Passed, GoesOn, Stops, Went, Driving}
 use Rattle.transport.proofs.Serving.{happened, due_there, given_there, Goes, goes_with, breaks_off, after_rounds-append, received-append, sent-append, since_rounds-append}
 use Rattle.transport.proofs.Taking.{send_test, takes_sent, takes_turn, takes_received, takes_running}
 
@@ -82,7 +82,8 @@ sends_fail old new k kept waiting w d m dropped s st =
       cause = CallFailed part;
       moved = m.1;
       is_end = refl;
-      ends = λ turns made. (dropped s st, subst (λ (x : Due). MayFail old.polls x (waiting_of s) part) (sym (due_there k s Send st d)) prefix);
+      is_cause = λ turns made. subst (λ (x : Due). MayFail old.polls x (waiting_of s) part) (sym (due_there k s Send st d)) prefix;
+      leaves = dropped s st;
     }
 
 -- a request was answered
@@ -98,7 +99,7 @@ answers_over known since line k kept file r d g h ok s st = record {
 
 -- no memory was left to answer, or to read what an answer wants
 pub answers_none : (line : Line) (k : Kept) → due (see_kept k) ≡ Answer → (s : Session) → Stands k s → Stops OutOfMemory line line s k
-answers_none line k d s st = record { cause = NoAnswer; moved = still line; is_end = refl; ends = λ turns made. (st, due_there k s Answer st d) }
+answers_none line k d s st = record { cause = NoAnswer; moved = still line; is_end = refl; is_cause = λ turns made. due_there k s Answer st d; leaves = st }
 
 -- all was said
 pub leave_is_due : (k : Kept) (waiting : List ℕ) → waiting ≡ k.waiting → length waiting ≡ 0 → is_finished (see_kept k) ≡ true → due (see_kept k) ≡ Leave
@@ -108,7 +109,7 @@ leave_is_due k waiting w none done =
     rw (test, done) refl
 
 pub all_said : (line : Line) (k kept : Kept) → due (see_kept k) ≡ Leave → ((s : Session) → Stands k s → Stands kept (Effect s DropConnection)) → (s : Session) → Stands k s → Stops Closed line line s kept
-all_said line k kept d dropped s st = record { cause = AllSaid; moved = still line; is_end = refl; ends = λ turns made. (dropped s st, due_there k s Leave st d) }
+all_said line k kept d dropped s st = record { cause = AllSaid; moved = still line; is_end = refl; is_cause = λ turns made. due_there k s Leave st d; leaves = dropped s st }
 
 -- ---- the time of a program
 
@@ -145,7 +146,8 @@ time_is_cut n polls old new k mid r e p d h out s st =
       cause = TimeCut;
       moved = passed_in polls old new p;
       is_end = refl;
-      ends = λ turns made. ((r.moved, broke), due_there k s Run st d);
+      is_cause = λ turns made. due_there k s Run st d;
+      leaves = (r.moved, broke);
     }
 
 -- ---- a piece
@@ -174,7 +176,8 @@ piece_came known since old new k kept d piece (Err end) e may some few m took no
   cause = PieceLost piece;
   moved = m;
   is_end = sym (took s st).0;
-  ends = λ turns made. ((took s st).1, may_come_there old.polls k s d st e may, some);
+  is_cause = λ turns made. (may_come_there old.polls k s d st e may, some);
+  leaves = (took s st).1;
 }
 
 -- what a look or a wait gave, of what there is room for
@@ -191,7 +194,8 @@ input_ended old new k kept d e may m at_end dropped s st = record {
   cause = InputEnded;
   moved = m;
   is_end = refl;
-  ends = λ turns made. (dropped s st, may_come_there old.polls k s d st e may, at_end);
+  is_cause = λ turns made. (may_come_there old.polls k s d st e may, at_end);
+  leaves = dropped s st;
 }
 
 may_fail : (polls : Bool) (d : Due) (waiting : List ℕ) → MayCome polls d → MayFail polls d waiting []
@@ -208,7 +212,8 @@ comes_fail old new k kept d e may m dropped s st = record {
   cause = CallFailed [];
   moved = m;
   is_end = refl;
-  ends = λ turns made. (dropped s st, may_fail old.polls (due_in s) (waiting_of s) (may_come_there old.polls k s d st e may));
+  is_cause = λ turns made. may_fail old.polls (due_in s) (waiting_of s) (may_come_there old.polls k s d st e may);
+  leaves = dropped s st;
 }
 
 -- ---- rounds after rounds
@@ -263,7 +268,8 @@ ends_after known a b c made since turns s k new end few v w = record {
   few = subst (λ (n : ℕ). n ≤ turns) (sym v.count) few;
   moved = moved_as a c _ _ _ _ _ _ _ _ refl refl (ap (failed_by w.cause) v.moved.faults) (ap (λ (p : Bool). idle_by p w.cause b.idle) v.moved.polls ∙ ap (idle_by a.polls w.cause) v.moved.idle) (moved-trans a b c _ _ _ _ _ _ _ _ v.moved w.moved);
   is_end = w.is_end;
-  ends = subst (λ (p : Bool). EndsBy p w.cause c.remaining turns (length v.rounds) (after_rounds s v.rounds) new) v.moved.polls (w.ends turns (length v.rounds));
+  is_cause = subst (λ (p : Bool). IsCause p w.cause c.remaining turns (length v.rounds) (after_rounds s v.rounds)) v.moved.polls (w.is_cause turns (length v.rounds));
+  leaves = w.leaves;
 }
 
 pub ends_driving : (known : KnownFiles) (a b c : Line) (made since turns : ℕ) (s : Session) (k new : Kept) (end : StreamEnd) → made ≤ turns → ((t : Session) → Stands k t → Stops end b c t new) → Driving known a b made since s k → Driven known a c turns s new end
@@ -271,7 +277,7 @@ ends_driving known a b c made since turns s k new end few g v = ends_after known
 
 -- without room for a piece no round is made
 pub no_room_to_drive : (known : KnownFiles) (line : Line) (turns : ℕ) (s : Session) (k : Kept) → Stands k s → Driven known line line turns s k OutOfMemory
-no_room_to_drive known line turns s k st = record { rounds = []; cause = NoRoom; are_rounds = tt; few = omega arith; moved = still line; is_end = refl; ends = (st, refl) }
+no_room_to_drive known line turns s k st = record { rounds = []; cause = NoRoom; are_rounds = tt; few = omega arith; moved = still line; is_end = refl; is_cause = refl; leaves = st }
 
 -- all turns were made
 pub stops_driving : (known : KnownFiles) (a b : Line) (made since turns : ℕ) (s : Session) (k : Kept) → made ≡ turns → Driving known a b made since s k → Driven known a b turns s k Turns
@@ -282,5 +288,6 @@ stops_driving known a b made since turns s k all v = record {
   few = subst (λ (n : ℕ). n ≤ turns) (sym (v.count ∙ all)) (omega arith);
   moved = moved_as a b _ _ _ _ _ _ _ _ (sym (append-nil (received v.rounds))) (sym (append-nil (sent s v.rounds))) refl refl v.moved;
   is_end = refl;
-  ends = (v.stands, v.count ∙ all);
+  is_cause = v.count ∙ all;
+  leaves = v.stands;
 }

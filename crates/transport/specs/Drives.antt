@@ -148,21 +148,29 @@ MayFail polls Answer waiting part = ⊥
 MayFail polls Run waiting part = (polls ≡ true) × (part ≡ [])
 MayFail polls Receive waiting part = part ≡ []
 
--- Driving ends for this cause, after so many rounds of at most so many; the session was this one after them, and this is
--- left of it. The connection ends but where no memory is left to answer or in the time of the program, which then stands
--- where its slice says, and is not held; and where all turns were made.
-abbrev pub EndsBy : Bool → Cause → Option (List ℕ) → ℕ → ℕ → Session → Kept → Type 0
-EndsBy polls AllSaid left turns made s new = Stands new (Effect s DropConnection) × (due_in s ≡ Leave)
-EndsBy polls InputEnded left turns made s new =
-    Stands new (Effect s DropConnection) × MayCome polls (due_in s) × IsAtEnd left
-EndsBy polls (CallFailed part) left turns made s new =
-    Stands new (Effect s DropConnection) × MayFail polls (due_in s) (waiting_of s) part
-EndsBy polls NoRoom left turns made s new = Stands new s × (made ≡ 0)
-EndsBy polls NoAnswer left turns made s new = Stands new s × (due_in s ≡ Answer)
-EndsBy polls (PieceLost piece) left turns made s new =
-    Stands new (Effect s DropConnection) × MayCome polls (due_in s) × (1 ≤ length piece)
-EndsBy polls TimeCut left turns made s new = RunsOut s new × (due_in s ≡ Run)
-EndsBy polls TurnsMade left turns made s new = Stands new s × (made ≡ turns)
+-- Driving may end for this cause, after so many rounds of at most so many; the session was this one after them, and this
+-- is left to come over the wire.
+abbrev pub IsCause : Bool → Cause → Option (List ℕ) → ℕ → ℕ → Session → Type 0
+IsCause polls AllSaid left turns made s = due_in s ≡ Leave
+IsCause polls InputEnded left turns made s = MayCome polls (due_in s) × IsAtEnd left
+IsCause polls (CallFailed part) left turns made s = MayFail polls (due_in s) (waiting_of s) part
+IsCause polls NoRoom left turns made s = made ≡ 0
+IsCause polls NoAnswer left turns made s = due_in s ≡ Answer
+IsCause polls (PieceLost piece) left turns made s = MayCome polls (due_in s) × (1 ≤ length piece)
+IsCause polls TimeCut left turns made s = due_in s ≡ Run
+IsCause polls TurnsMade left turns made s = made ≡ turns
+
+-- What is left of the session then: the connection has ended, but where no memory was left to answer or in the time of the
+-- program, which stands where its slice says, and is not held; and where all turns were made.
+abbrev pub Leaves : Cause → Session → Kept → Type 0
+Leaves AllSaid s new = Stands new (Effect s DropConnection)
+Leaves InputEnded s new = Stands new (Effect s DropConnection)
+Leaves (CallFailed part) s new = Stands new (Effect s DropConnection)
+Leaves NoRoom s new = Stands new s
+Leaves NoAnswer s new = Stands new s
+Leaves (PieceLost piece) s new = Stands new (Effect s DropConnection)
+Leaves TimeCut s new = RunsOut s new
+Leaves TurnsMade s new = Stands new s
 
 -- There are rounds, each of which does what is due; the files that answers were given are what reads of the files gave;
 -- and after them driving ends, for a cause. The pieces that they received are what the wire gave, but for a piece that
@@ -178,7 +186,8 @@ pub record Driven (known : KnownFiles) (old new : Line) (turns : ℕ) (s : Sessi
   pub moved : Moved old new (received rounds ++ lost_by cause) (sent s rounds ++ written_by cause)
       (failed_by cause old.faults) (idle_by old.polls cause (idle_after_rounds old.polls old.idle rounds))
   pub is_end : end_of cause ≡ end
-  pub ends : EndsBy old.polls cause new.remaining turns (length rounds) (after_rounds s rounds) kept
+  pub is_cause : IsCause old.polls cause new.remaining turns (length rounds) (after_rounds s rounds)
+  pub leaves : Leaves cause (after_rounds s rounds) kept
 
 -- ---- one turn of the loop, for private clauses alone
 
@@ -200,7 +209,8 @@ pub record Stops (end : StreamEnd) (old new : Line) (s : Session) (kept : Kept) 
   pub moved : Moved old new (lost_by cause) (written_by cause) (failed_by cause old.faults)
       (idle_by old.polls cause old.idle)
   pub is_end : end_of cause ≡ end
-  pub ends : (turns made : ℕ) → EndsBy old.polls cause new.remaining turns made s kept
+  pub is_cause : (turns made : ℕ) → IsCause old.polls cause new.remaining turns made s
+  pub leaves : Leaves cause s kept
 
 -- It makes a round, or it ends driving.
 abbrev pub Went : KnownFiles → ℕ → Result ℕ StreamEnd → Line → Line → Session → Kept → Type 0
