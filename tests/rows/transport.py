@@ -59,6 +59,14 @@ def counts(faults=0, idle=0):
     return [("wire faults", str(faults)), ("wire idle", str(idle))]
 
 
+def visits(answer, turns=TURNS, nobody=0, failing=0):
+    """Serves at a door that lends both wires, by which of its calls finds nobody, and which fails."""
+    return "wire serve %d %d %d" % (turns, nobody, failing), answer
+
+
+OTHER = ("wire other", "ok")
+
+
 def written(data):
     return "written", data.hex()
 
@@ -151,6 +159,13 @@ HELD = LAUNCHED + frame(STOPPED % ("pause", 5))
 PAUSED = LAUNCHED + bare("pause", 4, 5) + frame(STOPPED % ("pause", 6))
 RAN = frame('{"body":{"allThreadsContinued":true},"command":"continue","request_seq":4,"seq":6,"success":true,"type":"response"}') \
     + frame('{"body":{"exitCode":6},"event":"exited","seq":7,"type":"event"}') + frame('{"event":"terminated","seq":8,"type":"event"}')
+# An editor joins a program that runs.
+JOINS = FIRST + request(2, "attach") + request(3, "configurationDone")
+JOINED = FIRST_ANSWER + bare("attach", 2, 2) + frame('{"event":"initialized","seq":3,"type":"event"}') + bare("configurationDone", 3, 4) \
+    + frame('{"body":{"allThreadsContinued":true,"threadId":1},"event":"continued","seq":5,"type":"event"}')
+COUNTS = b"_start: call f\nj _start\nf: addi a0, a0, 1\nret\n"
+LEAVES = FIRST + request(2, "launch", program="/w/p.s") \
+    + request(3, "setBreakpoints", source={"path": "/w/p.s"}, breakpoints=[{"line": 2}]) + request(4, "configurationDone") + FIRST[:10]
 GO_ON, PAUSE = request(4, "continue", threadId=1), request(4, "pause", threadId=1)
 UNREADABLE = FIRST_ANSWER + refused("fileUnreadable", 21, "launch", 2, 2)
 
@@ -238,6 +253,22 @@ ROWS = [Row("the first session is answered however it is cut: %d bytes at a time
             CONNECT, drives("Closed"), taken(UNREADABLE), NO_FAULT], PROFILE),
     Row("what is no frame ends a connection over a wire", [wire()] + pieces(FIRST + HARTS, NO_FRAME) + [
         CONNECT, drives("Closed"), taken(FIRST_ANSWER + HARTS_ANSWER), faulty("Frame(NoLength)")] + counts() + ENDED, PROFILE),
+    Row("an editor goes in the middle of a frame, and the next one joins the program", [
+        file(COUNTS), wire(polls=True)] + pieces(LEAVES) + [OTHER, wire(polls=True)] + pieces(JOINS) + [
+            OTHER, visits("Closed 0 0"), OTHER, taken(JOINED), ("runnable", "true")] + counts() + ENDED[:1], PROFILE),
+    Row("a program runs on while nobody comes", [
+        file(COUNTS), wire(polls=True)] + pieces(LEAVES) + [OTHER, wire(polls=True)] + pieces(JOINS) + [
+            OTHER, visits("Closed 0 1", nobody=2), OTHER, taken(JOINED), ("runnable", "true")] + counts() + ENDED[:1], PROFILE),
+    Row("a door that fails ends serving, and no connection", [
+        wire()] + pieces(SESSION) + [visits("Fault 1 0", failing=2), taken(ANSWERS), NO_FAULT] + counts() + ENDED, PROFILE),
+    Row("a wire that fails ends its connection alone", [
+        wire(failing=1)] + pieces(SESSION) + [OTHER, wire()] + pieces(SESSION) + [
+            OTHER, visits("Closed 0 0"), taken(b"")] + counts(faults=1) + [OTHER, taken(ANSWERS), NO_FAULT, ("connect", "3")], PROFILE),
+    Row("what is no frame ends the connection of one editor", [
+        wire()] + pieces(FIRST + NO_FRAME) + [OTHER, wire()] + pieces(SESSION) + [
+            OTHER, visits("Closed 0 0"), taken(FIRST_ANSWER), OTHER, taken(ANSWERS), NO_FAULT, ("connect", "3")], PROFILE),
+    Row("an editor that comes takes a turn, and where turns end its connection does", [
+        wire()] + pieces(SESSION) + [visits("Turns 0 0", turns=4), taken(FIRST_ANSWER), ("turn", "NotConnected"), ("connect", "2")], PROFILE),
     Row("a session over a wire is driven again after it found no memory", [
         ("wire whole " + SESSION.hex(), "Closed " + ANSWERS.hex())], PROFILE, refused=True),
 ] + [Row("%d turns end with a prefix of the answers" % turns, stops_after(turns), PROFILE) for turns in range(8)] \

@@ -18,13 +18,13 @@ use transport::{ServerError, StreamEnd, serve_streams};
 use wires::MemoryWire;
 
 /// What is played. The first session is not connected; the first streams give and take all at once, and the
-/// first wire has no piece.
+/// wires have no piece.
 #[derive(Drop)]
 struct Connection {
     session: Session,
     reader: Drip,
     writer: Sink,
-    wire: MemoryWire,
+    wires: [MemoryWire; 2],
     files: Shelf,
 }
 
@@ -41,7 +41,7 @@ fn main(rt: HostRuntime) -> ExitCode {
         session,
         reader,
         writer,
-        wire: wired::new_wire(alloc),
+        wires: wired::new_wires(alloc),
         files: Shelf::new(alloc),
     };
     play(&rt, &mut connection)
@@ -177,7 +177,7 @@ fn new_connection(alloc: Global, input: Vec<u8>) -> Result<Connection, Fault> {
         session,
         reader: Drip::new(input),
         writer: Sink::new(alloc)?,
-        wire: wired::new_wire(alloc),
+        wires: wired::new_wires(alloc),
         files: Shelf::new(alloc),
     })
 }

@@ -1,19 +1,22 @@
-//! A session over a wire in memory.
+//! A session over wires in memory, and over a door that lends them.
 
 use crate::{Connection, new_connection};
 use play::{Fault, bytes_of, called, hexadecimal, parsed, shown};
 use std::alloc::Global;
-use transport::{StreamEnd, drive};
-use wires::{Habits, MemoryWire, Wire};
+use transport::{StreamEnd, drive, serve};
+use wires::{Door, Habits, MemoryDoor, MemoryWire, Visits, Wire};
 
-/// A wire with no piece that cannot poll, takes all at once, and does not fail.
-pub(crate) fn new_wire(alloc: Global) -> MemoryWire {
+/// Wires with no piece that cannot poll, take all at once, and do not fail.
+pub(crate) fn new_wires(alloc: Global) -> [MemoryWire; 2] {
     let habits = Habits {
         polls: false,
         most: usize::MAX,
         failing: 0,
     };
-    MemoryWire::new(alloc, habits)
+    [
+        MemoryWire::new(alloc, habits),
+        MemoryWire::new(alloc, habits),
+    ]
 }
 
 impl Connection {
@@ -21,7 +24,7 @@ impl Connection {
     pub(crate) fn over_wire(&mut self, alloc: Global, words: &[&str]) -> Result<String, Fault> {
         match words {
             ["new", polls, most, failing] => {
-                self.wire = MemoryWire::new(alloc, habits_of(polls, most, failing)?);
+                self.wires[0] = MemoryWire::new(alloc, habits_of(polls, most, failing)?);
                 shown(alloc, "ok")
             }
             ["piece"] => self.put(alloc, ""),
@@ -31,22 +34,53 @@ impl Connection {
                 let end = self.driven(alloc, turns);
                 Ok(format!(in alloc; "{end:?}")?)
             }
+            ["other"] => {
+                self.wires.swap(0, 1);
+                shown(alloc, "ok")
+            }
+            ["serve", turns, nobody, failing] => {
+                let turns = parsed(turns)?;
+                let visits = Visits {
+                    nobody: parsed(nobody)?,
+                    failing: parsed(failing)?,
+                };
+                self.visited(alloc, turns, visits)
+            }
             ["whole", piece] => whole(alloc, piece),
-            ["taken"] => hexadecimal(alloc, self.wire.taken()),
-            ["faults"] => shown(alloc, self.wire.faults()),
-            ["idle"] => shown(alloc, self.wire.idle()),
+            ["taken"] => hexadecimal(alloc, self.wires[0].taken()),
+            ["faults"] => shown(alloc, self.wires[0].faults()),
+            ["idle"] => shown(alloc, self.wires[0].idle()),
             _ => Err(Fault::NoCommand),
         }
     }
 
     fn put(&mut self, alloc: Global, bytes: &str) -> Result<String, Fault> {
         let piece = bytes_of(alloc, bytes)?;
-        called(self.wire.put(&piece))?;
+        called(self.wires[0].put(&piece))?;
         shown(alloc, "ok")
     }
 
     fn driven(&mut self, alloc: Global, turns: u64) -> StreamEnd {
-        drive(alloc, &mut self.session, &mut self.wire, &self.files, turns)
+        drive(
+            alloc,
+            &mut self.session,
+            &mut self.wires[0],
+            &self.files,
+            turns,
+        )
+    }
+
+    // Serves at a door that lends both wires: how it ended, how many of the door's calls failed, and how many
+    // looks at it found nobody.
+    fn visited(&mut self, alloc: Global, turns: u64, visits: Visits) -> Result<String, Fault> {
+        let mut door = MemoryDoor::new(&mut self.wires, visits);
+        match serve(alloc, &mut self.session, &mut door, &self.files, turns) {
+            StreamEnd::NoMemory => Err(Fault::NoMemoryInCall),
+            end => {
+                let (faults, idle) = (door.faults(), door.idle());
+                Ok(format!(in alloc; "{end:?} {faults} {idle}")?)
+            }
+        }
     }
 }
 
@@ -56,7 +90,7 @@ fn driven_to_the_end(alloc: Global, connection: &mut Connection) -> Result<Strin
     match connection.driven(alloc, u64::MAX) {
         StreamEnd::NoMemory | StreamEnd::Fault => Err(Fault::NoMemoryInCall),
         end => {
-            let taken = hexadecimal(alloc, connection.wire.taken())?;
+            let taken = hexadecimal(alloc, connection.wires[0].taken())?;
             Ok(format!(in alloc; "{end:?} {taken}")?)
         }
     }

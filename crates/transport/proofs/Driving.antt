@@ -24,7 +24,7 @@ use Rattle.session.specs.Sessions.{Session, Effect, histories, waiting_of}
 use Rattle.session.specs.Slices.{is_runnable}
 use Rattle.wires.specs.Wires.{Line, Moved, one_more}
 use Rattle.transport.specs.Rounds.{KnownFiles, IsGiven, Took, Due, Send, Leave, Answer, Run, Receive, due, due_in, Round, Did, Ran, IsTaken, after_round, after_rounds, received_in, received, sent_in, sent, since_round, since_rounds, counted, held_after, moves_granted, moves_made}
-use Rattle.transport.specs.Drives.{MayCome, MayFail, is_held, IsRound, AreRounds, idle_looked, idle_after, idle_after_rounds, AllSaid, InputEnded, CallFailed, NoRoom, NoAnswer, PieceLost, TimeCut, TurnsMade, end_of, lost_by, written_by, failed_by, idle_by, IsCause, Leaves, Driven, Passed, GoesOn, Stops, Went, Driving}
+use Rattle.transport.specs.Drives.{MayCome, MayFail, is_held, IsRound, AreRounds, idle_looked, idle_after, idle_after_rounds, Cause, AllSaid, InputEnded, CallFailed, NoRoom, NoAnswer, PieceLost, TimeCut, TurnsMade, end_of, lost_by, written_by, failed_by, idle_by, IsCause, Leaves, Drove, Driven, turns_of, HasBegun, DroveFor, Passed, GoesOn, Stops, Went, Driving}
 use Rattle.transport.proofs.Serving.{happened, due_there, given_there, Goes, goes_with, breaks_off, after_rounds-append, received-append, sent-append, since_rounds-append}
 use Rattle.transport.proofs.Taking.{send_test, takes_sent, takes_turn, takes_received, takes_running}
 
@@ -260,34 +260,81 @@ goes_on_with known a b c made since s k new result next e g v =
     let t = after_rounds s v.rounds in
     goes_on_driving known a b c made since next s k new v (subst (λ (r : Result ℕ StreamEnd). Went known since r b c t new) e (g t v.stands))
 
-ends_after : (known : KnownFiles) (a b c : Line) (made since turns : ℕ) (s : Session) (k new : Kept) (end : StreamEnd) → made ≤ turns → (v : Driving known a b made since s k) → Stops end b c (after_rounds s v.rounds) new → Driven known a c turns s new end
-ends_after known a b c made since turns s k new end few v w = record {
+-- what ends a turn is no cause of before it, nor one of the last
+begun : (polls : Bool) (cause : Cause) (left : Option (List ℕ)) (s : Session) → ((turns made : ℕ) → IsCause polls cause left turns made s) → HasBegun cause
+begun polls AllSaid left s h = tt
+begun polls InputEnded left s h = tt
+begun polls (CallFailed part) left s h = tt
+begun polls NoRoom left s h = absurd (one_is_none (h 0 1)) where
+  one_is_none : (let n : ℕ = 1 in n) ≡ 0 → ⊥
+  one_is_none e = omega arith
+begun polls NoAnswer left s h = tt
+begun polls (PieceLost piece) left s h = tt
+begun polls TimeCut left s h = tt
+begun polls TurnsMade left s h = tt
+
+one_turn_more : (polls : Bool) (cause : Cause) (left : Option (List ℕ)) (s : Session) (n : ℕ) → ((turns made : ℕ) → IsCause polls cause left turns made s) → turns_of cause n ≡ n + 1
+one_turn_more polls AllSaid left s n h = refl
+one_turn_more polls InputEnded left s n h = refl
+one_turn_more polls (CallFailed part) left s n h = refl
+one_turn_more polls NoRoom left s n h = absurd (one_is_none (h 0 1)) where
+  one_is_none : (let n : ℕ = 1 in n) ≡ 0 → ⊥
+  one_is_none e = omega arith
+one_turn_more polls NoAnswer left s n h = refl
+one_turn_more polls (PieceLost piece) left s n h = refl
+one_turn_more polls TimeCut left s n h = refl
+one_turn_more polls TurnsMade left s n h = absurd (one_is_none (h 0 1)) where
+  one_is_none : (let n : ℕ = 1 in n) ≡ 0 → ⊥
+  one_is_none e = omega arith
+
+ends_after : (known : KnownFiles) (a b c : Line) (made since turns taken : ℕ) (s : Session) (k new : Kept) (end : StreamEnd) → made ≤ turns → taken ≡ made + 1 → (v : Driving known a b made since s k) → Stops end b c (after_rounds s v.rounds) new
+    → DroveFor known a c turns taken s new end
+ends_after known a b c made since turns taken s k new end few more v w = record {
   rounds = v.rounds;
   cause = w.cause;
-  are_rounds = v.are_rounds;
-  few = subst (λ (n : ℕ). n ≤ turns) (sym v.count) few;
-  moved = moved_as a c _ _ _ _ _ _ _ _ refl refl (ap (failed_by w.cause) v.moved.faults) (ap (λ (p : Bool). idle_by p w.cause b.idle) v.moved.polls ∙ ap (idle_by a.polls w.cause) v.moved.idle) (moved-trans a b c _ _ _ _ _ _ _ _ v.moved w.moved);
+  drove = record {
+    are_rounds = v.are_rounds;
+    few = subst (λ (n : ℕ). n ≤ turns) (sym v.count) few;
+    moved = moved_as a c _ _ _ _ _ _ _ _ refl refl (ap (failed_by w.cause) v.moved.faults) (ap (λ (p : Bool). idle_by p w.cause b.idle) v.moved.polls ∙ ap (idle_by a.polls w.cause) v.moved.idle) (moved-trans a b c _ _ _ _ _ _ _ _ v.moved w.moved);
+    is_cause = subst (λ (p : Bool). IsCause p w.cause c.remaining turns (length v.rounds) (after_rounds s v.rounds)) v.moved.polls (w.is_cause turns (length v.rounds));
+  };
   is_end = w.is_end;
-  is_cause = subst (λ (p : Bool). IsCause p w.cause c.remaining turns (length v.rounds) (after_rounds s v.rounds)) v.moved.polls (w.is_cause turns (length v.rounds));
   leaves = w.leaves;
+  began = begun b.polls w.cause c.remaining (after_rounds s v.rounds) w.is_cause;
+  counts = one_turn_more b.polls w.cause c.remaining (after_rounds s v.rounds) (length v.rounds) w.is_cause ∙ ap (λ n. n + 1) v.count ∙ sym more;
 }
 
-pub ends_driving : (known : KnownFiles) (a b c : Line) (made since turns : ℕ) (s : Session) (k new : Kept) (end : StreamEnd) → made ≤ turns → ((t : Session) → Stands k t → Stops end b c t new) → Driving known a b made since s k → Driven known a c turns s new end
-ends_driving known a b c made since turns s k new end few g v = ends_after known a b c made since turns s k new end few v (g (after_rounds s v.rounds) v.stands)
+pub ends_driving : (known : KnownFiles) (a b c : Line) (made since turns taken : ℕ) (s : Session) (k new : Kept) (end : StreamEnd) → made ≤ turns → taken ≡ made + 1 → OfEach k (λ t. Stops end b c t new) → Driving known a b made since s k
+    → DroveFor known a c turns taken s new end
+ends_driving known a b c made since turns taken s k new end few more g v = ends_after known a b c made since turns taken s k new end few more v (g (after_rounds s v.rounds) v.stands)
+
+-- all turns were made
+pub stops_driving : (known : KnownFiles) (a b : Line) (made since turns taken : ℕ) (s : Session) (k : Kept) → made ≡ turns → taken ≡ turns → Driving known a b made since s k → DroveFor known a b turns taken s k Turns
+stops_driving known a b made since turns taken s k all same v = record {
+  rounds = v.rounds;
+  cause = TurnsMade;
+  drove = record {
+    are_rounds = v.are_rounds;
+    few = subst (λ (n : ℕ). n ≤ turns) (sym (v.count ∙ all)) (omega arith);
+    moved = moved_as a b _ _ _ _ _ _ _ _ (sym (append-nil (received v.rounds))) (sym (append-nil (sent s v.rounds))) refl refl v.moved;
+    is_cause = v.count ∙ all;
+  };
+  is_end = refl;
+  leaves = v.stands;
+  began = tt;
+  counts = v.count ∙ all ∙ sym same;
+}
+
+-- where there was room
+pub driven_in : (known : KnownFiles) (a b : Line) (turns taken : ℕ) (s : Session) (k : Kept) (end : StreamEnd) → DroveFor known a b turns taken s k end → Driven known a b turns s k end
+driven_in known a b turns taken s k end v = record { rounds = v.rounds; cause = v.cause; drove = v.drove; is_end = v.is_end; leaves = v.leaves }
 
 -- without room for a piece no round is made
 pub no_room_to_drive : (known : KnownFiles) (line : Line) (turns : ℕ) (s : Session) (k : Kept) → Stands k s → Driven known line line turns s k OutOfMemory
-no_room_to_drive known line turns s k st = record { rounds = []; cause = NoRoom; are_rounds = tt; few = omega arith; moved = still line; is_end = refl; is_cause = refl; leaves = st }
-
--- all turns were made
-pub stops_driving : (known : KnownFiles) (a b : Line) (made since turns : ℕ) (s : Session) (k : Kept) → made ≡ turns → Driving known a b made since s k → Driven known a b turns s k Turns
-stops_driving known a b made since turns s k all v = record {
-  rounds = v.rounds;
-  cause = TurnsMade;
-  are_rounds = v.are_rounds;
-  few = subst (λ (n : ℕ). n ≤ turns) (sym (v.count ∙ all)) (omega arith);
-  moved = moved_as a b _ _ _ _ _ _ _ _ (sym (append-nil (received v.rounds))) (sym (append-nil (sent s v.rounds))) refl refl v.moved;
+no_room_to_drive known line turns s k st = record {
+  rounds = [];
+  cause = NoRoom;
+  drove = record { are_rounds = tt; few = omega arith; moved = still line; is_cause = refl };
   is_end = refl;
-  is_cause = v.count ∙ all;
-  leaves = v.stands;
+  leaves = st;
 }

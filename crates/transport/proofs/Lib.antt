@@ -1,6 +1,7 @@
 pub mod Taking
 pub mod Serving
 pub mod Driving
+pub mod Visiting
 pub mod ServerLemmas
 pub mod Sending
 pub mod Calls

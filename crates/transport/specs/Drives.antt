@@ -172,22 +172,33 @@ Leaves (PieceLost piece) s new = Stands new (Effect s DropConnection)
 Leaves TimeCut s new = RunsOut s new
 Leaves TurnsMade s new = Stands new s
 
--- There are rounds, each of which does what is due; the files that answers were given are what reads of the files gave;
--- and after them driving ends, for a cause. The pieces that they received are what the wire gave, but for a piece that
--- was lost at the end; the bytes that they sent are what it took, but for what a call that failed had written. The wire
--- counts one call that failed where it ends as a fault, and else none; and one look that found nothing for each time
--- that a program got, where it can be looked at, and else none.
-pub record Driven (known : KnownFiles) (old new : Line) (turns : ℕ) (s : Session) (kept : Kept) (end : StreamEnd)
+-- The rounds are made one after the other, at most so many, and then driving ends for the cause: each does what is due,
+-- and the files that answers were given are what reads of the files gave. The pieces that they received are what the wire
+-- gave, but for a piece that was lost at the end; the bytes that they sent are what it took, but for what a call that
+-- failed had written. The wire counts one call that failed where one ends driving, and else none; and one look that found
+-- nothing for each time that a program got, where it can be looked at, and else none.
+pub record Drove (known : KnownFiles) (old new : Line) (turns : ℕ) (s : Session) (rounds : List Round) (cause : Cause)
     : Type 0 where
-  pub rounds : List Round
-  pub cause : Cause
   pub are_rounds : AreRounds known old.polls 0 s rounds
   pub few : length rounds ≤ turns
   pub moved : Moved old new (received rounds ++ lost_by cause) (sent s rounds ++ written_by cause)
       (failed_by cause old.faults) (idle_by old.polls cause (idle_after_rounds old.polls old.idle rounds))
-  pub is_end : end_of cause ≡ end
   pub is_cause : IsCause old.polls cause new.remaining turns (length rounds) (after_rounds s rounds)
+
+-- There are rounds, and a cause for which driving ends after them.
+pub record Driven (known : KnownFiles) (old new : Line) (turns : ℕ) (s : Session) (kept : Kept) (end : StreamEnd)
+    : Type 0 where
+  pub rounds : List Round
+  pub cause : Cause
+  pub drove : Drove known old new turns s rounds cause
+  pub is_end : end_of cause ≡ end
   pub leaves : Leaves cause (after_rounds s rounds) kept
+
+-- how many turns that takes, by how many rounds there are: that in which driving ends is one more, if there is such
+abbrev pub turns_of : Cause → ℕ → ℕ
+turns_of NoRoom made = made
+turns_of TurnsMade made = made
+turns_of _ made = made + 1
 
 -- ---- one turn of the loop, for private clauses alone
 
@@ -216,6 +227,29 @@ pub record Stops (end : StreamEnd) (old new : Line) (s : Session) (kept : Kept) 
 abbrev pub Went : KnownFiles → ℕ → Result ℕ StreamEnd → Line → Line → Session → Kept → Type 0
 Went known since (Ok next) old new s kept = GoesOn known since next old new s kept
 Went known since (Err end) old new s kept = Stops end old new s kept
+
+-- whether there was room to drive
+abbrev pub HasBegun : Cause → Type 0
+HasBegun NoRoom = ⊥
+HasBegun _ = Unit {0}
+
+-- whether the connection has ended, and nothing else
+abbrev pub IsLeaving : StreamEnd → Type 0
+IsLeaving Closed = Unit {0}
+IsLeaving Fault = Unit {0}
+IsLeaving Turns = ⊥
+IsLeaving NoMemory = ⊥
+
+-- It is driven where there is room, and that takes so many turns.
+pub record DroveFor (known : KnownFiles) (old new : Line) (turns taken : ℕ) (s : Session) (kept : Kept)
+    (end : StreamEnd) : Type 0 where
+  pub rounds : List Round
+  pub cause : Cause
+  pub drove : Drove known old new turns s rounds cause
+  pub is_end : end_of cause ≡ end
+  pub leaves : Leaves cause (after_rounds s rounds) kept
+  pub began : HasBegun cause
+  pub counts : turns_of cause (length rounds) ≡ taken
 
 -- A session has been driven since it was this one, for so many rounds.
 pub record Driving (known : KnownFiles) (old new : Line) (made since : ℕ) (s : Session) (kept : Kept) : Type 0 where

@@ -5,6 +5,8 @@
 pub mod Rounds
 -- the same over a wire
 pub mod Drives
+-- editors one after the other, who come through a door
+pub mod Visits
 -- ---- a server, for a program that answers by itself
 -- the messages of what was read, and those that were given
 pub mod Heard

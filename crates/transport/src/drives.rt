@@ -1,7 +1,7 @@
 //! A session over a wire.
 ghost use Rattle.std.specs.Prelude.{◌≡◌, ◌+◌, ◌<◌, ◌≤◌, length, true, Err, IfOk, ℕ};
 ghost use Rattle.session.specs.Kept.{OfEach, Stands, see_kept};
-ghost use Rattle.transport.specs.Drives.{Driven, Passed, Went, is_held};
+ghost use Rattle.transport.specs.Drives.{Driven, DroveFor, Passed, Went, is_held};
 ghost use Rattle.transport.specs.Rounds as rounds;
 ghost use Rattle.transport.specs.Rounds.{KnownFiles, due};
 ghost use Rattle.wires.specs.Wires.{Line};
@@ -44,14 +44,47 @@ pub fn drive<W: Wire, F: Files>(
     let Ok(mut room) = room_of(alloc) else {
         return StreamEnd::NoMemory;
     };
+    drive_in(alloc, session, wire, files, &mut room, turns).end
+}
+
+/// How driving ended, and how many turns it took.
+#[derive(Clone, Copy, Debug, PartialEq, Eq)]
+pub(crate) struct Drove {
+    pub end: StreamEnd,
+    pub turns: u64,
+}
+
+/// Drives with this room for pieces.
+pub(crate) fn drive_in<W: Wire, F: Files>(
+    alloc: Global,
+    session: &mut Session,
+    wire: &mut W,
+    files: &F,
+    room: &mut [u8],
+    turns: u64,
+) -> Drove
+    requires room { 0 < length room.old }
+    requires piece { length room.old ≤ 65536 }
+    ensures drove { OfEach session.old (λ s. DroveFor (F.known files.now) (W.line wire.old) (W.line wire.new) turns result.turns
+        s session.new result.end) }
+    ensures few { result.turns ≤ turns }
+{
     let mut since = 0;
-    'driving: for _made in 0..turns {
-        match turn(alloc, session, wire, files, &mut room, since) {
+    'driving: for made in 0..turns {
+        match turn(alloc, session, wire, files, room, since) {
             Ok(moves) => since = moves,
-            Err(end) => return end,
+            Err(end) => {
+                return Drove {
+                    end,
+                    turns: made + 1,
+                };
+            }
         }
     }
-    StreamEnd::Turns
+    Drove {
+        end: StreamEnd::Turns,
+        turns,
+    }
 }
 
 // Does what is due, where a program made so many moves since bytes came, and answers how many it is then;

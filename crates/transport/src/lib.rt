@@ -10,9 +10,11 @@ mod outbox;
 mod room;
 pub mod serve;
 pub mod server;
+pub mod visits;
 
 pub use drives::drive;
 pub use end::StreamEnd;
 pub use files::{Files, LONGEST_TEXT};
 pub use serve::serve_streams;
 pub use server::{Server, ServerError};
+pub use visits::serve;

@@ -1,0 +1,311 @@
+-- Visit by visit, until serving ends.
+use Rattle.std.proofs.Common.{◌≡◌, ℕ, zero, suc, ◌+◌, ◌-◌, ◌≤◌, ◌<◌, List, [], ◌∷◌, ◌++◌, length, Bool, true, false, Option, Some, None, Result, Ok, Err, refl, sym, ap, ◌∙◌, subst, arith, append-nil, append_assoc, inl, inr}
+use Rattle.std.specs.Prelude.{IfOk, IsOk, IsErr, ◌⊎◌}
+use Rattle.transport.specs.declared.end.StreamEnd.{StreamEnd}
+use Rattle.transport.specs.declared.end.StreamEnd.TheVariants.{Closed, Fault, Turns, NoMemory as OutOfMemory}
+use Rattle.session.specs.declared.event.Applied.TheVariants as applied
+use Rattle.session.specs.declared.event.Ending.{Ending}
+use Rattle.session.specs.declared.event.Ending.TheVariants as ending
+use Rattle.session.specs.declared.event.Event.{Event}
+use Rattle.session.specs.declared.event.Event.TheVariants.{Connect, Slice, DropConnection}
+use Rattle.session.specs.declared.event.EventError.{EventError}
+use Rattle.session.specs.declared.event.EventError.TheVariants.{NotConnected, AlreadyConnected, Busy, SentTooMuch, PieceTooLong, Closing, NoMemory, Spent}
+use Rattle.session.specs.declared.event.Sliced.{Sliced}
+use Rattle.session.specs.declared.link.Link.{Link}
+use Rattle.session.specs.Effects.{BreaksOff, beats, sliced}
+use Rattle.session.specs.Kept.{Kept, OfEach, Stands, Happens, answered}
+use Rattle.session.specs.Sessions.{Session, Effect, Answer as answer_of, histories}
+use Rattle.session.specs.Slices.{is_runnable}
+use Rattle.wires.specs.Doors.{Doorway, IsEmpty, Loses, Opened}
+use Rattle.wires.specs.Wires.{Line, one_more}
+use Rattle.transport.specs.Rounds.{KnownFiles, moves_granted, Round, after_rounds}
+use Rattle.transport.specs.Drives.{Cause, AllSaid, InputEnded, CallFailed, NoRoom, NoAnswer, PieceLost, TimeCut, TurnsMade, end_of, turns_of, Drove, Leaves, HasBegun, IsLeaving, DroveFor}
+use Rattle.transport.specs.Visits.{Visit, Alone, Guest, HasLeft, IsCut, IsGuest, IsVisit, turns_in, after_visit, lines_in, idle_in, AreVisits, turns_taken, after_visits, lines_of, idle_after_visits, Why, NobodyComes, Refused, DoorFailed, AllMade, NoRoomYet, AloneCut, GuestCut, end_by, lines_by, failed_at, idle_at, IsWhy, LeavesCut, LeavesBy, Served, Visited, Ended, Hosted, Serving}
+use Rattle.transport.proofs.Serving.{Goes, goes_with, breaks_off}
+
+-- ---- what came through a door
+
+Loses-nil : (a : Option (List Line)) → Loses a a []
+Loses-nil None = tt
+Loses-nil (Some lines) = refl
+
+Loses-trans : (a b c : Option (List Line)) (xs ys : List Line) → Loses a b xs → Loses b c ys → Loses a c (xs ++ ys)
+Loses-trans None b c xs ys p q = tt
+Loses-trans (Some x) None c xs ys p q = absurd p
+Loses-trans (Some x) (Some y) None xs ys p q = absurd q
+Loses-trans (Some x) (Some y) (Some z) xs ys p q = p ∙ ap (λ l. xs ++ l) q ∙ sym (append_assoc xs ys z)
+
+shut : (a : Doorway) → Opened a a [] a.faults a.idle
+shut a = record { given = Loses-nil a.wires; faults = refl; idle = refl }
+
+opened-trans : (a b c : Doorway) (xs ys : List Line) (f f' i i' : ℕ) → Opened a b xs f i → Opened b c ys f' i' → Opened a c (xs ++ ys) f' i'
+opened-trans a b c xs ys f f' i i' m n = record { given = Loses-trans a.wires b.wires c.wires xs ys m.given n.given; faults = n.faults; idle = n.idle }
+
+opened_as : (a c : Doorway) (xs ys : List Line) (f f' i i' : ℕ) → xs ≡ ys → f ≡ f' → i ≡ i' → Opened a c xs f i → Opened a c ys f' i'
+opened_as a c xs ys f f' i i' p e g m = record { given = subst (Loses a.wires c.wires) p m.given; faults = m.faults ∙ e; idle = m.idle ∙ g }
+
+-- ---- a program without an editor
+
+same_moves : (k mid : Kept) (n : ℕ) → n ≡ moves_granted → (s : Session) → Stands mid (Effect s (Slice n)) → Stands mid (Effect s (Slice moves_granted))
+same_moves k mid n e s st = subst (λ m. Stands mid (Effect s (Slice m))) e st
+
+runnable_there : (k : Kept) (s : Session) → Stands k s → is_runnable k.now ≡ true → is_runnable s.now ≡ true
+runnable_there k s st e = subst (λ n. is_runnable n ≡ true) st.now e
+
+-- it made moves
+pub stays_alone : (known : KnownFiles) (left : ℕ) (old new : Doorway) (k mid : Kept) (n : ℕ) (r : Sliced) → n ≡ moves_granted → is_runnable k.now ≡ true → Happens k (Slice n) (Ok (applied.Slice r)) mid → (r.ending ≡ ending.NoMemory → ⊥)
+    → Opened old new [] old.faults (one_more old.idle) → (s : Session) → Stands k s → Visited known left 1 old new s mid
+stays_alone known left old new k mid n r e runs h ok m s st =
+    let g : Goes k mid n r.moved s = goes_with k mid n r.moved r.ending s ok h st in record {
+      visit = Alone;
+      is_visit = runnable_there k s st runs;
+      counts = refl;
+      opened = m;
+      stands = same_moves k mid n e s g.stands;
+    }
+
+-- no memory was left to tell what it did
+pub alone_is_cut : (known : KnownFiles) (left : ℕ) (old new : Doorway) (k mid : Kept) (n : ℕ) (r : Sliced) → n ≡ moves_granted → is_runnable k.now ≡ true → Happens k (Slice n) (Ok (applied.Slice r)) mid → r.ending ≡ ending.NoMemory
+    → Opened old new [] old.faults (one_more old.idle) → (s : Session) → Stands k s → Ended known left OutOfMemory old new s mid
+alone_is_cut known left old new k mid n r e runs h out m s st =
+    let broke : BreaksOff histories moves_granted r.moved s (λ t. Stands mid t) = subst (λ m. BreaksOff histories m r.moved s (λ t. Stands mid t)) e (breaks_off k mid n r.moved r.ending s out h st) in record {
+      why = AloneCut;
+      opened = m;
+      is_end = refl;
+      is_why = λ taken. runnable_there k s st runs;
+      leaves = (r.moved, broke);
+    }
+
+-- ---- the door
+
+-- nobody will come any more
+pub nobody_comes : (known : KnownFiles) (left : ℕ) (old new : Doorway) (k : Kept) → Opened old new [] old.faults old.idle → IsEmpty new.wires → (s : Session) → Stands k s → Ended known left Closed old new s k
+nobody_comes known left old new k m e s st = record { why = NobodyComes; opened = m; is_end = refl; is_why = λ taken. e; leaves = st }
+
+-- or it fails
+pub door_fails : (known : KnownFiles) (left : ℕ) (old new : Doorway) (k : Kept) → Opened old new [] (one_more old.faults) old.idle → (s : Session) → Stands k s → Ended known left Fault old new s k
+door_fails known left old new k m s st = record { why = DoorFailed; opened = m; is_end = refl; is_why = λ taken. tt; leaves = st }
+
+-- ---- an editor that came
+
+-- it is connected
+record Connects (s : Session) (mid : Kept) : Type 0 where
+  is_taken : IsOk (answer_of s Connect)
+  stands : Stands mid (Effect s Connect)
+
+connects : (k mid : Kept) (r : Result ℕ EventError) (n : ℕ) → r ≡ Ok n → Happens k Connect (answered applied.Connect r) mid → (s : Session) → Stands k s → Connects s mid
+connects k mid r n e h s st =
+    let there : Happens k Connect (Ok (applied.Connect n)) mid = subst (λ (r : Result ℕ EventError). Happens k Connect (answered applied.Connect r) mid) e h in
+    let x = there.to_each s st in record { is_taken = rw x.0 refl; stands = x.1 }
+
+-- or cannot be
+refuses : (k mid : Kept) (error : EventError) → (error ≡ NoMemory → ⊥) → Happens k Connect (Err error) mid → (s : Session) → Stands k s → IsErr (answer_of s Connect)
+refuses k mid NoMemory n h s st = absurd (n refl)
+refuses k mid NotConnected n h s st = rw (h.to_each s st).0 refl
+refuses k mid AlreadyConnected n h s st = rw (h.to_each s st).0 refl
+refuses k mid Busy n h s st = rw (h.to_each s st).0 refl
+refuses k mid SentTooMuch n h s st = rw (h.to_each s st).0 refl
+refuses k mid PieceTooLong n h s st = rw (h.to_each s st).0 refl
+refuses k mid Closing n h s st = rw (h.to_each s st).0 refl
+refuses k mid Spent n h s st = rw (h.to_each s st).0 refl
+
+pub is_refused : (known : KnownFiles) (left : ℕ) (old new : Doorway) (line : Line) (k mid kept : Kept) (r : Result ℕ EventError) (error : EventError) → r ≡ Err error → (r ≡ Err NoMemory → ⊥) → Happens k Connect (answered applied.Connect r) mid → kept ≡ k
+    → Opened old new (line ∷ []) old.faults old.idle → (s : Session) → Stands k s → Ended known left Closed old new s kept
+is_refused known left old new line k mid kept r error e n h same m s st =
+    let there : Happens k Connect (Err error) mid = subst (λ (r : Result ℕ EventError). Happens k Connect (answered applied.Connect r) mid) e h in record {
+      why = Refused line;
+      opened = m;
+      is_end = refl;
+      is_why = λ taken. refuses k mid error (λ (z : error ≡ NoMemory). n (e ∙ ap Err z)) there s st;
+      leaves = subst (λ k. Stands k s) (sym same) st;
+    }
+
+-- a connection that has ended is not ended again
+no_link : (s : Session) → (Effect s DropConnection).now.link ≡ None
+no_link s =
+    let P : Option Link → Type 0 = λ l. s.now.link ≡ l → (performed histories (outcome_at (histories.see s) l DropConnection).acts s).now.link ≡ None in
+    let go : P s.now.link = elim s.now.link as P [
+      | None ↦ λ e. e
+      | Some link ↦ λ e. refl
+    ] in go refl
+
+drops_none : (s : Session) → s.now.link ≡ None → Effect s DropConnection ≡ s
+drops_none s e =
+    let P : Option Link → Type 0 = λ l. performed histories (outcome_at (histories.see s) l DropConnection).acts s ≡ s in
+    let none : P None = refl in
+    subst P (sym e) none
+
+dropped_twice : (s : Session) → Effect (Effect s DropConnection) DropConnection ≡ Effect s DropConnection
+dropped_twice s = drops_none (Effect s DropConnection) (no_link s)
+
+cuts : (cause : Cause) (t : Session) (mid kept : Kept) → IsCut cause → Leaves cause t mid → OfEach mid (λ u. Stands kept (Effect u DropConnection)) → LeavesCut cause t kept
+cuts AllSaid t mid kept c l d = absurd c
+cuts InputEnded t mid kept c l d = absurd c
+cuts (CallFailed part) t mid kept c l d = absurd c
+cuts NoRoom t mid kept c l d = absurd c
+cuts NoAnswer t mid kept c l d = d t l
+cuts (PieceLost piece) t mid kept c l d = subst (Stands kept) (dropped_twice t) (d (Effect t DropConnection) l)
+cuts TimeCut t mid kept c l d = (l.0, record { count = l.1.count; goes_on = l.1.goes_on; moves = l.1.moves; holds = d _ l.1.holds })
+cuts TurnsMade t mid kept c l d = d t l
+
+has_left : (cause : Cause) (t : Session) (mid : Kept) → HasLeft cause → Leaves cause t mid → Stands mid (Effect t DropConnection)
+has_left AllSaid t mid c l = l
+has_left InputEnded t mid c l = l
+has_left (CallFailed part) t mid c l = l
+has_left NoRoom t mid c l = absurd c
+has_left NoAnswer t mid c l = absurd c
+has_left (PieceLost piece) t mid c l = absurd c
+has_left TimeCut t mid c l = absurd c
+has_left TurnsMade t mid c l = absurd c
+
+leaves_by : (cause : Cause) (end : StreamEnd) → end_of cause ≡ end → IsLeaving end → HasLeft cause
+leaves_by AllSaid end e g = tt
+leaves_by InputEnded end e g = tt
+leaves_by (CallFailed part) end e g = tt
+leaves_by NoRoom end e g = absurd (subst IsLeaving (sym e) g)
+leaves_by NoAnswer end e g = absurd (subst IsLeaving (sym e) g)
+leaves_by (PieceLost piece) end e g = absurd (subst IsLeaving (sym e) g)
+leaves_by TimeCut end e g = absurd (subst IsLeaving (sym e) g)
+leaves_by TurnsMade end e g = absurd (subst IsLeaving (sym e) g)
+
+cut_by : (cause : Cause) (end : StreamEnd) → end_of cause ≡ end → HasBegun cause → (IsLeaving end → ⊥) → IsCut cause
+cut_by AllSaid end e began stays = absurd (stays (subst IsLeaving e tt))
+cut_by InputEnded end e began stays = absurd (stays (subst IsLeaving e tt))
+cut_by (CallFailed part) end e began stays = absurd (stays (subst IsLeaving e tt))
+cut_by NoRoom end e began stays = absurd began
+cut_by NoAnswer end e began stays = tt
+cut_by (PieceLost piece) end e began stays = tt
+cut_by TimeCut end e began stays = tt
+cut_by TurnsMade end e began stays = tt
+
+pub leaving : (end : StreamEnd) → (end ≡ Closed) ⊎ (end ≡ Fault) → IsLeaving end
+leaving end (inl e) = subst IsLeaving (sym e) tt
+leaving end (inr e) = subst IsLeaving (sym e) tt
+
+pub stays : (end : StreamEnd) → (end ≡ Closed → ⊥) → (end ≡ Fault → ⊥) → IsLeaving end → ⊥
+stays Closed a b h = a refl
+stays Fault a b h = b refl
+stays Turns a b h = h
+stays OutOfMemory a b h = h
+
+-- its connection ended, and serving goes on
+pub is_guest : (known : KnownFiles) (left : ℕ) (old new : Doorway) (a b : Line) (k mid kept : Kept) (r : Result ℕ EventError) (n : ℕ) (end : StreamEnd) (taken : ℕ) → r ≡ Ok n → Happens k Connect (answered applied.Connect r) mid
+    → OfEach mid (λ t. DroveFor known a b (left - 1) taken t kept end) → IsLeaving end → Opened old new (a ∷ []) old.faults old.idle → (s : Session) → Stands k s → Visited known left (taken + 1) old new s kept
+is_guest known left old new a b k mid kept r n end taken e h drove gone m s st =
+    let c = connects k mid r n e h s st in
+    let v : DroveFor known a b (left - 1) taken (Effect s Connect) kept end = drove (Effect s Connect) c.stands in
+    let has : HasLeft v.cause = leaves_by v.cause end v.is_end gone in record {
+      visit = Guest a b v.rounds v.cause;
+      is_visit = (record { connects = c.is_taken; drove = v.drove }, has);
+      counts = ap (λ n. n + 1) v.counts;
+      opened = m;
+      stands = has_left v.cause (after_rounds (Effect s Connect) v.rounds) kept has v.leaves;
+    }
+
+-- or turns or memory end it
+pub is_cut : (known : KnownFiles) (left : ℕ) (old new : Doorway) (a b : Line) (k mid driven kept : Kept) (r : Result ℕ EventError) (n : ℕ) (end : StreamEnd) (taken : ℕ) → r ≡ Ok n → Happens k Connect (answered applied.Connect r) mid
+    → OfEach mid (λ t. DroveFor known a b (left - 1) taken t driven end) → (IsLeaving end → ⊥) → OfEach driven (λ u. Stands kept (Effect u DropConnection)) → Opened old new (a ∷ []) old.faults old.idle → (s : Session) → Stands k s
+    → Ended known left end old new s kept
+is_cut known left old new a b k mid driven kept r n end taken e h drove stays dropped m s st =
+    let c = connects k mid r n e h s st in
+    let v : DroveFor known a b (left - 1) taken (Effect s Connect) driven end = drove (Effect s Connect) c.stands in
+    let cut : IsCut v.cause = cut_by v.cause end v.is_end v.began stays in record {
+      why = GuestCut a b v.rounds v.cause;
+      opened = m;
+      is_end = v.is_end;
+      is_why = λ taken. (record { connects = c.is_taken; drove = v.drove }, cut);
+      leaves = cuts v.cause (after_rounds (Effect s Connect) v.rounds) driven kept cut v.leaves dropped;
+    }
+
+-- ---- visits after visits
+
+less-none : (n : ℕ) → n - 0 ≡ n
+less-none n = omega arith
+
+less-less : (n a b : ℕ) → n - (a + b) ≡ (n - a) - b
+less-less n a b = omega arith
+
+are_visits-append : (known : KnownFiles) (n : ℕ) (s : Session) (xs ys : List Visit) → AreVisits known n s xs → AreVisits known (n - turns_taken xs) (after_visits s xs) ys → AreVisits known n s (xs ++ ys)
+are_visits-append known n s [] ys a b = subst (λ (m : ℕ). AreVisits known m s ys) (less-none n) b
+are_visits-append known n s (x ∷ xs) ys a b =
+    (a.0, are_visits-append known (n - turns_in x) (after_visit s x) xs ys a.1 (subst (λ (m : ℕ). AreVisits known m (after_visits (after_visit s x) xs) ys) (less-less n (turns_in x) (turns_taken xs)) b))
+
+turns_taken-append : (xs ys : List Visit) → turns_taken (xs ++ ys) ≡ turns_taken xs + turns_taken ys
+turns_taken-append [] ys = omega arith
+turns_taken-append (x ∷ xs) ys = ap (λ n. turns_in x + n) (turns_taken-append xs ys) ∙ omega arith
+
+after_visits-append : (s : Session) (xs ys : List Visit) → after_visits s (xs ++ ys) ≡ after_visits (after_visits s xs) ys
+after_visits-append s [] ys = refl
+after_visits-append s (x ∷ xs) ys = after_visits-append (after_visit s x) xs ys
+
+lines_of-append : (xs ys : List Visit) → lines_of (xs ++ ys) ≡ lines_of xs ++ lines_of ys
+lines_of-append [] ys = refl
+lines_of-append (x ∷ xs) ys = ap (λ l. lines_in x ++ l) (lines_of-append xs ys) ∙ sym (append_assoc (lines_in x) (lines_of xs) (lines_of ys))
+
+idle_after_visits-append : (count : ℕ) (xs ys : List Visit) → idle_after_visits count (xs ++ ys) ≡ idle_after_visits (idle_after_visits count xs) ys
+idle_after_visits-append count [] ys = refl
+idle_after_visits-append count (x ∷ xs) ys = idle_after_visits-append (idle_in count x) xs ys
+
+-- ---- the loop
+
+pub begins_serving : (known : KnownFiles) (door : Doorway) (turns : ℕ) (k : Kept) (s : Session) → Stands k s → Serving known door door turns 0 s k
+begins_serving known door turns k s st = record { visits = []; are_visits = tt; count = refl; opened = shut door; stands = st }
+
+lines_then : (xs : List Visit) (x : Visit) → lines_of xs ++ lines_in x ≡ lines_of (xs ++ x ∷ [])
+lines_then xs x = sym (lines_of-append xs (x ∷ []) ∙ ap (λ l. lines_of xs ++ l) (append-nil (lines_in x)))
+
+idle_then : (a b : Doorway) (xs : List Visit) (x : Visit) → b.idle ≡ idle_after_visits a.idle xs → idle_in b.idle x ≡ idle_after_visits a.idle (xs ++ x ∷ [])
+idle_then a b xs x i = ap (λ (n : ℕ). idle_in n x) i ∙ sym (idle_after_visits-append a.idle xs (x ∷ []))
+
+goes_on_serving : (known : KnownFiles) (a b c : Doorway) (turns taken count : ℕ) (s : Session) (k new : Kept) (v : Serving known a b turns taken s k) → Visited known (turns - taken) count b c (after_visits s v.visits) new → Serving known a c turns (taken + count) s new
+goes_on_serving known a b c turns taken count s k new v w =
+    let is_visit : IsVisit known (turns - turns_taken v.visits) (after_visits s v.visits) w.visit = subst (λ (n : ℕ). IsVisit known (turns - n) (after_visits s v.visits) w.visit) (sym v.count) w.is_visit in
+    let counts : turns_in w.visit ≡ count = w.counts in
+    let taken_is : turns_taken v.visits ≡ taken = v.count in record {
+      visits = v.visits ++ w.visit ∷ [];
+      are_visits = are_visits-append known turns s v.visits (w.visit ∷ []) v.are_visits (is_visit, tt);
+      count = turns_taken-append v.visits (w.visit ∷ []) ∙ omega arith;
+      opened = opened_as a c _ _ _ _ _ _ (lines_then v.visits w.visit) v.opened.faults (idle_then a b v.visits w.visit v.opened.idle) (opened-trans a b c _ _ _ _ _ _ v.opened w.opened);
+      stands = subst (Stands new) (sym (after_visits-append s v.visits (w.visit ∷ []))) w.stands;
+    }
+
+-- where the door was asked, and serving goes on
+pub serves_on : (known : KnownFiles) (a b c : Doorway) (turns taken : ℕ) (s : Session) (k new : Kept) (result : Result ℕ StreamEnd) (count : ℕ) → result ≡ Ok count → OfEach k (λ t. Hosted known (turns - taken) result b c t new) → Serving known a b turns taken s k
+    → Serving known a c turns (taken + count) s new
+serves_on known a b c turns taken s k new result count e g v =
+    let t = after_visits s v.visits in
+    goes_on_serving known a b c turns taken count s k new v (subst (λ (r : Result ℕ StreamEnd). Hosted known (turns - taken) r b c t new) e (g t v.stands))
+
+ends_after : (known : KnownFiles) (a b c : Doorway) (turns taken : ℕ) (s : Session) (k new : Kept) (end : StreamEnd) → taken ≤ turns → (v : Serving known a b turns taken s k) → Ended known (turns - taken) end b c (after_visits s v.visits) new
+    → Served known a c turns s new end
+ends_after known a b c turns taken s k new end few v w = record {
+  visits = v.visits;
+  why = w.why;
+  are_visits = v.are_visits;
+  few = subst (λ (n : ℕ). n ≤ turns) (sym v.count) few;
+  opened = opened_as a c _ _ _ _ _ _ refl (ap (failed_at w.why) v.opened.faults) (ap (idle_at w.why) v.opened.idle) (opened-trans a b c _ _ _ _ _ _ v.opened w.opened);
+  is_end = w.is_end;
+  is_why = subst (λ (n : ℕ). IsWhy known w.why c.wires (turns - n) (turns_taken v.visits) (after_visits s v.visits)) (sym v.count) (w.is_why (turns_taken v.visits));
+  leaves = w.leaves;
+}
+
+pub serving_ends : (known : KnownFiles) (a b c : Doorway) (turns taken : ℕ) (s : Session) (k new : Kept) (end : StreamEnd) → taken ≤ turns → OfEach k (λ t. Ended known (turns - taken) end b c t new) → Serving known a b turns taken s k → Served known a c turns s new end
+serving_ends known a b c turns taken s k new end few g v = ends_after known a b c turns taken s k new end few v (g (after_visits s v.visits) v.stands)
+
+-- all turns were taken
+pub all_taken : (known : KnownFiles) (a b : Doorway) (turns taken : ℕ) (s : Session) (k : Kept) → taken ≡ turns → Serving known a b turns taken s k → Served known a b turns s k Turns
+all_taken known a b turns taken s k all v =
+    let made : turns_taken v.visits ≡ turns = v.count ∙ all in record {
+      visits = v.visits;
+      why = AllMade;
+      are_visits = v.are_visits;
+      few = omega arith;
+      opened = opened_as a b _ _ _ _ _ _ (sym (append-nil (lines_of v.visits))) refl refl v.opened;
+      is_end = refl;
+      is_why = omega arith;
+      leaves = v.stands;
+    }
+
+-- without room for a piece the door is not asked
+pub no_room_to_serve : (known : KnownFiles) (door : Doorway) (turns : ℕ) (s : Session) (k : Kept) → Stands k s → Served known door door turns s k OutOfMemory
+no_room_to_serve known door turns s k st = record { visits = []; why = NoRoomYet; are_visits = tt; few = omega arith; opened = shut door; is_end = refl; is_why = refl; leaves = st }
