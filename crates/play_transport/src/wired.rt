@@ -3,7 +3,8 @@
 use crate::{Connection, new_connection};
 use play::{Fault, bytes_of, called, hexadecimal, parsed, shown};
 use std::alloc::Global;
-use transport::{StreamEnd, drive, serve};
+use transport::visits::serve;
+use transport::{StreamEnd, drive};
 use wires::{Door, Habits, MemoryDoor, MemoryWire, Visits, Wire};
 
 /// Wires with no piece that cannot poll, take all at once, and do not fail.

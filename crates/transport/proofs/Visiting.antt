@@ -12,8 +12,9 @@ use Rattle.session.specs.declared.event.EventError.{EventError}
 use Rattle.session.specs.declared.event.EventError.TheVariants.{NotConnected, AlreadyConnected, Busy, SentTooMuch, PieceTooLong, Closing, NoMemory, Spent}
 use Rattle.session.specs.declared.event.Sliced.{Sliced}
 use Rattle.session.specs.declared.link.Link.{Link}
-use Rattle.session.specs.Effects.{BreaksOff, beats, sliced}
+use Rattle.session.specs.Effects.{BreaksOff, performed}
 use Rattle.session.specs.Kept.{Kept, OfEach, Stands, Happens, answered}
+use Rattle.session.specs.Outcomes.{outcome_at}
 use Rattle.session.specs.Sessions.{Session, Effect, Answer as answer_of, histories}
 use Rattle.session.specs.Slices.{is_runnable}
 use Rattle.wires.specs.Doors.{Doorway, IsEmpty, Loses, Opened}

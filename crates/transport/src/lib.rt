@@ -17,4 +17,3 @@ pub use end::StreamEnd;
 pub use files::{Files, LONGEST_TEXT};
 pub use serve::serve_streams;
 pub use server::{Server, ServerError};
-pub use visits::serve;
