@@ -1,5 +1,5 @@
 -- Round by round over a wire, until driving ends.
-use Rattle.std.proofs.Common.{◌≡◌, ℕ, zero, suc, ◌+◌, ◌≤◌, ◌<◌, List, [], ◌∷◌, ◌++◌, length, take, drop, Bool, true, false, ltb, Option, Result, Ok, Err, refl, sym, ap, ◌∙◌, subst, arith, append-nil, take-append-drop}
+use Rattle.std.proofs.Common.{◌≡◌, ℕ, ◌+◌, ◌≤◌, ◌<◌, List, [], ◌∷◌, ◌++◌, length, take, drop, Bool, true, false, ltb, Option, Result, Ok, Err, refl, sym, ap, ◌∙◌, subst, arith, append-nil, take-append-drop}
 use Rattle.std.specs.Io.KnownBytes.{Consumes, Appends, IsAtEnd}
 use Rattle.std.specs.Prelude.{IfOk}
 use Rattle.std.proofs.KnownBytes.{Consumes-nil, Appends-nil, Consumes-trans, Appends-trans}
@@ -9,7 +9,6 @@ use Rattle.transport.specs.declared.end.StreamEnd.{StreamEnd}
 use Rattle.transport.specs.declared.end.StreamEnd.TheVariants.{Closed, Fault, Turns, NoMemory as OutOfMemory}
 use Rattle.session.specs.declared.event.Applied.TheVariants as applied
 use Rattle.session.specs.declared.event.Ending.TheVariants as ending
-use Rattle.session.specs.declared.event.Event.{Event}
 use Rattle.session.specs.declared.event.Event.TheVariants.{Recv, Turn, Slice, Sent, DropConnection}
 use Rattle.session.specs.declared.event.EventError.{EventError}
 use Rattle.session.specs.declared.event.EventError.TheVariants.{NoMemory}
@@ -24,7 +23,7 @@ use Rattle.session.specs.Sessions.{Session, Effect, histories, waiting_of}
 use Rattle.session.specs.Slices.{is_runnable}
 use Rattle.wires.specs.Wires.{Line, Moved, one_more}
 use Rattle.transport.specs.Rounds.{KnownFiles, IsGiven, Took, Due, Send, Leave, Answer, Run, Receive, due, due_in, Round, Did, Ran, IsTaken, after_round, after_rounds, received_in, received, sent_in, sent, since_round, since_rounds, counted, held_after, moves_granted, moves_made}
-use Rattle.transport.specs.Drives.{MayCome, MayFail, is_held, IsRound, AreRounds, idle_looked, idle_after, idle_after_rounds, Cause, AllSaid, InputEnded, CallFailed, NoRoom, NoAnswer, PieceLost, TimeCut, TurnsMade, end_of, lost_by, written_by, failed_by, idle_by, IsCause, Leaves, Drove, Driven, turns_of, HasBegun, DroveFor, Passed, GoesOn, Stops, Went, Driving}
+use Rattle.transport.specs.Drives.{MayCome, MayFail, is_held, IsRound, AreRounds, idle_looked, idle_after, idle_after_rounds, Cause, AllSaid, InputEnded, CallFailed, NoRoom, NoAnswer, PieceLost, TimeCut, TurnsMade, failed_by, idle_by, IsCause, Driven, turns_of, HasBegun, DroveFor, Passed, GoesOn, Stops, Went, Driving}
 use Rattle.transport.proofs.Serving.{happened, due_there, given_there, Goes, goes_with, breaks_off, after_rounds-append, received-append, sent-append, since_rounds-append}
 use Rattle.transport.proofs.Taking.{send_test, takes_sent, takes_turn, takes_received, takes_running}
 

@@ -1,12 +1,10 @@
 -- Visit by visit, until serving ends.
-use Rattle.std.proofs.Common.{◌≡◌, ℕ, zero, suc, ◌+◌, ◌-◌, ◌≤◌, ◌<◌, List, [], ◌∷◌, ◌++◌, length, Bool, true, false, Option, Some, None, Result, Ok, Err, refl, sym, ap, ◌∙◌, subst, arith, append-nil, append_assoc, inl, inr}
-use Rattle.std.specs.Prelude.{IfOk, IsOk, IsErr, ◌⊎◌}
+use Rattle.std.proofs.Common.{◌≡◌, ℕ, ◌+◌, ◌-◌, ◌≤◌, List, [], ◌∷◌, ◌++◌, true, Option, Some, None, Result, Ok, Err, refl, sym, ap, ◌∙◌, subst, arith, append-nil, append_assoc, inl, inr}
+use Rattle.std.specs.Prelude.{IsOk, IsErr, ◌⊎◌}
 use Rattle.transport.specs.declared.end.StreamEnd.{StreamEnd}
 use Rattle.transport.specs.declared.end.StreamEnd.TheVariants.{Closed, Fault, Turns, NoMemory as OutOfMemory}
 use Rattle.session.specs.declared.event.Applied.TheVariants as applied
-use Rattle.session.specs.declared.event.Ending.{Ending}
 use Rattle.session.specs.declared.event.Ending.TheVariants as ending
-use Rattle.session.specs.declared.event.Event.{Event}
 use Rattle.session.specs.declared.event.Event.TheVariants.{Connect, Slice, DropConnection}
 use Rattle.session.specs.declared.event.EventError.{EventError}
 use Rattle.session.specs.declared.event.EventError.TheVariants.{NotConnected, AlreadyConnected, Busy, SentTooMuch, PieceTooLong, Closing, NoMemory, Spent}
@@ -19,9 +17,9 @@ use Rattle.session.specs.Sessions.{Session, Effect, Answer as answer_of, histori
 use Rattle.session.specs.Slices.{is_runnable}
 use Rattle.wires.specs.Doors.{Doorway, IsEmpty, Loses, Opened}
 use Rattle.wires.specs.Wires.{Line, one_more}
-use Rattle.transport.specs.Rounds.{KnownFiles, moves_granted, Round, after_rounds}
-use Rattle.transport.specs.Drives.{Cause, AllSaid, InputEnded, CallFailed, NoRoom, NoAnswer, PieceLost, TimeCut, TurnsMade, end_of, turns_of, Drove, Leaves, HasBegun, IsLeaving, DroveFor}
-use Rattle.transport.specs.Visits.{Visit, Alone, Guest, HasLeft, IsCut, IsGuest, IsVisit, turns_in, after_visit, lines_in, idle_in, AreVisits, turns_taken, after_visits, lines_of, idle_after_visits, Why, NobodyComes, Refused, DoorFailed, AllMade, NoRoomYet, AloneCut, GuestCut, end_by, lines_by, failed_at, idle_at, IsWhy, LeavesCut, LeavesBy, Served, Visited, Ended, Hosted, Serving}
+use Rattle.transport.specs.Rounds.{KnownFiles, moves_granted, after_rounds}
+use Rattle.transport.specs.Drives.{Cause, AllSaid, InputEnded, CallFailed, NoRoom, NoAnswer, PieceLost, TimeCut, TurnsMade, end_of, Leaves, HasBegun, IsLeaving, DroveFor}
+use Rattle.transport.specs.Visits.{Visit, Alone, Guest, HasLeft, IsCut, IsVisit, turns_in, after_visit, lines_in, idle_in, AreVisits, turns_taken, after_visits, lines_of, idle_after_visits, NobodyComes, Refused, DoorFailed, AllMade, NoRoomYet, AloneCut, GuestCut, failed_at, idle_at, IsWhy, LeavesCut, Served, Visited, Ended, Hosted, Serving}
 use Rattle.transport.proofs.Serving.{Goes, goes_with, breaks_off}
 
 -- ---- what came through a door

@@ -7,7 +7,7 @@
 --
 -- Each of these is a turn: an editor that comes, a time of the program without one, a round of a connection, and its end.
 -- Where turns or memory end serving while an editor is connected, its connection ends too.
-use Rattle.std.specs.Prelude.{◌≡◌, ℕ, ◌+◌, ◌-◌, ◌≤◌, Bool, true, List, [], ◌∷◌, ◌++◌, length, Option, Result, Ok, Err, IsOk, IsErr}
+use Rattle.std.specs.Prelude.{◌≡◌, ℕ, ◌+◌, ◌-◌, ◌≤◌, true, List, [], ◌∷◌, ◌++◌, length, Option, Result, Ok, Err, IsOk, IsErr}
 use Rattle.session.specs.declared.event.Event.TheVariants.{Connect, Slice, DropConnection}
 use Rattle.session.specs.Effects.{BreaksOff}
 use Rattle.session.specs.Kept.{Kept, Stands}
@@ -18,7 +18,7 @@ use Rattle.wires.specs.Wires.{Line, one_more}
 use Rattle.transport.specs.declared.end.StreamEnd.{StreamEnd}
 use Rattle.transport.specs.declared.end.StreamEnd.TheVariants.{Closed, Fault, Turns, NoMemory}
 use Rattle.transport.specs.Rounds.{KnownFiles, moves_granted, Round, after_rounds, RunsOut}
-use Rattle.transport.specs.Drives.{Cause, AllSaid, InputEnded, CallFailed, NoRoom, NoAnswer, PieceLost, TimeCut, TurnsMade}
+use Rattle.transport.specs.Drives.{Cause, AllSaid, InputEnded, CallFailed, NoAnswer, PieceLost, TimeCut, TurnsMade}
 use Rattle.transport.specs.Drives.{end_of, turns_of, Drove}
 
 -- ---- one visit

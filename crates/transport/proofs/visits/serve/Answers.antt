@@ -1,4 +1,4 @@
-use Rattle.std.proofs.Common.{rules, arith, ◌≡◌, ◌≤◌, ◌<◌, ◌+◌, ◌-◌}
+use Rattle.std.proofs.Common.{rules, arith, ◌≡◌, ◌≤◌, ◌<◌, ◌-◌}
 use Rattle.transport.proofs.Visiting.{no_room_to_serve, serves_on, serving_ends, all_taken}
 use Rattle.transport.proofs.visits.serve.Goals as goal
 
