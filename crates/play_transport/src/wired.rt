@@ -62,13 +62,8 @@ impl Connection {
     }
 
     fn driven(&mut self, alloc: Global, turns: u64) -> StreamEnd {
-        drive(
-            alloc,
-            &mut self.session,
-            &mut self.wires[0],
-            &self.files,
-            turns,
-        )
+        let wire = &mut self.wires[0];
+        drive(alloc, &mut self.session, wire, &self.files, turns)
     }
 
     // Serves at a door that lends both wires: how it ended, how many of the door's calls failed, and how many

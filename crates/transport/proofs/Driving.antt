@@ -286,24 +286,25 @@ one_turn_more polls TurnsMade left s n h = absurd (one_is_none (h 0 1)) where
   one_is_none : (let n : ℕ = 1 in n) ≡ 0 → ⊥
   one_is_none e = omega arith
 
-ends_after : (known : KnownFiles) (a b c : Line) (made since turns taken : ℕ) (s : Session) (k new : Kept) (end : StreamEnd) → made ≤ turns → taken ≡ made + 1 → (v : Driving known a b made since s k) → Stops end b c (after_rounds s v.rounds) new
+ends_after : (known : KnownFiles) (a b c : Line) (made since turns taken : ℕ) (s : Session) (k new : Kept) (end : StreamEnd) → made < turns → taken ≡ made + 1 → (v : Driving known a b made since s k) → Stops end b c (after_rounds s v.rounds) new
     → DroveFor known a c turns taken s new end
-ends_after known a b c made since turns taken s k new end few more v w = record {
-  rounds = v.rounds;
-  cause = w.cause;
-  drove = record {
-    are_rounds = v.are_rounds;
-    few = subst (λ (n : ℕ). n ≤ turns) (sym v.count) few;
-    moved = moved_as a c _ _ _ _ _ _ _ _ refl refl (ap (failed_by w.cause) v.moved.faults) (ap (λ (p : Bool). idle_by p w.cause b.idle) v.moved.polls ∙ ap (idle_by a.polls w.cause) v.moved.idle) (moved-trans a b c _ _ _ _ _ _ _ _ v.moved w.moved);
-    is_cause = subst (λ (p : Bool). IsCause p w.cause c.remaining turns (length v.rounds) (after_rounds s v.rounds)) v.moved.polls (w.is_cause turns (length v.rounds));
-  };
-  is_end = w.is_end;
-  leaves = w.leaves;
-  began = begun b.polls w.cause c.remaining (after_rounds s v.rounds) w.is_cause;
-  counts = one_turn_more b.polls w.cause c.remaining (after_rounds s v.rounds) (length v.rounds) w.is_cause ∙ ap (λ n. n + 1) v.count ∙ sym more;
-}
+ends_after known a b c made since turns taken s k new end few more v w =
+    let counts : turns_of w.cause (length v.rounds) ≡ taken = one_turn_more b.polls w.cause c.remaining (after_rounds s v.rounds) (length v.rounds) w.is_cause ∙ ap (λ n. n + 1) v.count ∙ sym more in record {
+      rounds = v.rounds;
+      cause = w.cause;
+      drove = record {
+        are_rounds = v.are_rounds;
+        few = subst (λ (n : ℕ). n ≤ turns) (sym counts) (omega arith);
+        moved = moved_as a c _ _ _ _ _ _ _ _ refl refl (ap (failed_by w.cause) v.moved.faults) (ap (λ (p : Bool). idle_by p w.cause b.idle) v.moved.polls ∙ ap (idle_by a.polls w.cause) v.moved.idle) (moved-trans a b c _ _ _ _ _ _ _ _ v.moved w.moved);
+        is_cause = subst (λ (p : Bool). IsCause p w.cause c.remaining turns (length v.rounds) (after_rounds s v.rounds)) v.moved.polls (w.is_cause turns (length v.rounds));
+      };
+      is_end = w.is_end;
+      leaves = w.leaves;
+      began = begun b.polls w.cause c.remaining (after_rounds s v.rounds) w.is_cause;
+      counts = counts;
+    }
 
-pub ends_driving : (known : KnownFiles) (a b c : Line) (made since turns taken : ℕ) (s : Session) (k new : Kept) (end : StreamEnd) → made ≤ turns → taken ≡ made + 1 → OfEach k (λ t. Stops end b c t new) → Driving known a b made since s k
+pub ends_driving : (known : KnownFiles) (a b c : Line) (made since turns taken : ℕ) (s : Session) (k new : Kept) (end : StreamEnd) → made < turns → taken ≡ made + 1 → OfEach k (λ t. Stops end b c t new) → Driving known a b made since s k
     → DroveFor known a c turns taken s new end
 ends_driving known a b c made since turns taken s k new end few more g v = ends_after known a b c made since turns taken s k new end few more v (g (after_rounds s v.rounds) v.stands)
 

@@ -172,15 +172,21 @@ Leaves (PieceLost piece) s new = Stands new (Effect s DropConnection)
 Leaves TimeCut s new = RunsOut s new
 Leaves TurnsMade s new = Stands new s
 
--- The rounds are made one after the other, at most so many, and then driving ends for the cause: each does what is due,
--- and the files that answers were given are what reads of the files gave. The pieces that they received are what the wire
--- gave, but for a piece that was lost at the end; the bytes that they sent are what it took, but for what a call that
--- failed had written. The wire counts one call that failed where one ends driving, and else none; and one look that found
--- nothing for each time that a program got, where it can be looked at, and else none.
+-- how many turns driving takes, by how many rounds there are: that in which it ends is one more, if there is such
+abbrev pub turns_of : Cause → ℕ → ℕ
+turns_of NoRoom made = made
+turns_of TurnsMade made = made
+turns_of _ made = made + 1
+
+-- The rounds are made one after the other, in at most so many turns, and then driving ends for the cause: each does what
+-- is due, and the files that answers were given are what reads of the files gave. The pieces that they received are what
+-- the wire gave, but for a piece that was lost at the end; the bytes that they sent are what it took, but for what a call
+-- that failed had written. The wire counts one call that failed where one ends driving, and else none; and one look that
+-- found nothing for each time that a program got, where it can be looked at, and else none.
 pub record Drove (known : KnownFiles) (old new : Line) (turns : ℕ) (s : Session) (rounds : List Round) (cause : Cause)
     : Type 0 where
   pub are_rounds : AreRounds known old.polls 0 s rounds
-  pub few : length rounds ≤ turns
+  pub few : turns_of cause (length rounds) ≤ turns
   pub moved : Moved old new (received rounds ++ lost_by cause) (sent s rounds ++ written_by cause)
       (failed_by cause old.faults) (idle_by old.polls cause (idle_after_rounds old.polls old.idle rounds))
   pub is_cause : IsCause old.polls cause new.remaining turns (length rounds) (after_rounds s rounds)
@@ -193,12 +199,6 @@ pub record Driven (known : KnownFiles) (old new : Line) (turns : ℕ) (s : Sessi
   pub drove : Drove known old new turns s rounds cause
   pub is_end : end_of cause ≡ end
   pub leaves : Leaves cause (after_rounds s rounds) kept
-
--- how many turns that takes, by how many rounds there are: that in which driving ends is one more, if there is such
-abbrev pub turns_of : Cause → ℕ → ℕ
-turns_of NoRoom made = made
-turns_of TurnsMade made = made
-turns_of _ made = made + 1
 
 -- ---- one turn of the loop, for private clauses alone
 

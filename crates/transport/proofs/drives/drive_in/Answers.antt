@@ -5,8 +5,7 @@ use Rattle.transport.proofs.drives.drive_in.Goals as goal
 
 pub returns-in-Err-clause-drove : goal.returns-in-Err-clause-drove
 returns-in-Err-clause-drove g c s st =
-    let few : c.driving.made ≤ c.args.turns = search rules in
-    ends_driving _ _ _ _ c.driving.made c.driving.since c.args.turns _ s c.driving.session c.turn.new.session c.in-Err.end few refl c.in-Err.ensures.went (c.driving.invariant.driving s st)
+    ends_driving _ _ _ _ c.driving.made c.driving.since c.args.turns _ s c.driving.session c.turn.new.session c.in-Err.end c.driving-test.true refl c.in-Err.ensures.went (c.driving.invariant.driving s st)
 
 pub driving-preserved : goal.driving-preserved
 driving-preserved g c = record {
