@@ -21,11 +21,11 @@ use Rattle.session.specs.declared.link.Link.{Link}
 use Rattle.session.specs.declared.state.TheConstants.{LAST_CONNECTION, MOST_PENDING, MOST_PIECE}
 use Rattle.watching.proofs.Tracking.{others_same, ours, seen_place, with_session}
 use Rattle.watching.specs.Headline.{last_seen, told_within}
-use Rattle.watching.specs.Tracking.{IsReached, Tracked, Tracks}
+use Rattle.watching.specs.Tracking.{IsReached, Tracked, Tracks, with_piece}
 
 -- ---- an event more
 
-after_more : (events : List Event) (e : Event) (s : Session) → after_all histories (events ++ e ∷ []) s ≡ Effect (after_all histories events s) e
+pub after_more : (events : List Event) (e : Event) (s : Session) → after_all histories (events ++ e ∷ []) s ≡ Effect (after_all histories events s) e
 after_more [] e s = refl
 after_more (x ∷ events) e s = after_more events e (Effect s x)
 
@@ -177,11 +177,6 @@ accepted_by (Some l) piece s e = by l.is_closing refl (ltb MOST_PIECE (length pi
   by false closing false false e =
       if_keeps (λ (x : Session). Accepted t x piece) l.is_closing t _ (λ is. absurd (let no : true ≡ false = sym is ∙ closing in cc))
       (λ _. record { before = refl; said = refl; accepted = refl; connections = refl })
-
--- the piece is kept, where it came on the connection that is watched
-abbrev pub with_piece : Bool → List ℕ → Tracked → Tracked
-with_piece true piece t = record t { accepted = t.accepted ++ piece }
-with_piece false piece t = t
 
 pub recv_keeps : (old : Tracked) (k : Kept) (s : Session) (piece : List ℕ) → IsReached s → Answer s (Recv piece) ≡ Ok applied.Recv → Stands k (Effect s (Recv piece)) → Tracks old s
     → Tracks (with_piece (eqb old.current old.connection) piece (with_session old k)) (Effect s (Recv piece))

@@ -30,3 +30,7 @@ pub mod Turned
 pub mod Tracking
 pub mod Events
 pub mod Seen
+pub mod Lasts
+pub mod Telling
+pub mod Tracked
+pub mod Replayed

@@ -10,6 +10,8 @@ pub mod Headline
 pub mod Mirrors
 -- when it is told what the program printed
 pub mod Printed
+-- what `watch` shows: what is known, beside what there was to see
+pub mod Replaying
 -- ---- of the crates below
 -- what there is to see of a program
 pub use Rattle.session.specs.Shown

@@ -1,0 +1,161 @@
+"""A walk: events at random, and what is known by the bytes that came, held against what there was to see. It stands beside the proof, as evidence
+from outside that the definitions are the intended ones: the player asks a mirror and a snapshot, and nothing of the definitions."""
+import json
+import random
+
+from debugging import CALLS, CIRCLES, COUNTS, PATH, PRINTS, RECURS
+from playing import play
+from program import expect, frame
+
+PLAYER = "play_watching"
+SEED = 20261124
+EVENTS = 100000
+EVENTS_OF_A_WALK = 60
+CUTS = 8
+BASE = 0x10000
+PROGRAMS = (CALLS, PRINTS, RECURS, COUNTS, CIRCLES, b"j x\n")
+THREAD = {"threadId": 1}
+
+
+class Walk:
+    """The commands of one walk. An editor is mostly sensible: it begins as it is to, and then asks this and that."""
+
+    def __init__(self, chance):
+        self.chance, self.lines, self.connections, self.seq, self.asked = chance, ["new 4096"], 0, 0, 0
+        if chance.random() < 0.2:
+            self.lines = ["new 4096 %s %s" % (PATH, chance.choice(PROGRAMS[:5]).hex())]
+        self.has_program = len(self.lines[0].split()) > 2
+        self.events = 0
+
+    def does(self, line):
+        self.lines.append(line)
+        self.events += 1
+
+    def connects(self):
+        self.does("connect")
+        self.connections += 1
+        self.seq, self.asked = 0, 0
+
+    def request(self, command, **arguments):
+        self.seq += 1 if self.chance.random() < 0.97 else 0
+        message = {"seq": self.seq, "type": "request", "command": command, **({"arguments": arguments} if arguments else {})}
+        data = frame(json.dumps(message))
+        cut = self.chance.randrange(1, len(data)) if self.chance.random() < 0.1 else 0
+        for piece in (data[:cut], data[cut:]) if cut else (data,):
+            self.does("recv " + piece.hex())
+
+    def turns(self):
+        self.does("turn " + self.chance.choice(PROGRAMS).hex() if self.chance.random() < 0.5 else "turn")
+
+    def begins(self):
+        self.connects()
+        self.request("initialize", adapterID="rvdap")
+        self.turns()
+        if self.has_program or self.connections > 1 and self.chance.random() < 0.7:
+            self.request("attach")
+            self.does("turn")
+        else:
+            self.request("launch", program=PATH, stopOnEntry=self.chance.random() < 0.6)
+            self.does("turn " + self.chance.choice(PROGRAMS[:5]).hex())
+        if self.chance.random() < 0.5:
+            self.breakpoints()
+        self.request("configurationDone")
+        self.turns()
+
+    def breakpoints(self):
+        if self.chance.random() < 0.6:
+            lines = [{"line": self.chance.randrange(1, 14)} for _ in range(self.chance.randrange(4))]
+            self.request("setBreakpoints", source={"path": self.chance.choice((PATH, PATH, "/w/q.s"))}, breakpoints=lines)
+        else:
+            places = [{"instructionReference": "0x%x" % (BASE + self.chance.randrange(60))} for _ in range(self.chance.randrange(3))]
+            self.request("setInstructionBreakpoints", breakpoints=places)
+        self.turns()
+
+    def asks(self):
+        chance = self.chance
+        reference = chance.randrange(1, 9)
+        address = "0x%x" % (BASE + chance.choice((0, 4, 8, chance.randrange(64), 4090, 4096)))
+        command, arguments = chance.choice((
+            ("stackTrace", THREAD), ("stackTrace", {**THREAD, "startFrame": chance.randrange(3)}), ("scopes", {"frameId": reference}),
+            ("variables", {"variablesReference": reference}), ("variables", {"variablesReference": reference}),
+            ("setVariable", {"variablesReference": reference, "name": chance.choice(("a0", "sp", "t0", "pc")), "value": str(chance.randrange(-9, 99))}),
+            ("readMemory", {"memoryReference": address, "count": chance.randrange(40)}),
+            ("writeMemory", {"memoryReference": address, "data": chance.choice(("EwUlAA==", "AAAA", "")), "allowPartial": chance.random() < 0.5}),
+            ("continue", THREAD), ("next", THREAD), ("stepIn", THREAD), ("stepIn", {**THREAD, "granularity": "instruction"}), ("stepOut", THREAD),
+            ("pause", THREAD), ("restart", {}), ("terminate", {}), ("disconnect", {}), ("threads", {}), ("evaluate", {"expression": "[sp]"}),
+            ("cancel", {"requestId": self.seq}), ("initialize", {}), ("bogus", {}), ("next", {"threadId": 2})))
+        if command in ("terminate", "disconnect", "restart") and chance.random() < 0.7:
+            return
+        self.request(command, **arguments)
+
+    def goes_on(self):
+        chance = self.chance.random()
+        if chance < 0.3:
+            self.asks()
+        elif chance < 0.65:
+            self.turns()
+        elif chance < 0.85:
+            self.does("slice %d" % self.chance.choice((0, 1, 1, 2, 5, 50)))
+        elif chance < 0.88:
+            self.breakpoints()
+        elif chance < 0.9:
+            self.does("hold")
+        elif chance < 0.94:
+            self.does("sent %d" % self.chance.randrange(400))
+        elif chance < 0.955:
+            self.does("drop")
+            self.begins()
+        else:
+            self.looks()
+
+    def looks(self):
+        """A refresh, as an editor makes it where the program stands: with the numbers that a first stop gives."""
+        self.request("stackTrace", **THREAD)
+        self.does("turn")
+        self.request("scopes", frameId=self.chance.choice((1, 1, 2, 3, 4)))
+        self.does("turn")
+        self.request("variables", variablesReference=self.chance.choice((2, 3, 4, 5)))
+        self.does("turn")
+
+    def walked(self):
+        self.begins()
+        while self.events < EVENTS_OF_A_WALK:
+            self.goes_on()
+        return self
+
+
+def walks(events):
+    """Walks with so many events in all."""
+    chance, made, count = random.Random(SEED), [], 0
+    while count < events:
+        made.append(Walk(chance).walked())
+        count += made[-1].events
+    return made
+
+
+def what_is_known_on_a_walk_was_so():
+    """For each connection of each walk a few cuts, the greatest among them: each fact that is known there was so."""
+    made = walks(EVENTS)
+    asked = [walk.lines + ["queued %d" % c for c in range(1, walk.connections + 1)] for walk in made]
+    lines, status = play(PLAYER, [line for commands in asked for line in commands])
+    expect((len(lines), status), (sum(map(len, asked)), 0), "the answers")
+    chance, commands, at = random.Random(SEED), [], 0
+    for walk, lengths in zip(made, asked):
+        at += len(lengths)
+        commands += walk.lines
+        for connection in range(1, walk.connections + 1):
+            queued = int(lines[at - walk.connections + connection - 1])
+            commands += ["compare %d %d" % (connection, cut) for cut in [queued] + [chance.randrange(queued + 1) for _ in range(CUTS)]]
+            commands.append("compare %d %d" % (connection, queued + 1))
+    answers, status = play(PLAYER, commands)
+    expect((len(answers), status), (len(commands), 0), "the answers of the comparisons")
+    compared = [(command, answer) for command, answer in zip(commands, answers) if command.startswith("compare")]
+    too_long = [answer for _, answer in compared if answer == "CutTooLong: cut too long"]
+    expect(len(too_long), sum(walk.connections for walk in made), "the cuts that are too long")
+    facts = [int(answer) for _, answer in compared if answer.isdigit()]
+    expect(len(facts) + len(too_long), len(compared), "what is not as it was told: %s" % [pair for pair in compared if not pair[1].isdigit() and "Cut" not in pair[1]][:3])
+    expect(sum(facts) > EVENTS, True, "there is much to know: %d facts" % sum(facts))
+
+
+def checks():
+    return [("what is known on a walk was so", what_is_known_on_a_walk_was_so)]
