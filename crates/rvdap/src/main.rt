@@ -6,7 +6,7 @@ mod arguments;
 mod asm;
 mod disk;
 mod ending;
-mod listen;
+mod listening;
 mod memory;
 mod serving;
 mod watch;
@@ -18,7 +18,7 @@ use asm::{AsmFault, list_file};
 use connections::StreamWire;
 use disk::Disk;
 use ending::Ending;
-use listen::{Visitors, listen};
+use listening::{Visitors, listen};
 use listing::ListFault;
 use memory::MemorySize;
 use options::{Mode, Options};
@@ -47,7 +47,7 @@ fn run(rt: &HostRuntime, options: &Options) -> ExitCode
 {
     match (options.mode, &options.file) {
         (Mode::Asm, Some(file)) => list(rt, file.as_str()),
-        (Mode::Watch, Some(script)) => watch(rt, script.as_str()),
+        (Mode::Watch, Some(script)) => show(rt, script.as_str()),
         _ => serve(rt, options),
     }
 }
@@ -116,7 +116,7 @@ fn list(rt: &HostRuntime, file: &str) -> ExitCode {
     }
 }
 
-fn watch(rt: &HostRuntime, script: &str) -> ExitCode {
+fn show(rt: &HostRuntime, script: &str) -> ExitCode {
     match play_file(rt, script) {
         Ok(()) => ExitCode::SUCCESS,
         Err(WatchFault::Unreadable) => fail_at(rt, script, "cannot read"),
