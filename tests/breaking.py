@@ -1,7 +1,7 @@
 """The built program, as an editor meets it that sets breakpoints: what it says of them, and where they stop a program."""
 from breaks import ADDRESS, CONDITION, NO_CODE, UNKNOWN, at, body_of, is_not, is_set, on
 from launching import CONTINUED, DONE, ENDLESS, EXITED, INITIALIZED, PRINTED, STOPPED, TERMINATED, expect_all, file_of, frames, is_told, is_told_however_cut
-from program import Talk, expect, frame, run
+from program import Talk, answered, expect, frame, run
 from refusals import ends_well_without_memory
 from texts import CAPABILITIES, DISCONNECTED, FIRST, FIRST_ANSWER, refused, request
 
@@ -181,7 +181,7 @@ def a_session_with_breakpoints_ends_well_without_memory():
         sent += lines(3, path, at(9, "a0 == 1", "1"), at(13)) + addresses(4, on("0x00010018")) + request(5, "configurationDone")
         told += said_of_lines(3, 4, is_set(1, COUNT, 9), is_not(NO_CODE, 13)) + said("setInstructionBreakpoints", 4, 5, is_set(2, COUNT))
         told += frame(DONE % ("configurationDone", 5, 6)) + hit(7, 2, reason="instruction breakpoint")
-        ends_well_without_memory(lambda environment: run(sent, environment=environment), told)
+        ends_well_without_memory(lambda environment: answered(sent, told, environment=environment), told)
 
 
 def checks():

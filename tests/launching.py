@@ -4,7 +4,7 @@ import os
 import tempfile
 import time
 
-from program import SECONDS, Talk, expect, frame, run
+from program import SECONDS, Talk, answered, expect, frame, run
 from refusals import each_refusal
 from streams import FAULT, Streams, pipes
 from texts import CAPABILITIES, DISCONNECTED, FIRST, FIRST_ANSWER, THREADS, refused, request
@@ -152,10 +152,10 @@ def a_session_that_ends_with_the_start_of_its_program_is_the_same_however_it_is_
             DONE % ("launch", 4, 4), INITIALIZED % 5, THREADS % (5, 6), DONE % ("setExceptionBreakpoints", 6, 7)) + refused(
             "wrongPhase", 3, "next", 7, 8) + refused("wrongPhase", 3, "launch", 8, 9) + frames(
             DONE % ("configurationDone", 9, 10), PRINTED % (-7, 11), EXITED % (3, 12), TERMINATED % 13)
-        expect(run(data), (told, b"", 0), "the session in one write")
-        expect(run(None, pieces=[data[i:i + 1] for i in range(len(data))]), (told, b"", 0), "the session byte by byte")
+        expect(answered(data, told), (told, b"", 0), "the session in one write")
+        expect(answered(None, told, pieces=[data[i:i + 1] for i in range(len(data))]), (told, b"", 0), "the session byte by byte")
         for cut in list(range(0, len(data), 17)) + list(range(len(data) - 20, len(data) + 1)):
-            expect(run(None, pieces=[data[:cut], data[cut:]]), (told, b"", 0), "the session, cut at %d" % cut)
+            expect(answered(None, told, pieces=[data[:cut], data[cut:]]), (told, b"", 0), "the session, cut at %d" % cut)
 
 
 def requests_that_wait_are_answered_before_the_program_moves():
@@ -204,28 +204,39 @@ def a_text_with_an_error_is_refused_with_its_line():
                 sent = first + request(2, "launch", program=path) + request(3, "launch", program=right) + request(4, "configurationDone")
                 told = frames(CAPABILITIES % (1, 1), FAILED % (error, 2, 2), DONE % ("launch", 3, 3), INITIALIZED % 4,
                               DONE % ("configurationDone", 4, 5), PRINTED % (-7, 6), EXITED % (3, 7), TERMINATED % 8)
-                expect(run(sent), (told, b"", 0), "a text with %s, and lines from 1: %s" % (error, lines))
+                expect(answered(sent, told), (told, b"", 0), "a text with %s, and lines from 1: %s" % (error, lines))
 
 
-def a_program_without_an_end_is_held_and_then_the_end_of_the_input_is_met():
+def a_program_without_an_end_runs_until_the_end_of_the_input_is_met():
     with file_of(ENDLESS) as path:
         sent, told = started(path)
-        expect(run(sent), (told + frame(STOPPED % ("pause", 5)), b"", 0), "a program that runs for ever, and no more input")
-        expect(run(sent + FIRST[:30]), (told + frame(STOPPED % ("pause", 5)), b"", 0), "the same, and an unfinished frame")
+        expect(run(sent), (told, b"", 0), "a program that runs for ever, and no more input")
+        expect(run(sent + FIRST[:30]), (told, b"", 0), "the same, and an unfinished frame")
 
 
-def a_program_that_was_held_goes_on_and_is_held_again():
+def the_end_of_the_input_is_met_while_a_program_runs():
+    """A program does not move once the input has ended: what it would have told is not told."""
+    with file_of(PRINTS) as path:
+        sent, told = started(path)
+        expect(run(sent), (told, b"", 0), "a program whose editor has left")
+
+
+def a_program_without_an_end_is_paused_at_once_and_goes_on():
     with file_of(ENDLESS) as path, Talk() as talk:
         sent, told = started(path)
+        expect(talk.answers(sent, told), told, "what is told of the start")
+        expect(talk.has_more(0.4), False, "something is told of a program that runs")
         rows = [
-            (sent, told + frame(STOPPED % ("pause", 5))),
-            (request(4, "pause", threadId=1), frame(DONE % ("pause", 4, 6))),
-            (request(5, "continue", threadId=1), frames(CONTINUED % (5, 7), STOPPED % ("pause", 8))),
-            (request(6, "stepOut", threadId=1), frames(DONE % ("stepOut", 6, 9), STOPPED % ("pause", 10))),
-            (request(7, "disconnect"), frame(DISCONNECTED % (7, 11))),
+            (request(4, "pause", threadId=1), frames(DONE % ("pause", 4, 5), STOPPED % ("pause", 6))),
+            (request(5, "continue", threadId=1), frame(CONTINUED % (5, 7))),
+            (request(6, "pause", threadId=1), frames(DONE % ("pause", 6, 8), STOPPED % ("pause", 9))),
+            (request(7, "stepOut", threadId=1), frame(DONE % ("stepOut", 7, 10))),
+            (request(8, "disconnect"), frame(DISCONNECTED % (8, 11))),
         ]
         for sent, told in rows:
+            begun = time.monotonic()
             expect(talk.answers(sent, told), told, "what is told after %r" % sent)
+            expect(time.monotonic() - begun < 1, True, "the time of an answer")
         # The program ends of itself, before its input does.
         expect(talk.process.wait(SECONDS), 0, "the status")
         expect_all(talk, b"", "the rest")
@@ -283,7 +294,7 @@ def memory_ends_where_the_command_line_says():
         with file_of(STORES_BEFORE % end) as path:
             sent, told = started(path)
             told += frames(PRINTED % (end, 5), PRINTED % (end, 6), TRAPPED % ("store access fault", 7))
-            expect(run(sent, words=words), (told, b"", 0), "a program at the end of its memory, by %r" % (words,))
+            expect(answered(sent, told, words), (told, b"", 0), "a program at the end of its memory, by %r" % (words,))
 
 
 def a_text_fits_exactly_the_memory_that_was_asked_for():
@@ -310,12 +321,12 @@ def memory_that_is_not_offered_is_a_fault_of_usage():
 
 
 def an_option_out_of_place_is_a_fault_of_usage():
-    used_by_asm = "error: the subcommand 'asm' cannot be used with '--memory <KIB>'"
+    used_by_asm = "error: no option stands beside a command"
     for words, first_line in (
         (("--memory",), "error: a value is required for '--memory <KIB>' but none was supplied"),
         (("--memory", "4", "--memory", "4"), "error: the argument '--memory <KIB>' cannot be used multiple times"),
         (("--memory", "-4"), "error: unexpected argument '-4' found"),
-        (("--memory", "4", "8"), "error: the subcommand '8' cannot be used with '--memory <KIB>'"),
+        (("--memory", "4", "8"), "error: unrecognized subcommand '8'"),
         (("--mem", "4"), "error: unexpected argument '--mem' found"),
         (("-m", "4"), "error: unexpected argument '-m' found"),
         (("memory", "4"), "error: unrecognized subcommand 'memory'"),
@@ -356,8 +367,8 @@ def checks():
         requests_that_wait_are_answered_before_the_program_moves,
         a_file_that_cannot_be_read_is_refused_and_the_session_goes_on,
         a_text_with_an_error_is_refused_with_its_line,
-        a_program_without_an_end_is_held_and_then_the_end_of_the_input_is_met,
-        a_program_that_was_held_goes_on_and_is_held_again,
+        a_program_without_an_end_runs_until_the_end_of_the_input_is_met, the_end_of_the_input_is_met_while_a_program_runs,
+        a_program_without_an_end_is_paused_at_once_and_goes_on,
         an_editor_that_vanishes_while_the_program_prints_is_a_fault,
         an_editor_that_vanishes_while_the_program_runs_is_a_fault,
         a_program_that_prints_more_than_may_wait_loses_nothing_to_a_slow_editor,

@@ -42,9 +42,9 @@ def run(data, words=(), pieces=None, environment=None):
 class Talk:
     """One running program, written to and read from as the test likes."""
 
-    def __init__(self, words=()):
+    def __init__(self, words=(), environment=None):
         self.process = subprocess.Popen([PROGRAM, *words], stdin=subprocess.PIPE, stdout=subprocess.PIPE, stderr=subprocess.PIPE,
-                                        bufsize=0)
+                                        bufsize=0, env=environment)
         self.read_so_far = b""
 
     def __enter__(self):
@@ -86,11 +86,35 @@ class Talk:
         answer, self.read_so_far = self.read_so_far[:count], self.read_so_far[count:]
         return answer
 
+    def read_up_to(self, count):
+        """So many bytes of output, or those before its end."""
+        said = b""
+        while len(said) < count and self.has_more(SECONDS):
+            piece = os.read(self.process.stdout.fileno(), 1 << 16)
+            if not piece:
+                break
+            said += piece
+        return said
+
     def end(self):
         """Closes the input, and answers the status and what is on standard error."""
         self.process.stdin.close()
         status = self.process.wait(SECONDS)
         return status, self.process.stderr.read()
+
+
+def answered(data, wanted, words=(), pieces=None, environment=None):
+    """Gives the program its input, and ends that once as many bytes came as are wanted, or no more come: all output, what is on standard error,
+    and the status. So a program that runs is not left by its editor."""
+    with Talk(words, environment) as talk:
+        try:
+            for piece in pieces or [data]:
+                talk.write_all(piece)
+        except BrokenPipeError:
+            pass
+        out = talk.read_up_to(len(wanted))
+        status, err = talk.end()
+        return out + talk.process.stdout.read(), err, status
 
 
 def expect(got, wanted, what):

@@ -140,7 +140,7 @@ TABLE = [
     ("a part of the registers", told(ENTERED, ("stackTrace", THREAD), ("scopes", {"frameId": 1}), ("variables", {"variablesReference": 2, "start": 31, "count": 2})), CALLS,
      ["run stopped stopped", "frame 0 0x00010000 0x00010000", "t6 0x00000000 0x00000000", "pc 0x00010000 0x00010000"]),
     ("frames from the second on", told([*launched(BEGINS, ONE_BREAK), "slice 100"], ("stackTrace", {**THREAD, "startFrame": 1})), CALLS,
-     ["run stopped stopped", "break 0 1 0x00010014 0x00010014", "frame 1 0x00010004 0x00010004"]),
+     ["run stopped stopped", "break 0 1 0x00010014 0x00010014", "frame 1 0x00010008 0x00010008"]),
 ]
 
 
@@ -257,9 +257,13 @@ def an_output_that_is_not_taken_is_said():
 
 
 def it_ends_well_without_memory():
-    """Each allocation refused in turn: the facts are printed, or it is said that no memory is left, and nothing is printed."""
-    text = "".join(line + "\n" for line in [*PRINTING, *LOOKS, "watch 1 all"])
+    """Each allocation refused in turn, and one of some where more is looked at: the facts are printed, or it is said that no memory is left, and
+    nothing is printed."""
+    ends_well_without_memory([*launched(ENTERS), "watch 1 all"], 1)
+    ends_well_without_memory([*PRINTING, *LOOKS, "watch 1 all"], 37)
 
+
+def ends_well_without_memory(lines, step):
     def check(run):
         whole = run()
 
@@ -268,9 +272,9 @@ def it_ends_well_without_memory():
             expect((out, err, status) in (whole, (b"", b"rvdap: no memory\n", 1)), True, "what comes of a refused allocation: %r" % ((out, err, status),))
             return status
 
-        expect(sum(each_refusal(once)) > 5, True, "some found no memory")
+        expect(sum(each_refusal(once, step)) > 5, True, "some found no memory")
 
-    with_script(text, PRINTS, check)
+    with_script("".join(line + "\n" for line in lines), PRINTS, check)
 
 
 # ---- the example

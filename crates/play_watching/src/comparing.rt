@@ -12,7 +12,9 @@ const PATH: &[u8] = b"/w/p.s";
 
 /// Places that are looked at: of lists, frames and registers, and addresses of memory.
 const PLACES: u32 = 40;
+
 const FIRST_ADDRESS: u32 = 65_528;
+
 const LAST_ADDRESS: u32 = 69_640;
 
 /// How many facts are known, or the first kind of which one was not so.
@@ -27,13 +29,22 @@ fn compare(mirror: &Mirror, seen: Option<&Snapshot>) -> Result<u32, &'static str
     let mut count = is_so_of_run(mirror.run(), seen.map(Snapshot::run))?;
     for place in 0..PLACES {
         let index = place as usize;
-        count += is_so_of_break(mirror.source_break(PATH, index), seen.and_then(|s| s.source_break(PATH, index)))?;
-        count += is_so_of_break(mirror.instruction_break(index), seen.and_then(|s| s.instruction_break(index)))?;
+        count += is_so_of_break(
+            mirror.source_break(PATH, index),
+            seen.and_then(|s| s.source_break(PATH, index)),
+        )?;
+        count += is_so_of_break(
+            mirror.instruction_break(index),
+            seen.and_then(|s| s.instruction_break(index)),
+        )?;
         count += is_so_of_frame(mirror.frame(place), seen.and_then(|s| s.frame(place)))?;
         count += is_so_of_number(mirror.register(place), seen.and_then(|s| s.register(place)))?;
     }
     for address in FIRST_ADDRESS..LAST_ADDRESS {
-        count += is_so_of_number(mirror.byte(address).map(u32::from), seen.and_then(|s| s.byte(address)).map(u32::from))?;
+        count += is_so_of_number(
+            mirror.byte(address).map(u32::from),
+            seen.and_then(|s| s.byte(address)).map(u32::from),
+        )?;
     }
     Ok(count)
 }
@@ -56,10 +67,16 @@ fn is_so_of_break(known: Option<BreakInfo>, seen: Option<BreakInfo>) -> Result<u
     }
 }
 
-fn is_so_of_frame(known: Option<&FrameInfo>, seen: Option<&FrameInfo>) -> Result<u32, &'static str> {
+fn is_so_of_frame(
+    known: Option<&FrameInfo>,
+    seen: Option<&FrameInfo>,
+) -> Result<u32, &'static str> {
     match (known, seen) {
         (None, _) => Ok(0),
-        (Some(a), Some(b)) if a.id == b.id && a.address == b.address && a.name.as_str() == b.name.as_str() => Ok(1),
+        (Some(a), Some(b))
+            if a.id == b.id && a.address == b.address && a.name.as_str() == b.name.as_str() => Ok(
+            1,
+        ),
         _ => Err("frame"),
     }
 }

@@ -12,7 +12,7 @@ use comparing::compared;
 use play::{Fault, Player, bytes_of, parsed, play, shown};
 use protocol::Text;
 use session::{Bytes, Config, Event, Limits};
-use std::alloc::Global;
+use std::alloc::{AllocError, Global};
 use std::process::ExitCode;
 use watching::{WatchError, Watched, queued, watch};
 
@@ -61,12 +61,18 @@ impl Events {
 
     fn list(&mut self, alloc: Global, arguments: &[&str]) -> Result<String, Fault> {
         let event = event_of(alloc, arguments)?;
-        self.events.push(event)?;
+        self.events.push(event).map_err(AllocError::from)?;
         shown(alloc, self.events.len())
     }
 
     fn queued(&self, alloc: Global, connection: u32) -> Result<String, Fault> {
-        match queued(alloc, self.config(alloc)?, Limits::greatest(), &self.events, connection) {
+        match queued(
+            alloc,
+            self.config(alloc)?,
+            Limits::greatest(),
+            &self.events,
+            connection,
+        ) {
             Ok(count) => shown(alloc, count),
             Err(error) => error_of(alloc, error),
         }
@@ -79,7 +85,14 @@ impl Events {
         count: usize,
     ) -> Result<Result<Watched, WatchError>, Fault> {
         let config = self.config(alloc)?;
-        Ok(watch(alloc, config, Limits::greatest(), &self.events, connection, count))
+        Ok(watch(
+            alloc,
+            config,
+            Limits::greatest(),
+            &self.events,
+            connection,
+            count,
+        ))
     }
 
     fn config(&self, alloc: Global) -> Result<Config, Fault> {

@@ -141,7 +141,11 @@ fn add_registers(
 
 // The name of a register, or of pc.
 fn name_of(number: u32) -> &'static str {
-    if number < COUNTER { reg_name(number) } else { "pc" }
+    if number < COUNTER {
+        reg_name(number)
+    } else {
+        "pc"
+    }
 }
 
 fn add_bytes(

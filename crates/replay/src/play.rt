@@ -49,7 +49,14 @@ fn watched_by(
         Cut::At(count) => within(count),
         Cut::All => queued(alloc, config(), Limits::greatest(), events, connection)?,
     };
-    watch(alloc, config(), Limits::greatest(), events, connection, count)
+    watch(
+        alloc,
+        config(),
+        Limits::greatest(),
+        events,
+        connection,
+        count,
+    )
 }
 
 fn config() -> Config {

@@ -34,7 +34,10 @@ pub(crate) fn listen(
     let _ = eprintln!(rt; "listening on {address}");
     match visitors {
         Visitors::One => serve_first(rt, session, &mut door),
-        Visitors::All => Ending::of(serve(rt.alloc(), session, &mut door, &Disk::new(rt), TURNS), None),
+        Visitors::All => Ending::of(
+            serve(rt.alloc(), session, &mut door, &Disk::new(rt), TURNS),
+            None,
+        ),
     }
 }
 

@@ -140,10 +140,10 @@ module _ (from : Beginning) (events : List Event) (t : Tracked) (h : Tracks t (A
 next_tracked : (c : Config) (limits : Limits) (events : List Event) (e : Event) (connection count : ℕ) (old new : Tracked) → Keeps e old (let r : Result (Unit {0}) (Unit {0}) = Ok tt in r) new → SameWatched old new
     → AllTracked c limits events connection count old → AllTracked c limits (events ++ e ∷ []) connection count new
 next_tracked c limits events e connection count old new keeps same h = (
-    record { right = h.0.right; image = h.0.image; so = next (the_beginning c limits h.0.right h.0.image) events e old new keeps h.0.so },
-    same.0 ∙ h.1,
-    same.1 ∙ h.2,
-  )
+  record { right = h.0.right; image = h.0.image; so = next (the_beginning c limits h.0.right h.0.image) events e old new keeps h.0.so },
+  same.0 ∙ h.1,
+  same.1 ∙ h.2,
+)
 
 take_next : (l : List Event) (i : ℕ) (e : Event) → i < length l → e ≡ get_or l i e → take (i + 1) l ≡ take i l ++ e ∷ []
 take_next [] i e few is = absurd (omega (arith, few))
@@ -184,9 +184,9 @@ not_made c limits events connection count t h isnt = record {
 made_of : (from : Beginning) (events : List Event) (connection : ℕ) (t : Tracked) → Tracks t (After from events) → t.connection ≡ connection → is_made t ≡ true
     → IsMade (After from events) connection × (length t.queued ≡ queued_for connection (After from events))
 made_of from events connection t h e made = (
-    subst (IsMade (After from events)) e (made_by (After from events) t h made),
-    ap length h.queued ∙ ap (λ (n : ℕ). queued_for n (After from events)) e,
-  )
+  subst (IsMade (After from events)) e (made_by (After from events) t h made),
+  ap length h.queued ∙ ap (λ (n : ℕ). queued_for n (After from events)) e,
+)
 
 pub is_too_long : (c : Config) (limits : Limits) (events : List Event) (connection count : ℕ) (t : Tracked) → AllTracked c limits events connection count t → is_made t ≡ true → length t.queued < count
     → Begun c limits (λ from. IsMade (After from events) connection × (queued_for connection (After from events) < count))

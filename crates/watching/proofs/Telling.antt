@@ -75,10 +75,10 @@ first_requests u v body incoming lent first is =
 next_by : (incoming : Incoming) (told left all : List ARequest) (old new : Kept) → TellsOne incoming old new → StandsFor old (after (map Sent told)) → told ++ requests_by incoming left ≡ all
     → (more : List ARequest) × StandsFor new (after (map Sent more)) × (more ++ left ≡ all)
 next_by (IsRequest r) told left all old new tells st e = (
-    told ++ r ∷ [],
-    subst (StandsFor new) (sym (ap after (sent_more told r) ∙ after_more nothing_past (map Sent told) (Sent r))) (tells (after (map Sent told)) st),
-    append_assoc told (r ∷ []) left ∙ e,
-  )
+  told ++ r ∷ [],
+  subst (StandsFor new) (sym (ap after (sent_more told r) ∙ after_more nothing_past (map Sent told) (Sent r))) (tells (after (map Sent told)) st),
+  append_assoc told (r ∷ []) left ∙ e,
+)
 next_by (IsBad seq command refusal) told left all old new same st e = (told, subst (λ (k : Kept). StandsFor k (after (map Sent told))) (sym same) st, e)
 next_by Ignored told left all old new same st e = (told, subst (λ (k : Kept). StandsFor k (after (map Sent told))) (sym same) st, e)
 

@@ -1,0 +1,396 @@
+"""The built program over TCP: `--listen`, editors one after the other, and peers that behave badly."""
+import os
+import re
+import select
+import signal
+import socket
+import struct
+import subprocess
+import tempfile
+import time
+
+from debugging import CALLS, CIRCLES, COUNTS, PATH
+from program import PROGRAM, SECONDS, expect, frame
+from texts import ANSWERS, FIRST, FIRST_ANSWER, SESSION, request
+
+FAULT = b"rvdap: read or write fault\n"
+BAD = b"rvdap: bad message\n"
+THREAD = {"threadId": 1}
+
+
+def free_port(host="127.0.0.1"):
+    """A port on which nothing listens."""
+    with socket.socket(socket.AF_INET6 if ":" in host else socket.AF_INET) as probe:
+        probe.bind((host, 0))
+        return probe.getsockname()[1]
+
+
+class Server:
+    """The program that listens."""
+
+    def __init__(self, *words, host="127.0.0.1"):
+        self.host, self.port = host, free_port(host)
+        shown = "[%s]" % host if ":" in host else host
+        self.address = "%s:%d" % (shown, self.port)
+        self.process = subprocess.Popen([PROGRAM, "--listen", self.address, *words], stdin=subprocess.DEVNULL, stdout=subprocess.PIPE, stderr=subprocess.PIPE,
+                                        bufsize=0)
+        said = self.process.stderr.readline()
+        expect(said, b"listening on %s\n" % self.address.encode(), "the first line on standard error")
+
+    def __enter__(self):
+        return self
+
+    def __exit__(self, *_):
+        self.process.kill()
+        self.process.wait()
+        for stream in (self.process.stdout, self.process.stderr):
+            stream.close()
+
+    def editor(self):
+        return Editor(self)
+
+    def is_up(self):
+        return self.process.poll() is None
+
+    def end(self):
+        """The status, and what else came on standard output and error."""
+        status = self.process.wait(SECONDS)
+        return status, self.process.stdout.read(), self.process.stderr.read()
+
+    def memory(self):
+        """How much memory it holds, in KiB."""
+        with open("/proc/%d/status" % self.process.pid, encoding="ascii") as file:
+            return int(re.search(r"VmRSS:\s+(\d+)", file.read())[1])
+
+    def processor_seconds(self):
+        with open("/proc/%d/stat" % self.process.pid, encoding="ascii") as file:
+            fields = file.read().rsplit(")", 1)[1].split()
+        return (int(fields[11]) + int(fields[12])) / os.sysconf("SC_CLK_TCK")
+
+
+class Editor:
+    """One connection to the program."""
+
+    def __init__(self, server):
+        self.socket = socket.create_connection((server.host, server.port), timeout=SECONDS)
+        self.socket.setsockopt(socket.IPPROTO_TCP, socket.TCP_NODELAY, 1)
+        self.so_far = b""
+
+    def __enter__(self):
+        return self
+
+    def __exit__(self, *_):
+        self.socket.close()
+
+    def sends(self, data):
+        self.socket.sendall(data)
+        return self
+
+    def reads(self, count):
+        while len(self.so_far) < count:
+            piece = self.socket.recv(1 << 16)
+            if not piece:
+                raise AssertionError("the connection ended after %r" % self.so_far[-200:])
+            self.so_far += piece
+        answer, self.so_far = self.so_far[:count], self.so_far[count:]
+        return answer
+
+    def message(self):
+        """The text of the next message."""
+        header = b""
+        while not header.endswith(b"\r\n\r\n"):
+            header += self.reads(1)
+        return self.reads(int(re.match(rb"Content-Length: (\d+)\r\n\r\n$", header)[1])).decode()
+
+    def expects(self, *parts):
+        """The next messages, each of which has this part."""
+        for part in parts:
+            message = self.message()
+            expect(part in message, True, "%s in %s" % (part, message))
+        return self
+
+    def is_silent(self, seconds):
+        return not self.so_far and not select.select([self.socket], [], [], seconds)[0]
+
+    def is_ended(self):
+        """Whether nothing more comes."""
+        return not self.so_far and self.socket.recv(1) == b""
+
+
+def with_program(text, check):
+    with tempfile.TemporaryDirectory() as folder:
+        path = os.path.join(folder, "p.s")
+        with open(path, "wb") as file:
+            file.write(text)
+        check(path)
+
+
+def launches(path, stops=False):
+    return FIRST + request(2, "launch", program=path, stopOnEntry=stops) + request(3, "configurationDone")
+
+
+def attaches():
+    return FIRST + request(2, "attach") + request(3, "configurationDone")
+
+
+STARTED = ('"initialize"', '"launch"', '"initialized"', '"configurationDone"')
+JOINED = ('"initialize"', '"attach"', '"initialized"', '"configurationDone"')
+
+
+def leaves(editor, seq):
+    editor.sends(request(seq, "disconnect")).expects('"disconnect"')
+
+
+# ---- one editor, and others after it
+
+def the_first_session_over_tcp():
+    with Server() as server, server.editor() as editor:
+        expect(editor.sends(SESSION).reads(len(ANSWERS)), ANSWERS, "the answers")
+        expect(editor.is_ended(), True, "the end of the connection")
+
+
+def two_editors_one_after_the_other():
+    def check(path):
+        with Server() as server:
+            with server.editor() as first:
+                first.sends(launches(path)).expects(*STARTED)
+                first.sends(request(4, "disconnect", terminateDebuggee=False)).expects('"disconnect"')
+                expect(first.is_ended(), True, "the first one's end")
+            with server.editor() as second:
+                second.sends(attaches()).expects(*JOINED, '"continued"')
+                second.sends(request(4, "pause", **THREAD)).expects('"pause"', '"stopped"')
+                second.sends(request(5, "stackTrace", **THREAD)).expects('"totalFrames"')
+            expect(server.is_up(), True, "the server outlives its editors")
+
+    with_program(CIRCLES, check)
+
+
+def a_third_waits_while_one_is_served():
+    with Server() as server, server.editor() as first:
+        expect(first.sends(FIRST).reads(len(FIRST_ANSWER)), FIRST_ANSWER, "the first one's answer")
+        with server.editor() as second, server.editor() as third:
+            second.sends(FIRST)
+            third.sends(FIRST)
+            expect((second.is_silent(0.2), third.is_silent(0.2)), (True, True), "nobody else is answered")
+            leaves(first, 2)
+            expect(second.reads(len(FIRST_ANSWER)), FIRST_ANSWER, "the second one's answer")
+            expect(third.is_silent(0.2), True, "the third one waits")
+            leaves(second, 2)
+            expect(third.reads(len(FIRST_ANSWER)), FIRST_ANSWER, "the third one's answer")
+
+
+def once_serves_once():
+    with Server("--once") as server:
+        with server.editor() as editor:
+            expect(editor.sends(SESSION).reads(len(ANSWERS)), ANSWERS, "the answers")
+        expect(server.end(), (0, b"", b""), "the end")
+
+
+def once_says_what_a_bad_message_is():
+    with Server("--once") as server:
+        with server.editor() as editor:
+            editor.sends(frame("{}"))
+            expect(editor.is_ended(), True, "the end of the connection")
+        expect(server.end(), (1, b"", BAD), "the end")
+
+
+def a_bad_message_ends_its_connection_alone():
+    with Server() as server:
+        for data in (frame("{}"), b"bogus\r\n\r\n", b"a" * 4096):
+            with server.editor() as editor:
+                expect(editor.sends(FIRST + data).reads(len(FIRST_ANSWER)), FIRST_ANSWER, "what came before it is answered")
+                expect(editor.is_ended(), True, "the end of the connection")
+        with server.editor() as editor:
+            expect(editor.sends(FIRST).reads(len(FIRST_ANSWER)), FIRST_ANSWER, "the next one is served")
+
+
+# ---- a program that is given
+
+def a_given_program_is_joined():
+    def check(path):
+        with Server("--program", path, "--memory", "8") as server, server.editor() as editor:
+            editor.sends(attaches()).expects(*JOINED, '"reason":"entry"')
+            editor.sends(request(4, "readMemory", memoryReference="0x00011fff", count=2)).expects('"unreadableBytes":1')
+            editor.sends(request(5, "continue", **THREAD)).expects('"continue"', '"exitCode":6', '"terminated"')
+
+    with_program(CALLS, check)
+
+
+def without_a_program_there_is_none_to_join():
+    with Server() as server, server.editor() as editor:
+        editor.sends(FIRST + request(2, "attach")).expects('"initialize"', '"noMachine"')
+
+
+def a_given_program_that_is_not_right_is_said():
+    def check(path):
+        for words, status, err in ((["--program", path], 1, b"rvdap: %s: line 2: Undefined\n" % path.encode()),
+                                   (["--program", path + "x"], 1, b"rvdap: %sx: cannot read\n" % path.encode())):
+            ran = subprocess.run([PROGRAM, "--listen", "127.0.0.1:0", *words], capture_output=True, timeout=SECONDS)
+            expect((ran.stdout, ran.stderr, ran.returncode), (b"", err, status), " ".join(words))
+
+    with_program(b"nop\nj x\n", check)
+
+
+# ---- peers that behave badly
+
+def a_peer_that_vanishes_leaves_the_program_running():
+    """It is gone in the middle of a frame; the next one finds the program where it is."""
+    def check(path):
+        for reset in (False, True):
+            with Server() as server:
+                with server.editor() as editor:
+                    editor.sends(launches(path)).expects(*STARTED)
+                    editor.sends(request(4, "threads")[:10])
+                    time.sleep(0.1)
+                    if reset:
+                        editor.socket.setsockopt(socket.SOL_SOCKET, socket.SO_LINGER, struct.pack("ii", 1, 0))
+                before = server.processor_seconds()
+                time.sleep(0.3)
+                expect(server.processor_seconds() > before, True, "the program runs on")
+                with server.editor() as editor:
+                    editor.sends(attaches()).expects(*JOINED, '"continued"')
+                    editor.sends(request(4, "pause", **THREAD)).expects('"pause"', '"stopped"')
+
+    with_program(COUNTS, check)
+
+
+def a_peer_that_closes_its_side_is_answered_first():
+    with Server() as server, server.editor() as editor:
+        editor.sends(FIRST + request(2, "threads"))
+        editor.socket.shutdown(socket.SHUT_WR)
+        editor.expects('"initialize"', '"threads"')
+        expect(editor.is_ended(), True, "the end")
+
+
+def one_byte_at_a_time():
+    with Server() as server, server.editor() as editor:
+        for i in range(0, len(FIRST), 1):
+            editor.sends(FIRST[i:i + 1])
+            time.sleep(0.002)
+        expect(editor.reads(len(FIRST_ANSWER)), FIRST_ANSWER, "the answer")
+
+
+def a_peer_that_never_reads_costs_nothing():
+    """Its answers fill what the system holds; the program waits, and serves the next one when it is gone."""
+    with Server() as server:
+        with server.editor() as editor:
+            editor.socket.setblocking(False)
+            data = FIRST + b"".join(request(n, "threads") for n in range(2, 200000))
+            sent, end = 0, time.monotonic() + 1
+            while sent < len(data) and time.monotonic() < end:
+                try:
+                    sent += editor.socket.send(data[sent:sent + (1 << 16)])
+                except BlockingIOError:
+                    time.sleep(0.02)
+            before = server.processor_seconds()
+            time.sleep(0.5)
+            expect(server.processor_seconds() - before < 0.1, True, "it waits")
+        with server.editor() as editor:
+            expect(editor.sends(FIRST).reads(len(FIRST_ANSWER)), FIRST_ANSWER, "the next one's answer")
+
+
+def many_connections_at_constant_memory():
+    with Server() as server:
+        def serve(count):
+            for _ in range(count):
+                with server.editor() as editor:
+                    expect(editor.sends(SESSION).reads(len(ANSWERS)), ANSWERS, "the answers")
+                    expect(editor.is_ended(), True, "the end")
+
+        serve(100)
+        before = server.memory()
+        serve(900)
+        expect(server.memory() - before < 512, True, "the memory after 1,000 connections: %d KiB, and %d before" % (server.memory(), before))
+        expect(len(os.listdir("/proc/%d/fd" % server.process.pid)) < 10, True, "the descriptors")
+
+
+# ---- time
+
+def a_pause_of_an_endless_program_is_answered_at_once():
+    def check(path):
+        with Server() as server, server.editor() as editor:
+            editor.sends(launches(path)).expects(*STARTED)
+            time.sleep(0.3)
+            expect(editor.is_silent(0), True, "it does not stop by itself")
+            begun = time.monotonic()
+            editor.sends(request(4, "pause", **THREAD)).expects('"pause"', '"reason":"pause"')
+            expect(time.monotonic() - begun < 0.5, True, "the time of a pause")
+
+    with_program(CIRCLES, check)
+
+
+def nothing_spins_while_nothing_runs():
+    with Server() as server:
+        before = server.processor_seconds()
+        time.sleep(0.4)
+        with server.editor() as editor:
+            editor.sends(FIRST).reads(len(FIRST_ANSWER))
+            time.sleep(0.4)
+        expect(server.processor_seconds() - before < 0.2, True, "the time of the processor")
+
+
+# ---- addresses
+
+def other_addresses():
+    with Server(host="::1") as server, server.editor() as editor:
+        expect(editor.sends(FIRST).reads(len(FIRST_ANSWER)), FIRST_ANSWER, "over IPv6")
+    port = free_port()
+    process = subprocess.Popen([PROGRAM, "--listen", "localhost:%d" % port, "--once"], stdin=subprocess.DEVNULL, stderr=subprocess.PIPE)
+    try:
+        expect(process.stderr.readline(), b"listening on localhost:%d\n" % port, "the line of a name")
+        with socket.create_connection(("localhost", port), timeout=SECONDS) as connection:
+            connection.sendall(SESSION)
+            said = b""
+            while len(said) < len(ANSWERS):
+                said += connection.recv(1 << 16)
+        expect((said, process.wait(SECONDS)), (ANSWERS, 0), "the answers over a name, and the status")
+    finally:
+        process.kill()
+        process.wait()
+        process.stderr.close()
+
+
+def a_port_of_0_is_printed_as_given():
+    process = subprocess.Popen([PROGRAM, "--listen", "127.0.0.1:0"], stdin=subprocess.DEVNULL, stderr=subprocess.PIPE)
+    try:
+        expect(process.stderr.readline(), b"listening on 127.0.0.1:0\n", "the line")
+    finally:
+        process.kill()
+        process.wait()
+        process.stderr.close()
+
+
+def an_address_that_cannot_be_listened_on_is_said():
+    with socket.socket() as taken:
+        taken.bind(("127.0.0.1", 0))
+        taken.listen()
+        for address in ("127.0.0.1:%d" % taken.getsockname()[1], "bogus", "127.0.0.1", "127.0.0.1:99999", "203.0.113.1:1", ""):
+            ran = subprocess.run([PROGRAM, "--listen", address], capture_output=True, timeout=SECONDS)
+            expect((ran.stdout, ran.stderr, ran.returncode), (b"", FAULT, 1), address)
+
+
+def other_words_are_a_fault_of_usage():
+    for words in (["--once"], ["--program", "p.s"], ["--listen"], ["--listen", "a", "--listen", "b"], ["--listen", "127.0.0.1:0", "--memory", "5"],
+                  ["--listen", "127.0.0.1:0", "asm", "p.s"], ["--listen", "127.0.0.1:0", "x"]):
+        ran = subprocess.run([PROGRAM, *words], capture_output=True, timeout=SECONDS)
+        expect((ran.stdout, ran.returncode, ran.stderr.startswith(b"error: ")), (b"", 2, True), " ".join(words))
+
+
+# ---- signals
+
+def a_signal_ends_it_as_the_system_does():
+    for which in (signal.SIGTERM, signal.SIGINT):
+        with Server() as server, server.editor() as editor:
+            editor.sends(FIRST).reads(len(FIRST_ANSWER))
+            server.process.send_signal(which)
+            expect(server.end(), (-which, b"", b""), which.name)
+
+
+def checks():
+    found = (the_first_session_over_tcp, two_editors_one_after_the_other, a_third_waits_while_one_is_served, once_serves_once, once_says_what_a_bad_message_is,
+             a_bad_message_ends_its_connection_alone, a_given_program_is_joined, without_a_program_there_is_none_to_join,
+             a_given_program_that_is_not_right_is_said, a_peer_that_vanishes_leaves_the_program_running, a_peer_that_closes_its_side_is_answered_first,
+             one_byte_at_a_time, a_peer_that_never_reads_costs_nothing, many_connections_at_constant_memory,
+             a_pause_of_an_endless_program_is_answered_at_once, nothing_spins_while_nothing_runs, other_addresses, a_port_of_0_is_printed_as_given,
+             an_address_that_cannot_be_listened_on_is_said, other_words_are_a_fault_of_usage, a_signal_ends_it_as_the_system_does)
+    return [("over TCP: " + check.__name__.replace("_", " "), check) for check in found]
