@@ -29,22 +29,28 @@ fn compare(mirror: &Mirror, seen: Option<&Snapshot>) -> Result<u32, &'static str
     let mut count = is_so_of_run(mirror.run(), seen.map(Snapshot::run))?;
     for place in 0..PLACES {
         let index = place as usize;
-        count += is_so_of_break(
+        count = count.saturating_add(is_so_of_break(
             mirror.source_break(PATH, index),
             seen.and_then(|s| s.source_break(PATH, index)),
-        )?;
-        count += is_so_of_break(
+        )?);
+        count = count.saturating_add(is_so_of_break(
             mirror.instruction_break(index),
             seen.and_then(|s| s.instruction_break(index)),
-        )?;
-        count += is_so_of_frame(mirror.frame(place), seen.and_then(|s| s.frame(place)))?;
-        count += is_so_of_number(mirror.register(place), seen.and_then(|s| s.register(place)))?;
+        )?);
+        count = count.saturating_add(is_so_of_frame(
+            mirror.frame(place),
+            seen.and_then(|s| s.frame(place)),
+        )?);
+        count = count.saturating_add(is_so_of_number(
+            mirror.register(place),
+            seen.and_then(|s| s.register(place)),
+        )?);
     }
     for address in FIRST_ADDRESS..LAST_ADDRESS {
-        count += is_so_of_number(
+        count = count.saturating_add(is_so_of_number(
             mirror.byte(address).map(u32::from),
             seen.and_then(|s| s.byte(address)).map(u32::from),
-        )?;
+        )?);
     }
     Ok(count)
 }

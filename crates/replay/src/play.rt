@@ -1,4 +1,8 @@
 //! A script is played.
+ghost use Rattle.std.specs.Prelude.{◌≡◌, IfErr, IsOk, OnOk};
+ghost use Rattle.replay.specs.Playing as spec;
+ghost use Rattle.replay.specs.Playing.{Fails};
+ghost use Rattle.scripts.specs.Scripts.{script_of};
 
 use crate::events::{events_of, within};
 use crate::lines::lines_of;
@@ -24,7 +28,10 @@ pub fn watch_script<F: Files, W: Write>(
     script: &[u8],
     files: &F,
     writer: &mut W,
-) -> Result<(), ScriptFault> {
+) -> Result<(), ScriptFault>
+    ensures ok { OnOk result (IsOk (script_of script.now)) }
+    ensures err { IfErr result (λ fault. Fails fault script.now (W.contents writer.old) (W.contents writer.new)) }
+{
     let Script { steps, watch } = read_script(alloc, script)?;
     let last = steps.len() as u64 + 1;
     let events = events_of(alloc, steps, files)?;
@@ -66,7 +73,10 @@ fn config() -> Config {
     }
 }
 
-fn fault_of(error: WatchError, last: u64) -> ScriptFault {
+// What is said where nothing is watched.
+fn fault_of(error: WatchError, last: u64) -> ScriptFault
+    ensures { result ≡ spec.fault_of last error }
+{
     match error {
         WatchError::NoSuchConnection | WatchError::CutTooLong => ScriptFault::Line(last),
         WatchError::Config(_) | WatchError::NoMemory => ScriptFault::NoMemory,

@@ -1,0 +1,4 @@
+-- A script that is played.
+
+-- why it is not
+pub mod Playing
