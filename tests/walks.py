@@ -61,6 +61,9 @@ class Walk:
             self.breakpoints()
         self.request("configurationDone")
         self.turns()
+        if self.connections == 1 and self.chance.random() < 0.8:
+            self.does("slice %d" % self.chance.choice((0, 0, 1, 3)))
+            self.looks(1, 2)
 
     def breakpoints(self):
         if self.chance.random() < 0.6:
@@ -106,16 +109,20 @@ class Walk:
             self.does("drop")
             self.begins()
         else:
-            self.looks()
+            frame = self.chance.choice((1, 1, 2, 3, 4, 5))
+            self.looks(frame, frame + self.chance.choice((1, 1, 2)))
 
-    def looks(self):
-        """A refresh, as an editor makes it where the program stands: with the numbers that a first stop gives."""
+    def looks(self, frame, registers):
+        """A refresh, as an editor makes it where the program stands, with these numbers of a frame and of its registers."""
         self.request("stackTrace", **THREAD)
         self.does("turn")
-        self.request("scopes", frameId=self.chance.choice((1, 1, 2, 3, 4)))
+        self.request("scopes", frameId=frame)
         self.does("turn")
-        self.request("variables", variablesReference=self.chance.choice((2, 3, 4, 5)))
+        self.request("variables", variablesReference=registers)
         self.does("turn")
+        if self.chance.random() < 0.5:
+            self.request("readMemory", memoryReference="0x%x" % (BASE + 4 * self.chance.randrange(8)), count=self.chance.randrange(1, 60))
+            self.does("turn")
 
     def walked(self):
         self.begins()
