@@ -25,6 +25,12 @@ def free_port(host="127.0.0.1"):
         return probe.getsockname()[1]
 
 
+def signals_as_at_a_terminal():
+    """What runs in the background may have been told to ignore them, and a program inherits that."""
+    for which in (signal.SIGTERM, signal.SIGINT):
+        signal.signal(which, signal.SIG_DFL)
+
+
 class Server:
     """The program that listens."""
 
@@ -33,7 +39,7 @@ class Server:
         shown = "[%s]" % host if ":" in host else host
         self.address = "%s:%d" % (shown, self.port)
         self.process = subprocess.Popen([PROGRAM, "--listen", self.address, *words], stdin=subprocess.DEVNULL, stdout=subprocess.PIPE, stderr=subprocess.PIPE,
-                                        bufsize=0)
+                                        bufsize=0, preexec_fn=signals_as_at_a_terminal)
         said = self.process.stderr.readline()
         expect(said, b"listening on %s\n" % self.address.encode(), "the first line on standard error")
 
