@@ -6,10 +6,10 @@ import signal
 import socket
 import struct
 import subprocess
-import tempfile
 import time
 
-from debugging import CALLS, CIRCLES, COUNTS, PATH
+from debugging import CALLS, CIRCLES, COUNTS
+from listings import with_file
 from program import PROGRAM, SECONDS, expect, frame
 from texts import ANSWERS, FIRST, FIRST_ANSWER, SESSION, request
 
@@ -123,14 +123,6 @@ class Editor:
         return not self.so_far and self.socket.recv(1) == b""
 
 
-def with_program(text, check):
-    with tempfile.TemporaryDirectory() as folder:
-        path = os.path.join(folder, "p.s")
-        with open(path, "wb") as file:
-            file.write(text)
-        check(path)
-
-
 def launches(path, stops=False):
     return FIRST + request(2, "launch", program=path, stopOnEntry=stops) + request(3, "configurationDone")
 
@@ -168,7 +160,7 @@ def two_editors_one_after_the_other():
                 second.sends(request(5, "stackTrace", **THREAD)).expects('"totalFrames"')
             expect(server.is_up(), True, "the server outlives its editors")
 
-    with_program(CIRCLES, check)
+    with_file(CIRCLES, check)
 
 
 def a_third_waits_while_one_is_served():
@@ -219,7 +211,7 @@ def a_given_program_is_joined():
             editor.sends(request(4, "readMemory", memoryReference="0x00011fff", count=2)).expects('"unreadableBytes":1')
             editor.sends(request(5, "continue", **THREAD)).expects('"continue"', '"exitCode":6', '"terminated"')
 
-    with_program(CALLS, check)
+    with_file(CALLS, check)
 
 
 def without_a_program_there_is_none_to_join():
@@ -234,7 +226,7 @@ def a_given_program_that_is_not_right_is_said():
             ran = subprocess.run([PROGRAM, "--listen", "127.0.0.1:0", *words], capture_output=True, timeout=SECONDS)
             expect((ran.stdout, ran.stderr, ran.returncode), (b"", err, status), " ".join(words))
 
-    with_program(b"nop\nj x\n", check)
+    with_file(b"nop\nj x\n", check)
 
 
 # ---- peers that behave badly
@@ -257,7 +249,7 @@ def a_peer_that_vanishes_leaves_the_program_running():
                     editor.sends(attaches()).expects(*JOINED, '"continued"')
                     editor.sends(request(4, "pause", **THREAD)).expects('"pause"', '"stopped"')
 
-    with_program(COUNTS, check)
+    with_file(COUNTS, check)
 
 
 def a_peer_that_closes_its_side_is_answered_first():
@@ -322,7 +314,7 @@ def a_pause_of_an_endless_program_is_answered_at_once():
             editor.sends(request(4, "pause", **THREAD)).expects('"pause"', '"reason":"pause"')
             expect(time.monotonic() - begun < 0.5, True, "the time of a pause")
 
-    with_program(CIRCLES, check)
+    with_file(CIRCLES, check)
 
 
 def nothing_spins_while_nothing_runs():

@@ -5,7 +5,7 @@ import re
 import subprocess
 import tempfile
 
-from debugging import CALLS, CIRCLES, COUNTS, PATH, PRINTS, RECURS
+from debugging import CALLS, CIRCLES, PATH, PRINTS, RECURS
 from looks import REGISTERS
 from program import PROGRAM, TOP, expect
 from refusals import each_refusal
