@@ -17,7 +17,7 @@ REPORTED = {
 
 
 def each_mutant_that_is_not_refused_is_reported():
-    ran = subprocess.run([RUNNER, "--from", OWN, "framing"], stdout=subprocess.PIPE, stderr=subprocess.STDOUT, text=True)
+    ran = subprocess.run([RUNNER, "--built", "--from", OWN, "framing"], stdout=subprocess.PIPE, stderr=subprocess.STDOUT, text=True)
     lines = ran.stdout.splitlines()
     reported = dict(line.split(": ", 1) for line in lines[:-1])
     expect(sorted(reported), sorted(REPORTED), "the mutants that are reported")

@@ -35,13 +35,14 @@ class Crate:
             return it.read().split("\n")
 
     def build_below(self):
-        """Builds the libraries below where one is older than its text, or than what is below it."""
+        """Builds the libraries below where one is older than its text, or than the text or the library of one below it."""
         newest = 0
         for it in self.below:
             made = os.path.join(it.library, "format")
             newest = max([newest] + [os.path.getmtime(os.path.join(it.folder, path)) for path in it.files(*PARTS)])
             if not os.path.exists(made) or os.path.getmtime(made) < newest:
                 subprocess.run(["rt", "lib"], cwd=it.folder, stdin=subprocess.DEVNULL, stdout=subprocess.DEVNULL, check=True)
+            newest = max(newest, os.path.getmtime(made))
 
     def copy(self, room, kept):
         """Copies the crate's text into a new folder, and what checks kept. Links do for that, since a check never writes into a kept file."""
