@@ -4,7 +4,12 @@
 ;;
 ;;   (load (locate-user-emacs-file "rvdap"))
 ;;
-;; Then visit a program (FILE.s), and type M-x dape RET rvdap RET.
+;; Then visit a program (FILE.s), and type M-x dape RET and one of these:
+;;
+;;   rvdap RET             standard streams: dape starts rvdap
+;;   rvdap-tcp RET         TCP: dape starts rvdap on a port that is free, and connects
+;;   rvdap-attach RET      TCP: joins the program of an rvdap that runs, as
+;;                         rvdap --listen 127.0.0.1:4711 --program FILE.s, with the absolute path of FILE.s
 
 (require 'dape)
 
@@ -19,6 +24,32 @@
                :request "launch"
                :program buffer-file-name
                :stopOnEntry t))
+
+;; By --once rvdap ends with the connection.
+(add-to-list 'dape-configs
+             '(rvdap-tcp
+               modes (asm-mode)
+               ensure dape-ensure-command
+               command "rvdap"
+               command-args ("--listen" "127.0.0.1::autoport" "--once")
+               command-cwd dape-command-cwd
+               host "127.0.0.1"
+               port :autoport
+               :type "rvdap"
+               :request "launch"
+               :program buffer-file-name
+               :stopOnEntry t)
+             t)
+
+;; C-x C-a D leaves the program as it is; C-x C-a q ends it.
+(add-to-list 'dape-configs
+             '(rvdap-attach
+               modes (asm-mode)
+               host "127.0.0.1"
+               port 4711
+               :type "rvdap"
+               :request "attach")
+             t)
 
 ;; Addresses of frames and disassembly are shown beside the source.
 (setq dape-buffer-window-arrangement 'right)
