@@ -1,18 +1,11 @@
-/* A debug adapter that is driven over pipes, for client.c and stops.c. */
-#define _GNU_SOURCE
+/* A debug adapter that is driven over a wire: frames to it, and frames from it. */
+#include "start.h"
 #include <errno.h>
-#include <fcntl.h>
-#include <spawn.h>
-#include <stdio.h>
-#include <stdlib.h>
-#include <string.h>
 #include <sys/wait.h>
 #include <time.h>
-#include <unistd.h>
 
 struct adapter {
-    pid_t pid;
-    int in, out;
+    struct process process;
     char room[1 << 17];
     size_t have;
     int refusals;
@@ -25,39 +18,20 @@ static inline double now(void)
     return (double)t.tv_sec + (double)t.tv_nsec / 1e9;
 }
 
-static inline void fail(const char *what)
+/* Starts an adapter by a command, whose words are ended by NULL. */
+static inline void begin(struct adapter *a, enum wire wire, char *const *command)
 {
-    fprintf(stderr, "bench: %s\n", what);
-    exit(1);
-}
-
-/* Starts an adapter, with a word as its argument or none (NULL). */
-static inline void begin(struct adapter *a, char *program, char *word)
-{
-    int to[2], from[2];
-    if (pipe2(to, O_CLOEXEC) || pipe2(from, O_CLOEXEC))
-        fail("no pipe");
-    posix_spawn_file_actions_t actions;
-    posix_spawn_file_actions_init(&actions);
-    posix_spawn_file_actions_adddup2(&actions, to[0], 0);
-    posix_spawn_file_actions_adddup2(&actions, from[1], 1);
-    char *words[] = {program, word, NULL};
-    if (posix_spawn(&a->pid, program, &actions, NULL, words, environ))
-        fail("an adapter does not start");
-    posix_spawn_file_actions_destroy(&actions);
-    close(to[0]);
-    close(from[1]);
-    a->in = to[1];
-    a->out = from[0];
+    a->process = start(wire, command);
     a->have = 0;
     a->refusals = 0;
 }
 
 static inline void end(struct adapter *a)
 {
-    close(a->in);
-    close(a->out);
-    waitpid(a->pid, NULL, 0);
+    close(a->process.in);
+    if (a->process.out != a->process.in)
+        close(a->process.out);
+    waitpid(a->process.pid, NULL, 0);
 }
 
 static inline int holds(const char *bytes, size_t length, const char *text)
@@ -68,7 +42,7 @@ static inline int holds(const char *bytes, size_t length, const char *text)
 /* Reads once, and gives how many frames are whole now of those that hold a text, or of all (NULL). Refusals among the others count. */
 static inline int frames_with(struct adapter *a, const char *text)
 {
-    ssize_t got = read(a->out, a->room + a->have, sizeof a->room / 2);
+    ssize_t got = read(a->process.out, a->room + a->have, sizeof a->room / 2);
     if (got <= 0)
         fail("an adapter ended early");
     a->have += (size_t)got;
@@ -95,7 +69,7 @@ static inline int frames_with(struct adapter *a, const char *text)
 static inline void put(struct adapter *a, const char *bytes, size_t count)
 {
     while (count > 0) {
-        ssize_t took = write(a->in, bytes, count);
+        ssize_t took = write(a->process.in, bytes, count);
         if (took < 0)
             fail("an adapter takes no more");
         bytes += took;

@@ -1,10 +1,11 @@
-/* An adapter and the floor that are driven in turn over pipes, request by request, and the table of how long they take. */
+/* An adapter and the floor that are driven in turn over a wire, request by request, and the table of how long they take. */
 #include "adapter.h"
 
 enum { TRIPS = 1000, MOST_ROUNDS = 101, MOST_ROWS = 8, MOST_ASKS = 3 };
 
 #define SUCCESS "\"success\":true"
 #define STOPPED "\"event\":\"stopped\""
+#define OF_THREAD ",\"arguments\":{\"threadId\":1}"
 
 /* What is asked in one write, and the text of the frames that are waited for, as many as there are requests. */
 struct asked {
@@ -16,7 +17,8 @@ struct asked {
 /* An adapter with the number of its last request, and the figures of its rounds, in seconds. */
 struct driven {
     struct adapter adapter;
-    char *program, *word;
+    enum wire wire;
+    char **command;
     unsigned seq;
     double figures[MOST_ROWS][MOST_ROUNDS];
 };
@@ -48,7 +50,7 @@ static inline double launch(struct driven *d, const char *path)
 {
     char rest[4000];
     d->seq = 0;
-    begin(&d->adapter, d->program, d->word);
+    begin(&d->adapter, d->wire, d->command);
     ask(d, "\"command\":\"initialize\",\"arguments\":{\"adapterID\":\"rvdap\"}", SUCCESS);
     if (snprintf(rest, sizeof rest, "\"command\":\"launch\",\"arguments\":{\"program\":\"%s\",\"stopOnEntry\":true}", path) >= (int)sizeof rest)
         fail("a path is too long");
@@ -71,9 +73,9 @@ static inline double trips(struct driven *d, const struct asked *asked)
 }
 
 /* The head of a table, by what is measured. */
-static inline void show_head(const char *what)
+static inline void show_head(const char *what, enum wire wire)
 {
-    printf("| %s | rvdap, us | floor, us | over the floor |\n|---|---|---|---|\n", what);
+    printf("| %s, over %s | rvdap, us | floor, us | over the floor |\n|---|---|---|---|\n", what, wires[wire]);
 }
 
 /* A row in microseconds: the least of the rounds, and the median in brackets. */

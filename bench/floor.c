@@ -2,14 +2,15 @@
 /* What the measured adapter is held against: a program that reads frames, and answers each from a fixed text with
    one write. It looks at nothing but the length in each header.
 
-   Usage: floor [stops|looks]
+   Usage: floor [stops|looks|pauses] [--listen 127.0.0.1:PORT --once]
 
    With a word it looks for the command too, and its texts are what the adapter answers and tells of a program that stops, or as long as that
-   where it looks into one. */
+   where it looks into one. With `pauses` the program stops only where it is paused. It serves standard input and output, or the first one that
+   connects to a port. */
+#include "tcp.h"
 #include <stdio.h>
 #include <stdlib.h>
 #include <string.h>
-#include <unistd.h>
 
 /* What a request is answered: one or two bodies, with their headers; or a body that is filled up to a length. */
 struct answer {
@@ -40,6 +41,7 @@ static struct answer answers[] = {
       NULL},
      0, "", 0},
     {"stepIn", {"{\"command\":\"stepIn\",\"request_seq\":500,\"seq\":1000," SUCCESS, STOPPED("step", "1001")}, 0, "", 0},
+    {"pause", {"{\"command\":\"pause\",\"request_seq\":500,\"seq\":1000," SUCCESS, STOPPED("pause", "1001")}, 0, "", 0},
     {"stackTrace", {NULL, NULL}, STACK_TRACE, "", 0},
     {"scopes", {NULL, NULL}, SCOPES, "", 0},
     {"variables", {NULL, NULL}, VARIABLES, "", 0},
@@ -73,23 +75,40 @@ static void write_headers(struct answer *a)
         a->length += (size_t)sprintf(a->bytes + a->length, "Content-Length: %zu\r\n\r\n%s", strlen(a->bodies[i]), a->bodies[i]);
 }
 
-static const struct answer *answer_to(const char *frame, size_t length)
+static struct answer *answer_of(const char *command)
 {
-    static const char before[] = "\"command\":\"";
-    const char *name = memmem(frame, length, before, sizeof before - 1);
-    if (name == NULL)
-        return &answers[0];
-    name += sizeof before - 1;
     for (int i = 1; i < ANSWERS; i++)
-        if (!strncmp(name, answers[i].command, strlen(answers[i].command)))
+        if (!strncmp(command, answers[i].command, strlen(answers[i].command)))
             return &answers[i];
     return &answers[0];
 }
 
+static const struct answer *answer_to(const char *frame, size_t length)
+{
+    static const char before[] = "\"command\":\"";
+    const char *name = memmem(frame, length, before, sizeof before - 1);
+    return name == NULL ? &answers[0] : answer_of(name + sizeof before - 1);
+}
+
+/* Says that a port is listened on, and makes its first peer standard input and output. */
+static int take_first_peer(const char *address)
+{
+    int listening = socket_at(atoi(strchr(address, ':') + 1));
+    if (listen(listening, 1))
+        return -1;
+    fprintf(stderr, "listening on %s\n", address);
+    int peer = first_peer(listening);
+    return dup2(peer, 0) < 0 || dup2(peer, 1) < 0 ? -1 : 0;
+}
+
 int main(int words, char **word)
 {
-    int looks = words > 1 && (!strcmp(word[1], "stops") || !strcmp(word[1], "looks"));
+    const char *way = words > 1 && word[1][0] != '-' ? word[1] : NULL;
+    if (words > 3 && take_first_peer(word[words - 2]))
+        return 1;
     size_t have = 0;
+    if (way != NULL && !strcmp(way, "pauses"))
+        answer_of("continue")->bodies[1] = NULL;
     for (int i = 0; i < ANSWERS; i++)
         write_headers(&answers[i]);
     for (;;) {
@@ -106,7 +125,7 @@ int main(int words, char **word)
             size_t whole = (size_t)(end - room) + 4 + length;
             if (whole > have)
                 break;
-            const struct answer *a = looks ? answer_to(end, length + 4) : &answers[0];
+            const struct answer *a = way ? answer_to(end, length + 4) : &answers[0];
             if (write(1, a->bytes, a->length) != (ssize_t)a->length)
                 return 1;
             at = whole;

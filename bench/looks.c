@@ -1,6 +1,6 @@
-/* Drives a debug adapter and the floor over pipes, in turn, and prints how long it takes to look into a program that stands still.
+/* Drives a debug adapter and the floor over a wire, in turn, and prints how long it takes to look into a program that stands still.
 
-   Usage: looks ROUNDS FILE PROGRAM FLOOR
+   Usage: looks ROUNDS pipes|TCP FILE PROGRAM FLOOR
 
    FILE is a program that is launched and stops at its entry. A refresh is what an editor asks after a stop, in one write: the stack, the
    scopes of its frame, and the registers. Then an expression is evaluated, 400 instructions are disassembled, 4,096 bytes of memory are read,
@@ -39,17 +39,17 @@ static void measure(struct driven *d, int round, const char *path)
 int main(int words, char **word)
 {
     static struct driven ours, theirs;
-    int rounds = words == 5 ? atoi(word[1]) : 0;
+    int rounds = words == 6 ? atoi(word[1]) : 0;
     if (rounds < 1 || rounds > MOST_ROUNDS)
-        fail("usage: looks ROUNDS FILE PROGRAM FLOOR");
-    ours.program = word[3];
-    theirs.program = word[4];
-    theirs.word = "looks";
+        fail("usage: looks ROUNDS pipes|TCP FILE PROGRAM FLOOR");
+    ours.wire = theirs.wire = wire_of(word[2]);
+    ours.command = (char *[]){word[4], NULL};
+    theirs.command = (char *[]){word[5], "looks", NULL};
     for (int round = 0; round < rounds; round++) {
-        measure(&ours, round, word[2]);
-        measure(&theirs, round, word[2]);
+        measure(&ours, round, word[3]);
+        measure(&theirs, round, word[3]);
     }
-    show_head("of a program that stands still");
+    show_head("of a program that stands still", ours.wire);
     for (enum row row = 0; row < ROWS; row++)
         show(looks[row].name, ours.figures[row], theirs.figures[row], rounds);
     return 0;

@@ -1,6 +1,6 @@
-/* Drives a debug adapter and the floor over pipes, in turn, and prints how long it takes from a request to the event `stopped`.
+/* Drives a debug adapter and the floor over a wire, in turn, and prints how long it takes from a request to the event `stopped`.
 
-   Usage: stops ROUNDS SMALL LARGE PROGRAM FLOOR
+   Usage: stops ROUNDS pipes|TCP SMALL LARGE PROGRAM FLOOR
 
    SMALL is the file of a program whose loop has an `ebreak`; LARGE one of many lines that begins with a loop of two, in lines 4 and 5.
    In each round each is launched in a process of its own, and stops at its entry: that counts from `launch`, with
@@ -17,8 +17,6 @@ static const char *const names[ROWS] = {
     [TO_EBREAK] = "`continue` to an `ebreak` one loop away",
     [TO_BREAKPOINT] = "`continue` to a breakpoint one loop away",
 };
-
-#define OF_THREAD ",\"arguments\":{\"threadId\":1}"
 
 /* The time of a request to `stopped`. */
 static double stops(struct driven *d, const char *rest)
@@ -44,17 +42,17 @@ static void measure(struct driven *d, int round, const char *small, const char *
 int main(int words, char **word)
 {
     static struct driven ours, theirs;
-    int rounds = words == 6 ? atoi(word[1]) : 0;
+    int rounds = words == 7 ? atoi(word[1]) : 0;
     if (rounds < 1 || rounds > MOST_ROUNDS)
-        fail("usage: stops ROUNDS SMALL LARGE PROGRAM FLOOR");
-    ours.program = word[4];
-    theirs.program = word[5];
-    theirs.word = "stops";
+        fail("usage: stops ROUNDS pipes|TCP SMALL LARGE PROGRAM FLOOR");
+    ours.wire = theirs.wire = wire_of(word[2]);
+    ours.command = (char *[]){word[5], NULL};
+    theirs.command = (char *[]){word[6], "stops", NULL};
     for (int round = 0; round < rounds; round++) {
-        measure(&ours, round, word[2], word[3]);
-        measure(&theirs, round, word[2], word[3]);
+        measure(&ours, round, word[3], word[4]);
+        measure(&theirs, round, word[3], word[4]);
     }
-    show_head("from the request to `stopped`");
+    show_head("from the request to `stopped`", ours.wire);
     for (enum row row = 0; row < ROWS; row++)
         show(names[row], ours.figures[row], theirs.figures[row], rounds);
     return 0;
