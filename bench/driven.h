@@ -72,11 +72,13 @@ static inline double trips(struct driven *d, const struct asked *asked)
     return at(figures, TRIPS, 0.5);
 }
 
-/* The head of a table, by what is measured. */
-static inline void show_head(const char *what, enum wire wire)
-{
-    printf("| %s, over %s | rvdap, us | floor, us | over the floor |\n|---|---|---|---|\n", what, wires[wire]);
-}
+/* A table: what drives the floor and a program for its figures, the programs that are given by paths, and the rows. */
+struct table {
+    const char *name, *usage, *what;
+    void (*measure)(struct driven *d, int round, char **paths);
+    int paths, rows;
+    const char *const *names;
+};
 
 /* A row in microseconds: the least of the rounds, and the median in brackets. */
 static inline void show(const char *name, double *ours, double *theirs, int rounds)
@@ -85,4 +87,25 @@ static inline void show(const char *name, double *ours, double *theirs, int roun
     double least_floor = at(theirs, rounds, 0) * 1e6, median_floor = at(theirs, rounds, 0.5) * 1e6;
     printf("| %s | %.1f (%.1f) | %.1f (%.1f) | %.2f (%.2f) |\n", name, least, median, least_floor, median_floor, least / least_floor,
            median / median_floor);
+}
+
+/* Measures both in turn, round by round, and prints the table. The words are those of the usage: ROUNDS, the wire, the paths, PROGRAM and FLOOR. */
+static inline int measure_in_turn(const struct table *table, int words, char **word)
+{
+    static struct driven ours, theirs;
+    int rounds = words == table->paths + 5 ? atoi(word[1]) : 0;
+    if (rounds < 1 || rounds > MOST_ROUNDS)
+        fail(table->usage);
+    char **paths = word + 3, **programs = paths + table->paths;
+    ours.wire = theirs.wire = wire_of(word[2]);
+    ours.command = (char *[]){programs[0], NULL};
+    theirs.command = (char *[]){programs[1], (char *)table->name, NULL};
+    for (int round = 0; round < rounds; round++) {
+        table->measure(&ours, round, paths);
+        table->measure(&theirs, round, paths);
+    }
+    printf("| %s, over %s | rvdap, us | floor, us | over the floor |\n|---|---|---|---|\n", table->what, wires[ours.wire]);
+    for (int row = 0; row < table->rows; row++)
+        show(table->names[row], ours.figures[row], theirs.figures[row], rounds);
+    return 0;
 }

@@ -9,48 +9,34 @@
 
 enum row { REFRESH, EVALUATE, DISASSEMBLE, READ_MEMORY, STEP, ROWS };
 
-struct look {
-    const char *name;
-    struct asked asked;
+static const char *const names[ROWS] = {
+    [REFRESH] = "a refresh: `stackTrace`, `scopes`, `variables` of the registers",
+    [EVALUATE] = "`evaluate` of `a0`",
+    [DISASSEMBLE] = "`disassemble`, 400 instructions",
+    [READ_MEMORY] = "`readMemory`, 4,096 bytes",
+    [STEP] = "`stepIn` by instruction, to `stopped`",
 };
 
-static const struct look looks[ROWS] = {
-    [REFRESH] = {"a refresh: `stackTrace`, `scopes`, `variables` of the registers",
-                 {{"\"command\":\"stackTrace\",\"arguments\":{\"threadId\":1}", "\"command\":\"scopes\",\"arguments\":{\"frameId\":1}",
-                   "\"command\":\"variables\",\"arguments\":{\"variablesReference\":2}"},
-                  3, SUCCESS}},
-    [EVALUATE] = {"`evaluate` of `a0`", {{"\"command\":\"evaluate\",\"arguments\":{\"expression\":\"a0\"}"}, 1, SUCCESS}},
-    [DISASSEMBLE] = {"`disassemble`, 400 instructions",
-                     {{"\"command\":\"disassemble\",\"arguments\":{\"memoryReference\":\"0x00010000\",\"instructionCount\":400}"}, 1, SUCCESS}},
-    [READ_MEMORY] = {"`readMemory`, 4,096 bytes",
-                     {{"\"command\":\"readMemory\",\"arguments\":{\"memoryReference\":\"0x00010000\",\"count\":4096}"}, 1, SUCCESS}},
-    [STEP] = {"`stepIn` by instruction, to `stopped`",
-              {{"\"command\":\"stepIn\",\"arguments\":{\"granularity\":\"instruction\",\"threadId\":1}"}, 1, STOPPED}},
+static const struct asked looks[ROWS] = {
+    [REFRESH] = {{"\"command\":\"stackTrace\",\"arguments\":{\"threadId\":1}", "\"command\":\"scopes\",\"arguments\":{\"frameId\":1}",
+                  "\"command\":\"variables\",\"arguments\":{\"variablesReference\":2}"},
+                 3, SUCCESS},
+    [EVALUATE] = {{"\"command\":\"evaluate\",\"arguments\":{\"expression\":\"a0\"}"}, 1, SUCCESS},
+    [DISASSEMBLE] = {{"\"command\":\"disassemble\",\"arguments\":{\"memoryReference\":\"0x00010000\",\"instructionCount\":400}"}, 1, SUCCESS},
+    [READ_MEMORY] = {{"\"command\":\"readMemory\",\"arguments\":{\"memoryReference\":\"0x00010000\",\"count\":4096}"}, 1, SUCCESS},
+    [STEP] = {{"\"command\":\"stepIn\",\"arguments\":{\"granularity\":\"instruction\",\"threadId\":1}"}, 1, STOPPED},
 };
 
-static void measure(struct driven *d, int round, const char *path)
+static void measure(struct driven *d, int round, char **paths)
 {
-    launch(d, path);
+    launch(d, paths[0]);
     for (enum row row = 0; row < ROWS; row++)
-        d->figures[row][round] = trips(d, &looks[row].asked);
+        d->figures[row][round] = trips(d, &looks[row]);
     end(&d->adapter);
 }
 
 int main(int words, char **word)
 {
-    static struct driven ours, theirs;
-    int rounds = words == 6 ? atoi(word[1]) : 0;
-    if (rounds < 1 || rounds > MOST_ROUNDS)
-        fail("usage: looks ROUNDS pipes|TCP FILE PROGRAM FLOOR");
-    ours.wire = theirs.wire = wire_of(word[2]);
-    ours.command = (char *[]){word[4], NULL};
-    theirs.command = (char *[]){word[5], "looks", NULL};
-    for (int round = 0; round < rounds; round++) {
-        measure(&ours, round, word[3]);
-        measure(&theirs, round, word[3]);
-    }
-    show_head("of a program that stands still", ours.wire);
-    for (enum row row = 0; row < ROWS; row++)
-        show(looks[row].name, ours.figures[row], theirs.figures[row], rounds);
-    return 0;
+    static const struct table table = {"looks", "usage: looks ROUNDS pipes|TCP FILE PROGRAM FLOOR", "of a program that stands still", measure, 1, ROWS, names};
+    return measure_in_turn(&table, words, word);
 }

@@ -21,10 +21,10 @@ static void wait_for(int pause)
     nanosleep(&rest, NULL);
 }
 
-static void measure(struct driven *d, int round, const char *path)
+static void measure(struct driven *d, int round, char **paths)
 {
     double figures[PAUSES];
-    launch(d, path);
+    launch(d, paths[0]);
     for (int i = 0; i < PAUSES; i++) {
         ask(d, "\"command\":\"continue\"" OF_THREAD, SUCCESS);
         wait_for(i);
@@ -39,19 +39,6 @@ static void measure(struct driven *d, int round, const char *path)
 
 int main(int words, char **word)
 {
-    static struct driven ours, theirs;
-    int rounds = words == 6 ? atoi(word[1]) : 0;
-    if (rounds < 1 || rounds > MOST_ROUNDS)
-        fail("usage: pauses ROUNDS pipes|TCP FILE PROGRAM FLOOR");
-    ours.wire = theirs.wire = wire_of(word[2]);
-    ours.command = (char *[]){word[4], NULL};
-    theirs.command = (char *[]){word[5], "pauses", NULL};
-    for (int round = 0; round < rounds; round++) {
-        measure(&ours, round, word[3]);
-        measure(&theirs, round, word[3]);
-    }
-    show_head("of a program that runs for ever", ours.wire);
-    for (enum row row = 0; row < ROWS; row++)
-        show(names[row], ours.figures[row], theirs.figures[row], rounds);
-    return 0;
+    static const struct table table = {"pauses", "usage: pauses ROUNDS pipes|TCP FILE PROGRAM FLOOR", "of a program that runs for ever", measure, 1, ROWS, names};
+    return measure_in_turn(&table, words, word);
 }

@@ -25,8 +25,9 @@ static double stops(struct driven *d, const char *rest)
     return trips(d, &asked);
 }
 
-static void measure(struct driven *d, int round, const char *small, const char *large)
+static void measure(struct driven *d, int round, char **paths)
 {
+    const char *small = paths[0], *large = paths[1];
     char rest[4000];
     d->figures[LAUNCH_SMALL][round] = launch(d, small);
     d->figures[TO_EBREAK][round] = stops(d, "\"command\":\"continue\"" OF_THREAD);
@@ -41,19 +42,6 @@ static void measure(struct driven *d, int round, const char *small, const char *
 
 int main(int words, char **word)
 {
-    static struct driven ours, theirs;
-    int rounds = words == 7 ? atoi(word[1]) : 0;
-    if (rounds < 1 || rounds > MOST_ROUNDS)
-        fail("usage: stops ROUNDS pipes|TCP SMALL LARGE PROGRAM FLOOR");
-    ours.wire = theirs.wire = wire_of(word[2]);
-    ours.command = (char *[]){word[5], NULL};
-    theirs.command = (char *[]){word[6], "stops", NULL};
-    for (int round = 0; round < rounds; round++) {
-        measure(&ours, round, word[3], word[4]);
-        measure(&theirs, round, word[3], word[4]);
-    }
-    show_head("from the request to `stopped`", ours.wire);
-    for (enum row row = 0; row < ROWS; row++)
-        show(names[row], ours.figures[row], theirs.figures[row], rounds);
-    return 0;
+    static const struct table table = {"stops", "usage: stops ROUNDS pipes|TCP SMALL LARGE PROGRAM FLOOR", "from the request to `stopped`", measure, 2, ROWS, names};
+    return measure_in_turn(&table, words, word);
 }
