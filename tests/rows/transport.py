@@ -1,4 +1,4 @@
-"""Whole connections over wires and streams, and servers over streams, that give and take a few bytes at a time, are interrupted, and fail."""
+"""Whole connections over wires and through doors, and servers over streams that give and take a few bytes at a time, are interrupted, and fail."""
 from playing import Row
 from program import frame
 from texts import ANSWERS, FIRST, FIRST_ANSWER, SESSION, THREADS, refused, request
@@ -22,20 +22,17 @@ ENDED = [("turn", "NotConnected"), ("waiting", ""), ("pending", "0"), ("connect"
 
 
 def given(data):
-    return "input " + data.hex(), "ok"
+    """What a server's reader has."""
+    return "stream input " + data.hex(), "ok"
 
 
 def reads(most=EVERY, calls=EVERY, interruptions=0):
     """So many bytes a read, so many reads before they fail, so many interruptions before each."""
-    return "reader %d %d %d" % (most, calls, interruptions), "ok"
+    return "stream reader %d %d %d" % (most, calls, interruptions), "ok"
 
 
 def writes(most=EVERY, calls=EVERY, interruptions=0):
-    return "writer %d %d %d" % (most, calls, interruptions), "ok"
-
-
-def serves(end, turns=TURNS):
-    return "serve %d" % turns, end
+    return "stream writer %d %d %d" % (most, calls, interruptions), "ok"
 
 
 def wire(polls=False, most=EVERY, failing=0):
@@ -68,11 +65,11 @@ OTHER = ("wire other", "ok")
 
 
 def written(data):
-    return "written", data.hex()
+    return "stream written", data.hex()
 
 
 def left(data):
-    return "left", data.hex()
+    return "stream left", data.hex()
 
 
 def faulty(fault):
@@ -81,46 +78,30 @@ def faulty(fault):
 
 def server(*calls):
     """Calls of one server, each with its answer."""
-    return "server " + " ".join(call for call, _ in calls), " ".join(answer for _, answer in calls)
+    return "stream server " + " ".join(call for call, _ in calls), " ".join(answer for _, answer in calls)
 
 
 def text(error, wanted):
     return "text " + error, wanted
 
 
-def cut(most, interruptions):
-    return [given(FIRST + HARTS + EVENT + request(3, "disconnect")), reads(most, interruptions=interruptions),
-            writes(most, interruptions=interruptions), CONNECT, serves("Closed"), written(ANSWERS), NO_FAULT] + ENDED
-
-
 def ends(data, answers, fault="none"):
-    """What is read in one piece, what is answered, and what closed the connection."""
-    return [given(data), CONNECT, serves("Closed"), faulty(fault), written(answers)] + ENDED
+    """What comes in one piece, what is answered, and what closed the connection."""
+    return [wire()] + pieces(data) + [CONNECT, drives("Closed"), faulty(fault), taken(answers)] + counts() + ENDED
 
 
-# One read, three answers and three writes are seven turns, and one more finds the end.
+# One piece, three answers and three sends are seven turns, and one more finds the end.
 WRITTEN_AFTER = [b"", b"", b"", FIRST_ANSWER, FIRST_ANSWER, FIRST_ANSWER + HARTS_ANSWER, FIRST_ANSWER + HARTS_ANSWER, ANSWERS]
-
-
-def stops_after(turns):
-    """Serving that ends for its turns goes on where it stopped."""
-    return [given(SESSION), CONNECT, serves("Turns", turns), written(WRITTEN_AFTER[turns]), serves("Closed", 8 - turns), written(ANSWERS)] + ENDED
-
-
-def closes_within(turns):
-    return [given(SESSION), CONNECT, serves("Closed", turns), written(ANSWERS)] + ENDED
-
-
-def fails(reads_made, writes_made, most, count):
-    """How many reads and writes succeed, how many bytes a write takes, and how many bytes were written."""
-    return [given(SESSION), reads(120, reads_made, 1), writes(most, writes_made, 1), CONNECT, serves("Fault"), written(ANSWERS[:count]),
-            NO_FAULT] + ENDED
 
 
 def drives_in_turns(turns):
     """Driving that ends for its turns goes on where it stopped."""
     return [wire()] + pieces(SESSION) + [CONNECT, drives("Turns", turns), taken(WRITTEN_AFTER[turns]), drives("Closed", 8 - turns), taken(ANSWERS)] \
         + counts() + ENDED
+
+
+def closes_within(turns):
+    return [wire()] + pieces(SESSION) + [CONNECT, drives("Closed", turns), taken(ANSWERS)] + counts() + ENDED
 
 
 def is_driven(polls, most, size):
@@ -174,12 +155,11 @@ NO_MORE = ("poll", "none")
 
 
 def stays_faulty(data, fault):
-    return [given(data), server(POLLED, ("poll", fault), ("poll", fault), ("ack=2", fault)), written(b"")]
+    return [given(data), server(POLLED, ("poll", fault), ("poll", fault), ("ack=2", fault), ("initialized", fault)), written(b"")]
 
 
-ROWS = [Row("the first session is answered however it is cut: %d bytes at a time" % most, cut(most, interruptions), PROFILE)
-        for most, interruptions in ((1, 0), (2, 1), (7, 0), (83, 3), (1000, 2))] + [
-    Row("a connection without input ends", ends(b"", b""), PROFILE),
+ROWS = [
+    Row("a connection without input ends", [wire(), CONNECT, drives("Closed"), faulty("none"), taken(b"")] + counts() + ENDED, PROFILE),
     Row("a request that comes too early is refused", ends(HARTS, TOO_EARLY), PROFILE),
     Row("an unfinished frame is dropped", ends(FIRST + HARTS + b"Content-Len", FIRST_ANSWER + HARTS_ANSWER), PROFILE),
     Row("what is no message ends a connection", ends(FIRST + frame("{}") + HARTS, FIRST_ANSWER, "Message(NotAMessage)"), PROFILE),
@@ -189,29 +169,23 @@ ROWS = [Row("the first session is answered however it is cut: %d bytes at a time
     Row("what is no message in the piece of a disconnect is met", ends(SESSION + frame("{"), ANSWERS, "Message(NotJson)"), PROFILE),
     Row("an event is passed over, and an empty body is no message", ends(FIRST + EVENT + frame(""), FIRST_ANSWER, "Message(NotJson)"), PROFILE),
     Row("what comes in a piece after a disconnect is not read", [
-        given(SESSION + NO_FRAME), reads(len(SESSION)), CONNECT, serves("Closed"), NO_FAULT, written(ANSWERS), left(NO_FRAME)] + ENDED, PROFILE),
+        wire()] + pieces(SESSION, NO_FRAME) + [CONNECT, drives("Closed"), NO_FAULT, taken(ANSWERS)] + counts() + ENDED, PROFILE),
     Row("where all is said nothing is read", [
-        given(FIRST), CONNECT, ("recv " + NO_FRAME.hex(), "ok"), serves("Closed", 1), faulty("Frame(NoLength)"), left(FIRST), written(b"")] + ENDED,
-        PROFILE),
-    Row("a program is launched, stops at its entry and runs to its end", [
-        file(P), given(FIRST + launch(stopOnEntry=True) + GO_ON), reads(len(FIRST + launch(stopOnEntry=True))), CONNECT,
-        serves("Closed"), written(STOPPED_AT_ENTRY + RAN), NO_FAULT] + ENDED, PROFILE),
-    Row("a program that does not end is held, and the end of the input is read then", [
-        file(FOREVER), given(FIRST + launch()), CONNECT, serves("Closed"), written(HELD), NO_FAULT], PROFILE),
-    Row("a program that does not end runs for 100 slices before it is held", [
-        file(FOREVER), given(FIRST + launch()), CONNECT, serves("Turns", 8 + 99), ("runnable", "true"), written(LAUNCHED), serves("Closed"),
-        written(HELD)], PROFILE),
-    Row("a file that is not there is not launched", [
-        file(P, "/w/q.s"), given(FIRST + request(2, "launch", program="/w/p.s")), CONNECT, serves("Closed"), written(UNREADABLE), NO_FAULT], PROFILE),
+        wire()] + pieces(FIRST) + [CONNECT, ("recv " + NO_FRAME.hex(), "ok"), drives("Closed", 1), faulty("Frame(NoLength)"), taken(b"")]
+        + counts() + ENDED + [drives("Closed"), taken(FIRST_ANSWER)], PROFILE),
     Row("a server polls requests and writes responses", [
         given(EVENT + HARTS + EVENT), server(POLLED, ("threads=2", "ok"), NO_MORE, NO_MORE), written(FIRST_HARTS_ANSWER)], PROFILE),
+    Row("a server writes responses and events, numbered together", [
+        given(HARTS), server(POLLED, ("threads=2", "ok"), ("initialized", "ok"), NO_MORE),
+        written(FIRST_HARTS_ANSWER + frame('{"event":"initialized","seq":2,"type":"event"}'))], PROFILE),
+    Row("a server's event is the first message where it is sent first", [
+        given(HARTS), server(("initialized", "ok"), POLLED, ("threads=2", "ok")),
+        written(frame('{"event":"initialized","seq":1,"type":"event"}') + HARTS_ANSWER)], PROFILE, refused=True),
     Row("a fault of a frame stays with a server", stays_faulty(HARTS + NO_FRAME, "Frame"), PROFILE),
     Row("a fault of a message stays with a server", stays_faulty(HARTS + frame("{}") + HARTS, "Message"), PROFILE),
     Row("an empty body is no message for a server", stays_faulty(HARTS + frame(""), "Message"), PROFILE),
     Row("a server goes on after it found no memory", [
         given(HARTS + EVENT + HARTS), server(POLLED, POLLED, ("threads=2", "ok"), NO_MORE), written(FIRST_HARTS_ANSWER)], PROFILE, refused=True),
-    Row("a session over streams is served again after it found no memory", [
-        ("whole " + SESSION.hex(), "Closed " + ANSWERS.hex())], PROFILE, refused=True),
     Row("a server reads and writes a byte at a time, and is interrupted", [
         given(HARTS + EVENT + HARTS), reads(1, interruptions=2), writes(1, interruptions=2),
         server(POLLED, ("threads=2", "ok"), POLLED, ("ack=2", "ok"), NO_MORE),
@@ -230,7 +204,7 @@ ROWS = [Row("the first session is answered however it is cut: %d bytes at a time
         text("Frame", "not a frame"), text("Message", "not a message"), text("Read", "read fault"), text("Write", "write fault"),
         text("TooManyReads", "too many reads"), text("NoMemory", "no memory"), text("SeqSpent", "no sequence number is left"),
     ], "the doc comments of the errors"),
-    Row("over a wire a program is launched, stops at its entry and runs to its end", [
+    Row("a program is launched, stops at its entry and runs to its end", [
         file(P), wire()] + pieces(FIRST + launch(stopOnEntry=True), GO_ON) + [
             CONNECT, drives("Closed"), taken(STOPPED_AT_ENTRY + RAN), NO_FAULT] + counts() + ENDED, PROFILE),
     Row("over a wire that polls the editor is heard while a program runs", [
@@ -248,10 +222,10 @@ ROWS = [Row("the first session is answered however it is cut: %d bytes at a time
     Row("over a wire that cannot poll a program runs for 100 slices before it is held", [
         file(FOREVER), wire()] + pieces(FIRST + launch()) + [
             CONNECT, drives("Turns", 8 + 99), ("runnable", "true"), taken(LAUNCHED), drives("Closed"), taken(HELD)] + counts(), PROFILE),
-    Row("over a wire a file that is not there is not launched", [
+    Row("a file that is not there is not launched", [
         file(P, "/w/q.s"), wire()] + pieces(FIRST + request(2, "launch", program="/w/p.s")) + [
             CONNECT, drives("Closed"), taken(UNREADABLE), NO_FAULT], PROFILE),
-    Row("what is no frame ends a connection over a wire", [wire()] + pieces(FIRST + HARTS, NO_FRAME) + [
+    Row("what is no frame ends a connection after what came before it is answered", [wire()] + pieces(FIRST + HARTS, NO_FRAME) + [
         CONNECT, drives("Closed"), taken(FIRST_ANSWER + HARTS_ANSWER), faulty("Frame(NoLength)")] + counts() + ENDED, PROFILE),
     Row("an editor goes in the middle of a frame, and the next one joins the program", [
         file(COUNTS), wire(polls=True)] + pieces(LEAVES) + [OTHER, wire(polls=True)] + pieces(JOINS) + [
@@ -271,14 +245,9 @@ ROWS = [Row("the first session is answered however it is cut: %d bytes at a time
         wire()] + pieces(SESSION) + [visits("Turns 0 0", turns=4), taken(FIRST_ANSWER), ("turn", "NotConnected"), ("connect", "2")], PROFILE),
     Row("a session over a wire is driven again after it found no memory", [
         ("wire whole " + SESSION.hex(), "Closed " + ANSWERS.hex())], PROFILE, refused=True),
-] + [Row("%d turns end with a prefix of the answers" % turns, stops_after(turns), PROFILE) for turns in range(8)] \
+] + [Row("%d turns end with a prefix of the answers" % turns, drives_in_turns(turns), PROFILE) for turns in range(8)] \
   + [Row("%d turns are enough for a whole session" % turns, closes_within(turns), PROFILE) for turns in (8, 9)] \
-  + [Row("a fault of a stream after %d reads and %d writes of %d bytes" % (reads_made, writes_made, most), fails(reads_made, writes_made, most, count),
-         PROFILE)
-     for reads_made, writes_made, most, count in (
-         (0, 9, 1000, 0), (1, 9, 1000, 619), (9, 0, 1000, 0), (9, 1, 1000, 619), (9, 2, 1000, 766), (9, 2, 100, 200), (9, 9, 0, 0))] \
-  + [Row("over a wire %d turns end with a prefix of the answers" % turns, drives_in_turns(turns), PROFILE) for turns in range(8)] \
-  + [Row("over a wire the first session is answered however it is cut: pieces of %d, sends of %d" % (size, most), is_driven(polls, most, size), PROFILE)
-     for polls, most, size in ((False, 1, 7), (True, 7, 1), (False, 83, 1000), (True, 1000, 64))] \
+  + [Row("the first session is answered however it is cut: pieces of %d, sends of %d" % (size, most), is_driven(polls, most, size), PROFILE)
+     for polls, most, size in ((False, 1, 1), (False, 1, 7), (True, 7, 1), (False, 83, 1000), (True, 1000, 64), (True, 2, 83))] \
   + [Row("a call of a wire that fails ends the connection: call %d, sends of %d" % (failing, most), is_dropped(failing, most, count), PROFILE)
      for failing, most, count in ((1, 1000, 0), (2, 1000, 0), (3, 1000, 619), (3, 100, 100), (9, 100, 619))]

@@ -1,6 +1,5 @@
 //! What a command line asks for.
-ghost use Rattle.std.specs.Prelude.{◌≡◌, ◌≤◌, ◌*◌, ◌%◌, IfOk};
-ghost use Rattle.options.specs.Options.{IsConsistent};
+ghost use Rattle.std.specs.Prelude.{◌≡◌, IfOk};
 
 use std::alloc::{AllocError, Global};
 use std::marker::Model;
@@ -31,19 +30,6 @@ pub struct Options {
     pub once: bool,
     /// The memory of a machine, in KiB: a multiple of 4, from 4 to 16,384.
     pub memory: u32,
-}
-
-impl Options {
-    /// The memory of a machine, in bytes.
-    pub fn memory_bytes(&self) -> u32
-        requires { IsConsistent self.now }
-        ensures value { result ≡ self.now.memory * 1024 }
-        ensures whole { result % 4096 ≡ 0 }
-        ensures least { 4096 ≤ result }
-        ensures greatest { result ≤ 16777216 }
-    {
-        self.memory * 1024
-    }
 }
 
 /// A text of a command line. A contract sees it as the list of its bytes, which are UTF-8.

@@ -1,16 +1,63 @@
-//! A server over the streams.
+//! A server over streams.
 
-use crate::streams::{Drip, Sink};
-use play::{Fault, called, parsed};
+use crate::streams::{Drip, Pace, Sink};
+use play::{Fault, bytes_of, called, hexadecimal, parsed, shown};
 use protocol::{Command, Incoming, Request};
-use replies::{Response, ResponseBody};
-use std::alloc::Global;
+use replies::{Event, Response, ResponseBody};
+use std::alloc::{AllocError, Global};
 use transport::{Server, ServerError};
 
+/// The streams of a server. At first they give and take all at once.
+#[derive(Drop)]
+pub(crate) struct Streams {
+    reader: Drip,
+    writer: Sink,
+}
+
+impl Streams {
+    pub(crate) fn new(alloc: Global) -> Result<Streams, AllocError> {
+        Ok(Streams {
+            reader: Drip::new(Vec::new(alloc)),
+            writer: Sink::new(alloc)?,
+        })
+    }
+
+    /// Sets or shows a stream, or makes calls of a server over them, as the words say.
+    pub(crate) fn answer(&mut self, alloc: Global, words: &[&str]) -> Result<String, Fault> {
+        match words {
+            ["input", bytes] => {
+                self.reader = Drip::new(bytes_of(alloc, bytes)?);
+                shown(alloc, "ok")
+            }
+            ["reader", most, calls, interruptions] => {
+                self.reader.pace = pace_of(most, calls, interruptions)?;
+                shown(alloc, "ok")
+            }
+            ["writer", most, calls, interruptions] => {
+                self.writer.pace = pace_of(most, calls, interruptions)?;
+                shown(alloc, "ok")
+            }
+            ["server", calls @ ..] => polled(alloc, &mut self.reader, &mut self.writer, calls),
+            ["written"] => hexadecimal(alloc, self.writer.bytes.as_slice()),
+            ["left"] => hexadecimal(alloc, self.reader.left()),
+            _ => Err(Fault::NoCommand),
+        }
+    }
+}
+
+fn pace_of(most: &str, calls: &str, interruptions: &str) -> Result<Pace, Fault> {
+    Ok(Pace {
+        most: parsed(most)?,
+        calls_left: parsed(calls)?,
+        interruptions: parsed(interruptions)?,
+        interrupted: 0,
+    })
+}
+
 /// Makes calls of a new server, and says what each answered: `poll`, `threads=N` (the success of a
-/// `threads` request with that number), `ack=N` (its bare success). A call that found no memory is reported
-/// on a line before, and made again.
-pub(crate) fn polled(
+/// `threads` request with that number), `ack=N` (its bare success), `initialized` (the event). A call that
+/// found no memory is reported on a line before, and made again.
+fn polled(
     alloc: Global,
     reader: &mut Drip,
     writer: &mut Sink,
@@ -39,15 +86,16 @@ fn one_call(
 ) -> Result<String, Fault> {
     match call.split_once('=') {
         None if call == "poll" => polled_of(alloc, server.poll_request()),
+        None if call == "initialized" => said_of(alloc, server.send_event(Event::Initialized)),
         Some(("threads", number)) => {
             let request = threads(number)?;
             let response = called(Response::success(alloc, &request, ResponseBody::Threads))?;
-            responded_of(alloc, server.respond(response))
+            said_of(alloc, server.respond(response))
         }
         Some(("ack", number)) => {
             let request = threads(number)?;
             let response = called(Response::ack(alloc, &request))?;
-            responded_of(alloc, server.respond(response))
+            said_of(alloc, server.respond(response))
         }
         _ => Err(Fault::NoCommand),
     }
@@ -77,8 +125,8 @@ fn polled_of(
     }
 }
 
-fn responded_of(alloc: Global, responded: Result<(), ServerError>) -> Result<String, Fault> {
-    match responded {
+fn said_of(alloc: Global, said: Result<(), ServerError>) -> Result<String, Fault> {
+    match said {
         Ok(()) => Ok("ok".to_string(alloc)?),
         Err(error) => error_of(alloc, error),
     }

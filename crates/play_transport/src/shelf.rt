@@ -1,10 +1,10 @@
 //! Files in memory.
-ghost use Rattle.std.specs.Prelude.{IfOk};
+ghost use Rattle.std.specs.Prelude.{Some, IfOk};
 ghost use Rattle.transport.specs.Rounds.{IsShort};
 
 use session::Bytes;
-use std::alloc::{AllocError, Global};
-use transport::{Files, LONGEST_TEXT};
+use std::alloc::Global;
+use transport::{FileFault, Files, LONGEST_TEXT};
 
 /// One file: at first an empty one without a name.
 #[derive(Drop)]
@@ -23,21 +23,21 @@ impl Shelf {
 }
 
 impl Files for Shelf {
-    fn read(&self, alloc: Global, path: &str) -> Result<Option<Bytes>, AllocError> {
+    fn read(&self, alloc: Global, path: &str) -> Result<Bytes, FileFault> {
         if path != self.path.as_str() {
-            return Ok(None);
+            return Err(FileFault::Unreadable);
         }
         copied(alloc, &self.text)
     }
 }
 
-fn copied(alloc: Global, text: &[u8]) -> Result<Option<Bytes>, AllocError>
-    ensures { IfOk result (λ file. IsShort file) }
+fn copied(alloc: Global, text: &[u8]) -> Result<Bytes, FileFault>
+    ensures { IfOk result (λ text. IsShort (Some text)) }
 {
     if text.len() > LONGEST_TEXT {
-        return Ok(None);
+        return Err(FileFault::Unreadable);
     }
     let mut copy = Vec::new(alloc);
     copy.extend_from_slice(text)?;
-    Ok(Some(Bytes::from_vec(copy)))
+    Ok(Bytes::from_vec(copy))
 }

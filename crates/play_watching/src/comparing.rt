@@ -3,9 +3,9 @@
 use facts::{BreakInfo, FrameInfo, RunState};
 use mirror::Mirror;
 use play::{Fault, shown};
+use playback::Watched;
 use session::Snapshot;
 use std::alloc::Global;
-use watching::Watched;
 
 /// The path of each program.
 const PATH: &[u8] = b"/w/p.s";

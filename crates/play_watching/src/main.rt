@@ -1,4 +1,4 @@
-//! Plays `watching`: events are listed, and then what is known of them is held against what there was to see.
+//! Plays `playback`: events are listed, and then what is known of them is held against what there was to see.
 //!
 //! - `new SIZE [PATH TEXT]`: no events; a session has so much memory, and this program.
 //! - an event by its name, with its arguments: it is listed, and the answer is how many are.
@@ -10,11 +10,11 @@ mod comparing;
 
 use comparing::compared;
 use play::{Fault, Player, bytes_of, parsed, play, shown};
+use playback::{WatchError, Watched, queued, watch};
 use protocol::Text;
 use session::{Bytes, Config, Event, Limits};
 use std::alloc::{AllocError, Global};
 use std::process::ExitCode;
-use watching::{WatchError, Watched, queued, watch};
 
 /// What is played.
 #[derive(Drop)]

@@ -3,13 +3,13 @@
 -- Of a script whose lines are wrong the first of these is said. Else it is played, and where there is nothing to watch its last line is said: the one that
 -- says what is watched. Nothing was written in both cases.
 use Rattle.std.specs.Prelude.{◌≡◌, ℕ, ◌+◌, List, length, Option, Result, Ok, Err, IsOk}
+use Rattle.playback.specs.declared.playback.WatchError.{WatchError}
+use Rattle.playback.specs.declared.playback.WatchError.TheVariants.{Config, NoSuchConnection, CutTooLong, NoMemory as OutOfMemory}
 use Rattle.scripts.specs.Scripts.{script_of}
 use Rattle.scripts.specs.declared.fault.ScriptFault.{ScriptFault}
 use Rattle.scripts.specs.declared.fault.ScriptFault.TheVariants.{Line, Write, NoMemory}
 use Rattle.scripts.specs.declared.step.Step.{Step}
 use Rattle.scripts.specs.declared.watch.Watch.{Watch}
-use Rattle.watching.specs.declared.playback.WatchError.{WatchError}
-use Rattle.watching.specs.declared.playback.WatchError.TheVariants.{Config, NoSuchConnection, CutTooLong, NoMemory as OutOfMemory}
 
 -- the line that is said of a script that was read so: the first wrong one, or the last
 abbrev pub line_of : Result (List Step × Watch) ℕ → ℕ

@@ -3,7 +3,7 @@
 use scripts::Step;
 use session::{Bytes, Event};
 use std::alloc::{AllocError, Global};
-use transport::Files;
+use transport::{Files, file_at};
 
 /// The events of a script's steps, in order, with what the files hold that it names: a file that cannot be read is none.
 pub(crate) fn events_of<F: Files>(
@@ -23,7 +23,7 @@ fn event_of<F: Files>(alloc: Global, step: Step, files: &F) -> Result<Event, All
         Step::Connect => Event::Connect,
         Step::Recv(piece) => Event::Recv(piece),
         Step::Turn(None) => Event::Turn(None),
-        Step::Turn(Some(path)) => Event::Turn(files.read(alloc, path.as_str())?),
+        Step::Turn(Some(path)) => Event::Turn(file_at(alloc, files, path.as_str())?),
         Step::Slice(moves) => Event::Slice(moves),
         Step::Hold => Event::Hold,
         Step::Sent(count) => Event::Sent(within(count)),

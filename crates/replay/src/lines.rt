@@ -2,10 +2,10 @@
 
 use facts::{BreakInfo, RunState};
 use mirror::Mirror;
+use playback::Watched;
 use rv32i::reg_name;
 use session::Snapshot;
 use std::alloc::{AllocError, Global};
-use watching::Watched;
 
 /// The number of pc among the registers.
 const COUNTER: u32 = 32;

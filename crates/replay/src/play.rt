@@ -6,12 +6,12 @@ ghost use Rattle.scripts.specs.Scripts.{script_of};
 
 use crate::events::{events_of, within};
 use crate::lines::lines_of;
+use playback::{WatchError, Watched, queued, watch};
 use scripts::{Cut, Script, ScriptFault, read_script};
 use session::{Config, Event, Limits};
 use std::alloc::Global;
 use std::io::Write;
 use transport::Files;
-use watching::{WatchError, Watched, queued, watch};
 
 /// How many bytes the memory has of a program in a script.
 const MEMORY_SIZE: u32 = 1_048_576;

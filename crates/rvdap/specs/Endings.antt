@@ -1,13 +1,13 @@
 -- How the program ends: its status, and its line on standard error.
 use Rattle.std.specs.Prelude.{ℕ, List, Option, Some, None, codes}
 use Rattle.session.specs.declared.event.LinkFault.{LinkFault}
-use Rattle.transport.specs.declared.end.StreamEnd.{StreamEnd}
-use Rattle.transport.specs.declared.end.StreamEnd.TheVariants.{Closed, Fault, Turns, NoMemory as OutOfMemory}
+use Rattle.transport.specs.declared.end.DriveEnd.{DriveEnd}
+use Rattle.transport.specs.declared.end.DriveEnd.TheVariants.{Closed, Fault, Turns, NoMemory as OutOfMemory}
 use Rattle.rvdap.specs.declared.ending.Ending.{Ending}
 use Rattle.rvdap.specs.declared.ending.Ending.TheVariants.{Success, BadMessage, ReadOrWriteFault, NoMemory}
 
--- for how serving ended, and what closed the connection, if something did
-abbrev pub ending_of : StreamEnd → Option LinkFault → Ending
+-- for how driving or serving ended, and what closed the connection, if something did
+abbrev pub ending_of : DriveEnd → Option LinkFault → Ending
 ending_of Closed None = Success
 ending_of Closed (Some fault) = BadMessage
 ending_of Fault fault = ReadOrWriteFault

@@ -1,13 +1,13 @@
 //! The files of the computer that the program runs on.
-ghost use Rattle.std.specs.Prelude.{IfOk};
+ghost use Rattle.std.specs.Prelude.{Some, IfOk};
 ghost use Rattle.transport.specs.Rounds.{IsShort};
 
 use session::Bytes;
-use std::alloc::{AllocError, Global};
+use std::alloc::Global;
 use std::fs::File;
 use std::io::{ErrorKind, Read};
 use std::{fs, io};
-use transport::{Files, LONGEST_TEXT};
+use transport::{FileFault, Files, LONGEST_TEXT};
 
 /// The files of the computer that the program runs on. What is no regular file, as a folder, a device
 /// or a pipe, is not opened: a read of it might never end.
@@ -24,10 +24,10 @@ impl<'a> Disk<'a> {
 }
 
 impl Files for Disk<'_> {
-    fn read(&self, alloc: Global, path: &str) -> Result<Option<Bytes>, AllocError> {
+    fn read(&self, alloc: Global, path: &str) -> Result<Bytes, FileFault> {
         match read_some(self.rt, alloc, path) {
-            Ok(text) => Ok(fitting(text)),
-            Err(error) => unread(&error),
+            Ok(text) => fitting(text),
+            Err(error) => Err(unread(&error)),
         }
     }
 }
@@ -44,21 +44,18 @@ fn read_some(rt: &HostRuntime, alloc: Global, path: &str) -> io::Result<Vec<u8>>
 }
 
 // A file that is not too long.
-fn fitting(text: Vec<u8>) -> Option<Bytes>
-    ensures { IsShort result }
+fn fitting(text: Vec<u8>) -> Result<Bytes, FileFault>
+    ensures { IfOk result (λ text. IsShort (Some text)) }
 {
     if text.len() > LONGEST_TEXT {
-        None
-    } else {
-        Some(Bytes::from_vec(text))
+        return Err(FileFault::Unreadable);
     }
+    Ok(Bytes::from_vec(text))
 }
 
-fn unread(error: &io::Error) -> Result<Option<Bytes>, AllocError>
-    ensures { IfOk result (λ file. IsShort file) }
-{
+fn unread(error: &io::Error) -> FileFault {
     match error.kind() {
-        ErrorKind::OutOfMemory => Err(AllocError),
-        _ => Ok(None),
+        ErrorKind::OutOfMemory => FileFault::NoMemory,
+        _ => FileFault::Unreadable,
     }
 }

@@ -3,7 +3,7 @@ ghost use Rattle.std.specs.Prelude.{◌≡◌, option_map};
 ghost use Rattle.rvdap.specs.Endings as spec;
 
 use session::LinkFault;
-use transport::StreamEnd;
+use transport::DriveEnd;
 
 /// How the program ends.
 #[derive(Clone, Copy, Debug, PartialEq, Eq)]
@@ -19,17 +19,17 @@ pub enum Ending {
 }
 
 impl Ending {
-    /// The ending for how serving ended, and what closed the connection.
-    pub(crate) fn of(end: StreamEnd, fault: Option<LinkFault>) -> Ending
+    /// The ending for how driving or serving ended, and what closed the connection.
+    pub(crate) fn of(end: DriveEnd, fault: Option<LinkFault>) -> Ending
         ensures { result ≡ spec.ending_of end fault }
     {
         match end {
-            StreamEnd::Closed => match fault {
+            DriveEnd::Closed => match fault {
                 Some(_) => Ending::BadMessage,
                 None => Ending::Success,
             },
-            StreamEnd::Fault | StreamEnd::Turns => Ending::ReadOrWriteFault,
-            StreamEnd::NoMemory => Ending::NoMemory,
+            DriveEnd::Fault | DriveEnd::Turns => Ending::ReadOrWriteFault,
+            DriveEnd::NoMemory => Ending::NoMemory,
         }
     }
 

@@ -7,7 +7,7 @@ use connections::TcpDoor;
 use session::Session;
 use std::io;
 use std::net::TcpListener;
-use transport::visits::serve;
+use transport::serve;
 use wires::Door;
 
 /// Which editors are served.

@@ -26,10 +26,9 @@ use protocol::Text;
 use replay::ScriptFault;
 use serving::{NoSession, new_session, serve_one};
 use session::{Bytes, Session};
-use std::alloc::AllocError;
 use std::fmt::Display;
 use std::process::ExitCode;
-use transport::Files;
+use transport::{FileFault, Files};
 use watch::{WatchFault, play_file};
 
 /// Status 0 where the input ended or a `disconnect` succeeded, where a file was listed or a script was played, and where help or the
@@ -59,22 +58,18 @@ fn serve(rt: &HostRuntime, options: &Options) -> ExitCode
     match &options.program {
         None => serve_with(rt, options, None, ""),
         Some(file) => match program_in(rt, file.as_str()) {
-            Ok(Some(program)) => serve_with(rt, options, Some(program), file.as_str()),
-            Ok(None) => fail_at(rt, file.as_str(), "cannot read"),
-            Err(_) => end(rt, Ending::NoMemory),
+            Ok(program) => serve_with(rt, options, Some(program), file.as_str()),
+            Err(FileFault::Unreadable) => fail_at(rt, file.as_str(), "cannot read"),
+            Err(FileFault::NoMemory) => end(rt, Ending::NoMemory),
         },
     }
 }
 
-// A program: the path of its file, and what that holds. `None`: it cannot be read.
-fn program_in(rt: &HostRuntime, file: &str) -> Result<Option<(Text, Bytes)>, AllocError> {
-    match Disk::new(rt).read(rt.alloc(), file)? {
-        None => Ok(None),
-        Some(text) => {
-            let path = String::from_str(rt.alloc(), file)?;
-            Ok(Some((Text::from_string(path), text)))
-        }
-    }
+// A program: the path of its file, and what that holds.
+fn program_in(rt: &HostRuntime, file: &str) -> Result<(Text, Bytes), FileFault> {
+    let text = Disk::new(rt).read(rt.alloc(), file)?;
+    let path = String::from_str(rt.alloc(), file)?;
+    Ok((Text::from_string(path), text))
 }
 
 fn serve_with(

@@ -2,7 +2,7 @@
 ghost use Rattle.std.specs.Prelude.{◌≡◌, IfOk, OnOk};
 ghost use Rattle.session.specs.Kept.{OfEach, Stands};
 ghost use Rattle.transport.specs.Drives.{Driven};
-ghost use Rattle.transport.specs.declared.end.StreamEnd.{StreamEnd as AnEnd};
+ghost use Rattle.transport.specs.declared.end.DriveEnd.{DriveEnd as AnEnd};
 ghost use Rattle.rvdap.specs.Endings as spec;
 ghost use Rattle.rvdap.specs.Beginnings.{Makes};
 

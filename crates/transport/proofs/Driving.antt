@@ -5,8 +5,8 @@ use Rattle.std.specs.Prelude.{IfOk}
 use Rattle.std.proofs.KnownBytes.{Consumes-nil, Appends-nil, Consumes-trans, Appends-trans}
 use Rattle.std.proofs.lemmas.List.{length-append, length-take-le}
 use Rattle.std.proofs.lemmas.Bool.Decides.{nat_tests}
-use Rattle.transport.specs.declared.end.StreamEnd.{StreamEnd}
-use Rattle.transport.specs.declared.end.StreamEnd.TheVariants.{Closed, Fault, Turns, NoMemory as OutOfMemory}
+use Rattle.transport.specs.declared.end.DriveEnd.{DriveEnd}
+use Rattle.transport.specs.declared.end.DriveEnd.TheVariants.{Closed, Fault, Turns, NoMemory as OutOfMemory}
 use Rattle.session.specs.declared.event.Applied.TheVariants as applied
 use Rattle.session.specs.declared.event.Ending.TheVariants as ending
 use Rattle.session.specs.declared.event.Event.TheVariants.{Recv, Turn, Slice, Sent, DropConnection}
@@ -24,7 +24,7 @@ use Rattle.session.specs.Slices.{is_runnable}
 use Rattle.wires.specs.Wires.{Line, Moved, one_more}
 use Rattle.transport.specs.Rounds.{KnownFiles, IsGiven, Took, Due, Send, Leave, Answer, Run, Receive, due, due_in, Round, Did, Ran, IsTaken, after_round, after_rounds, received_in, received, sent_in, sent, since_round, since_rounds, counted, held_after, moves_granted, moves_made}
 use Rattle.transport.specs.Drives.{MayCome, MayFail, is_held, IsRound, AreRounds, idle_looked, idle_after, idle_after_rounds, Cause, AllSaid, InputEnded, CallFailed, NoRoom, NoAnswer, PieceLost, TimeCut, TurnsMade, failed_by, idle_by, IsCause, Driven, turns_of, HasBegun, DroveFor, Passed, GoesOn, Stops, Went, Driving}
-use Rattle.transport.proofs.Serving.{happened, due_there, given_there, Goes, goes_with, breaks_off, after_rounds-append, received-append, sent-append, since_rounds-append}
+use Rattle.transport.proofs.RoundLemmas.{happened, due_there, given_there, Goes, goes_with, breaks_off, after_rounds-append, received-append, sent-append, since_rounds-append}
 use Rattle.transport.proofs.Taking.{send_test, takes_sent, takes_turn, takes_received, takes_running}
 
 -- ---- what moved over a wire
@@ -162,7 +162,7 @@ takes_piece polls s piece Run e may few = takes_running (histories.see s) piece 
 takes_piece polls s piece Receive e may few = takes_received (histories.see s) piece e few
 
 -- a piece came, and was taken; or no memory was left for it
-piece_came : (known : KnownFiles) (since : ℕ) (old new : Line) (k kept : Kept) (d : Due) (piece : List ℕ) (result : Result ℕ StreamEnd) → due (see_kept k) ≡ d → MayCome old.polls d → 1 ≤ length piece → length piece ≤ 65536 → Moved old new piece [] old.faults old.idle
+piece_came : (known : KnownFiles) (since : ℕ) (old new : Line) (k kept : Kept) (d : Due) (piece : List ℕ) (result : Result ℕ DriveEnd) → due (see_kept k) ≡ d → MayCome old.polls d → 1 ≤ length piece → length piece ≤ 65536 → Moved old new piece [] old.faults old.idle
     → ((s : Session) → Stands k s → Took result piece s kept) → IfOk result (λ n. n ≡ 0) → (s : Session) → Stands k s → Went known since result old new s kept
 piece_came known since old new k kept d piece (Ok next) e may some few m took none s st = record {
   round = Did (Recv piece);
@@ -180,7 +180,7 @@ piece_came known since old new k kept d piece (Err end) e may some few m took no
 }
 
 -- what a look or a wait gave, of what there is room for
-pub bytes_came : (known : KnownFiles) (since : ℕ) (old new : Line) (k kept : Kept) (d : Due) (room : List ℕ) (n : ℕ) (result : Result ℕ StreamEnd) → due (see_kept k) ≡ d → MayCome old.polls d → 1 ≤ n → n ≤ length room → length room ≤ 65536 → Moved old new (take n room) [] old.faults old.idle
+pub bytes_came : (known : KnownFiles) (since : ℕ) (old new : Line) (k kept : Kept) (d : Due) (room : List ℕ) (n : ℕ) (result : Result ℕ DriveEnd) → due (see_kept k) ≡ d → MayCome old.polls d → 1 ≤ n → n ≤ length room → length room ≤ 65536 → Moved old new (take n room) [] old.faults old.idle
     → ((s : Session) → Stands k s → Took result (take n room) s kept) → IfOk result (λ n. n ≡ 0) → (s : Session) → Stands k s → Went known since result old new s kept
 bytes_came known since old new k kept d room n result e may some few most m took none =
     let long : length (take n room) ≡ n = length-take-le n room few in
@@ -253,11 +253,11 @@ goes_on_driving known a b c made since next s k new v w =
     }
 
 -- where a turn answered how many moves there are
-pub goes_on_with : (known : KnownFiles) (a b c : Line) (made since : ℕ) (s : Session) (k new : Kept) (result : Result ℕ StreamEnd) (next : ℕ) → result ≡ Ok next → ((t : Session) → Stands k t → Went known since result b c t new) → Driving known a b made since s k
+pub goes_on_with : (known : KnownFiles) (a b c : Line) (made since : ℕ) (s : Session) (k new : Kept) (result : Result ℕ DriveEnd) (next : ℕ) → result ≡ Ok next → ((t : Session) → Stands k t → Went known since result b c t new) → Driving known a b made since s k
     → Driving known a c (made + 1) next s new
 goes_on_with known a b c made since s k new result next e g v =
     let t = after_rounds s v.rounds in
-    goes_on_driving known a b c made since next s k new v (subst (λ (r : Result ℕ StreamEnd). Went known since r b c t new) e (g t v.stands))
+    goes_on_driving known a b c made since next s k new v (subst (λ (r : Result ℕ DriveEnd). Went known since r b c t new) e (g t v.stands))
 
 -- what ends a turn is no cause of before it, nor one of the last
 begun : (polls : Bool) (cause : Cause) (left : Option (List ℕ)) (s : Session) → ((turns made : ℕ) → IsCause polls cause left turns made s) → HasBegun cause
@@ -286,7 +286,7 @@ one_turn_more polls TurnsMade left s n h = absurd (one_is_none (h 0 1)) where
   one_is_none : (let n : ℕ = 1 in n) ≡ 0 → ⊥
   one_is_none e = omega arith
 
-ends_after : (known : KnownFiles) (a b c : Line) (made since turns taken : ℕ) (s : Session) (k new : Kept) (end : StreamEnd) → made < turns → taken ≡ made + 1 → (v : Driving known a b made since s k) → Stops end b c (after_rounds s v.rounds) new
+ends_after : (known : KnownFiles) (a b c : Line) (made since turns taken : ℕ) (s : Session) (k new : Kept) (end : DriveEnd) → made < turns → taken ≡ made + 1 → (v : Driving known a b made since s k) → Stops end b c (after_rounds s v.rounds) new
     → DroveFor known a c turns taken s new end
 ends_after known a b c made since turns taken s k new end few more v w =
     let counts : turns_of w.cause (length v.rounds) ≡ taken = one_turn_more b.polls w.cause c.remaining (after_rounds s v.rounds) (length v.rounds) w.is_cause ∙ ap (λ n. n + 1) v.count ∙ sym more in record {
@@ -304,7 +304,7 @@ ends_after known a b c made since turns taken s k new end few more v w =
       counts = counts;
     }
 
-pub ends_driving : (known : KnownFiles) (a b c : Line) (made since turns taken : ℕ) (s : Session) (k new : Kept) (end : StreamEnd) → made < turns → taken ≡ made + 1 → OfEach k (λ t. Stops end b c t new) → Driving known a b made since s k
+pub ends_driving : (known : KnownFiles) (a b c : Line) (made since turns taken : ℕ) (s : Session) (k new : Kept) (end : DriveEnd) → made < turns → taken ≡ made + 1 → OfEach k (λ t. Stops end b c t new) → Driving known a b made since s k
     → DroveFor known a c turns taken s new end
 ends_driving known a b c made since turns taken s k new end few more g v = ends_after known a b c made since turns taken s k new end few more v (g (after_rounds s v.rounds) v.stands)
 
@@ -326,7 +326,7 @@ stops_driving known a b made since turns taken s k all same v = record {
 }
 
 -- where there was room
-pub driven_in : (known : KnownFiles) (a b : Line) (turns taken : ℕ) (s : Session) (k : Kept) (end : StreamEnd) → DroveFor known a b turns taken s k end → Driven known a b turns s k end
+pub driven_in : (known : KnownFiles) (a b : Line) (turns taken : ℕ) (s : Session) (k : Kept) (end : DriveEnd) → DroveFor known a b turns taken s k end → Driven known a b turns s k end
 driven_in known a b turns taken s k end v = record { rounds = v.rounds; cause = v.cause; drove = v.drove; is_end = v.is_end; leaves = v.leaves }
 
 -- without room for a piece no round is made

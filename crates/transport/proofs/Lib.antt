@@ -1,5 +1,5 @@
 pub mod Taking
-pub mod Serving
+pub mod RoundLemmas
 pub mod Driving
 pub mod Visiting
 pub mod ServerLemmas

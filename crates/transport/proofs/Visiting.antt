@@ -1,8 +1,8 @@
 -- Visit by visit, until serving ends.
 use Rattle.std.proofs.Common.{◌≡◌, ℕ, ◌+◌, ◌-◌, ◌≤◌, List, [], ◌∷◌, ◌++◌, true, Option, Some, None, Result, Ok, Err, refl, sym, ap, ◌∙◌, subst, arith, append-nil, append_assoc, inl, inr}
 use Rattle.std.specs.Prelude.{IsOk, IsErr, ◌⊎◌}
-use Rattle.transport.specs.declared.end.StreamEnd.{StreamEnd}
-use Rattle.transport.specs.declared.end.StreamEnd.TheVariants.{Closed, Fault, Turns, NoMemory as OutOfMemory}
+use Rattle.transport.specs.declared.end.DriveEnd.{DriveEnd}
+use Rattle.transport.specs.declared.end.DriveEnd.TheVariants.{Closed, Fault, Turns, NoMemory as OutOfMemory}
 use Rattle.session.specs.declared.event.Applied.TheVariants as applied
 use Rattle.session.specs.declared.event.Ending.TheVariants as ending
 use Rattle.session.specs.declared.event.Event.TheVariants.{Connect, Slice, DropConnection}
@@ -20,7 +20,7 @@ use Rattle.wires.specs.Wires.{Line, one_more}
 use Rattle.transport.specs.Rounds.{KnownFiles, moves_granted, after_rounds}
 use Rattle.transport.specs.Drives.{Cause, AllSaid, InputEnded, CallFailed, NoRoom, NoAnswer, PieceLost, TimeCut, TurnsMade, end_of, Leaves, HasBegun, IsLeaving, DroveFor}
 use Rattle.transport.specs.Visits.{Visit, Alone, Guest, HasLeft, IsCut, IsVisit, turns_in, after_visit, lines_in, idle_in, AreVisits, turns_taken, after_visits, lines_of, idle_after_visits, NobodyComes, Refused, DoorFailed, AllMade, NoRoomYet, AloneCut, GuestCut, failed_at, idle_at, IsWhy, LeavesCut, Served, Visited, Ended, Hosted, Serving}
-use Rattle.transport.proofs.Serving.{Goes, goes_with, breaks_off}
+use Rattle.transport.proofs.RoundLemmas.{Goes, goes_with, breaks_off}
 
 -- ---- what came through a door
 
@@ -157,7 +157,7 @@ has_left (PieceLost piece) t mid c l = absurd c
 has_left TimeCut t mid c l = absurd c
 has_left TurnsMade t mid c l = absurd c
 
-leaves_by : (cause : Cause) (end : StreamEnd) → end_of cause ≡ end → IsLeaving end → HasLeft cause
+leaves_by : (cause : Cause) (end : DriveEnd) → end_of cause ≡ end → IsLeaving end → HasLeft cause
 leaves_by AllSaid end e g = tt
 leaves_by InputEnded end e g = tt
 leaves_by (CallFailed part) end e g = tt
@@ -167,7 +167,7 @@ leaves_by (PieceLost piece) end e g = absurd (subst IsLeaving (sym e) g)
 leaves_by TimeCut end e g = absurd (subst IsLeaving (sym e) g)
 leaves_by TurnsMade end e g = absurd (subst IsLeaving (sym e) g)
 
-cut_by : (cause : Cause) (end : StreamEnd) → end_of cause ≡ end → HasBegun cause → (IsLeaving end → ⊥) → IsCut cause
+cut_by : (cause : Cause) (end : DriveEnd) → end_of cause ≡ end → HasBegun cause → (IsLeaving end → ⊥) → IsCut cause
 cut_by AllSaid end e began stays = absurd (stays (subst IsLeaving e tt))
 cut_by InputEnded end e began stays = absurd (stays (subst IsLeaving e tt))
 cut_by (CallFailed part) end e began stays = absurd (stays (subst IsLeaving e tt))
@@ -177,18 +177,18 @@ cut_by (PieceLost piece) end e began stays = tt
 cut_by TimeCut end e began stays = tt
 cut_by TurnsMade end e began stays = tt
 
-pub leaving : (end : StreamEnd) → (end ≡ Closed) ⊎ (end ≡ Fault) → IsLeaving end
+pub leaving : (end : DriveEnd) → (end ≡ Closed) ⊎ (end ≡ Fault) → IsLeaving end
 leaving end (inl e) = subst IsLeaving (sym e) tt
 leaving end (inr e) = subst IsLeaving (sym e) tt
 
-pub stays : (end : StreamEnd) → (end ≡ Closed → ⊥) → (end ≡ Fault → ⊥) → IsLeaving end → ⊥
+pub stays : (end : DriveEnd) → (end ≡ Closed → ⊥) → (end ≡ Fault → ⊥) → IsLeaving end → ⊥
 stays Closed a b h = a refl
 stays Fault a b h = b refl
 stays Turns a b h = h
 stays OutOfMemory a b h = h
 
 -- its connection ended, and serving goes on
-pub is_guest : (known : KnownFiles) (left : ℕ) (old new : Doorway) (a b : Line) (k mid kept : Kept) (r : Result ℕ EventError) (n : ℕ) (end : StreamEnd) (taken : ℕ) → r ≡ Ok n → Happens k Connect (answered applied.Connect r) mid
+pub is_guest : (known : KnownFiles) (left : ℕ) (old new : Doorway) (a b : Line) (k mid kept : Kept) (r : Result ℕ EventError) (n : ℕ) (end : DriveEnd) (taken : ℕ) → r ≡ Ok n → Happens k Connect (answered applied.Connect r) mid
     → OfEach mid (λ t. DroveFor known a b (left - 1) taken t kept end) → IsLeaving end → Opened old new (a ∷ []) old.faults old.idle → (s : Session) → Stands k s → Visited known left (taken + 1) old new s kept
 is_guest known left old new a b k mid kept r n end taken e h drove gone m s st =
     let c = connects k mid r n e h s st in
@@ -202,7 +202,7 @@ is_guest known left old new a b k mid kept r n end taken e h drove gone m s st =
     }
 
 -- or turns or memory end it
-pub is_cut : (known : KnownFiles) (left : ℕ) (old new : Doorway) (a b : Line) (k mid driven kept : Kept) (r : Result ℕ EventError) (n : ℕ) (end : StreamEnd) (taken : ℕ) → r ≡ Ok n → Happens k Connect (answered applied.Connect r) mid
+pub is_cut : (known : KnownFiles) (left : ℕ) (old new : Doorway) (a b : Line) (k mid driven kept : Kept) (r : Result ℕ EventError) (n : ℕ) (end : DriveEnd) (taken : ℕ) → r ≡ Ok n → Happens k Connect (answered applied.Connect r) mid
     → OfEach mid (λ t. DroveFor known a b (left - 1) taken t driven end) → (IsLeaving end → ⊥) → OfEach driven (λ u. Stands kept (Effect u DropConnection)) → Opened old new (a ∷ []) old.faults old.idle → (s : Session) → Stands k s
     → Ended known left end old new s kept
 is_cut known left old new a b k mid driven kept r n end taken e h drove stays dropped m s st =
@@ -269,13 +269,13 @@ goes_on_serving known a b c turns taken count s k new v w =
     }
 
 -- where the door was asked, and serving goes on
-pub serves_on : (known : KnownFiles) (a b c : Doorway) (turns taken : ℕ) (s : Session) (k new : Kept) (result : Result ℕ StreamEnd) (count : ℕ) → result ≡ Ok count → OfEach k (λ t. Hosted known (turns - taken) result b c t new) → Serving known a b turns taken s k
+pub serves_on : (known : KnownFiles) (a b c : Doorway) (turns taken : ℕ) (s : Session) (k new : Kept) (result : Result ℕ DriveEnd) (count : ℕ) → result ≡ Ok count → OfEach k (λ t. Hosted known (turns - taken) result b c t new) → Serving known a b turns taken s k
     → Serving known a c turns (taken + count) s new
 serves_on known a b c turns taken s k new result count e g v =
     let t = after_visits s v.visits in
-    goes_on_serving known a b c turns taken count s k new v (subst (λ (r : Result ℕ StreamEnd). Hosted known (turns - taken) r b c t new) e (g t v.stands))
+    goes_on_serving known a b c turns taken count s k new v (subst (λ (r : Result ℕ DriveEnd). Hosted known (turns - taken) r b c t new) e (g t v.stands))
 
-ends_after : (known : KnownFiles) (a b c : Doorway) (turns taken : ℕ) (s : Session) (k new : Kept) (end : StreamEnd) → taken ≤ turns → (v : Serving known a b turns taken s k) → Ended known (turns - taken) end b c (after_visits s v.visits) new
+ends_after : (known : KnownFiles) (a b c : Doorway) (turns taken : ℕ) (s : Session) (k new : Kept) (end : DriveEnd) → taken ≤ turns → (v : Serving known a b turns taken s k) → Ended known (turns - taken) end b c (after_visits s v.visits) new
     → Served known a c turns s new end
 ends_after known a b c turns taken s k new end few v w = record {
   visits = v.visits;
@@ -288,7 +288,7 @@ ends_after known a b c turns taken s k new end few v w = record {
   leaves = w.leaves;
 }
 
-pub serving_ends : (known : KnownFiles) (a b c : Doorway) (turns taken : ℕ) (s : Session) (k new : Kept) (end : StreamEnd) → taken ≤ turns → OfEach k (λ t. Ended known (turns - taken) end b c t new) → Serving known a b turns taken s k → Served known a c turns s new end
+pub serving_ends : (known : KnownFiles) (a b c : Doorway) (turns taken : ℕ) (s : Session) (k new : Kept) (end : DriveEnd) → taken ≤ turns → OfEach k (λ t. Ended known (turns - taken) end b c t new) → Serving known a b turns taken s k → Served known a c turns s new end
 serving_ends known a b c turns taken s k new end few g v = ends_after known a b c turns taken s k new end few v (g (after_visits s v.visits) v.stands)
 
 -- all turns were taken

@@ -24,10 +24,10 @@ use Rattle.session.specs.Kept.{Kept, Stands}
 use Rattle.session.specs.Prefixes.{IsPrefixOf}
 use Rattle.session.specs.Sessions.{Session, Effect, waiting_of}
 use Rattle.wires.specs.Wires.{Line, Moved, one_more}
-use Rattle.transport.specs.declared.end.StreamEnd.{StreamEnd}
-use Rattle.transport.specs.declared.end.StreamEnd.TheVariants.{Closed, Fault, Turns, NoMemory}
+use Rattle.transport.specs.declared.end.DriveEnd.{DriveEnd}
+use Rattle.transport.specs.declared.end.DriveEnd.TheVariants.{Closed, Fault, Turns, NoMemory}
 use Rattle.transport.specs.Rounds.{KnownFiles, IsGiven, wanted, most_moves, moves_made, Due, Send, Leave, Answer, Run}
-use Rattle.transport.specs.Rounds.{Receive, due_in, Round, Did, Ran, Interrupted, IsTaken, after_round, since_round}
+use Rattle.transport.specs.Rounds.{Receive, due_in, Round, Did, Ran, IsTaken, after_round, since_round}
 use Rattle.transport.specs.Rounds.{received_in, sent_in, after_rounds, since_rounds, received, sent, RunsOut}
 
 -- ---- one round
@@ -61,7 +61,6 @@ is_held false made = nat_le most_moves made
 abbrev pub IsRound : KnownFiles → Bool → ℕ → Session → Round → Type 0
 IsRound known polls since s (Did e) = DoesWhatIsDue known polls s e × IsTaken s e
 IsRound known polls since s (Ran holds) = (due_in s ≡ Run) × (holds ≡ is_held polls (since + moves_made s))
-IsRound known polls since s Interrupted = ⊥
 
 -- how many looks found nothing, by how many did before a program was given time: one more, where the wire can be looked
 -- at
@@ -73,7 +72,6 @@ idle_looked false count = count
 abbrev pub idle_after : Bool → ℕ → Round → ℕ
 idle_after polls count (Did e) = count
 idle_after polls count (Ran holds) = idle_looked polls count
-idle_after polls count Interrupted = count
 
 -- ---- one round after the other
 
@@ -110,7 +108,7 @@ pub data Cause : Type 0 where
   TurnsMade : Cause
 
 -- how it ends then
-abbrev pub end_of : Cause → StreamEnd
+abbrev pub end_of : Cause → DriveEnd
 end_of AllSaid = Closed
 end_of InputEnded = Closed
 end_of (CallFailed part) = Fault
@@ -192,7 +190,7 @@ pub record Drove (known : KnownFiles) (old new : Line) (turns : ℕ) (s : Sessio
   pub is_cause : IsCause old.polls cause new.remaining turns (length rounds) (after_rounds s rounds)
 
 -- There are rounds, and a cause for which driving ends after them.
-pub record Driven (known : KnownFiles) (old new : Line) (turns : ℕ) (s : Session) (kept : Kept) (end : StreamEnd)
+pub record Driven (known : KnownFiles) (old new : Line) (turns : ℕ) (s : Session) (kept : Kept) (end : DriveEnd)
     : Type 0 where
   pub rounds : List Round
   pub cause : Cause
@@ -215,7 +213,7 @@ pub record GoesOn (known : KnownFiles) (since next : ℕ) (old new : Line) (s : 
   pub stands : Stands kept (after_round s round)
 
 -- Or it ends driving, however many rounds there were.
-pub record Stops (end : StreamEnd) (old new : Line) (s : Session) (kept : Kept) : Type 0 where
+pub record Stops (end : DriveEnd) (old new : Line) (s : Session) (kept : Kept) : Type 0 where
   pub cause : Cause
   pub moved : Moved old new (lost_by cause) (written_by cause) (failed_by cause old.faults)
       (idle_by old.polls cause old.idle)
@@ -224,7 +222,7 @@ pub record Stops (end : StreamEnd) (old new : Line) (s : Session) (kept : Kept) 
   pub leaves : Leaves cause s kept
 
 -- It makes a round, or it ends driving.
-abbrev pub Went : KnownFiles → ℕ → Result ℕ StreamEnd → Line → Line → Session → Kept → Type 0
+abbrev pub Went : KnownFiles → ℕ → Result ℕ DriveEnd → Line → Line → Session → Kept → Type 0
 Went known since (Ok next) old new s kept = GoesOn known since next old new s kept
 Went known since (Err end) old new s kept = Stops end old new s kept
 
@@ -234,7 +232,7 @@ HasBegun NoRoom = ⊥
 HasBegun _ = Unit {0}
 
 -- whether the connection has ended, and nothing else
-abbrev pub IsLeaving : StreamEnd → Type 0
+abbrev pub IsLeaving : DriveEnd → Type 0
 IsLeaving Closed = Unit {0}
 IsLeaving Fault = Unit {0}
 IsLeaving Turns = ⊥
@@ -242,7 +240,7 @@ IsLeaving NoMemory = ⊥
 
 -- It is driven where there is room, and that takes so many turns.
 pub record DroveFor (known : KnownFiles) (old new : Line) (turns taken : ℕ) (s : Session) (kept : Kept)
-    (end : StreamEnd) : Type 0 where
+    (end : DriveEnd) : Type 0 where
   pub rounds : List Round
   pub cause : Cause
   pub drove : Drove known old new turns s rounds cause

@@ -1,9 +1,8 @@
--- What serving an editor over a wire or over streams comes to. First a session over a reader and a writer.
+-- What serving editors over wires comes to.
 
--- what is due in each round, the rounds, and how serving ends; at the end of the file one turn of the loop, which
--- private clauses cite alone
+-- what is due in each round, and what the rounds do to a session
 pub mod Rounds
--- the same over a wire
+-- the rounds over a wire, and how driving ends; at the end of the file one turn of the loop, which private clauses cite alone
 pub mod Drives
 -- editors one after the other, who come through a door
 pub mod Visits
@@ -17,8 +16,6 @@ pub mod Servers
 -- what follows for every list of calls
 pub mod Laws
 -- ---- for private clauses alone
--- whether the answer of a read or a write ends serving
-pub mod Ends
 -- what a server keeps of what it read, step by step
 pub mod Inbox
 -- ---- of `session`

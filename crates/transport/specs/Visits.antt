@@ -15,8 +15,8 @@ use Rattle.session.specs.Sessions.{Session, Effect, Answer as answer_of, histori
 use Rattle.session.specs.Slices.{is_runnable}
 use Rattle.wires.specs.Doors.{Doorway, IsEmpty, Opened}
 use Rattle.wires.specs.Wires.{Line, one_more}
-use Rattle.transport.specs.declared.end.StreamEnd.{StreamEnd}
-use Rattle.transport.specs.declared.end.StreamEnd.TheVariants.{Closed, Fault, Turns, NoMemory}
+use Rattle.transport.specs.declared.end.DriveEnd.{DriveEnd}
+use Rattle.transport.specs.declared.end.DriveEnd.TheVariants.{Closed, Fault, Turns, NoMemory}
 use Rattle.transport.specs.Rounds.{KnownFiles, moves_granted, Round, after_rounds, RunsOut}
 use Rattle.transport.specs.Drives.{Cause, AllSaid, InputEnded, CallFailed, NoAnswer, PieceLost, TimeCut, TurnsMade}
 use Rattle.transport.specs.Drives.{end_of, turns_of, Drove}
@@ -121,7 +121,7 @@ pub data Why : Type 0 where
   GuestCut : Line → Line → List Round → Cause → Why
 
 -- how it ends then
-abbrev pub end_by : Why → StreamEnd
+abbrev pub end_by : Why → DriveEnd
 end_by NobodyComes = Closed
 end_by (Refused line) = Closed
 end_by DoorFailed = Fault
@@ -171,7 +171,7 @@ LeavesBy _ s new = Stands new s
 -- There are visits, one after the other, and after them serving ends. The wires that came are those that the door gave. The
 -- door counts one call that failed where serving ends as a fault, and else none; and one look that found nobody for each
 -- time that a program got without an editor.
-pub record Served (known : KnownFiles) (old new : Doorway) (turns : ℕ) (s : Session) (kept : Kept) (end : StreamEnd)
+pub record Served (known : KnownFiles) (old new : Doorway) (turns : ℕ) (s : Session) (kept : Kept) (end : DriveEnd)
     : Type 0 where
   pub visits : List Visit
   pub why : Why
@@ -194,7 +194,7 @@ pub record Visited (known : KnownFiles) (left count : ℕ) (old new : Doorway) (
   pub stands : Stands kept (after_visit s visit)
 
 -- Or serving ends, however many turns were taken.
-pub record Ended (known : KnownFiles) (left : ℕ) (end : StreamEnd) (old new : Doorway) (s : Session) (kept : Kept)
+pub record Ended (known : KnownFiles) (left : ℕ) (end : DriveEnd) (old new : Doorway) (s : Session) (kept : Kept)
     : Type 0 where
   pub why : Why
   pub opened : Opened old new (lines_by why) (failed_at why old.faults) (idle_at why old.idle)
@@ -202,7 +202,7 @@ pub record Ended (known : KnownFiles) (left : ℕ) (end : StreamEnd) (old new : 
   pub is_why : (taken : ℕ) → IsWhy known why new.wires left taken s
   pub leaves : LeavesBy why s kept
 
-abbrev pub Hosted : KnownFiles → ℕ → Result ℕ StreamEnd → Doorway → Doorway → Session → Kept → Type 0
+abbrev pub Hosted : KnownFiles → ℕ → Result ℕ DriveEnd → Doorway → Doorway → Session → Kept → Type 0
 Hosted known left (Ok count) old new s kept = Visited known left count old new s kept
 Hosted known left (Err end) old new s kept = Ended known left end old new s kept
 

@@ -2,18 +2,21 @@
 ghost use Rattle.std.specs.Prelude.{◌≡◌, ◌+◌, ◌<◌, ◌≤◌, length, true, Err, IfOk, ℕ};
 ghost use Rattle.session.specs.Kept.{OfEach, Stands, see_kept};
 ghost use Rattle.transport.specs.Drives.{Driven, DroveFor, Passed, Went, is_held};
-ghost use Rattle.transport.specs.Rounds as rounds;
+ghost use Rattle.transport.specs.Rounds as spec;
 ghost use Rattle.transport.specs.Rounds.{KnownFiles, due};
 ghost use Rattle.wires.specs.Wires.{Line};
 
-use crate::end::StreamEnd;
+use crate::end::DriveEnd;
 use crate::files::Files;
 use crate::room::room_of;
-use crate::serve::{MOST_MOVES, MOVES_GRANTED, file_wanted, leave, take, turn_with};
+use crate::rounds::{MOVES_GRANTED, file_wanted, leave, take, turn_with};
 use session::{Ending, EventError, Session};
 use std::alloc::Global;
 use std::cmp;
 use wires::{Received, Wire};
+
+/// A program is held over a wire that cannot poll once it made so many moves since bytes came.
+const MOST_MOVES: u64 = 10_000_000;
 
 /// Drives the connection of a session over a wire: receives what the editor sends, and sends what waits
 /// for it. When it ends other than by `Turns` and `NoMemory`, the connection has ended too. What closed
@@ -37,12 +40,12 @@ pub fn drive<W: Wire, F: Files>(
     wire: &mut W,
     files: &F,
     turns: u64,
-) -> StreamEnd
+) -> DriveEnd
     ensures { OfEach session.old (λ s. Driven (F.known files.now) (W.line wire.old) (W.line wire.new) turns s session.new
         result) }
 {
     let Ok(mut room) = room_of(alloc) else {
-        return StreamEnd::NoMemory;
+        return DriveEnd::NoMemory;
     };
     drive_in(alloc, session, wire, files, &mut room, turns).end
 }
@@ -50,7 +53,7 @@ pub fn drive<W: Wire, F: Files>(
 /// How driving ended, and how many turns it took.
 #[derive(Clone, Copy, Debug, PartialEq, Eq)]
 pub(crate) struct Drove {
-    pub end: StreamEnd,
+    pub end: DriveEnd,
     pub turns: u64,
 }
 
@@ -82,7 +85,7 @@ pub(crate) fn drive_in<W: Wire, F: Files>(
         }
     }
     Drove {
-        end: StreamEnd::Turns,
+        end: DriveEnd::Turns,
         turns,
     }
 }
@@ -96,7 +99,7 @@ fn turn<W: Wire, F: Files>(
     files: &F,
     room: &mut [u8],
     since: u64,
-) -> Result<u64, StreamEnd>
+) -> Result<u64, DriveEnd>
     requires room { 0 < length room.old }
     requires piece { length room.old ≤ 65536 }
     requires since { since ≤ 10000000 }
@@ -108,7 +111,7 @@ fn turn<W: Wire, F: Files>(
         return send(session, wire, since);
     }
     if session.finished() {
-        return leave(session, StreamEnd::Closed);
+        return leave(session, DriveEnd::Closed);
     }
     if session.pending() > 0 {
         return answer(alloc, session, files, since);
@@ -122,8 +125,8 @@ fn turn<W: Wire, F: Files>(
     run(session, MOVES_GRANTED, since, false)
 }
 
-fn send<W: Wire>(session: &mut Session, wire: &mut W, since: u64) -> Result<u64, StreamEnd>
-    requires { due (see_kept session.old) ≡ rounds.Due.Send }
+fn send<W: Wire>(session: &mut Session, wire: &mut W, since: u64) -> Result<u64, DriveEnd>
+    requires { due (see_kept session.old) ≡ spec.Due.Send }
     ensures went { (known : KnownFiles) → OfEach session.old (λ s. Went known since result (W.line wire.old)
         (W.line wire.new) s session.new) }
     ensures same { IfOk result (λ moves. moves ≡ since) }
@@ -133,7 +136,7 @@ fn send<W: Wire>(session: &mut Session, wire: &mut W, since: u64) -> Result<u64,
             let _ = session.sent(count);
             Ok(since)
         }
-        Err(_) => leave(session, StreamEnd::Fault),
+        Err(_) => leave(session, DriveEnd::Fault),
     }
 }
 
@@ -142,18 +145,18 @@ fn answer<F: Files>(
     session: &mut Session,
     files: &F,
     since: u64,
-) -> Result<u64, StreamEnd>
-    requires { due (see_kept session.old) ≡ rounds.Due.Answer }
+) -> Result<u64, DriveEnd>
+    requires { due (see_kept session.old) ≡ spec.Due.Answer }
     ensures went { (line : Line) → OfEach session.old (λ s. Went (F.known files.now) since result line line s session.new) }
     ensures same { IfOk result (λ moves. moves ≡ since) }
 {
     let Ok(file) = file_wanted(alloc, session, files) else {
-        return Err(StreamEnd::NoMemory);
+        return Err(DriveEnd::NoMemory);
     };
     match turn_with(session, file) {
         Ok(_) => Ok(since),
         Err(error) => match error {
-            EventError::NoMemory => Err(StreamEnd::NoMemory),
+            EventError::NoMemory => Err(DriveEnd::NoMemory),
             _ => Ok(since),
         },
     }
@@ -165,11 +168,11 @@ fn look<W: Wire>(
     wire: &mut W,
     room: &mut [u8],
     since: u64,
-) -> Result<u64, StreamEnd>
+) -> Result<u64, DriveEnd>
     requires room { 0 < length room.old }
     requires piece { length room.old ≤ 65536 }
     requires since { since ≤ 10000000 }
-    requires due { due (see_kept session.old) ≡ rounds.Due.Run }
+    requires due { due (see_kept session.old) ≡ spec.Due.Run }
     requires polls { (W.line wire.old).polls ≡ true }
     ensures went { (known : KnownFiles) → OfEach session.old (λ s. Went known since result (W.line wire.old)
         (W.line wire.new) s session.new) }
@@ -178,23 +181,23 @@ fn look<W: Wire>(
     match wire.recv_now(room) {
         Ok(Received::Bytes(count)) => take(session, &room[..count]),
         Ok(Received::Nothing) => run(session, MOVES_GRANTED, since, true),
-        Ok(Received::End) => leave(session, StreamEnd::Closed),
-        Err(_) => leave(session, StreamEnd::Fault),
+        Ok(Received::End) => leave(session, DriveEnd::Closed),
+        Err(_) => leave(session, DriveEnd::Fault),
     }
 }
 
 // Gives the program time for so many moves, over a wire that was looked at before, if it can be.
-fn run(session: &mut Session, moves: u32, since: u64, polls: bool) -> Result<u64, StreamEnd>
-    requires moves { moves ≡ rounds.moves_granted }
+fn run(session: &mut Session, moves: u32, since: u64, polls: bool) -> Result<u64, DriveEnd>
+    requires moves { moves ≡ spec.moves_granted }
     requires since { since ≤ 10000000 }
-    requires due { due (see_kept session.old) ≡ rounds.Due.Run }
+    requires due { due (see_kept session.old) ≡ spec.Due.Run }
     ensures went { (known : KnownFiles) (line line' : Line) → Passed polls line line' → OfEach session.old (λ s. Went known
         since result line line' s session.new) }
     ensures since { IfOk result (λ moves. moves ≤ 10000000) }
 {
     let sliced = session.slice(moves);
     match sliced.ending {
-        Ending::NoMemory => Err(StreamEnd::NoMemory),
+        Ending::NoMemory => Err(DriveEnd::NoMemory),
         _ => Ok(hold_after(session, since, sliced.moved, polls)),
     }
 }
@@ -202,8 +205,8 @@ fn run(session: &mut Session, moves: u32, since: u64, polls: bool) -> Result<u64
 // Holds the program if it has made so many moves that it is to be held, and answers how many it made.
 fn hold_after(session: &mut Session, since: u64, moved: u32, polls: bool) -> u64
     requires { since ≤ 10000000 }
-    ensures counts { result ≡ rounds.counted (since + moved) }
-    ensures holds { OfEach session.old (λ s. Stands session.new (rounds.held_after (is_held polls (since + moved)) s)) }
+    ensures counts { result ≡ spec.counted (since + moved) }
+    ensures holds { OfEach session.old (λ s. Stands session.new (spec.held_after (is_held polls (since + moved)) s)) }
 {
     let made = since + u64::from(moved);
     if !polls && made >= MOST_MOVES {
@@ -218,17 +221,17 @@ fn receive<W: Wire>(
     wire: &mut W,
     room: &mut [u8],
     since: u64,
-) -> Result<u64, StreamEnd>
+) -> Result<u64, DriveEnd>
     requires room { 0 < length room.old }
     requires piece { length room.old ≤ 65536 }
-    requires due { due (see_kept session.old) ≡ rounds.Due.Receive }
+    requires due { due (see_kept session.old) ≡ spec.Due.Receive }
     ensures went { (known : KnownFiles) → OfEach session.old (λ s. Went known since result (W.line wire.old)
         (W.line wire.new) s session.new) }
     ensures fewer { IfOk result (λ moves. moves ≤ since) }
 {
     match wire.recv_wait(room) {
-        Ok(0) => leave(session, StreamEnd::Closed),
+        Ok(0) => leave(session, DriveEnd::Closed),
         Ok(count) => take(session, &room[..count]),
-        Err(_) => leave(session, StreamEnd::Fault),
+        Err(_) => leave(session, DriveEnd::Fault),
     }
 }

@@ -1,20 +1,58 @@
 //! The files that an editor names.
-ghost use Rattle.std.specs.Prelude.{IfOk, ℕ, List, Option, None};
+ghost use Rattle.std.specs.Prelude.{◌≡◌, Some, None, Err, IfOk};
 ghost use Rattle.transport.specs.Rounds.{KnownFiles, IsAsKnown, IsShort};
+ghost use Rattle.transport.specs.declared.files.FileFault.TheVariants.{Unreadable};
 
 use session::Bytes;
 use std::alloc::{AllocError, Global};
+use thiserror::Error;
 
 /// The most bytes that a file may have.
 pub const LONGEST_TEXT: usize = 1_048_576;
+
+/// Why a file is not read.
+#[derive(Clone, Copy, Debug, PartialEq, Eq, Drop, Error)]
+pub enum FileFault {
+    /// It cannot be read, or has more than 1,048,576 bytes.
+    #[error("unreadable")]
+    Unreadable,
+    /// No memory was left.
+    #[error("no memory")]
+    NoMemory,
+}
+
+impl From<AllocError> for FileFault {
+    ghost use Rattle.transport.specs.declared.files.FileFault.TheVariants.{NoMemory};
+
+    ghost from_gives = { λ _ fault. fault ≡ NoMemory };
+
+    fn from(_: AllocError) -> FileFault {
+        FileFault::NoMemory
+    }
+}
 
 /// Reads the files that an editor names.
 pub trait Files {
     ghost known: { Self → KnownFiles } = { λ files path. None };
 
-    /// What the file at a path holds: `None` where it cannot be read, or has more than 1,048,576 bytes.
-    /// `Err`: no memory was left.
-    fn read(&self, alloc: Global, path: &str) -> Result<Option<Bytes>, AllocError>
-        ensures known { IfOk result (λ file. IsAsKnown (known self.now path.now) file) }
-        ensures short { IfOk result (λ file. IsShort file) };
+    /// What the file at a path holds.
+    ///
+    /// - `Unreadable`: it cannot be read, or has more than 1,048,576 bytes.
+    /// - `NoMemory`: no memory was left.
+    fn read(&self, alloc: Global, path: &str) -> Result<Bytes, FileFault>
+        ensures known { IfOk result (λ text. IsAsKnown (known self.now path.now) (Some text)) }
+        ensures unreadable { result ≡ Err Unreadable → IsAsKnown (known self.now path.now) None }
+        ensures short { IfOk result (λ text. IsShort (Some text)) };
+}
+
+/// What the file at a path holds: none where it cannot be read. It fails where no memory is left.
+pub fn file_at<F: Files>(alloc: Global, files: &F, path: &str) -> Result<Option<Bytes>, AllocError>
+    ensures known { IfOk result (λ file. IsAsKnown (F.known files.now path.now) file) }
+    ensures short { IfOk result (λ file. IsShort file) }
+{
+    match files.read(alloc, path) {
+        Ok(text) => Ok(Some(text)),
+        Err(FileFault::Unreadable) => Ok(None),
+        Err(FileFault::NoMemory) => Err(AllocError),
+    }
 }

@@ -1,4 +1,4 @@
-//! A session over a wire, or over a reader and a writer; a server over a reader and a writer.
+//! A session over a wire, and over the wires that come through a door; a server over a reader and a writer.
 #![tactic(auto)]
 
 pub mod drives;
@@ -8,12 +8,12 @@ mod inbox;
 pub mod laws;
 mod outbox;
 mod room;
-pub mod serve;
+mod rounds;
 pub mod server;
 pub mod visits;
 
 pub use drives::drive;
-pub use end::StreamEnd;
-pub use files::{Files, LONGEST_TEXT};
-pub use serve::serve_streams;
+pub use end::DriveEnd;
+pub use files::{FileFault, Files, LONGEST_TEXT, file_at};
 pub use server::{Server, ServerError};
+pub use visits::serve;

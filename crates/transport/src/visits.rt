@@ -2,17 +2,16 @@
 ghost use Rattle.std.specs.Prelude.{◌≡◌, ◌<◌, ◌≤◌, ◌∷◌, [], length, true, IfOk, ℕ};
 ghost use Rattle.session.specs.Kept.{OfEach};
 ghost use Rattle.session.specs.Slices.{is_runnable};
-ghost use Rattle.transport.specs.Rounds as rounds;
-ghost use Rattle.transport.specs.Rounds.{KnownFiles};
+ghost use Rattle.transport.specs.Rounds.{KnownFiles, moves_granted};
 ghost use Rattle.transport.specs.Visits.{Hosted, Served};
 ghost use Rattle.wires.specs.Doors.{Doorway, Opened};
 ghost use Rattle.wires.specs.Wires.{one_more};
 
 use crate::drives::drive_in;
-use crate::end::StreamEnd;
+use crate::end::DriveEnd;
 use crate::files::Files;
 use crate::room::room_of;
-use crate::serve::{MOVES_GRANTED, leave};
+use crate::rounds::{MOVES_GRANTED, leave};
 use session::{Ending, Session};
 use std::alloc::Global;
 use wires::{Came, Door, Wire};
@@ -36,12 +35,12 @@ pub fn serve<D: Door, F: Files>(
     door: &mut D,
     files: &F,
     turns: u64,
-) -> StreamEnd
+) -> DriveEnd
     ensures { OfEach session.old (λ s. Served (F.known files.now) (D.doorway door.old) (D.doorway door.new) turns s session.new
         result) }
 {
     let Ok(mut room) = room_of(alloc) else {
-        return StreamEnd::NoMemory;
+        return DriveEnd::NoMemory;
     };
     let mut taken = 0;
     'serving: while taken < turns {
@@ -50,7 +49,7 @@ pub fn serve<D: Door, F: Files>(
             Err(end) => return end,
         }
     }
-    StreamEnd::Turns
+    DriveEnd::Turns
 }
 
 // Asks the door while no editor is connected and so many turns are left. It answers how many it took, or how
@@ -62,7 +61,7 @@ fn visit<D: Door, F: Files>(
     files: &F,
     room: &mut [u8],
     left: u64,
-) -> Result<u64, StreamEnd>
+) -> Result<u64, DriveEnd>
     requires room { 0 < length room.old }
     requires piece { length room.old ≤ 65536 }
     requires left { 0 < left }
@@ -75,8 +74,8 @@ fn visit<D: Door, F: Files>(
     }
     match door.accept_wait() {
         Ok(Some(mut wire)) => host(alloc, session, &mut wire, files, room, left),
-        Ok(None) => Err(StreamEnd::Closed),
-        Err(_) => Err(StreamEnd::Fault),
+        Ok(None) => Err(DriveEnd::Closed),
+        Err(_) => Err(DriveEnd::Fault),
     }
 }
 
@@ -88,7 +87,7 @@ fn knock<D: Door, F: Files>(
     files: &F,
     room: &mut [u8],
     left: u64,
-) -> Result<u64, StreamEnd>
+) -> Result<u64, DriveEnd>
     requires room { 0 < length room.old }
     requires piece { length room.old ≤ 65536 }
     requires left { 0 < left }
@@ -100,21 +99,21 @@ fn knock<D: Door, F: Files>(
     match door.accept_now() {
         Ok(Came::Wire(mut wire)) => host(alloc, session, &mut wire, files, room, left),
         Ok(Came::Nothing) => alone(session, MOVES_GRANTED),
-        Ok(Came::End) => Err(StreamEnd::Closed),
-        Err(_) => Err(StreamEnd::Fault),
+        Ok(Came::End) => Err(DriveEnd::Closed),
+        Err(_) => Err(DriveEnd::Fault),
     }
 }
 
 // Gives the program time for so many moves.
-fn alone(session: &mut Session, moves: u32) -> Result<u64, StreamEnd>
-    requires moves { moves ≡ rounds.moves_granted }
+fn alone(session: &mut Session, moves: u32) -> Result<u64, DriveEnd>
+    requires moves { moves ≡ moves_granted }
     requires runnable { is_runnable session.old.now ≡ true }
     ensures hosted { (known : KnownFiles) (left : ℕ) (old new : Doorway) → Opened old new [] old.faults (one_more old.idle)
         → OfEach session.old (λ s. Hosted known left result old new s session.new) }
     ensures one { IfOk result (λ count. count ≡ 1) }
 {
     match session.slice(moves).ending {
-        Ending::NoMemory => Err(StreamEnd::NoMemory),
+        Ending::NoMemory => Err(DriveEnd::NoMemory),
         _ => Ok(1),
     }
 }
@@ -127,7 +126,7 @@ fn host<W: Wire, F: Files>(
     files: &F,
     room: &mut [u8],
     left: u64,
-) -> Result<u64, StreamEnd>
+) -> Result<u64, DriveEnd>
     requires room { 0 < length room.old }
     requires piece { length room.old ≤ 65536 }
     requires left { 0 < left }
@@ -136,11 +135,11 @@ fn host<W: Wire, F: Files>(
     ensures some { IfOk result (λ count. (1 ≤ count) × (count ≤ left)) }
 {
     let Ok(_number) = session.connect() else {
-        return Err(StreamEnd::Closed);
+        return Err(DriveEnd::Closed);
     };
     let driven = drive_in(alloc, session, wire, files, room, left - 1);
     match driven.end {
-        StreamEnd::Closed | StreamEnd::Fault => Ok(driven.turns + 1),
+        DriveEnd::Closed | DriveEnd::Fault => Ok(driven.turns + 1),
         end => leave(session, end),
     }
 }

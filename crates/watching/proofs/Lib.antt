@@ -27,10 +27,4 @@ pub mod Following
 pub mod Slicing
 pub mod Printed
 pub mod Turned
-pub mod Tracking
-pub mod Events
 pub mod Seen
-pub mod Lasts
-pub mod Telling
-pub mod Tracked
-pub mod Replayed

@@ -10,12 +10,8 @@ pub mod Headline
 pub mod Mirrors
 -- when it is told what the program printed
 pub mod Printed
--- what `watch` shows: what is known, beside what there was to see
-pub mod Replaying
+-- what an event queues, and what there is to see once it is done
+pub mod News
 -- ---- of the crates below
 -- what there is to see of a program
 pub use Rattle.session.specs.Shown
--- what an event queues, and what there is to see once it is done
-pub mod News
--- for private clauses alone: what is kept while events are done
-pub mod Tracking

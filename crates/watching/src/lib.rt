@@ -1,9 +1,4 @@
-//! What an editor that is watched knows: the laws that it was so, and `watch`, which shows it beside what there was to see.
+//! What an editor that is watched knows: the laws that it was so.
 #![tactic(auto)]
 
-mod last;
 pub mod laws;
-mod playback;
-mod track;
-
-pub use playback::{WatchError, Watched, queued, watch};

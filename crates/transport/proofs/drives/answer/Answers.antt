@@ -1,5 +1,5 @@
 use Rattle.std.proofs.Common.{refl}
-use Rattle.transport.proofs.Serving.{found_ok, found_err}
+use Rattle.transport.proofs.RoundLemmas.{found_ok, found_err}
 use Rattle.transport.proofs.Driving.{answers_over, answers_none}
 use Rattle.transport.proofs.drives.answer.Goals as goal
 

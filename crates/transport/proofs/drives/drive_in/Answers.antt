@@ -1,5 +1,5 @@
 use Rattle.std.proofs.Common.{rules, ◌≡◌, ◌≤◌, refl}
-use Rattle.transport.proofs.Serving.{few_next}
+use Rattle.transport.proofs.RoundLemmas.{few_next}
 use Rattle.transport.proofs.Driving.{goes_on_with, ends_driving, stops_driving}
 use Rattle.transport.proofs.drives.drive_in.Goals as goal
 

@@ -1,5 +1,5 @@
 use Rattle.std.proofs.Common.{◌+◌}
-use Rattle.transport.proofs.Serving.{few_counted}
+use Rattle.transport.proofs.RoundLemmas.{few_counted}
 use Rattle.transport.proofs.Driving.{runs_over, time_is_cut}
 use Rattle.transport.proofs.drives.run.Goals as goal
 

@@ -1,6 +1,6 @@
 use Rattle.std.proofs.Common.{◌≡◌, length, arith, sym}
 use Rattle.std.proofs.lemmas.Bool.Decides.{nat_tests}
-use Rattle.transport.proofs.Serving.{granted}
+use Rattle.transport.proofs.RoundLemmas.{granted}
 use Rattle.transport.proofs.Driving.{leave_is_due, all_said}
 use Rattle.transport.proofs.drives.turn.Goals as goal
 

@@ -1,4 +1,4 @@
-use Rattle.transport.proofs.Serving.{granted}
+use Rattle.transport.proofs.RoundLemmas.{granted}
 use Rattle.transport.proofs.Visiting.{nobody_comes, door_fails}
 use Rattle.transport.proofs.visits.knock.Goals as goal
 

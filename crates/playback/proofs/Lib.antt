@@ -1,0 +1,6 @@
+pub mod Tracking
+pub mod Events
+pub mod Lasts
+pub mod Telling
+pub mod Tracked
+pub mod Replayed
