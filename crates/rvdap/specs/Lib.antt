@@ -2,6 +2,8 @@
 pub mod Endings
 -- what it begins with
 pub mod Beginnings
+-- the editors that it serves
+pub mod Visitors
 -- ---- of `transport`
 -- the rounds in which an editor is served
 pub use Rattle.transport.specs.Drives

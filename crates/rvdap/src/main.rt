@@ -9,6 +9,7 @@ mod ending;
 mod listening;
 mod memory;
 mod serving;
+mod visitors;
 mod watch;
 
 ghost use Rattle.options.specs.Memory.{IsOffered};
@@ -18,7 +19,7 @@ use asm::{AsmFault, list_file};
 use connections::StreamWire;
 use disk::Disk;
 use ending::Ending;
-use listening::{Visitors, listen};
+use listening::listen;
 use listing::ListFault;
 use memory::MemorySize;
 use options::{Mode, Options};
@@ -29,6 +30,7 @@ use session::{Bytes, Session};
 use std::fmt::Display;
 use std::process::ExitCode;
 use transport::{FileFault, Files};
+use visitors::Visitors;
 use watch::{WatchFault, play_file};
 
 /// Status 0 where the input ended or a `disconnect` succeeded, where a file was listed or a script was played, and where help or the
@@ -96,7 +98,6 @@ fn serve_editors(rt: &HostRuntime, options: &Options, session: &mut Session) -> 
 }
 
 fn serve_streams(rt: &HostRuntime, session: &mut Session) -> Ending {
-    let _ = session.connect();
     let mut wire = StreamWire::new(rt.stdin(), rt.stdout());
     serve_one(rt.alloc(), session, &mut wire, &Disk::new(rt))
 }

@@ -1,10 +1,7 @@
 //! Editors over wires.
-ghost use Rattle.std.specs.Prelude.{◌≡◌, IfOk, OnOk};
-ghost use Rattle.session.specs.Kept.{OfEach, Stands};
-ghost use Rattle.transport.specs.Drives.{Driven};
-ghost use Rattle.transport.specs.declared.end.DriveEnd.{DriveEnd as AnEnd};
-ghost use Rattle.rvdap.specs.Endings as spec;
+ghost use Rattle.session.specs.Kept.{OfEach};
 ghost use Rattle.rvdap.specs.Beginnings.{Makes};
+ghost use Rattle.rvdap.specs.Visitors.{IsServed};
 
 use crate::ending::Ending;
 use crate::memory::MemorySize;
@@ -47,16 +44,16 @@ pub(crate) fn new_session(
     }
 }
 
-/// Serves the editor that is connected over a wire, and gives how the program ends if it ends then.
+/// Serves an editor that comes over a wire, and gives how the program ends then.
 pub(crate) fn serve_one<W: Wire, F: Files>(
     alloc: Global,
     session: &mut Session,
     wire: &mut W,
     files: &F,
 ) -> Ending
-    ensures { OfEach session.old (λ s. (end : AnEnd) × Driven (F.known files.now) (W.line wire.old) (W.line wire.new)
-        18446744073709551615 s session.new end × (result ≡ spec.ending_of end session.new.now.fault)) }
+    ensures { OfEach session.old (λ s. IsServed (F.known files.now) (W.line wire.old) (W.line wire.new) s session.new result) }
 {
+    let _ = session.connect();
     let end = drive(alloc, session, wire, files, TURNS);
     Ending::of(end, session.link_fault())
 }
