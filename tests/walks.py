@@ -7,7 +7,7 @@ from debugging import CALLS, CIRCLES, COUNTS, PATH, PRINTS, RECURS
 from playing import play
 from program import expect, frame
 
-PLAYER = "play_watching"
+PLAYER = "test_watch_events"
 SEED = 20261124
 EVENTS = 100000
 EVENTS_OF_A_WALK = 60

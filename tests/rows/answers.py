@@ -5,7 +5,7 @@ import json
 from breaks import ADDRESS, CONDITION, HIT, MOST, NO_CODE, UNKNOWN, at, is_not, is_set, on
 from playing import Row
 
-PLAYER = "play_answers"
+PLAYER = "test_answers"
 BASE = 0x10000
 SIZE = 1 << 20
 PATH = "/w/p.s"

@@ -2,7 +2,7 @@
 from playing import Row
 from rows import programs
 
-PLAYER = "play_assembler"
+PLAYER = "test_assembler"
 BASE = 0x10000
 
 ASSEMBLER = "GNU as and ld 2.40, riscv64-unknown-elf-as -march=rv32i -mabi=ilp32 -mno-relax, \

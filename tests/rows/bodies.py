@@ -4,7 +4,7 @@ from base64 import b64encode
 from rows.messages import is_done, no_message, read, spelled, write
 from playing import Row
 
-PLAYER = "play_messages"
+PLAYER = "test_messages"
 
 PROFILE = "docs/PROTOCOL.md, with the types of the published schema"
 ENCODING = "RFC 4648, section 10"

@@ -1,7 +1,7 @@
 """Breakpoints: which are hit, which stop, and which ids a check answers."""
 from playing import Row
 
-PLAYER = "play_breakpoints"
+PLAYER = "test_breakpoints"
 BASE = 0x10000
 # Addresses so far apart have one mark.
 APART = 4 * 65536

@@ -3,7 +3,7 @@ from rows.bodies import NO_NUMBERS, NO_TEXTS, NO_TRUTHS, odd
 from rows.messages import no_message, read, response, spelled, write
 from playing import Row
 
-PLAYER = "play_messages"
+PLAYER = "test_messages"
 
 PROFILE = "docs/PROTOCOL.md, with the types of the published schema"
 

@@ -6,7 +6,7 @@ from playing import Row
 from program import TOP
 from rows.guide import GUIDE, code, from_the_guide, section, tables
 
-PLAYER = "play_expressions"
+PLAYER = "test_expressions"
 
 PROFILE = GUIDE % "Expressions"
 BY_HAND = "worked by hand from docs/MACHINE.md, \"Expressions\""

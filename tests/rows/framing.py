@@ -1,7 +1,7 @@
 """Streams of the base protocol, and what they are read as; frames of bodies; the texts of errors."""
 from playing import Row
 
-PLAYER = "play_framing"
+PLAYER = "test_framing"
 LIMIT = 1048576
 
 PROTOCOL = "the base protocol, \"Header Part\" and \"Content Part\""

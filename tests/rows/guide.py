@@ -10,7 +10,7 @@ from playing import Row
 from program import TOP
 from rows.assembler import ASSEMBLER, BASE, assemble, bind, entry, fails, has_bytes, label_at, line_of
 
-PLAYER = "play_assembler"
+PLAYER = "test_assembler"
 
 GUIDE = "docs/MACHINE.md, \"%s\""
 # The memory that `rvdap asm` asks for, and the greatest memory that there is.

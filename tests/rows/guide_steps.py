@@ -2,7 +2,7 @@
 from rows.guide import GUIDE, SQUARES, TABLE, WORDS, code, from_the_guide, number, outputs, programs, section, tables
 from rows.steps import BASE, hart, memory, registers, sets, steps, x
 
-PLAYER = "play_machine"
+PLAYER = "test_machine"
 
 SP = 0x10800
 # The bytes at sp and after it in the guide's examples of loads.

@@ -1,7 +1,7 @@
 """Words of RV32I as they are read and written, their texts, and the names of registers."""
 from playing import Row
 
-PLAYER = "play_machine"
+PLAYER = "test_machine"
 
 ASSEMBLER = "GNU as 2.40, riscv64-unknown-elf-as -march=rv32i -mabi=ilp32"
 MANUAL = "the tables of RISC-V Unprivileged ISA 20191213, chapter 24, by hand"

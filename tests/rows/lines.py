@@ -1,7 +1,7 @@
 """Line tables: which line an address is of, where a line is, and the nearest label; and the parts of an image."""
 from playing import Row
 
-PLAYER = "play_machine"
+PLAYER = "test_machine"
 
 PROFILE = "worked by hand from the definitions of crates/image/specs/Lines.antt"
 

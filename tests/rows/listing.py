@@ -2,7 +2,7 @@
 from listings import INCREMENT_LISTING
 from playing import Row
 
-PLAYER = "play_assembler"
+PLAYER = "test_assembler"
 
 PROFILE = "docs/MACHINE.md, \"Listings\", with words of GNU as and ld 2.40"
 

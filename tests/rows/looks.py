@@ -4,7 +4,7 @@ import base64
 from playing import Row
 from rows.answers import BASE, EXAMPLES, NO_REFERENCES, PATH, SIZE, bytes_at, looks, reads, words_of
 
-PLAYER = "play_answers"
+PLAYER = "test_answers"
 
 FRAMES = "docs/PROTOCOL.md, \"Frames and variables\""
 BY_HAND = "worked by hand from docs/PROTOCOL.md, \"Frames and variables\""

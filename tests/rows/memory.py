@@ -1,7 +1,7 @@
 """The memory of the machine: what is read and written, and each fault."""
 from playing import Row
 
-PLAYER = "play_machine"
+PLAYER = "test_machine"
 BASE = 0x10000
 SIZES = (4096, 8192, 1048576, 16777216)
 

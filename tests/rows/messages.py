@@ -6,7 +6,7 @@ from rows.requests import NAMES as REQUESTS
 from sessions import CANCELLED, CAPABILITIES, DISCONNECTED, REFUSED, THREADS
 from sessions import INITIALIZE as FIRST
 
-PLAYER = "play_messages"
+PLAYER = "test_messages"
 LIMIT = 1048576
 GREATEST = 2147483647
 

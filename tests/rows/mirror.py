@@ -10,7 +10,7 @@ from program import frame
 from rows.events import stop, text_of as event
 from texts import CAPABILITIES
 
-PLAYER = "play_mirror"
+PLAYER = "test_mirror"
 RULES = "docs/HEADLINE.md and docs/PROTOCOL.md, worked by hand"
 NONE = "none"
 PATH = "/w/p.s"

@@ -3,7 +3,7 @@ taken and not taken."""
 from playing import Row
 from rows.steps import BASE, MANUAL, PROFILE, go, hart, holds, memory, pc, registers, sets, steps, x
 
-PLAYER = "play_machine"
+PLAYER = "test_machine"
 
 SIMULATOR = "words of GNU as 2.40, values of qemu-riscv32 7.2.22, which ran each of them"
 

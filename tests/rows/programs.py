@@ -2,7 +2,7 @@
 from playing import Row
 from rows.steps import BASE, hart, memory, pc, registers, steps
 
-PLAYER = "play_machine"
+PLAYER = "test_machine"
 
 SIMULATOR = "words of GNU as and ld 2.40; pc and registers after so many steps, and memory, of qemu-riscv32 7.2.22 with -singlestep -d nochain,exec,cpu"
 

@@ -3,7 +3,7 @@ from base64 import b64encode
 
 from playing import Row
 
-PLAYER = "play_messages"
+PLAYER = "test_messages"
 LIMIT = 1048576
 
 SCHEMA = "docs/PROTOCOL.md, with the types of the published schema"

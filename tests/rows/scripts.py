@@ -7,7 +7,7 @@ a connection, of 64 for the others.
 from playing import Row
 from program import frame
 
-PLAYER = "play_scripts"
+PLAYER = "test_scripts"
 RULES = "the rules at the head of this table, worked by hand"
 
 

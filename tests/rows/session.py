@@ -4,7 +4,7 @@ from playing import Row
 from program import frame
 from texts import ANSWERS, CANCELLED, CAPABILITIES, DISCONNECTED, FIRST, FIRST_ANSWER, SESSION, THREADS, refused, request
 
-PLAYER = "play_session"
+PLAYER = "test_session"
 PROFILE = "docs/PROTOCOL.md, worked by hand"
 SUCCESSES = {"initialize": CAPABILITIES, "threads": THREADS, "cancel": CANCELLED, "disconnect": DISCONNECTED}
 

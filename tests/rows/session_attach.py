@@ -9,7 +9,7 @@ from rows.session_breaks import NO_INSTRUCTION, at_instructions, at_lines, back
 from rows.session_runs import EBREAK, ENTRY, EXITS, KEEPS, LIMIT, PAUSE, STEP, limited
 from texts import refused
 
-PLAYER = "play_session"
+PLAYER = "test_session"
 PROFILE = "docs/PROTOCOL.md, worked by hand"
 
 

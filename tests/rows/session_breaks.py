@@ -5,7 +5,7 @@ from debugging import (BAD_ARGUMENTS, CALLS, CIRCLES, COUNTS, ENDED, EXHAUSTED, 
 from playing import Row
 from rows.session_runs import EBREAK, ENTRY, GREATEST, GREATEST_RETIRED, LIMIT, PAUSE, STEP, in_slices, limited, without_memory
 
-PLAYER = "play_session"
+PLAYER = "test_session"
 PROFILE = "docs/PROTOCOL.md, \"Breakpoints\", and docs/MACHINE.md, \"Breakpoints\", worked by hand"
 
 # COUNTS calls a function that counts in a0, for ever. Each round has 5 instructions, and pc is at the line after the call when the 4th of them

@@ -7,7 +7,7 @@ from playing import Row
 from rows.session_breaks import LEAPS, NO_INSTRUCTION, at_instructions, at_lines, back
 from rows.session_runs import EBREAK, ENTRY, GREATEST, PAUSE, STEP
 
-PLAYER = "play_session"
+PLAYER = "test_session"
 PROFILE = "docs/PROTOCOL.md and docs/MACHINE.md, worked by hand"
 
 # Calls itself for ever, from the second of two instructions.

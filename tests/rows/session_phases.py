@@ -5,7 +5,7 @@ from debugging import (BAD_ARGUMENTS, CALLS, CIRCLES, ENDED, GONE, INITIALIZED, 
 from looks import BASE, CONTINUED, NO_MACHINE, UNKNOWN_REFERENCE, frame_at, frames, memory, text
 from playing import Row
 
-PLAYER = "play_session"
+PLAYER = "test_session"
 PROFILE = "docs/PROTOCOL.md, worked by hand"
 
 # The requests, with arguments that each takes.

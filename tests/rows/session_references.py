@@ -8,7 +8,7 @@ from playing import Row
 from rows.session_breaks import at_lines, back
 from rows.session_runs import ENTRY, GREATEST, PAUSE, STEP, limited, without_memory
 
-PLAYER = "play_session"
+PLAYER = "test_session"
 PROFILE = "docs/PROTOCOL.md, worked by hand"
 
 # The first instruction of CALLS, and the two frames where it stands in its function.

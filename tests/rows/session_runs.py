@@ -4,7 +4,7 @@ from debugging import (ASSEMBLY_FAILED, CALLS, CIRCLES, COUNTS, ENDED, INITIALIZ
                        success_text)
 from playing import Row
 
-PLAYER = "play_session"
+PLAYER = "test_session"
 PROFILE = "docs/PROTOCOL.md and docs/MACHINE.md, worked by hand"
 
 MIB = 1 << 20

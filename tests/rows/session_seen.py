@@ -6,7 +6,7 @@ from playing import Row
 from rows.session_breaks import at_lines
 from rows.session_runs import EBREAK, ENTRY
 
-PLAYER = "play_session"
+PLAYER = "test_session"
 PROFILE = "docs/MACHINE.md and docs/PROTOCOL.md, worked by hand"
 NONE = "none"
 

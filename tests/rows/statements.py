@@ -1,7 +1,7 @@
 """Lines of assembly: what they say, how they may be spelled, and what is wrong with them."""
 from playing import Row
 
-PLAYER = "play_assembler"
+PLAYER = "test_assembler"
 
 ASSEMBLER = "GNU as 2.40, riscv64-unknown-elf-as -march=rv32i -mabi=ilp32"
 PROFILE = "docs/MACHINE.md, \"The assembly language\""

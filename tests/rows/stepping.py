@@ -1,7 +1,7 @@
 """A debugged machine by ticks: where it stops and why, its calls, and what a run of many ticks answers."""
 from playing import Row
 
-PLAYER = "play_stepping"
+PLAYER = "test_stepping"
 BASE = 0x10000
 
 BY_HAND = "worked by hand from docs/MACHINE.md, \"Running and stepping\""

@@ -1,7 +1,7 @@
 """Steps of a hart: what each answers, and where it leaves pc, the registers and memory."""
 from playing import Row
 
-PLAYER = "play_machine"
+PLAYER = "test_machine"
 BASE = 0x10000
 
 PROFILE = "docs/MACHINE.md, \"Traps\" and \"Calls of the environment\""

@@ -3,7 +3,7 @@ from playing import Row
 from program import frame
 from texts import ANSWERS, FIRST, FIRST_ANSWER, SESSION, THREADS, refused, request
 
-PLAYER = "play_transport"
+PLAYER = "test_transport"
 PROFILE = "docs/PROTOCOL.md, worked by hand"
 EVERY = (1 << 64) - 1
 TURNS = 1 << 60

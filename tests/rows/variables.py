@@ -1,7 +1,7 @@
 """What an editor sees of a stopped machine: registers, words of the stack, values that it sets, and numbers of frames and scopes."""
 from playing import Row
 
-PLAYER = "play_variables"
+PLAYER = "test_variables"
 BASE = 0x10000
 END = BASE + 65536
 GREATEST = 2147483647

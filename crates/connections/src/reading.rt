@@ -11,7 +11,7 @@ ghost use Rattle.wires.specs.Wires.{IsWithin};
 
 use crate::failure::{Failure, failed_read};
 use crate::outcome::received;
-use descriptors::{Waiting, can_read};
+use blocking_io::{Waiting, can_read};
 use std::io;
 use std::io::{ErrorKind, Read};
 use std::os::fd::{AsRawFd, RawFd};

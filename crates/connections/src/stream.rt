@@ -5,7 +5,7 @@ ghost use Rattle.connections.specs.Readers.{Begins};
 
 use crate::outcome::sent;
 use crate::reading::{look, read_waiting};
-use descriptors::{Waiting, can_read};
+use blocking_io::{Waiting, can_read};
 use std::io::{Read, Write};
 use std::os::fd::AsRawFd;
 use wires::{Received, Wire, WireFault};

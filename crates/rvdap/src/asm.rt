@@ -1,7 +1,7 @@
 //! `rvdap asm FILE`: the listing of a file on standard output.
 
 use assembler::TEXT_LIMIT;
-use descriptors::Waiting;
+use blocking_io::Waiting;
 use listing::{ListFault, listing};
 use std::fs::File;
 use std::io;

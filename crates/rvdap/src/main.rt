@@ -24,7 +24,6 @@ use listing::ListFault;
 use memory::MemorySize;
 use options::{Mode, Options};
 use protocol::Text;
-use replay::ScriptFault;
 use serving::{NoSession, new_session, serve_one};
 use session::{Bytes, Session};
 use std::fmt::Display;
@@ -32,6 +31,7 @@ use std::process::ExitCode;
 use transport::{FileFault, Files};
 use visitors::Visitors;
 use watch::{WatchFault, play_file};
+use watch_command::ScriptFault;
 
 /// Status 0 where the input ended or a `disconnect` succeeded, where a file was listed or a script was played, and where help or the
 /// version was asked; 1 with one line on standard error where serving, listing or playing failed; 2 where the arguments are not taken.

@@ -1,11 +1,11 @@
 //! `rvdap watch SCRIPT`: what an editor knows by a script, on standard output.
 
 use crate::disk::Disk;
-use descriptors::Waiting;
-use replay::{ScriptFault, watch_script};
+use blocking_io::Waiting;
 use std::fs::File;
 use std::io;
 use std::io::Read;
+use watch_command::{ScriptFault, watch_script};
 
 /// Why nothing is known by a script.
 pub(crate) enum WatchFault {

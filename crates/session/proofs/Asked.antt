@@ -9,8 +9,8 @@ use Rattle.protocol.specs.declared.refusal.Refusal.{Refusal}
 use Rattle.protocol.specs.declared.request.Incoming.{Incoming}
 use Rattle.protocol.specs.declared.request.Incoming.TheVariants.{Request as IsRequest, Bad as IsBad, Ignored}
 use Rattle.protocol.specs.declared.request.MessageError.{MessageError}
-use Rattle.ranges.specs.Requests.{GivesBytes}
-use Rattle.ranges.proofs.Requests.{BodyGives, body_gives}
+use Rattle.range_laws.specs.Requests.{GivesBytes}
+use Rattle.range_laws.proofs.Requests.{BodyGives, body_gives}
 use Rattle.session.specs.declared.pending.Ask.{Ask}
 use Rattle.session.specs.declared.pending.Ask.TheVariants.{Request, Bad}
 use Rattle.session.specs.declared.pending.Pending.{Pending}

@@ -26,10 +26,10 @@ use Rattle.rv32i.specs.declared.instr.Instr.{Instr}
 use Rattle.rv32i.specs.declared.stepped.Stepped.{Stepped}
 use Rattle.rv32i.specs.declared.stepped.Stepped.TheVariants as stepped
 use Rattle.image.specs.Memory.{first_address}
-use Rattle.ranges.specs.Debugging.{HartInRange, ImageInRange}
-use Rattle.ranges.specs.Machines.{AreBytes}
-use Rattle.ranges.specs.Programs.{ProgramInRange}
-use Rattle.ranges.proofs.Programs.{ended_in_range, entered_in_range, first_run_in_range, just_loaded_in_range, left_in_range, moved_in_range, restarted_in_range, resumed_in_range, stopped_in_range, told_in_range, with_hart_in_range, with_instructions_in_range, with_source_in_range, written_in_range}
+use Rattle.range_laws.specs.Debugging.{HartInRange, ImageInRange}
+use Rattle.range_laws.specs.Machines.{AreBytes}
+use Rattle.range_laws.specs.Programs.{ProgramInRange}
+use Rattle.range_laws.proofs.Programs.{ended_in_range, entered_in_range, first_run_in_range, just_loaded_in_range, left_in_range, moved_in_range, restarted_in_range, resumed_in_range, stopped_in_range, told_in_range, with_hart_in_range, with_instructions_in_range, with_source_in_range, written_in_range}
 use Rattle.stepping.specs.RunLaws.{HasSignedCode}
 use Rattle.stepping.specs.Ticks.{Debugged, IsTick, Moves, Settles, entry_checked, entry_tick, hit_at_pc, moved_as, settled}
 use Rattle.stepping.specs.declared.tick.Outcome.{Outcome}

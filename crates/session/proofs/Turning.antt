@@ -64,11 +64,11 @@ use Rattle.answers.specs.declared.set_variable.Setting.{Setting}
 use Rattle.image.specs.Memory.{first_address}
 use Rattle.protocol.specs.declared.refusal.Refusal.{Refusal}
 use Rattle.protocol.specs.declared.set_variable.SetVariableArguments.{SetVariableArguments}
-use Rattle.ranges.specs.Debugging.{HartInRange}
-use Rattle.ranges.specs.Machines.{IsByte, IsWord}
-use Rattle.ranges.specs.Requests.{GivesBytes}
-use Rattle.ranges.proofs.Images.{assembled_is_in_range}
-use Rattle.ranges.proofs.Settings.{registers_stay_in_range, texts_give_words}
+use Rattle.range_laws.specs.Debugging.{HartInRange}
+use Rattle.range_laws.specs.Machines.{IsByte, IsWord}
+use Rattle.range_laws.specs.Requests.{GivesBytes}
+use Rattle.range_laws.proofs.Images.{assembled_is_in_range}
+use Rattle.range_laws.proofs.Settings.{registers_stay_in_range, texts_give_words}
 use Rattle.rv32i.specs.declared.hart.Hart.{Hart}
 use Rattle.session.specs.References.{referred}
 use Rattle.std.proofs.lemmas.List.Elements.{All-take}

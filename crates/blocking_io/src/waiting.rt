@@ -1,0 +1,71 @@
+//! A stream whose calls wait.
+ghost use Rattle.std.specs.Prelude.{◌≡◌, IfErr, false};
+ghost use Rattle.std.specs.Io.{ReadsAtMost, WritesAtMost};
+ghost use Rattle.std.specs.Io.KnownBytes.{ReadConsumes, WriteAppends};
+ghost use Rattle.std.specs.IoError.{error_kind};
+ghost use Rattle.blocking_io.specs.Passing.{passes};
+
+use crate::ready::{Direction, wait_after};
+use std::io;
+use std::io::{ErrorKind, Read, Write};
+use std::os::fd::AsRawFd;
+
+/// A stream whose calls wait, also where its descriptor is non-blocking: a read until there is something
+/// to read or the input has ended, a write until the descriptor takes bytes. A call that a signal
+/// interrupted is made again. After 2^64 - 1 calls of the stream the error is `TimedOut`; any other error
+/// is that of a call that failed, of the stream or of `poll`.
+#[derive(Drop)]
+pub struct Waiting<S> {
+    stream: S,
+}
+
+impl<S> Waiting<S> {
+    /// A stream whose calls are to wait.
+    pub fn new(stream: S) -> Waiting<S>
+        ensures { result.stream ≡ stream }
+    {
+        Waiting { stream }
+    }
+}
+
+impl<S: Read + AsRawFd> Read for Waiting<S> {
+    ghost remaining = { λ w. S.Read.remaining w.stream };
+
+    fn read(&mut self, buf: &mut [u8]) -> io::Result<usize>
+        ensures bound { ReadsAtMost result buf.new }
+        ensures bytes { ReadConsumes (S.Read.remaining self.old.stream) (S.Read.remaining self.new.stream)
+            result buf.new }
+        ensures waited { IfErr result (λ e. passes (error_kind e) ≡ false) }
+    {
+        'waiting: for _ in 0..u64::MAX {
+            match self.stream.read(buf) {
+                Ok(count) => return Ok(count),
+                Err(error) => wait_after(error, self.stream.as_raw_fd(), Direction::Read)?,
+            }
+        }
+        Err(ErrorKind::TimedOut.into())
+    }
+}
+
+impl<S: Write + AsRawFd> Write for Waiting<S> {
+    ghost contents = { λ w. S.Write.contents w.stream };
+
+    fn write(&mut self, buf: &[u8]) -> io::Result<usize>
+        ensures bound { WritesAtMost result buf.now }
+        ensures bytes { WriteAppends (S.Write.contents self.old.stream) (S.Write.contents self.new.stream)
+            result buf.now }
+        ensures waited { IfErr result (λ e. passes (error_kind e) ≡ false) }
+    {
+        'waiting: for _ in 0..u64::MAX {
+            match self.stream.write(buf) {
+                Ok(count) => return Ok(count),
+                Err(error) => wait_after(error, self.stream.as_raw_fd(), Direction::Write)?,
+            }
+        }
+        Err(ErrorKind::TimedOut.into())
+    }
+
+    fn flush(&mut self) -> io::Result<()> {
+        self.stream.flush()
+    }
+}

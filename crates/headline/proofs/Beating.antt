@@ -1,0 +1,139 @@
+-- Each beat of a slice leads to what is known and fits.
+use Rattle.std.proofs.Common.{◌≡◌, ℕ, Bool, true, false, leb, ltb, List, [], ◌∷◌, map, Option, Some, None, Result, Ok, Err, MatchBool, refl, sym, ap, ◌∙◌, subst}
+use Rattle.std.specs.Prelude.{not}
+use Rattle.std.specs.declared.alloc.AllocError.{AllocError}
+use Rattle.breakpoints.specs.Stops.{Lists, Placed, checked, counted, is_hit, with_hit}
+use Rattle.debuggee.specs.Programs.{Program, entered, is_running, moved, next_tick, why_marked}
+use Rattle.debuggee.specs.declared.run.Mark.{Mark}
+use Rattle.debuggee.specs.declared.run.Run.{Run}
+use Rattle.debuggee.specs.declared.run.Why.TheVariants as why
+use Rattle.facts.specs.Facts.{Facts}
+use Rattle.facts.specs.declared.breakpoint.BreakInfo.{BreakInfo}
+use Rattle.rv32i.specs.declared.hart.Hart.{Hart}
+use Rattle.rv32i.specs.declared.instr.Instr.{Instr}
+use Rattle.rv32i.specs.declared.stepped.Stepped.{Stepped}
+use Rattle.rv32i.specs.declared.stepped.Stepped.TheVariants as stepped
+use Rattle.session.proofs.Reaching.{if_keeps}
+use Rattle.session.specs.Acts.{Now, Seen}
+use Rattle.session.specs.Phases.{is_active, is_active_in, is_configuring}
+use Rattle.session.specs.Slices.{Beat, beat_by, beat_of, ends, goes, goes_unless, is_runnable_by, moves_by, runs}
+use Rattle.session.specs.declared.state.TheConstants.{FULL}
+use Rattle.session.specs.declared.terms.Terms.{Terms}
+use Rattle.stepping.proofs.Existing.{the_tick}
+use Rattle.stepping.specs.Ticks.{Debugged, IsTick, Moves, Settles, entry_checked, entry_tick, moved_as, settled}
+use Rattle.stepping.specs.declared.tick.Outcome.{Outcome as CameTo}
+use Rattle.stepping.specs.declared.tick.Outcome.TheVariants.{Went, Stopped as HasStopped, Ended as HasEnded}
+use Rattle.stepping.specs.declared.tick.Reason.TheVariants as met
+use Rattle.stepping.specs.declared.tick.Tick.{Tick}
+use Rattle.variables.specs.Numbers.{Numbers}
+use Rattle.headline.proofs.Agreeing.{Agrees, OwesOf, OwesRunning, holds_moving, never}
+use Rattle.headline.proofs.Leading.{Leads, SameBut, exits_lead, halts_lead, telling_leads}
+use Rattle.headline.proofs.Owing.{both_true}
+use Rattle.headline.specs.Holding.{HoldsRun}
+use Rattle.session.specs.Shown.{info_of, listed_at, shown_of, state_of}
+
+-- ---- a tick leaves the breakpoints where they are
+
+pub record SameBreaks (a b : Lists) : Type 0 where
+  pub source : map info_of a.source ≡ map info_of b.source
+  pub instructions : map info_of a.instructions ≡ map info_of b.instructions
+
+counted_info : (pc : ℕ) (hart : Hart) (memory : List ℕ) (b : Placed) → info_of b ≡ info_of (counted pc hart memory b)
+counted_info pc hart memory b = if_keeps (λ (x : Placed). info_of b ≡ info_of x) (is_hit pc hart memory b) (with_hit b) b (λ _. refl) (λ _. refl)
+
+all_counted : (pc : ℕ) (hart : Hart) (memory : List ℕ) (list : List Placed) → map info_of list ≡ map info_of (map (counted pc hart memory) list)
+all_counted pc hart memory [] = refl
+all_counted pc hart memory (b ∷ list) =
+    ap (λ (x : BreakInfo). x ∷ map info_of list) (counted_info pc hart memory b) ∙ ap (λ (l : List BreakInfo). info_of (counted pc hart memory b) ∷ l) (all_counted pc hart memory list)
+
+checked_same : (pc : ℕ) (hart : Hart) (memory : List ℕ) (lists : Lists) → SameBreaks lists (checked pc hart memory lists)
+checked_same pc hart memory lists = record { source = all_counted pc hart memory lists.source; instructions = all_counted pc hart memory lists.instructions }
+
+settled_same : (s : Stepped) (instr : Option Instr) (pc : ℕ) (d : Debugged) → SameBreaks d.lists (settled s instr pc d).lists
+settled_same stepped.Retired instr pc d = checked_same d.hart.pc d.hart d.memory d.lists
+settled_same (stepped.Printed number) instr pc d = checked_same d.hart.pc d.hart d.memory d.lists
+settled_same stepped.Break instr pc d = checked_same d.hart.pc d.hart d.memory d.lists
+settled_same (stepped.Exit code) instr pc d = record { source = refl; instructions = refl }
+settled_same (stepped.Trap cause) instr pc d = record { source = refl; instructions = refl }
+
+answer_same : (s : Result Stepped AllocError) (before after : Debugged) (instr : Option Instr) (answer : Result Tick AllocError) → Settles before instr s answer after → SameBreaks before.lists after.lists
+answer_same (Ok s) before after instr answer e =
+    subst (λ (d : Debugged). SameBreaks before.lists d.lists) (sym e.1) (settled_same s instr before.hart.pc (moved_as before after))
+answer_same (Err error) before after instr answer e = subst (λ (d : Debugged). SameBreaks before.lists d.lists) (sym e.1) (record { source = refl; instructions = refl })
+
+tick_same : (before after : Debugged) (answer : Result Tick AllocError) → IsTick before answer after → SameBreaks before.lists after.lists
+tick_same before after answer is = go before.check_due is where
+  go : (due : Bool) → MatchBool due ((answer ≡ Ok (entry_tick before)) × (after ≡ entry_checked before)) (Moves before answer after) → SameBreaks before.lists after.lists
+  go true e = subst (λ (d : Debugged). SameBreaks before.lists d.lists) (sym e.1) (checked_same before.hart.pc before.hart before.memory before.lists)
+  go false m = answer_same m.stepped before after m.instr answer m.settles
+
+breaks_same : (p : Program) (d : Debugged) → SameBreaks p.machine.lists d.lists → (owed : Option Tick) → SameBut p (record p { machine = d; owed = owed })
+breaks_same p d same owed = record {
+  source = λ numbers path. ap (λ (l : List BreakInfo). listed_at p.path l path) same.source;
+  instructions = λ numbers. same.instructions;
+}
+
+moved_same : (p : Program) → SameBut p (moved p)
+moved_same p = let t = the_tick p.machine in breaks_same p t.after (tick_same p.machine t.after (Ok t.tick) t.is) (moved p).owed
+
+pub entered_same : (p : Program) → SameBut p (entered p)
+entered_same p = breaks_same p (entry_checked p.machine) (checked_same p.machine.hart.pc p.machine.hart p.machine.memory p.machine.lists) (entered p).owed
+
+-- ---- beats
+
+module _ (terms : Terms) (numbers : Numbers) (f : Facts) where
+  -- a program that runs goes on, and nothing is told
+  goes_agrees : (p q : Program) → is_running p.run ≡ true → SameBut p q → q.run ≡ p.run → Agrees f (Some p) numbers terms → Agrees f (Some q) numbers terms
+  goes_agrees p q runs same run h =
+      let none = h.moving runs in
+      record {
+        holds = holds_moving f (shown_of p numbers) (shown_of q numbers) none h.holds (subst (λ (r : Run). HoldsRun f.run (state_of r)) (sym run) h.holds.run) (same.source numbers) (same.instructions numbers);
+        moving = λ _. none;
+        numbered = h.numbered;
+        phase = h.phase;
+      }
+
+  abbrev LeadsOn : Program → Beat → Type 0
+  LeadsOn p b = Leads terms numbers f (Some p) b.acts
+
+  ends_leads : (p : Program) (e : _) → Agrees f (Some p) numbers terms → LeadsOn p (ends e)
+  unfolding Leads
+  ends_leads p e h = h
+
+  module _ (now : Now) (active : is_active_in terms.phase ≡ is_active now.link) where
+    retires_leads : (p : Program) → is_running p.run ≡ true → Agrees f (Some p) numbers terms → Agrees f (Some (moved p)) numbers terms
+    retires_leads p r h = goes_agrees p (moved p) r (moved_same p) refl h
+
+    moves_lead : (p : Program) (outcome : CameTo) → is_running p.run ≡ true → Agrees f (Some p) numbers terms → LeadsOn p (moves_by now p outcome)
+    unfolding Leads
+    moves_lead p Went r h = retires_leads p r h
+    moves_lead p (HasStopped (met.Exception cause)) r h = halts_lead terms numbers f now p (why.Met (met.Exception cause)) [] active r h
+    moves_lead p (HasStopped met.Ebreak) r h = retires_leads p r h
+    moves_lead p (HasStopped met.Source) r h = retires_leads p r h
+    moves_lead p (HasStopped met.Instruction) r h = retires_leads p r h
+    moves_lead p (HasStopped met.Goal) r h = retires_leads p r h
+    moves_lead p (HasEnded code) r h = exits_lead terms numbers f now p code active r h
+
+    goes_lead : (p : Program) (more : Bool) → is_running p.run ≡ true → Agrees f (Some p) numbers terms → LeadsOn p (goes now p more)
+    unfolding Leads
+    goes_lead p more r h =
+        if_keeps (LeadsOn p) p.machine.check_due _ _ (λ _. goes_agrees p (entered p) r (entered_same p) refl h)
+        (λ _. if_keeps (LeadsOn p) (not more) _ _ (λ _. h)
+        (λ _. if_keeps (LeadsOn p) (leb now.limits.last_retired p.machine.retired) _ _ (λ _. halts_lead terms numbers f now p why.Limit [] active r h) (λ _. moves_lead p (next_tick p).outcome r h)))
+
+    unless_lead : (mark : Option Mark) (p : Program) (more : Bool) → is_running p.run ≡ true → Agrees f (Some p) numbers terms → LeadsOn p (goes_unless mark now p more)
+    unfolding Leads
+    unless_lead (Some mark) p more r h = halts_lead terms numbers f now p (why_marked mark) [] active r h
+    unless_lead None p more r h = goes_lead p more r h
+
+  pub owed_lead : (owed : Option Tick) (seen : Seen) (p : Program) (more : Bool) → is_active_in terms.phase ≡ is_active seen.now.link → p.owed ≡ owed → OwesRunning p → Agrees f (Some p) numbers terms → LeadsOn p (beat_by owed seen p more)
+  unfolding Leads
+  owed_lead (Some tick) seen p more active e owes h = telling_leads terms numbers f seen.now p tick active (owes (λ none. never tick (sym none ∙ e))) h
+  owed_lead None seen p more active e owes h =
+      if_keeps (LeadsOn p) (not (is_runnable_by seen.now.link p.run)) _ _ (λ _. h)
+      (λ r. if_keeps (LeadsOn p) (ltb FULL seen.waits) _ _ (λ _. h) (λ _. unless_lead seen.now active p.mark p more (both_true (is_running p.run) (not (is_configuring seen.now.link)) r) h))
+
+  pub program_leads : (program : Option Program) (seen : Seen) (more : Bool) → is_active_in terms.phase ≡ is_active seen.now.link → OwesOf program → Agrees f program numbers terms → Leads terms numbers f program (beat_of program seen more).acts
+  unfolding Leads
+  program_leads None seen more active owes h = h
+  program_leads (Some p) seen more active owes h = owed_lead p.owed seen p more active refl owes h

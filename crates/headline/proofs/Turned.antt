@@ -1,0 +1,169 @@
+-- What a turn queues: there is to see at its end what there was to see at each message.
+use Rattle.std.proofs.Common.{◌≡◌, ℕ, Bool, true, false, ltb, List, [], ◌∷◌, map, Option, Some, None, refl, sym, ◌∙◌, subst}
+use Rattle.std.specs.Prelude.{All, IsTrue}
+use Rattle.std.proofs.lemmas.List.Elements.{All-cons, All-nil}
+use Rattle.answers.specs.Answers.{sets_breakpoints}
+use Rattle.answers.specs.Looking.{looks_in}
+use Rattle.assembler.specs.Placed.{error_of}
+use Rattle.assembler.specs.declared.error.AsmError.{AsmError}
+use Rattle.debuggee.specs.Programs.{Program}
+use Rattle.debuggee.specs.declared.run.Run.{Run}
+use Rattle.debuggee.specs.declared.run.Run.TheVariants as a_run
+use Rattle.protocol.specs.declared.command.Command.{Command}
+use Rattle.protocol.specs.declared.command.Command.TheVariants.{Initialize, Launch, Attach, ConfigurationDone, Threads, Cancel, Restart, Terminate, Disconnect, SetBreakpoints, SetInstructionBreakpoints, SetExceptionBreakpoints, Continue, Next, StepIn, StepOut, Pause, StackTrace, Scopes, Variables, SetVariable, Evaluate, Disassemble, ReadMemory, WriteMemory}
+use Rattle.replies.specs.declared.event.Event.{Event as Told}
+use Rattle.replies.specs.declared.event.Event.TheVariants as event
+use Rattle.replies.specs.declared.message.Message.{Message}
+use Rattle.replies.specs.declared.message.Message.TheVariants.{Response as IsResponse}
+use Rattle.session.proofs.Breaking.{by_answer}
+use Rattle.session.proofs.ByForms.{on, on_with}
+use Rattle.session.proofs.Joined.{program_of}
+use Rattle.session.proofs.Looked.{by_look, by_setting, by_writing}
+use Rattle.session.proofs.Reaching.{if_keeps, performed_append}
+use Rattle.session.proofs.Serving.{of_answer}
+use Rattle.session.specs.Acts.{Answering, Now, refers}
+use Rattle.session.specs.Breaks.{success_on}
+use Rattle.session.specs.ConfigurationDone.{run_events}
+use Rattle.session.specs.Demands.{run_of}
+use Rattle.session.specs.Effects.{performed}
+use Rattle.session.specs.Launch.{assembles}
+use Rattle.session.specs.Looking.{looks_on}
+use Rattle.session.specs.Outcomes.{Outcome, answering, answers_next, closing, done, next_turn, outcome_at, turn_by, turn_of}
+use Rattle.session.specs.Refusals.{answer_to, response_to}
+use Rattle.session.specs.References.{past_referred}
+use Rattle.session.specs.Requests.{success_of}
+use Rattle.session.specs.Sessions.{Effect, Session, histories, hung_on, replied_on}
+use Rattle.session.specs.Telling.{stop_event}
+use Rattle.session.specs.declared.event.Applied.TheVariants.{Turn as DidTurn}
+use Rattle.session.specs.declared.event.Event.TheVariants.{Turn}
+use Rattle.session.specs.declared.event.Turned.TheVariants.{Full}
+use Rattle.session.specs.declared.link.Link.{Link}
+use Rattle.session.specs.declared.pending.Pending.{Pending}
+use Rattle.session.specs.declared.state.TheConstants.{FULL}
+use Rattle.session.specs.declared.terms.Terms.{Terms}
+use Rattle.stepping.specs.declared.tick.Tick.{Tick}
+use Rattle.headline.proofs.Agreeing.{OwesOf, OwesRunning, never}
+use Rattle.headline.proofs.Following.{tells_follow}
+use Rattle.headline.specs.News.{Fits, IsFollowed}
+use Rattle.headline.proofs.Newly.{Plain, just_told, nothing_newly, plain_told, said_told, same_life}
+
+-- ---- no answer tells what was printed
+
+abbrev AllPlain : Answering → Type 0
+AllPlain a = All Plain a.events
+
+none : All Plain []
+none = All-nil Plain
+
+one : (e : Told) → Plain e → All Plain (e ∷ [])
+one e plain = All-cons Plain e [] plain none
+
+joined_plain : (run : Option Run) → All Plain (run_events run)
+joined_plain None = none
+joined_plain (Some a_run.Running) = one event.Continued refl
+joined_plain (Some (a_run.Stopped why)) = one (stop_event why []) refl
+joined_plain (Some (a_run.Ended code)) = none
+
+sets_plain : (now : Now) (terms : Terms) (command : Command) → IsTrue (sets_breakpoints command) → AllPlain (success_on now.debuggee.program now terms command)
+sets_plain now terms command sets = by_answer AllPlain now.debuggee.program now terms command sets (λ _. none) (λ refusal plain. none) (λ p b is e f. none) (λ p b list is e f within. none)
+
+looks_plain : (now : Now) (terms : Terms) (command : Command) → IsTrue (looks_in command) → AllPlain (looks_on now.debuggee.program now terms command)
+looks_plain now terms command looks = by_look AllPlain now.debuggee.program now terms command looks (λ _. none) (λ refusal plain. none) (λ p b is e plain room. none)
+
+success_plain : (now : Now) (terms : Terms) (file : Option (List ℕ)) (command : Command) → AllPlain (success_of now terms file command)
+success_plain now terms file (Initialize arguments) = none
+success_plain now terms None (Launch arguments) = none
+success_plain now terms (Some text) (Launch arguments) = by (error_of text now.size) where
+  by : (error : Option AsmError) → AllPlain (assembles now terms arguments text error)
+  by None = one event.Initialized refl
+  by (Some e) = none
+success_plain now terms file Attach = one event.Initialized refl
+success_plain now terms file ConfigurationDone = if_keeps AllPlain terms.launched _ _ (λ _. none) (λ _. joined_plain (run_of now.debuggee.program))
+success_plain now terms file Threads = none
+success_plain now terms file (Cancel arguments) = none
+success_plain now terms file Restart = none
+success_plain now terms file Terminate = one event.Terminated refl
+success_plain now terms file (Disconnect arguments) = none
+success_plain now terms file (SetBreakpoints arguments) = sets_plain now terms (SetBreakpoints arguments) refl
+success_plain now terms file (SetInstructionBreakpoints arguments) = sets_plain now terms (SetInstructionBreakpoints arguments) refl
+success_plain now terms file SetExceptionBreakpoints = none
+success_plain now terms file (Continue arguments) = none
+success_plain now terms file (Next arguments) = none
+success_plain now terms file (StepIn arguments) = none
+success_plain now terms file (StepOut arguments) = none
+success_plain now terms file (Pause arguments) = none
+success_plain now terms file (StackTrace arguments) = looks_plain now terms (StackTrace arguments) refl
+success_plain now terms file (Scopes arguments) = looks_plain now terms (Scopes arguments) refl
+success_plain now terms file (Variables arguments) = looks_plain now terms (Variables arguments) refl
+success_plain now terms file (Evaluate arguments) = looks_plain now terms (Evaluate arguments) refl
+success_plain now terms file (Disassemble arguments) = looks_plain now terms (Disassemble arguments) refl
+success_plain now terms file (ReadMemory arguments) = looks_plain now terms (ReadMemory arguments) refl
+success_plain now terms file (SetVariable arguments) = by_setting AllPlain now.debuggee.program now terms arguments (λ _. none) (λ refusal plain. none) (λ p setting is e plain. none)
+success_plain now terms file (WriteMemory arguments) = by_writing AllPlain now.debuggee.program now terms arguments (λ _. none) (λ refusal plain. none) (λ p writing is e plain. none)
+
+answer_plain : (now : Now) (terms : Terms) (file : Option (List ℕ)) (p : Pending) → AllPlain (answer_to now terms file p)
+answer_plain now terms file p =
+    of_answer (λ ask answer. AllPlain answer) now terms file p.ask p.fate (λ refusal _. none) (λ r taken meets. success_plain now terms file r.command)
+
+-- ---- an answer
+
+hung_told : (s : Session) (l : Option Link) (t : Session) → IsFollowed s (on l t) → IsFollowed s (hung_on l (on l t))
+hung_told s None t h = h
+hung_told s (Some l) t h = record { news = h.news; newly = record { life = h.newly.life; before = h.newly.before; connections = h.newly.connections; linked = h.newly.linked; silent = h.newly.silent; fits = h.newly.fits } }
+
+closing_told : (closes : Bool) (s t : Session) → IsFollowed s t → IsFollowed s (performed histories (closing closes) t)
+closing_told true s t h = hung_told s t.now.link t h
+closing_told false s t h = h
+
+module _ (l : Link) (p : Pending) (rest : List Pending) (s : Session) (a : Answering) (plain : All Plain a.events) where
+  changed : Session
+  changed = record s { now = refers (record s.now { debuggee = a.debuggee }) a.references; references = past_referred s.now.connections a.references s.references }
+
+  ready : Session
+  ready = on_with (Some (record l { terms = a.terms })) (p ∷ rest) changed
+
+  ready_told : IsFollowed (on_with (Some l) (p ∷ rest) s) ready
+  unfolding changed ready
+  ready_told =
+      record { news = []; newly = record { life = same_life s; before = refl; connections = refl; linked = refl; silent = λ _. refl; fits = All-nil (Fits ready) } }
+
+  answering_told : IsFollowed (on_with (Some l) (p ∷ rest) s) (performed histories (answering a) (on_with (Some l) (p ∷ rest) s))
+  unfolding changed ready
+  answering_told =
+      let from = on_with (Some l) (p ∷ rest) s in
+      let m : Message = IsResponse (response_to p.ask a.outcome) in
+      let replied = replied_on (p ∷ rest) a.outcome ready in
+      let first : IsFollowed from replied = said_told from ready ready.now.link m rest refl ready_told in
+      subst (IsFollowed from) (sym (performed_append (map _ a.events) (closing a.closes) replied))
+      (closing_told a.closes from (performed histories (map _ a.events) replied) (plain_told a.events from replied plain first))
+
+-- ---- a turn
+
+next_told : (l : Link) (file : Option (List ℕ)) (pending : List Pending) (s : Session) → let t = on_with (Some l) pending s in IsFollowed t (performed histories (next_turn t.now l.terms file pending).acts t)
+next_told l file [] s = let t = on_with (Some l) [] s in just_told t t (nothing_newly t)
+next_told l file (p ∷ rest) s =
+    let t = on_with (Some l) (p ∷ rest) s in
+    answering_told l p rest s (answer_to t.now l.terms file p) (answer_plain t.now l.terms file p)
+
+answers_told : (l : Link) (file : Option (List ℕ)) (s : Session) → IsFollowed (on (Some l) s) (performed histories (answers_next (histories.see (on (Some l) s)) l file).acts (on (Some l) s))
+answers_told l file s =
+    let t = on (Some l) s in
+    if_keeps (λ (o : Outcome). IsFollowed t (performed histories o.acts t)) (ltb FULL (histories.see t).waits) (done (DidTurn Full) []) (next_turn t.now l.terms file t.now.arrivals.pending) (λ _. just_told t t (nothing_newly t)) (λ _. next_told l file s.now.arrivals.pending s)
+
+owed_told : (owed : Option Tick) (l : Link) (file : Option (List ℕ)) (p : Program) (s : Session) → p.owed ≡ owed → OwesRunning p → program_of s ≡ Some p
+    → IsFollowed (on (Some l) s) (performed histories (turn_by owed (histories.see (on (Some l) s)) l p file).acts (on (Some l) s))
+owed_told (Some tick) l file p s e owes is =
+    let t = on (Some l) s in (tells_follow t t p tick is (owes (λ none. never tick (sym none ∙ e))) (nothing_newly t)).told
+owed_told None l file p s e owes is = answers_told l file s
+
+program_told : (program : Option Program) (l : Link) (file : Option (List ℕ)) (s : Session) → program_of s ≡ program → OwesOf program
+    → IsFollowed (on (Some l) s) (performed histories (turn_of program (histories.see (on (Some l) s)) l file).acts (on (Some l) s))
+program_told None l file s is owes = answers_told l file s
+program_told (Some p) l file s is owes = owed_told p.owed l file p s refl owes is
+
+link_told : (l : Option Link) (file : Option (List ℕ)) (s : Session) → OwesOf (program_of s) → IsFollowed (on l s) (performed histories (outcome_at (histories.see (on l s)) l (Turn file)).acts (on l s))
+link_told None file s owes = let t = on None s in just_told t t (nothing_newly t)
+link_told (Some l) file s owes = program_told (program_of s) l file s refl owes
+
+pub turn_told : (s : Session) (file : Option (List ℕ)) → OwesOf (program_of s) → IsFollowed s (Effect s (Turn file))
+turn_told s file owes = link_told s.now.link file s owes

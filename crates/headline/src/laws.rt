@@ -1,0 +1,37 @@
+//! What holds of a session after any list of events, as theorems: functions that do nothing, whose clauses say it.
+ghost use Rattle.std.specs.Prelude.{List, ℕ};
+ghost use Rattle.session.specs.declared.event.Event.{Event as AnEvent};
+ghost use Rattle.session.specs.Sessions.{After, Beginning as ABeginning};
+ghost use Rattle.headline.specs.Headline.{Headline};
+ghost use Rattle.headline.specs.Known.{SuccessesAreKnown};
+ghost use Rattle.headline.specs.Mirrors.{MirrorsKnow};
+ghost use Rattle.headline.specs.News.{IsSeenAfter};
+ghost use Rattle.headline.specs.Printed.{WhatIsPrintedRuns};
+
+/// Whatever happens, each success answers the first request that came with its number, and names it.
+pub fn successes_are_known()
+    ensures { (from : ABeginning) (events : List AnEvent) → SuccessesAreKnown (After from events) }
+{}
+
+/// Whatever happens, what an editor knows by the first bytes of a connection, however many it got, was so when the last message that lies
+/// wholly in them was queued: how the program runs, its breakpoints, its frames, its registers and its memory.
+pub fn what_an_editor_knows_was_so()
+    ensures { (from : ABeginning) (events : List AnEvent) (connection count : ℕ) → Headline (After from events) connection count }
+{}
+
+/// Whatever happens, a mirror (`mirror::Mirror`) that is told the requests of a connection, and fed the first bytes of it, however many,
+/// knows what the law above speaks of; where it finds no fault in them, and the bytes of the connection are at most 4,294,967,295.
+pub fn a_mirror_knows_what_was_so()
+    ensures { (from : ABeginning) (events : List AnEvent) (connection count : ℕ) → MirrorsKnow (After from events) connection count }
+{}
+
+/// Whatever happens, what the program prints is told while it runs, also where it stops with it.
+pub fn what_is_printed_runs()
+    ensures { (from : ABeginning) (events : List AnEvent) → WhatIsPrintedRuns (After from events) }
+{}
+
+/// Whatever happened, after a turn, and after a slice that makes no move, or one where nothing is left to be told before it, there is to see
+/// what there was at each message that it queued; of what the program printed, while the program ran.
+pub fn what_was_seen_is_seen_after()
+    ensures { (from : ABeginning) (events : List AnEvent) → IsSeenAfter (After from events) }
+{}

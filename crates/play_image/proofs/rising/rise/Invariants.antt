@@ -1,6 +1,0 @@
-use Rattle.std.specs.Prelude.{take}
-use Rattle.play_image.proofs.Rows.{IsRising}
-use Rattle.play_image.proofs.rising.rise.Given as goal
-
-abbrev pub invariant-loop-row : goal.invariant-loop-row
-invariant-loop-row l = IsRising (take l.row-index l.rows) l.line l.address

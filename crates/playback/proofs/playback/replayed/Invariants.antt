@@ -1,7 +1,0 @@
-use Rattle.std.proofs.Common.{take}
-use Rattle.playback.proofs.Replayed.{AllTracked}
-use Rattle.playback.proofs.playback.replayed.Given as goal
-
--- the events so far were done
-abbrev pub invariant-loop-event : goal.invariant-loop-event
-invariant-loop-event l = AllTracked l.fn.config l.fn.limits (take l.event-index l.events) l.connection l.count l.track

@@ -1,5 +1,0 @@
-use Rattle.playback.proofs.Tracked.{drops_inside}
-use Rattle.playback.proofs.track.Track.drop_connection.Goals as goal
-
-pub returns-clause-keeps : goal.returns-clause-keeps
-returns-clause-keeps c = drops_inside _ _ c.self.view_is c.drop_connection.new.self c.drop_connection.result c.drop_connection.ensures.takes_none c.drop_connection.ensures.stands

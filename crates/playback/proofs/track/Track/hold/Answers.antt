@@ -1,5 +1,0 @@
-use Rattle.playback.proofs.Tracked.{holds_inside}
-use Rattle.playback.proofs.track.Track.hold.Goals as goal
-
-pub returns-clause-keeps : goal.returns-clause-keeps
-returns-clause-keeps c = holds_inside _ _ c.self.view_is c.hold.new.self c.hold.ensures.stands

@@ -1,8 +1,0 @@
-//! A list of events played back: what an editor knows by the bytes that it got, beside what there was to see.
-#![tactic(auto)]
-
-mod last;
-mod playback;
-mod track;
-
-pub use playback::{WatchError, Watched, queued, watch};

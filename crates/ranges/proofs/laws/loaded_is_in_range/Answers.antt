@@ -1,5 +1,0 @@
-use Rattle.ranges.proofs.Debugging.{loaded_is_in_range, reloaded_is_in_range}
-use Rattle.ranges.proofs.laws.loaded_is_in_range.Goals as goal
-
-pub returns : goal.returns
-returns c = record { loaded = loaded_is_in_range; anew = reloaded_is_in_range }

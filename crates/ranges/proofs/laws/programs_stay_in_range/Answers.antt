@@ -1,5 +1,0 @@
-use Rattle.ranges.proofs.Programs.{just_loaded_in_range, programs_move_in_range, requests_stay_in_range, runs_stay_in_range}
-use Rattle.ranges.proofs.laws.programs_stay_in_range.Goals as goal
-
-pub returns : goal.returns
-returns c = record { loaded = just_loaded_in_range; runs = runs_stay_in_range; moves = programs_move_in_range; requests = requests_stay_in_range }

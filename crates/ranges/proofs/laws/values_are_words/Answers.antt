@@ -1,5 +1,0 @@
-use Rattle.ranges.proofs.Values.{trees_have_words, values_are_words}
-use Rattle.ranges.proofs.laws.values_are_words.Goals as goal
-
-pub returns : goal.returns
-returns c = record { numbers = trees_have_words; values = values_are_words }

@@ -1,5 +1,0 @@
-use Rattle.ranges.proofs.Debugging.{harts_stay_in_range, writes_stay_in_range}
-use Rattle.ranges.proofs.laws.writes_stay_in_range.Goals as goal
-
-pub returns : goal.returns
-returns c = record { memory = writes_stay_in_range; hart = harts_stay_in_range }

@@ -1,0 +1,215 @@
+//! What requests answer that look into a machine or change it.
+
+ghost use Rattle.std.specs.Prelude.{◌≡◌, ◌<◌};
+ghost use Rattle.answers.specs.Looking.{looks_in};
+
+use crate::program::{Program, request_in, show_answer};
+use answers::{Look, look, set_variable, write_memory};
+use protocol::{Command, Request, SetVariableArguments, WriteMemoryArguments};
+use std::alloc::{AllocError, Global};
+use testing::{Fault, Line, bytes_of, called, parsed};
+use variables::{Handles, IssueError, Target};
+
+/// The greatest number that may be the last of frames and scopes.
+const GREATEST: u32 = 2_147_483_647;
+
+/// The most moves before a run, which is far below what a machine can make.
+const MOST_RETIRED: u64 = 1 << 40;
+
+impl Program {
+    /// What the machine answers.
+    pub(crate) fn answer(
+        &mut self,
+        alloc: Global,
+        arguments: &[&str],
+        line: &mut Line,
+    ) -> Result<(), Fault> {
+        match arguments {
+            ["bytes", address, bytes] => {
+                self.write(parsed(address)?, &bytes_of(alloc, bytes)?)?;
+                line.word("ok")
+            }
+            ["set", number, value] => {
+                self.set(parsed(number)?, parsed(value)?)?;
+                line.word("ok")
+            }
+            ["go", address] => {
+                self.go(parsed(address)?)?;
+                line.word("ok")
+            }
+            ["run", count] => self.run(parsed(count)?, line),
+            ["last", last] => self.last(alloc, parsed(last)?, line),
+            ["issue", targets @ ..] => self.issue(alloc, targets, line),
+            ["end"] => {
+                self.handles.end_stop();
+                line.word("ok")
+            }
+            ["look", request] => self.show_look(alloc, &bytes_of(alloc, request)?, line),
+            ["change", request] => self.change(alloc, &bytes_of(alloc, request)?, line),
+            _ => Err(Fault::NoCommand),
+        }
+    }
+
+    fn write(&mut self, address: u32, bytes: &[u8]) -> Result<(), Fault> {
+        self.runner
+            .write(address, bytes)
+            .map_err(|_| Fault::NoCommand)
+    }
+
+    fn set(&mut self, number: u32, value: u32) -> Result<(), Fault> {
+        if number == 0 || number >= 32 {
+            return Err(Fault::NoCommand);
+        }
+        let mut hart = *self.runner.hart();
+        hart.x[number as usize] = value;
+        self.runner.set_hart(hart);
+        Ok(())
+    }
+
+    fn go(&mut self, address: u32) -> Result<(), Fault> {
+        let mut hart = *self.runner.hart();
+        hart.pc = address;
+        self.runner.set_hart(hart);
+        Ok(())
+    }
+
+    fn run(&mut self, count: u32, line: &mut Line) -> Result<(), Fault> {
+        if self.runner.retired() > MOST_RETIRED {
+            return Err(Fault::NoCommand);
+        }
+        self.runner.run(count);
+        line.word("ok")
+    }
+
+    fn last(&mut self, alloc: Global, last: u32, line: &mut Line) -> Result<(), Fault> {
+        if last > GREATEST {
+            return Err(Fault::NoCommand);
+        }
+        self.handles = Handles::new(alloc, last);
+        line.word("ok")
+    }
+
+    fn issue(&mut self, alloc: Global, targets: &[&str], line: &mut Line) -> Result<(), Fault> {
+        let targets = targets_of(alloc, targets)?;
+        match self.handles.issue(&targets) {
+            Ok(numbers) => {
+                line.word("issued")?;
+                for number in numbers {
+                    line.value(number)?;
+                }
+                Ok(())
+            }
+            Err(IssueError::NoMemory) => Err(Fault::NoMemoryInCall),
+            Err(error) => line.name(error),
+        }
+    }
+
+    // What a request that looks into the machine answers.
+    fn show_look(&self, alloc: Global, request: &[u8], line: &mut Line) -> Result<(), Fault> {
+        let request = request_in(alloc, request)?;
+        if !is_look(&request.command) || self.view.line_base > 1 {
+            return Err(Fault::NoCommand);
+        }
+        let Look { result, targets } = called(look(
+            alloc,
+            &request.command,
+            &self.runner,
+            &self.image,
+            &self.handles,
+            &self.view,
+        ))?;
+        show_answer(alloc, &request, result, line)?;
+        show_targets(&targets, line)
+    }
+
+    // What a request that changes the machine answers, and the change.
+    fn change(&mut self, alloc: Global, request: &[u8], line: &mut Line) -> Result<(), Fault> {
+        let request = request_in(alloc, request)?;
+        match &request.command {
+            Command::SetVariable(arguments) => self.set_by(alloc, &request, arguments, line),
+            Command::WriteMemory(arguments) => self.write_by(alloc, &request, arguments, line),
+            _ => Err(Fault::NoCommand),
+        }
+    }
+
+    fn set_by(
+        &mut self,
+        alloc: Global,
+        request: &Request,
+        arguments: &SetVariableArguments,
+        line: &mut Line,
+    ) -> Result<(), Fault> {
+        match called(set_variable::answer(alloc, arguments, &self.runner, &self.handles))? {
+            Ok(setting) => {
+                show_answer(alloc, request, Ok(setting.body), line)?;
+                self.runner.set_hart(setting.hart);
+                Ok(())
+            }
+            Err(refusal) => show_answer(alloc, request, Err(refusal), line),
+        }
+    }
+
+    fn write_by(
+        &mut self,
+        alloc: Global,
+        request: &Request,
+        arguments: &WriteMemoryArguments,
+        line: &mut Line,
+    ) -> Result<(), Fault> {
+        match write_memory::answer(arguments, self.runner.memory()) {
+            Ok(writing) => {
+                show_answer(alloc, request, Ok(writing.body), line)?;
+                line.value(writing.address)?;
+                line.value(writing.count)?;
+                let bytes = arguments.bytes.as_slice();
+                self.write(writing.address, &bytes[..writing.count as usize])
+            }
+            Err(refusal) => show_answer(alloc, request, Err(refusal), line),
+        }
+    }
+}
+
+fn is_look(command: &Command) -> bool
+    ensures { result ≡ looks_in command.now }
+{
+    matches!(
+        command,
+        Command::StackTrace(_)
+            | Command::Scopes(_)
+            | Command::Variables(_)
+            | Command::Evaluate(_)
+            | Command::Disassemble(_)
+            | Command::ReadMemory(_)
+    )
+}
+
+fn show_targets(targets: &[Target], line: &mut Line) -> Result<(), Fault> {
+    if targets.is_empty() {
+        return Ok(());
+    }
+    line.word("targets")?;
+    for target in targets {
+        match target {
+            Target::Frame(index) => line.value(*index)?,
+            Target::Registers => line.word("registers")?,
+            Target::Stack => line.word("stack")?,
+        }
+    }
+    Ok(())
+}
+
+fn targets_of(alloc: Global, words: &[&str]) -> Result<Vec<Target>, Fault> {
+    let mut targets = Vec::with_capacity(alloc, words.len())?;
+    for word in words {
+        targets.push(target_of(word)?).map_err(AllocError::from)?;
+    }
+    Ok(targets)
+}
+
+fn target_of(word: &str) -> Result<Target, Fault> {
+    match word {
+        "registers" => Ok(Target::Registers),
+        "stack" => Ok(Target::Stack),
+        frame => Ok(Target::Frame(parsed(frame)?)),
+    }
+}

@@ -1,0 +1,67 @@
+//! Lists of breakpoints.
+//!
+//! A breakpoint is `ID:ADDRESS:HIT`, or `ID:ADDRESS:HIT:BYTES` with the text of its condition.
+ghost use Rattle.std.specs.Prelude.{◌≤◌, All, IfOk, IsTrue};
+ghost use Rattle.breakpoints.specs.Stops.{CanBeSet};
+
+use breakpoints::{BreakSpec, Expr, ExprError};
+use std::alloc::{AllocError, Global};
+use std::str;
+use testing::{Fault, bytes_of, parsed};
+
+/// The breakpoints that arguments say. No list may have more than 1,024, and none stops before its first hit.
+pub(crate) fn list_of(alloc: Global, arguments: &[&str]) -> Result<Vec<BreakSpec>, Fault>
+    ensures { IfOk result (λ list. CanBeSet list.items) }
+{
+    let mut list = Vec::new(alloc);
+    for argument in arguments {
+        let breakpoint = breakpoint_of(alloc, argument)?;
+        list.push(breakpoint).map_err(AllocError::from)?;
+    }
+    if can_be_set(&list) {
+        Ok(list)
+    } else {
+        Err(Fault::NoCommand)
+    }
+}
+
+fn breakpoint_of(alloc: Global, argument: &str) -> Result<BreakSpec, Fault> {
+    let parts: Vec<&str> = argument.split(':').collect(alloc)?;
+    match parts.as_slice() {
+        [id, address, hit] => Ok(BreakSpec {
+            id: parsed(id)?,
+            address: parsed(address)?,
+            condition: None,
+            hit: parsed(hit)?,
+        }),
+        [id, address, hit, condition] => Ok(BreakSpec {
+            id: parsed(id)?,
+            address: parsed(address)?,
+            condition: Some(condition_of(alloc, condition)?),
+            hit: parsed(hit)?,
+        }),
+        _ => Err(Fault::NoCommand),
+    }
+}
+
+fn condition_of(alloc: Global, bytes: &str) -> Result<Expr, Fault> {
+    let bytes = bytes_of(alloc, bytes)?;
+    let text = str::from_utf8(&bytes).map_err(|_| Fault::NoCommand)?;
+    match Expr::parse(alloc, text) {
+        Ok(condition) => Ok(condition),
+        Err(ExprError::NoMemory) => Err(Fault::NoMemoryInCall),
+        Err(_) => Err(Fault::NoCommand),
+    }
+}
+
+fn can_be_set(list: &[BreakSpec]) -> bool
+    ensures { IsTrue result → CanBeSet list.now }
+{
+    list.len() <= 1024 && are_reachable(list)
+}
+
+fn are_reachable(list: &[BreakSpec]) -> bool
+    ensures { IsTrue result → All (λ spec. 1 ≤ spec.hit) list.now }
+{
+    list.iter().all(|spec| spec.hit >= 1)
+}

@@ -1,0 +1,73 @@
+//! Plays `framing`: an unframer that is fed pieces and lends bodies, and the frame of a body.
+#![tactic(auto)]
+
+use framing::{FrameError, Unframer, frame};
+use std::alloc::Global;
+use std::process::ExitCode;
+use testing::{Fault, Player, bytes_of, called, hexadecimal, parsed, play, shown};
+
+/// What is played. The first unframer takes empty bodies alone.
+#[derive(Drop)]
+struct Framing {
+    unframer: Unframer,
+}
+
+fn main(rt: HostRuntime) -> ExitCode {
+    let unframer = Unframer::new(rt.alloc(), 0);
+    play(&rt, &mut Framing { unframer })
+}
+
+impl Player for Framing {
+    fn answer(&mut self, alloc: Global, arguments: &[&str]) -> Result<String, Fault> {
+        match arguments {
+            ["new", limit] => {
+                self.unframer = Unframer::new(alloc, parsed(limit)?);
+                shown(alloc, "ok")
+            }
+            ["feed", piece] => match self.unframer.feed(&bytes_of(alloc, piece)?) {
+                Err(FrameError::NoMemory) => Err(Fault::NoMemoryInCall),
+                fed => name_of(alloc, fed),
+            },
+            ["feed_once", piece] => name_of(alloc, self.unframer.feed(&bytes_of(alloc, piece)?)),
+            ["retract"] => {
+                self.unframer.retract();
+                shown(alloc, "ok")
+            }
+            ["peek"] => body_of(alloc, self.unframer.peek_body()),
+            ["next"] => body_of(alloc, self.unframer.next_body()),
+            ["frame", body] => hexadecimal(alloc, &called(frame(alloc, &bytes_of(alloc, body)?))?),
+            ["text", name] => shown(alloc, error_of(name)?),
+            _ => Err(Fault::NoCommand),
+        }
+    }
+}
+
+/// What `feed` answered.
+fn name_of(alloc: Global, fed: Result<(), FrameError>) -> Result<String, Fault> {
+    match fed {
+        Ok(()) => shown(alloc, "ok"),
+        Err(error) => Ok(format!(in alloc; "{error:?}")?),
+    }
+}
+
+/// A body that is lent, or `none`.
+fn body_of(alloc: Global, lent: Option<&[u8]>) -> Result<String, Fault> {
+    match lent {
+        Some(body) => hexadecimal(alloc, body),
+        None => shown(alloc, "none"),
+    }
+}
+
+/// The error of this name.
+fn error_of(name: &str) -> Result<FrameError, Fault> {
+    match name {
+        "Header" => Ok(FrameError::Header),
+        "NoLength" => Ok(FrameError::NoLength),
+        "TwoLengths" => Ok(FrameError::TwoLengths),
+        "BadLength" => Ok(FrameError::BadLength),
+        "TooLong" => Ok(FrameError::TooLong),
+        "HeaderTooLong" => Ok(FrameError::HeaderTooLong),
+        "NoMemory" => Ok(FrameError::NoMemory),
+        _ => Err(Fault::NoCommand),
+    }
+}

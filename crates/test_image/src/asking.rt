@@ -1,0 +1,24 @@
+//! What a line table is asked.
+
+use crate::answers::{found, pair};
+use image::LineTable;
+use std::alloc::Global;
+use testing::{Fault, parsed, shown};
+
+/// What a line table answers.
+///
+/// - `line_of ADDRESS`: a line, or `none`.
+/// - `address_of LINE`: an address, or `none`.
+/// - `bind LINE`: a line and an address, or `none`.
+/// - `starts ADDRESS`: `true` or `false`.
+/// - `label_at ADDRESS`: a name and a number of bytes, or `none`.
+pub fn ask_lines(alloc: Global, table: &LineTable, arguments: &[&str]) -> Result<String, Fault> {
+    match arguments {
+        ["line_of", address] => found(alloc, table.line_of(parsed(address)?)),
+        ["address_of", line] => found(alloc, table.address_of(parsed(line)?)),
+        ["bind", line] => pair(alloc, table.bind(parsed(line)?)),
+        ["starts", address] => shown(alloc, table.starts(parsed(address)?)),
+        ["label_at", address] => pair(alloc, table.label_at(parsed(address)?)),
+        _ => Err(Fault::NoCommand),
+    }
+}

@@ -1,0 +1,73 @@
+//! Memory.
+//!
+//! - `new SIZE`: memory of so many bytes.
+//! - `byte ADDRESS`, `word ADDRESS`: the value; `none` or a fault.
+//! - `read ADDRESS BYTES`: what came of it, and what the bytes then are that are read into.
+//! - `write_byte ADDRESS VALUE`, `write_half`, `write_word`; `write ADDRESS BYTES`.
+
+use image::{MemFault, Memory};
+use std::alloc::Global;
+use test_image::found;
+use testing::{Fault, bytes_of, called, hexadecimal, parsed, shown};
+
+/// Memory of so many bytes.
+pub(crate) fn new_memory(alloc: Global, size: &str) -> Result<Memory, Fault> {
+    let size: u32 = parsed(size)?;
+    if size % 4096 != 0 || size < 4096 || size > 16_777_216 {
+        return Err(Fault::NoCommand);
+    }
+    called(Memory::new(alloc, 65536, size))
+}
+
+/// What memory answers.
+pub(crate) fn answer_memory(
+    alloc: Global,
+    memory: &mut Memory,
+    arguments: &[&str],
+) -> Result<String, Fault> {
+    match arguments {
+        ["byte", address] => found(alloc, memory.byte(parsed(address)?)),
+        ["word", address] => match memory.word(parsed(address)?) {
+            Ok(word) => shown(alloc, word),
+            Err(fault) => failed(alloc, fault),
+        },
+        ["read", address, bytes] => read(alloc, memory, parsed(address)?, bytes),
+        ["write_byte", address, value] => {
+            done(alloc, memory.write_byte(parsed(address)?, parsed(value)?))
+        }
+        ["write_half", address, value] => {
+            done(alloc, memory.write_half(parsed(address)?, parsed(value)?))
+        }
+        ["write_word", address, value] => {
+            done(alloc, memory.write_word(parsed(address)?, parsed(value)?))
+        }
+        ["write", address, bytes] => {
+            let bytes = bytes_of(alloc, bytes)?;
+            done(alloc, memory.write(parsed(address)?, &bytes))
+        }
+        _ => Err(Fault::NoCommand),
+    }
+}
+
+fn done(alloc: Global, answer: Result<(), MemFault>) -> Result<String, Fault> {
+    match answer {
+        Ok(()) => shown(alloc, "ok"),
+        Err(fault) => failed(alloc, fault),
+    }
+}
+
+fn failed(alloc: Global, fault: MemFault) -> Result<String, Fault> {
+    match fault {
+        MemFault::Misaligned => shown(alloc, "Misaligned"),
+        MemFault::Outside => shown(alloc, "Outside"),
+        MemFault::NoMemory => Err(Fault::NoMemoryInCall),
+    }
+}
+
+fn read(alloc: Global, memory: &Memory, address: u32, bytes: &str) -> Result<String, Fault> {
+    let mut bytes = bytes_of(alloc, bytes)?;
+    let mut answer = done(alloc, memory.read(address, &mut bytes))?;
+    answer.push(' ')?;
+    answer.push_str(hexadecimal(alloc, &bytes)?.as_str())?;
+    Ok(answer)
+}

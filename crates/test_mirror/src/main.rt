@@ -1,0 +1,123 @@
+//! Plays `mirror`: requests that an editor sends, bytes that come, and what it may then know.
+//!
+//! - `new`: a mirror that nothing was told.
+//! - `sent BODY`: the request that this body is.
+//! - `feed BYTES`: a piece of the stream.
+//! - a query by its name, with its arguments.
+#![tactic(auto)]
+
+use mirror::{BreakInfo, FrameInfo, Mirror, MirrorError};
+use protocol::{Incoming, MessageError, Request, read_request};
+use std::alloc::Global;
+use std::process::ExitCode;
+use testing::{Fault, Line, Player, bytes_of, parsed, play, shown};
+
+/// What is played. The first mirror was told nothing.
+#[derive(Drop)]
+struct Watcher {
+    mirror: Mirror,
+}
+
+fn main(rt: HostRuntime) -> ExitCode {
+    let mirror = Mirror::new(rt.alloc());
+    play(&rt, &mut Watcher { mirror })
+}
+
+impl Player for Watcher {
+    fn answer(&mut self, alloc: Global, arguments: &[&str]) -> Result<String, Fault> {
+        match arguments {
+            ["new"] => self.begin(alloc),
+            ["sent", body] => self.sent(alloc, body),
+            ["feed", piece] => self.feed(alloc, piece),
+            query => self.query(alloc, query),
+        }
+    }
+}
+
+impl Watcher {
+    fn begin(&mut self, alloc: Global) -> Result<String, Fault> {
+        self.mirror = Mirror::new(alloc);
+        shown(alloc, "ok")
+    }
+
+    /// Tells a request.
+    fn sent(&mut self, alloc: Global, body: &str) -> Result<String, Fault> {
+        let request = request_of(alloc, body)?;
+        done(alloc, self.mirror.sent(&request))
+    }
+
+    fn feed(&mut self, alloc: Global, piece: &str) -> Result<String, Fault> {
+        let piece = bytes_of(alloc, piece)?;
+        done(alloc, self.mirror.feed(&piece))
+    }
+
+    fn query(&self, alloc: Global, arguments: &[&str]) -> Result<String, Fault> {
+        match arguments {
+            ["run"] => Ok(format!(in alloc; "{:?}", self.mirror.run())?),
+            ["source_break", path, index] => {
+                let index = parsed(index)?;
+                break_of(alloc, self.mirror.source_break(path.as_bytes(), index))
+            }
+            ["instruction_break", index] => {
+                break_of(alloc, self.mirror.instruction_break(parsed(index)?))
+            }
+            ["frame", index] => frame_of(alloc, self.mirror.frame(parsed(index)?)),
+            ["register", number] => optional(alloc, self.mirror.register(parsed(number)?)),
+            ["byte", address] => {
+                let byte = self.mirror.byte(parsed(address)?);
+                optional(alloc, byte.map(u32::from))
+            }
+            _ => Err(Fault::NoCommand),
+        }
+    }
+}
+
+/// The request that a body is.
+fn request_of(alloc: Global, body: &str) -> Result<Request, Fault> {
+    match read_request(alloc, &bytes_of(alloc, body)?) {
+        Ok(Incoming::Request(request)) => Ok(request),
+        Err(MessageError::NoMemory) => Err(Fault::NoMemory),
+        _ => Err(Fault::NoCommand),
+    }
+}
+
+fn done(alloc: Global, answer: Result<(), MirrorError>) -> Result<String, Fault> {
+    match answer {
+        Ok(()) => shown(alloc, "ok"),
+        Err(MirrorError::NoMemory) => Err(Fault::NoMemoryInCall),
+        Err(error) => Ok(format!(in alloc; "{error:?}: {error}")?),
+    }
+}
+
+/// A breakpoint: its number and its address.
+fn break_of(alloc: Global, found: Option<BreakInfo>) -> Result<String, Fault> {
+    match found {
+        Some(found) => {
+            let mut line = Line::new(alloc);
+            line.value(found.id)?;
+            line.value(found.address)?;
+            Ok(line.into_string())
+        }
+        None => shown(alloc, "none"),
+    }
+}
+
+/// A frame: its number, its address and its name.
+fn frame_of(alloc: Global, found: Option<&FrameInfo>) -> Result<String, Fault> {
+    match found {
+        Some(found) => {
+            let mut line = Line::new(alloc);
+            line.value(found.id)?;
+            line.value(found.address)?;
+            line.word(found.name.as_str())?;
+            Ok(line.into_string())
+        }
+        None => shown(alloc, "none"),
+    }
+}
+
+fn optional(alloc: Global, value: Option<u32>) -> Result<String, Fault> {
+    let mut line = Line::new(alloc);
+    line.optional(value)?;
+    Ok(line.into_string())
+}

@@ -1,0 +1,70 @@
+//! What there is to see of a session, by a snapshot.
+use session::{BreakInfo, FrameInfo, Session, Snapshot};
+use std::alloc::Global;
+use testing::{Fault, Line, parsed, shown};
+
+/// Takes a snapshot, and answers a query of it. `printed` makes it that of the program as it ran, and answers how it runs then.
+pub(crate) fn seen(alloc: Global, session: &Session, query: &[&str]) -> Result<String, Fault> {
+    let Ok(mut snapshot) = session.snapshot() else {
+        return Err(Fault::NoMemoryInCall);
+    };
+    match query {
+        ["printed"] => {
+            snapshot.set_running();
+            Ok(format!(in alloc; "{:?}", snapshot.run())?)
+        }
+        query => answer(alloc, &snapshot, query),
+    }
+}
+
+fn answer(alloc: Global, snapshot: &Snapshot, query: &[&str]) -> Result<String, Fault> {
+    match query {
+        ["run"] => Ok(format!(in alloc; "{:?}", snapshot.run())?),
+        ["path"] => shown(alloc, snapshot.path().unwrap_or("none")),
+        ["source_break", path, index] => {
+            let index = parsed(index)?;
+            break_of(alloc, snapshot.source_break(path.as_bytes(), index))
+        }
+        ["instruction_break", index] => break_of(alloc, snapshot.instruction_break(parsed(index)?)),
+        ["frame", index] => frame_of(alloc, snapshot.frame(parsed(index)?)),
+        ["register", number] => optional(alloc, snapshot.register(parsed(number)?)),
+        ["byte", address] => {
+            let byte = snapshot.byte(parsed(address)?);
+            optional(alloc, byte.map(u32::from))
+        }
+        _ => Err(Fault::NoCommand),
+    }
+}
+
+/// A breakpoint: its number and its address.
+fn break_of(alloc: Global, found: Option<BreakInfo>) -> Result<String, Fault> {
+    match found {
+        Some(found) => {
+            let mut line = Line::new(alloc);
+            line.value(found.id)?;
+            line.value(found.address)?;
+            Ok(line.into_string())
+        }
+        None => shown(alloc, "none"),
+    }
+}
+
+/// A frame: its number, its address and its name.
+fn frame_of(alloc: Global, found: Option<&FrameInfo>) -> Result<String, Fault> {
+    match found {
+        Some(found) => {
+            let mut line = Line::new(alloc);
+            line.value(found.id)?;
+            line.value(found.address)?;
+            line.word(found.name.as_str())?;
+            Ok(line.into_string())
+        }
+        None => shown(alloc, "none"),
+    }
+}
+
+fn optional(alloc: Global, value: Option<u32>) -> Result<String, Fault> {
+    let mut line = Line::new(alloc);
+    line.optional(value)?;
+    Ok(line.into_string())
+}

@@ -1,0 +1,139 @@
+//! Plays `watch_events`: events are listed, and then what is known of them is held against what there was to see.
+//!
+//! - `new SIZE [PATH TEXT]`: no events; a session has so much memory, and this program.
+//! - an event by its name, with its arguments: it is listed, and the answer is how many are.
+//! - `queued C`: how many bytes connection C gets of the events so far.
+//! - `compare C N`: how many facts are known by these bytes, or the first that was not so.
+#![tactic(auto)]
+
+mod comparing;
+
+use comparing::compared;
+use protocol::Text;
+use session::{Bytes, Config, Event, Limits};
+use std::alloc::{AllocError, Global};
+use std::process::ExitCode;
+use testing::{Fault, Player, bytes_of, parsed, play, shown};
+use watch_events::{WatchError, Watched, queued, watch};
+
+/// What is played.
+#[derive(Drop)]
+struct Events {
+    size: u32,
+    program: Option<(String, Vec<u8>)>,
+    events: Vec<Event>,
+}
+
+fn main(rt: HostRuntime) -> ExitCode {
+    let mut events = Events {
+        size: 4_096,
+        program: None,
+        events: Vec::new(rt.alloc()),
+    };
+    play(&rt, &mut events)
+}
+
+impl Player for Events {
+    fn answer(&mut self, alloc: Global, arguments: &[&str]) -> Result<String, Fault> {
+        match arguments {
+            ["new", size, program @ ..] => self.begin(alloc, size, program),
+            ["queued", connection] => self.queued(alloc, parsed(connection)?),
+            ["compare", connection, count] => {
+                let found = self.watch(alloc, parsed(connection)?, parsed(count)?)?;
+                compare(alloc, found)
+            }
+            event => self.list(alloc, event),
+        }
+    }
+}
+
+impl Events {
+    fn begin(&mut self, alloc: Global, size: &str, program: &[&str]) -> Result<String, Fault> {
+        self.program = match program {
+            [] => None,
+            [path, text] => Some((String::from_str(alloc, path)?, bytes_of(alloc, text)?)),
+            _ => return Err(Fault::NoCommand),
+        };
+        self.size = parsed(size)?;
+        self.events = Vec::new(alloc);
+        shown(alloc, "ok")
+    }
+
+    fn list(&mut self, alloc: Global, arguments: &[&str]) -> Result<String, Fault> {
+        let event = event_of(alloc, arguments)?;
+        self.events.push(event).map_err(AllocError::from)?;
+        shown(alloc, self.events.len())
+    }
+
+    fn queued(&self, alloc: Global, connection: u32) -> Result<String, Fault> {
+        match queued(
+            alloc,
+            self.config(alloc)?,
+            Limits::greatest(),
+            &self.events,
+            connection,
+        ) {
+            Ok(count) => shown(alloc, count),
+            Err(error) => error_of(alloc, error),
+        }
+    }
+
+    fn watch(
+        &self,
+        alloc: Global,
+        connection: u32,
+        count: usize,
+    ) -> Result<Result<Watched, WatchError>, Fault> {
+        let config = self.config(alloc)?;
+        Ok(watch(
+            alloc,
+            config,
+            Limits::greatest(),
+            &self.events,
+            connection,
+            count,
+        ))
+    }
+
+    fn config(&self, alloc: Global) -> Result<Config, Fault> {
+        let program = match &self.program {
+            None => None,
+            Some((path, text)) => {
+                let path = Text::from_string(path.clone()?);
+                Some((path, Bytes::from_vec(text.clone()?)))
+            }
+        };
+        Ok(Config {
+            memory_size: self.size,
+            program,
+        })
+    }
+}
+
+fn compare(alloc: Global, found: Result<Watched, WatchError>) -> Result<String, Fault> {
+    match found {
+        Ok(watched) => compared(alloc, &watched),
+        Err(error) => error_of(alloc, error),
+    }
+}
+
+fn error_of(alloc: Global, error: WatchError) -> Result<String, Fault> {
+    match error {
+        WatchError::NoMemory => Err(Fault::NoMemoryInCall),
+        error => Ok(format!(in alloc; "{error:?}: {error}")?),
+    }
+}
+
+fn event_of(alloc: Global, arguments: &[&str]) -> Result<Event, Fault> {
+    match arguments {
+        ["connect"] => Ok(Event::Connect),
+        ["recv", piece] => Ok(Event::Recv(Bytes::from_vec(bytes_of(alloc, piece)?))),
+        ["turn"] => Ok(Event::Turn(None)),
+        ["turn", file] => Ok(Event::Turn(Some(Bytes::from_vec(bytes_of(alloc, file)?)))),
+        ["slice", moves] => Ok(Event::Slice(parsed(moves)?)),
+        ["hold"] => Ok(Event::Hold),
+        ["sent", count] => Ok(Event::Sent(parsed(count)?)),
+        ["drop"] => Ok(Event::DropConnection),
+        _ => Err(Fault::NoCommand),
+    }
+}

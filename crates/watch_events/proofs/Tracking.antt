@@ -1,0 +1,290 @@
+-- What is kept while events are done stays so.
+use Rattle.std.proofs.Common.{◌≡◌, ℕ, zero, suc, ◌+◌, ◌-◌, ◌<◌, ◌≤◌, Bool, true, false, cond, eqb, leb, List, [], ◌∷◌, ◌++◌, map, length, take, drop, get_or, Option, Some, None, is_some, option_map, refl, sym, ap, ◌∙◌, subst, arith, length-append, append_assoc}
+use Rattle.std.specs.Prelude.{All, MatchOption}
+use Rattle.std.specs.List.{flat_map}
+use Rattle.std.proofs.lemmas.Bool.Decides.{nat_tests}
+use Rattle.std.proofs.lemmas.List.{append_cancel_left, drop_at}
+use Rattle.std.proofs.lemmas.List.Elements.{All-head, All-tail}
+use Rattle.debuggee.specs.Programs.{Debuggee, Program, is_running}
+use Rattle.facts.specs.Facts.{Facts}
+use Rattle.mirror.specs.Streams.{messages_so_far, stream_fault}
+use Rattle.replies.specs.declared.event.Event.TheVariants as event
+use Rattle.replies.specs.declared.message.Message.{Message}
+use Rattle.replies.specs.declared.message.Message.TheVariants.{Response as IsResponse, Event as IsEvent}
+use Rattle.session.proofs.ByForms.{KeptByAnswers, KeptByOthers, by_forms}
+use Rattle.session.proofs.Reaching.{reached_by_acts}
+use Rattle.session.proofs.Waiting.{every_byte_is_taken_or_waits}
+use Rattle.session.specs.Acts.{Now}
+use Rattle.session.specs.Kept.{Kept, Stands}
+use Rattle.session.specs.Sessions.{Life, Said, Session, Snapshot, bytes_of, frame_said, life_of, no_life, not_taken, snapshot_of, up_to_fault, waiting_of}
+use Rattle.session.specs.Shown.{shown, shown_by}
+use Rattle.session.specs.Snapshots.{Captured, IsTaken, as_running as captured_running, seen_of}
+use Rattle.session.specs.declared.link.Link.{Link}
+use Rattle.headline.proofs.Mirrored.{Good, all_are_good, framed_some, messages_within, told_hold}
+use Rattle.headline.specs.News.{Fits, IsFollowed, as_running, says_output, seen_at, seen_now}
+use Rattle.headline.specs.Headline.{last_seen, told_within}
+use Rattle.headline.specs.Printed.{PrintsRunning}
+use Rattle.headline.proofs.Printed.{what_is_printed_runs}
+use Rattle.watch_events.specs.Tracking.{IsReached, Noted, NotedIf, SameBut, SeenAfter, Tracked, Tracks, last_from, taken_at}
+
+-- ---- lives
+
+pub get_there : (xs : List Life) (x d : Life) (c : ℕ) → c ≡ length xs → get_or (xs ++ x ∷ []) c d ≡ x
+get_there [] x d c e = ap (λ (n : ℕ). get_or (x ∷ []) n d) e
+get_there (y ∷ xs) x d zero e = absurd (omega (arith, e))
+get_there (y ∷ xs) x d (suc c) e = get_there xs x d c (omega (arith, e))
+
+get_elsewhere : (xs : List Life) (x y d : Life) (c : ℕ) → (c ≡ length xs → ⊥) → get_or (xs ++ x ∷ []) c d ≡ get_or (xs ++ y ∷ []) c d
+get_elsewhere [] x y d zero other = absurd (other refl)
+get_elsewhere [] x y d (suc c) other = refl
+get_elsewhere (z ∷ xs) x y d zero other = refl
+get_elsewhere (z ∷ xs) x y d (suc c) other = get_elsewhere xs x y d c (λ e. other (omega (arith, e)))
+
+Counted : Session → Type 0
+Counted s = length s.before ≡ s.now.connections
+
+counted_others : KeptByOthers Counted
+unfolding Counted
+counted_others = record {
+  opens = λ s h. length-append s.before (s.life ∷ []) ∙ ap (λ n. n + 1) h;
+  closes = λ s h. h;
+  accepts = λ l piece s e h. h;
+  agrees = λ l terms s h. h;
+  refers = λ l call s h. h;
+  becomes = λ d s h. h;
+  tells = λ l event s few h. h;
+  hangs = λ l s h. h;
+  takes = λ n s h. h;
+}
+
+counted_answers : KeptByAnswers Counted
+unfolding Counted
+counted_answers l p rest outcome s few h = h
+
+counted : (s : Session) → IsReached s → length s.before ≡ s.now.connections
+unfolding Counted
+counted s r = subst Counted (sym r.is) (reached_by_acts Counted (by_forms Counted counted_others counted_answers) r.from refl r.events)
+
+-- the life of the connection that was made last
+pub ours : (s : Session) (c : ℕ) → IsReached s → c ≡ s.now.connections → life_of c s ≡ s.life
+ours s c r e = get_there s.before s.life no_life c (e ∙ sym (counted s r))
+
+-- and of another
+pub others_same : (s t : Session) (c : ℕ) → IsReached s → t.before ≡ s.before → (c ≡ s.now.connections → ⊥) → life_of c t ≡ life_of c s
+others_same s t c r before other =
+    ap (λ (l : List Life). get_or (l ++ t.life ∷ []) c no_life) before ∙ get_elsewhere s.before t.life s.life no_life c (λ e. other (e ∙ counted s r))
+
+-- ---- bytes
+
+frames : List Said → List ℕ
+frames said = flat_map frame_said said
+
+frames_more : (xs ys : List Said) → frames (xs ++ ys) ≡ frames xs ++ frames ys
+unfolding frames
+frames_more [] ys = refl
+frames_more (m ∷ xs) ys = ap (λ (l : List ℕ). frame_said m ++ l) (frames_more xs ys) ∙ sym (append_assoc (frame_said m) (frames xs) (frames ys))
+
+said_bytes : (s t : Session) (h : IsFollowed s t) → bytes_of t.life ≡ bytes_of s.life ++ frames h.news
+unfolding frames
+said_bytes s t h = ap (λ (l : Life). flat_map frame_said l.said) h.newly.life ∙ frames_more s.life.said h.news
+
+waits_by : (ls lt : Option Link) (s t : Session) → s.now.link ≡ ls → t.now.link ≡ lt → IsReached s → IsReached t → (h : IsFollowed s t) → drop (length (waiting_of s)) (waiting_of t) ≡ frames h.news
+unfolding frames
+waits_by None None s t es et rs rt h =
+    let none : h.news ≡ [] = h.newly.silent (ap is_some es) in
+    let no_s : waiting_of s ≡ [] = ap (λ (l : Option Link). not_taken l (bytes_of s.life) s.life.taken) es in
+    let no_t : waiting_of t ≡ [] = ap (λ (l : Option Link). not_taken l (bytes_of t.life) t.life.taken) et in
+    ap (λ (l : List ℕ). drop (length l) (waiting_of t)) no_s ∙ no_t ∙ sym (ap frames none)
+waits_by None (Some lt) s t es et rs rt h = absurd (let no : true ≡ false = sym (ap is_some et) ∙ h.newly.linked ∙ ap is_some es in cc)
+waits_by (Some ls) None s t es et rs rt h = absurd (let no : false ≡ true = sym (ap is_some et) ∙ h.newly.linked ∙ ap is_some es in cc)
+waits_by (Some ls) (Some lt) s t es et rs rt h =
+    let s_rest : bytes_of s.life ≡ s.life.taken ++ waiting_of s = subst (λ (x : Session). (link : Link) → x.now.link ≡ Some link → bytes_of x.life ≡ x.life.taken ++ waiting_of x) (sym rs.is) (every_byte_is_taken_or_waits rs.from rs.events).rest ls es in
+    let t_rest : bytes_of t.life ≡ t.life.taken ++ waiting_of t = subst (λ (x : Session). (link : Link) → x.now.link ≡ Some link → bytes_of x.life ≡ x.life.taken ++ waiting_of x) (sym rt.is) (every_byte_is_taken_or_waits rt.from rt.events).rest lt et in
+    let taken : t.life.taken ≡ s.life.taken = ap (λ (l : Life). l.taken) h.newly.life in
+    let sum : s.life.taken ++ waiting_of t ≡ s.life.taken ++ (waiting_of s ++ frames h.news) =
+    ap (λ (l : List ℕ). l ++ waiting_of t) (sym taken) ∙ sym t_rest ∙ said_bytes s t h ∙ ap (λ (l : List ℕ). l ++ frames h.news) s_rest ∙ append_assoc s.life.taken (waiting_of s) (frames h.news) in
+    ap (drop (length (waiting_of s))) (append_cancel_left s.life.taken (waiting_of t) (waiting_of s ++ frames h.news) sum) ∙ drop_at (waiting_of s) (frames h.news) (length (waiting_of s)) refl
+
+-- ---- what was told
+
+some_bytes : (m : Said) → 0 < length (frame_said m)
+some_bytes m = framed_some m
+
+told_zero : (said : List Said) → told_within 0 said ≡ []
+told_zero [] = refl
+told_zero (m ∷ said) = let some = some_bytes m in let no : leb (length (frame_said m)) 0 ≡ false = grind (arith, nat_tests, some) in ap (λ (b : Bool). cond b (m ∷ told_within (0 - length (frame_said m)) said) []) no
+
+told_more : (xs ys : List Said) (count : ℕ) → told_within count (xs ++ ys) ≡ told_within count xs ++ told_within (count - length (frames xs)) ys
+unfolding frames
+told_more [] ys count = let same : count - 0 ≡ count = omega arith in sym (ap (λ (n : ℕ). told_within n ys) same)
+told_more (m ∷ xs) ys count = by (leb (length (frame_said m)) count) refl (told_more xs ys (count - length (frame_said m))) where
+  n : ℕ
+  n = length (frame_said m)
+
+  sum : length (frame_said m ++ flat_map frame_said xs) ≡ n + length (flat_map frame_said xs)
+  sum = length-append (frame_said m) (flat_map frame_said xs)
+
+  by : (b : Bool) → leb n count ≡ b → told_within (count - n) (xs ++ ys) ≡ told_within (count - n) xs ++ told_within (count - n - length (flat_map frame_said xs)) ys
+      → cond b (m ∷ told_within (count - n) (xs ++ ys)) [] ≡ cond b (m ∷ told_within (count - n) xs) [] ++ told_within (count - length (frame_said m ++ flat_map frame_said xs)) ys
+  by true e rest =
+      let left : count - n - length (flat_map frame_said xs) ≡ count - length (frame_said m ++ flat_map frame_said xs) = omega (arith, sum) in
+      ap (λ (l : List Said). m ∷ l) rest ∙ ap (λ (k : ℕ). m ∷ (told_within (count - n) xs ++ told_within k ys)) left
+  by false e rest =
+      let less : count < n = grind (arith, nat_tests) in
+      let none : count - length (frame_said m ++ flat_map frame_said xs) ≡ 0 = omega (arith, sum, less) in
+      sym (ap (λ (k : ℕ). told_within k ys) none ∙ told_zero ys)
+
+last_seen_more : (before : Option Snapshot) (xs ys : List Said) → last_seen before (xs ++ ys) ≡ last_seen (last_seen before xs) ys
+last_seen_more before [] ys = refl
+last_seen_more before (m ∷ xs) ys = last_seen_more (Some m.snapshot) xs ys
+
+-- ---- what there was to see
+
+prints : (m : Message) (d : Debuggee) → says_output m ≡ true → PrintsRunning m d → (p : Program) × (d.program ≡ Some p)
+prints (IsResponse r) d e h = absurd (let no : false ≡ true = e in cc)
+prints (IsEvent (event.Output o)) d e h = by d.program refl h where
+  by : (program : Option Program) → d.program ≡ program → MatchOption program ⊥ (λ p. is_running p.run ≡ true) → (p : Program) × (d.program ≡ Some p)
+  by None is h = absurd h
+  by (Some p) is h = (p, is)
+prints (IsEvent event.Initialized) d e h = absurd (let no : false ≡ true = e in cc)
+prints (IsEvent (event.Stopped b)) d e h = absurd (let no : false ≡ true = e in cc)
+prints (IsEvent event.Continued) d e h = absurd (let no : false ≡ true = e in cc)
+prints (IsEvent (event.Exited b)) d e h = absurd (let no : false ≡ true = e in cc)
+prints (IsEvent event.Terminated) d e h = absurd (let no : false ≡ true = e in cc)
+
+seen_output : (taken : Option Captured) (m : Said) (now : Facts) → says_output m.message ≡ true → PrintsRunning m.message m.snapshot.debuggee → seen_of taken ≡ now → shown m.snapshot ≡ as_running now → seen_of (captured_running taken) ≡ shown m.snapshot
+seen_output (Some c) m now e prints is fits = ap as_running is ∙ sym fits
+seen_output None m now e runs is fits =
+    let p = prints m.message m.snapshot.debuggee e runs in
+    let here : (shown m.snapshot).register 32 ≡ Some p.0.machine.hart.pc = ap (λ (x : Option Program). (shown_by x m.snapshot.numbers).register 32) p.1 in
+    let none : (shown m.snapshot).register 32 ≡ None = ap (λ (f : Facts). f.register 32) (fits ∙ sym (ap as_running is)) in
+    absurd (let no : Some p.0.machine.hart.pc ≡ None = sym here ∙ none in cc)
+
+seen_taken : (t : Session) (m : Said) (taken : Option Captured) → Fits t m → PrintsRunning m.message m.snapshot.debuggee → IsTaken taken (snapshot_of t.now) → seen_of (taken_at (says_output m.message) taken) ≡ shown m.snapshot
+seen_taken t m taken fits runs is = by (says_output m.message) refl where
+  by : (b : Bool) → says_output m.message ≡ b → seen_of (taken_at b taken) ≡ shown m.snapshot
+  by true e = seen_output taken m (seen_now t) e runs is.facts (fits ∙ ap (λ (b : Bool). seen_at b (seen_now t)) e)
+  by false e = is.facts ∙ sym (fits ∙ ap (λ (b : Bool). seen_at b (seen_now t)) e)
+
+AllRun : List Said → Type 0
+AllRun said = All (λ (m : Said). PrintsRunning m.message m.snapshot.debuggee) said
+
+-- the last message so far, if there is one
+so_far : Option Snapshot → Option Said → Option Snapshot
+so_far before None = before
+so_far before (Some m) = Some m.snapshot
+
+Suits : Session → Option Said → Type 0
+Suits t None = Unit {0}
+Suits t (Some m) = Fits t m × PrintsRunning m.message m.snapshot.debuggee
+
+seen_after : (t : Session) (before : Option Snapshot) (old new : Option (Option Captured)) (news : List Said) (last : Option Said) → option_map seen_of old ≡ option_map shown before
+    → All (Fits t) news → AllRun news → Suits t last → SeenAfter (last_from (option_map (λ (m : Said). m.message) last) (map (λ (m : Said). m.message) news)) t.now old new
+    → option_map seen_of new ≡ option_map shown (last_seen (so_far before last) news)
+unfolding AllRun so_far Suits
+seen_after t before old new [] None was fits runs suits h = ap (option_map seen_of) h ∙ was
+seen_after t before old new [] (Some m) was fits runs suits h = ap (option_map seen_of) h.1.1 ∙ ap (λ (f : Facts). Some f) (seen_taken t m h.0 suits.0 suits.1 h.1.0)
+seen_after t before old new (m ∷ news) last was fits runs suits h =
+    seen_after t before old new news (Some m) was (All-tail (Fits t) m news fits) (All-tail (λ (m : Said). PrintsRunning m.message m.snapshot.debuggee) m news runs)
+    (All-head (Fits t) m news fits, All-head (λ (m : Said). PrintsRunning m.message m.snapshot.debuggee) m news runs) h
+
+-- ---- what an event queued is noted
+
+-- the session has gone on, and what it queued is not noted yet
+abbrev pub with_session : Tracked → Kept → Tracked
+with_session t k = record t { session = k }
+
+pub seen_place : (a b : ℕ) (x y : Life) → b ≡ a → y ≡ x → option_map shown (last_seen None (told_within a x.said)) ≡ option_map shown (last_seen None (told_within b y.said))
+seen_place a b x y e f = sym (λ i. option_map shown (last_seen None (told_within (e i) (f i).said)))
+
+-- what holds of all holds of the last of them
+of_last : (P : Said → Type 0) (xs ys : List Said) → All P (xs ++ ys) → All P ys
+of_last P [] ys h = h
+of_last P (x ∷ xs) ys h = of_last P xs ys (All-tail P x (xs ++ ys) h)
+
+module _ (old new : Tracked) (s t : Session) (k : Kept) (rs : IsReached s) (rt : IsReached t) (h : Tracks old s) (told : IsFollowed s t) (stands : Stands k t) (same : SameBut (with_session old k) new) where
+  abbrev pub waited : List ℕ
+  waited = drop (length old.session.waiting) k.waiting
+
+  news_are : waited ≡ flat_map frame_said told.news
+  unfolding frames
+  news_are =
+      ap (λ (l : List ℕ). drop (length l) k.waiting) h.stands.waiting ∙ ap (drop (length (waiting_of s))) stands.waiting
+      ∙ waits_by s.now.link t.now.link s t refl refl rs rt told
+
+  life_before : old.connection ≡ s.now.connections → life_of old.connection s ≡ s.life
+  life_before e = ours s old.connection rs e
+
+  life_after : old.connection ≡ s.now.connections → life_of old.connection t ≡ t.life
+  life_after e = ours t old.connection rt (e ∙ sym told.newly.connections)
+
+  more_said : old.connection ≡ s.now.connections → (life_of old.connection t).said ≡ (life_of old.connection s).said ++ told.news
+  more_said e = ap (λ (l : Life). l.said) (life_after e) ∙ ap (λ (l : Life). l.said) told.newly.life ∙ ap (λ (l : Life). l.said ++ told.news) (sym (life_before e))
+
+  more_bytes : old.connection ≡ s.now.connections → bytes_of (life_of old.connection t) ≡ old.queued ++ flat_map frame_said told.news
+  unfolding frames
+  more_bytes e = ap bytes_of (life_after e) ∙ said_bytes s t told ∙ ap (λ (l : Life). bytes_of l ++ flat_map frame_said told.news) (sym (life_before e)) ∙ ap (λ (l : List ℕ). l ++ flat_map frame_said told.news) (sym h.queued)
+
+  -- of another connection
+  elsewhere : (old.connection ≡ s.now.connections → ⊥) → new.queued ≡ old.queued → new.snapshot ≡ old.snapshot → Tracks new t
+  elsewhere other queued snapshot =
+      let life : life_of new.connection t ≡ life_of old.connection s = ap (λ (n : ℕ). life_of n t) same.connection ∙ others_same s t old.connection rs told.newly.before other in
+      record {
+        stands = subst (λ (x : Kept). Stands x t) (sym same.session) stands;
+        current = same.current ∙ h.current ∙ sym told.newly.connections;
+        accepted = ap (λ (l : Life). l.accepted) life ∙ h.accepted ∙ ap (up_to_fault []) (sym same.accepted);
+        queued = queued ∙ h.queued ∙ sym (ap bytes_of life);
+        few = subst (λ (l : List ℕ). length l ≤ 4294967295) (sym queued) h.few;
+        snapshot = ap (option_map seen_of) snapshot ∙ h.snapshot
+            ∙ seen_place old.count new.count (life_of old.connection s) (life_of new.connection t) same.count life;
+      }
+
+  seen_here : old.connection ≡ s.now.connections → Noted waited (with_session old k) new → option_map seen_of new.snapshot ≡ option_map shown (last_seen None (told_within old.count (life_of old.connection t).said))
+  unfolding AllRun frames so_far Suits
+  seen_here e noted =
+      let news = told.news in
+      let said = (life_of old.connection s).said in
+      let room = old.count - length old.queued in
+      let ys = told_within room news in
+      let all : (life_of old.connection t).said ≡ said ++ news = more_said e in
+      let good : All Good news = of_last Good said news (subst (All Good) (ap (λ (x : Session). (life_of old.connection x).said) (sym rt.is) ∙ all) (all_are_good rt.from rt.events old.connection)) in
+      let run : AllRun news = of_last (λ (m : Said). PrintsRunning m.message m.snapshot.debuggee) said news (subst AllRun (ap (λ (x : Session). (life_of old.connection x).said) (sym rt.is) ∙ all) (what_is_printed_runs rt.from rt.events old.connection)) in
+      let sum : length new.queued ≡ length old.queued + length (flat_map frame_said news) =
+      ap length (noted.queued ∙ ap (λ (l : List ℕ). old.queued ++ l) news_are) ∙ length-append old.queued (flat_map frame_said news) in
+      let few : length (flat_map frame_said news) ≤ 4294967295 = let most = noted.few in omega (arith, sum, most) in
+      let part : take room waited ≡ take room (flat_map frame_said news) = ap (take room) news_are in
+      let read = messages_within news room few good (ap stream_fault (sym part) ∙ noted.readable) in
+      let messages : messages_so_far (take room waited) ≡ map (λ (m : Said). m.message) ys = ap messages_so_far part ∙ read in
+      let after = seen_after t (last_seen None (told_within old.count said)) old.snapshot new.snapshot ys None h.snapshot (told_hold (Fits t) news room told.newly.fits)
+      (told_hold (λ (m : Said). PrintsRunning m.message m.snapshot.debuggee) news room run) tt
+      (subst (λ (now : Now). SeenAfter (last_from None (map (λ (m : Said). m.message) ys)) now old.snapshot new.snapshot) stands.now
+      (subst (λ (l : List Message). SeenAfter (last_from None l) k.now old.snapshot new.snapshot) messages noted.snapshot)) in
+      let place : room ≡ old.count - length (flat_map frame_said said) = ap (λ (l : List ℕ). old.count - length l) h.queued in
+      after ∙ ap (option_map shown) (sym (last_seen_more None (told_within old.count said) ys)
+      ∙ ap (λ (n : ℕ). last_seen None (told_within old.count said ++ told_within n news)) place
+      ∙ ap (last_seen None) (sym (told_more said news old.count) ∙ ap (told_within old.count) (sym all)))
+
+  -- of the one that is watched
+  here : old.connection ≡ s.now.connections → Noted waited (with_session old k) new → Tracks new t
+  here e noted =
+      let life : life_of new.connection t ≡ life_of old.connection t = ap (λ (n : ℕ). life_of n t) same.connection in
+      let bytes : new.queued ≡ bytes_of (life_of old.connection t) = noted.queued ∙ ap (λ (l : List ℕ). old.queued ++ l) news_are ∙ sym (more_bytes e) in
+      let accepted : (life_of old.connection t).accepted ≡ (life_of old.connection s).accepted =
+      ap (λ (l : Life). l.accepted) (life_after e) ∙ ap (λ (l : Life). l.accepted) told.newly.life ∙ ap (λ (l : Life). l.accepted) (sym (life_before e)) in
+      record {
+        stands = subst (λ (x : Kept). Stands x t) (sym same.session) stands;
+        current = same.current ∙ h.current ∙ sym told.newly.connections;
+        accepted = ap (λ (l : Life). l.accepted) life ∙ accepted ∙ h.accepted ∙ ap (up_to_fault []) (sym same.accepted);
+        queued = bytes ∙ sym (ap bytes_of life);
+        few = noted.few;
+        snapshot = seen_here e noted ∙ seen_place old.count new.count (life_of old.connection t) (life_of new.connection t) same.count life;
+      }
+
+  -- where it is told which
+  pub noted_keeps : NotedIf (eqb old.current old.connection) waited (with_session old k) new → Tracks new t
+  noted_keeps = by (eqb old.current old.connection) refl where
+    by : (b : Bool) → eqb old.current old.connection ≡ b → NotedIf b waited (with_session old k) new → Tracks new t
+    by true e noted = let is : old.current ≡ old.connection = grind (arith, nat_tests) in here (sym is ∙ h.current) noted
+    by false e noted =
+        let other : old.connection ≡ s.now.connections → ⊥ = λ same. (let is : old.current ≡ old.connection = h.current ∙ sym same in let test : eqb old.current old.connection ≡ true = grind (arith, nat_tests, is) in let no : true ≡ false = sym test ∙ e in cc) in
+        elsewhere other noted.0 noted.1

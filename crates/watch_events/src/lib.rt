@@ -1,0 +1,8 @@
+//! A list of events played back: what an editor knows by the bytes that it got, beside what there was to see.
+#![tactic(auto)]
+
+mod last;
+mod track;
+mod watching;
+
+pub use watching::{WatchError, Watched, queued, watch};

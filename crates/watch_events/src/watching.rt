@@ -1,0 +1,193 @@
+//! What an editor knows, beside what there was to see.
+ghost use Rattle.std.specs.Prelude.{◌≡◌, IfOk, OnOk};
+ghost use Rattle.framing.specs.Reading.{reading_of};
+ghost use Rattle.protocol.specs.Reading.{incoming_of};
+ghost use Rattle.watch_events.specs.Replaying as spec;
+ghost use Rattle.watch_events.specs.Replaying.{IsTold, Queues, Runs, TellsAll, TellsBody, TellsOne, Watches};
+
+use crate::track::Track;
+use framing::{FrameError, Unframer};
+use mirror::Mirror;
+use protocol::{Incoming, MessageError, read_request};
+use session::{Config, ConfigError, Event, Limits, Session, Snapshot};
+use std::alloc::{AllocError, Global};
+use thiserror::Error;
+
+/// The most bytes that the body of a request may have.
+const REQUEST_LIMIT: u32 = 1_048_576;
+
+/// What an editor knows by the first bytes of a connection, and what there was to see.
+#[derive(Drop)]
+pub struct Watched {
+    /// What it knows.
+    pub mirror: Mirror,
+    /// What there was to see when the last message was queued that lies wholly in these bytes; none where no message does.
+    pub snapshot: Option<Snapshot>,
+}
+
+/// Why there is nothing to watch.
+#[derive(Clone, Copy, Debug, PartialEq, Eq, Error)]
+pub enum WatchError {
+    /// There is no session of this.
+    #[error("{0}")]
+    Config(ConfigError),
+    /// No connection was made that has this number.
+    #[error("no such connection")]
+    NoSuchConnection,
+    /// Fewer bytes were queued.
+    #[error("cut too long")]
+    CutTooLong,
+    /// No memory was left.
+    #[error("no memory")]
+    NoMemory,
+}
+
+/// Does events in a new session, and tells and feeds a mirror what an editor sent and got on the connection of this number, which
+/// counts from 1: all requests that were accepted on it, and the first `count` of the bytes that were queued for it. An event that is
+/// refused is passed over.
+///
+/// The errors apply in this order. `Config`: there is no session of this (`Session::new`). `NoSuchConnection`: fewer connections were
+/// made, or the number is 0. `CutTooLong`: fewer bytes were queued. `NoMemory`, at any time: no memory was left, or more than
+/// 4,294,967,295 bytes were queued for the connection.
+pub fn watch(
+    alloc: Global,
+    config: Config,
+    limits: Limits,
+    events: &[Event],
+    connection: u32,
+    count: usize,
+) -> Result<Watched, WatchError>
+    ensures { Watches config limits events.now connection count result }
+{
+    let track = replayed(alloc, config, limits, events, connection, count)?;
+    if !track.is_made() {
+        return Err(WatchError::NoSuchConnection);
+    }
+    if count > track.queued().len() {
+        return Err(WatchError::CutTooLong);
+    }
+    let Ok(mirror) = mirror_of(alloc, track.accepted(), &track.queued()[..count]) else {
+        return Err(WatchError::NoMemory);
+    };
+    Ok(Watched {
+        mirror,
+        snapshot: track.into_snapshot(),
+    })
+}
+
+/// How many bytes these events queue for the connection of this number: the greatest `count` of `watch`. The errors are those of
+/// `watch`, without `CutTooLong`.
+pub fn queued(
+    alloc: Global,
+    config: Config,
+    limits: Limits,
+    events: &[Event],
+    connection: u32,
+) -> Result<usize, WatchError>
+    ensures { Queues config limits events.now connection result }
+{
+    let track = replayed(alloc, config, limits, events, connection, 0)?;
+    if track.is_made() {
+        Ok(track.queued().len())
+    } else {
+        Err(WatchError::NoSuchConnection)
+    }
+}
+
+// Does events in a new session.
+fn replayed(
+    alloc: Global,
+    config: Config,
+    limits: Limits,
+    events: &[Event],
+    connection: u32,
+    count: usize,
+) -> Result<Track, WatchError>
+    ensures { Runs config limits events.now connection count result }
+{
+    let session = match Session::new(alloc, config, limits) {
+        Ok(session) => session,
+        Err(error) => return Err(no_session(error)),
+    };
+    let mut track = Track::new(alloc, session, connection, count);
+    for event in events {
+        match track.happen(event) {
+            Ok(()) => {}
+            Err(_) => return Err(WatchError::NoMemory),
+        }
+    }
+    Ok(track)
+}
+
+fn no_session(error: ConfigError) -> WatchError
+    ensures { result ≡ spec.no_session error }
+{
+    match error {
+        ConfigError::NoMemory => WatchError::NoMemory,
+        _ => WatchError::Config(error),
+    }
+}
+
+// A mirror that was told the requests in the bytes that came from an editor, and was fed the bytes that it got.
+fn mirror_of(alloc: Global, accepted: &[u8], got: &[u8]) -> Result<Mirror, AllocError>
+    ensures { IfOk result (λ mirror. IsTold accepted.now got.now mirror) }
+{
+    let mut mirror = Mirror::new(alloc);
+    tell(alloc, &mut mirror, accepted)?;
+    match mirror.feed(got) {
+        Ok(()) => Ok(mirror),
+        Err(_) => Err(AllocError),
+    }
+}
+
+// Tells a mirror the requests in these bytes, up to the first body that is no message.
+fn tell(alloc: Global, mirror: &mut Mirror, accepted: &[u8]) -> Result<(), AllocError>
+    ensures { OnOk result (TellsAll mirror.old accepted.now mirror.new) }
+{
+    let mut unframer = bodies_of(alloc, accepted)?;
+    while let Some(body) = unframer.next_body() {
+        if !tell_body(alloc, mirror, body)? {
+            return Ok(());
+        }
+    }
+    Ok(())
+}
+
+// The bodies in bytes that came from an editor.
+fn bodies_of(alloc: Global, accepted: &[u8]) -> Result<Unframer, AllocError>
+    ensures { IfOk result (λ unframer. unframer.waiting ≡ (reading_of 1048576 accepted.now).bodies) }
+{
+    let mut unframer = Unframer::new(alloc, REQUEST_LIMIT);
+    match unframer.feed(accepted) {
+        Err(FrameError::NoMemory) => Err(AllocError),
+        _ => Ok(unframer),
+    }
+}
+
+// Tells a mirror the request that a body is, if it is one, and answers whether it is a message.
+#[tactic(auto, using(crate::proofs::Telling::tells_ok, crate::proofs::Telling::tells_err))]
+fn tell_body(alloc: Global, mirror: &mut Mirror, body: &[u8]) -> Result<bool, AllocError>
+    ensures { IfOk result (λ is_message. TellsBody (incoming_of body.now) is_message mirror.old mirror.new) }
+{
+    match read_request(alloc, body) {
+        Ok(incoming) => {
+            tell_one(mirror, &incoming)?;
+            Ok(true)
+        }
+        Err(MessageError::NoMemory) => Err(AllocError),
+        Err(_) => Ok(false),
+    }
+}
+
+// Tells a mirror a request, if this is one.
+fn tell_one(mirror: &mut Mirror, incoming: &Incoming) -> Result<(), AllocError>
+    ensures { OnOk result (TellsOne incoming.now mirror.old mirror.new) }
+{
+    match incoming {
+        Incoming::Request(request) => match mirror.sent(request) {
+            Ok(()) => Ok(()),
+            Err(_) => Err(AllocError),
+        },
+        _ => Ok(()),
+    }
+}

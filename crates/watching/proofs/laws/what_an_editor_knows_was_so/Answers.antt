@@ -1,6 +1,0 @@
-use Rattle.watching.proofs.Leaving.{commands_lead, commands_owe}
-use Rattle.watching.proofs.Truth.{headline}
-use Rattle.watching.proofs.laws.what_an_editor_knows_was_so.Goals as goal
-
-pub returns : goal.returns
-returns c = headline commands_lead commands_owe

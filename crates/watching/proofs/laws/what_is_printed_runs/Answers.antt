@@ -1,5 +1,0 @@
-use Rattle.watching.proofs.Printed.{what_is_printed_runs as proved}
-use Rattle.watching.proofs.laws.what_is_printed_runs.Goals as goal
-
-pub returns : goal.returns
-returns c = proved
