@@ -2,8 +2,8 @@
 import base64
 import json
 
-from breaks import ADDRESS, CONDITION, HIT, MOST, NO_CODE, UNKNOWN, at, is_not, is_set, on
-from playing import Row
+from support.breaks import ADDRESS, CONDITION, HIT, MOST, NO_CODE, UNKNOWN, at, is_not, is_set, on
+from support.players import Row
 
 PLAYER = "test_answers"
 BASE = 0x10000

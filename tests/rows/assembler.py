@@ -1,8 +1,10 @@
 """Whole texts and their images, and what is wrong with a text."""
-from playing import Row
 from rows import programs
+from support.line_table import LineTable
+from support.players import Row
 
 PLAYER = "test_assembler"
+IMAGE = LineTable("image")
 BASE = 0x10000
 
 ASSEMBLER = "GNU as and ld 2.40, riscv64-unknown-elf-as -march=rv32i -mabi=ilp32 -mno-relax, \
@@ -25,22 +27,6 @@ def has_bytes(wanted):
 
 def entry(address):
     return "image entry", str(address)
-
-
-def line_of(address, wanted):
-    return "image line_of %d" % address, str(wanted)
-
-
-def address_of(line, wanted):
-    return "image address_of %d" % line, str(wanted)
-
-
-def bind(line, *wanted):
-    return "image bind %d" % line, " ".join(map(str, wanted))
-
-
-def label_at(address, *wanted):
-    return "image label_at %d" % address, " ".join(map(str, wanted))
 
 
 def text_of(listing):
@@ -329,21 +315,21 @@ ROWS = [
     Row("a program has its lines and labels", [
         assemble(text_of(COUNTS_DOWN)),
         entry(0x10000),
-        bind(9, 9, 0x10024),
-        line_of(0x10028, 9),
-        label_at(0x1002c, "g", 24),
-        label_at(0x10008, "_start", 8),
-        label_at(0x10034, "d", 0),
+        IMAGE.bind(9, 9, 0x10024),
+        IMAGE.line_of(0x10028, 9),
+        IMAGE.label_at(0x1002c, "g", 24),
+        IMAGE.label_at(0x10008, "_start", 8),
+        IMAGE.label_at(0x10034, "d", 0),
     ], BY_HAND),
     Row("small texts have their images", [step for text, start, wanted in IMAGES for step in (assemble(text), entry(start), has_bytes(wanted))],
         BY_HAND),
     Row("lines with code have rows", [
         assemble(b"a: .word 1\n\nb: li a0, 0x12345678 # two\nret"),
-        line_of(0x10000, "none"),
-        line_of(0x10008, 3),
-        address_of(4, 0x1000c),
-        label_at(0x1000f, "b", 11),
-        label_at(0x10010, "none"),
+        IMAGE.line_of(0x10000, "none"),
+        IMAGE.line_of(0x10008, 3),
+        IMAGE.address_of(4, 0x1000c),
+        IMAGE.label_at(0x1000f, "b", 11),
+        IMAGE.label_at(0x10010, "none"),
     ], BY_HAND),
     Row("each error is reported", [fails(*row) for row in KINDS], PROFILE),
     Row("the first error is reported", [fails(*row) for row in FIRST], PROFILE),
@@ -373,22 +359,22 @@ ROWS = [
         fails(b"a: .space 100\n.space 4096\n", 2, "TooLarge"),
     ], PROFILE, refused=True),
     Row("an image has 1 MiB", [
-        assemble(b"nop\n" * 262144, size=1048576), has_bytes(b"\x13\0\0\0" * 262144), line_of(0x10ffff, 262144),
+        assemble(b"nop\n" * 262144, size=1048576), has_bytes(b"\x13\0\0\0" * 262144), IMAGE.line_of(0x10ffff, 262144),
         fails(b"nop\n" * 262144, 262144, "TooLarge", size=1048575),
-        assemble(b"a: .space 1048575\n.byte 1", size=1048576), has_bytes(bytes(1048575) + b"\1"), label_at(0x10ffff, "a", 1048575),
+        assemble(b"a: .space 1048575\n.byte 1", size=1048576), has_bytes(bytes(1048575) + b"\1"), IMAGE.label_at(0x10ffff, "a", 1048575),
     ], BY_HAND),
     # Each label's word is the address of the label that is as far from the end.
     Row("a text has ten thousand labels", [
         assemble(b"".join(b"l%d: .word l%d\n" % (n, 9999 - n) for n in range(10000)), size=40000),
         has_bytes(b"".join((BASE + 4 * (9999 - n)).to_bytes(4, "little") for n in range(10000))),
-        *(label_at(BASE + 4 * n + 3, "l%d" % n, 3) for n in (0, 1, 4999, 5000, 9998, 9999)),
+        *(IMAGE.label_at(BASE + 4 * n + 3, "l%d" % n, 3) for n in (0, 1, 4999, 5000, 9998, 9999)),
         fails(b"".join(b"l%d:\n" % (n % 9999) for n in range(10000)), 10000, "TwiceDefined"),
         fails(b"".join(b"l%d: .word l%d\n" % (n, n + 1) for n in range(10000)), 10000, "Undefined", size=40000),
     ], BY_HAND),
     Row("a line has 65536 items and 100 labels", [
         assemble(b"".join(b"l%d: " % n for n in range(100)) + b".byte " + b",".join(b"%d" % (i % 256) for i in range(65536)), size=65536),
         has_bytes(bytes(i % 256 for i in range(65536))),
-        label_at(0x1ffff, "l0", 65535),
+        IMAGE.label_at(0x1ffff, "l0", 65535),
         fails(b"".join(b"l%d: " % (n % 99) for n in range(100)), 1, "TwiceDefined"),
     ], BY_HAND),
 ]

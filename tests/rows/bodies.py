@@ -2,7 +2,7 @@
 from base64 import b64encode
 
 from rows.messages import is_done, no_message, read, spelled, write
-from playing import Row
+from support.players import Row
 
 PLAYER = "test_messages"
 

@@ -1,5 +1,5 @@
 """Breakpoints: which are hit, which stop, and which ids a check answers."""
-from playing import Row
+from support.players import Row
 
 PLAYER = "test_breakpoints"
 BASE = 0x10000

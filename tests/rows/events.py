@@ -1,7 +1,7 @@
 """Events: made of their parts, written, read into their parts and written again."""
 from rows.bodies import NO_NUMBERS, NO_TEXTS, NO_TRUTHS, odd
 from rows.messages import no_message, read, response, spelled, write
-from playing import Row
+from support.players import Row
 
 PLAYER = "test_messages"
 

@@ -1,30 +1,18 @@
 """Expressions: what their texts are read as, their values on a machine, and each error."""
 import os
 
-from expressions_in_c import BASE, MEMORY, PC, REGISTERS
-from playing import Row
-from program import TOP
 from rows.guide import GUIDE, code, from_the_guide, section, tables
+from support.expressions_in_c import BASE, MEMORY, PC, VALUES
+from support.machine import REGISTERS, go, sets, write
+from support.players import Row
+from support.program import TOP
 
 PLAYER = "test_expressions"
 
 PROFILE = GUIDE % "Expressions"
 BY_HAND = "worked by hand from docs/MACHINE.md, \"Expressions\""
-C = "gcc 12.2, by tests/expressions_in_c.py"
+C = "gcc 12.2, by tests/support/expressions_in_c.py"
 
-NAMES = ("zero ra sp gp tp t0 t1 t2 s0 s1 a0 a1 a2 a3 a4 a5 a6 a7 s2 s3 s4 s5 s6 s7 s8 s9 s10 s11 t3 t4 t5 t6").split()
-
-
-def sets(name, number):
-    return "set %d %d" % (NAMES.index(name), number), "ok"
-
-
-def go(address):
-    return "go %d" % address, "ok"
-
-
-def write(address, piece):
-    return "write %d %s" % (address, piece.hex()), "ok"
 
 
 def value(text, wanted):
@@ -55,7 +43,7 @@ def examples():
 
 def as_c_says():
     """Each expression of the file with the value before it."""
-    yield from (*(sets(name, number) for name, number in REGISTERS.items()), go(PC), write(BASE, MEMORY))
+    yield from (*(sets(name, number) for name, number in VALUES.items()), go(PC), write(BASE, MEMORY))
     with open(os.path.join(TOP, "tests", "rows", "expressions_in_c.txt"), encoding="ascii") as file:
         for line in file:
             wanted, _, text = line.rstrip("\n").partition(" ")
@@ -97,8 +85,8 @@ ROWS = [
         ("0", 0), ("010", 10), ("4294967295", 0xffffffff), ("00004294967295", 0xffffffff), ("0x0", 0), ("0xabcdef", 0xabcdef),
         ("0xABCDEF", 0xabcdef), ("0xAbCdEf09", 0xabcdef09), ("0x00000000ffffffff", 0xffffffff),
     ) + fails("Syntax", "4294967296", "0x100000000", "99999999999999999999", "0x", "0X10", "0xg", "1a", "1_000", "1.5", "0b1", "'a'"), PROFILE),
-    Row("each register has its names and pc is one", [sets(name, number + 100) for number, name in list(enumerate(NAMES))[1:]] + [go(0xfffffffc)]
-        + values(*((name, number + 100 if number else 0) for number, name in enumerate(NAMES)))
+    Row("each register has its names and pc is one", [sets(name, number + 100) for number, name in list(enumerate(REGISTERS))[1:]] + [go(0xfffffffc)]
+        + values(*((name, number + 100 if number else 0) for number, name in enumerate(REGISTERS)))
         + values(*(("x%d" % number, number + 100 if number else 0) for number in range(32)))
         + values(("fp", 108), ("pc", 0xfffffffc), ("pc + 4", 0))
         + fails("Syntax", "a9", "x32", "x00", "x01", "A0", "X1", "PC", "Pc", "s12", "t7", "r0", "pcs", "a", "x", "sp1", "a0b", "a0 b", "a0pc"), PROFILE),

@@ -1,5 +1,5 @@
 """Streams of the base protocol, and what they are read as; frames of bodies; the texts of errors."""
-from playing import Row
+from support.players import Row
 
 PLAYER = "test_framing"
 LIMIT = 1048576

@@ -6,9 +6,9 @@ import os
 import re
 from functools import partial
 
-from playing import Row
-from program import TOP
-from rows.assembler import ASSEMBLER, BASE, assemble, bind, entry, fails, has_bytes, label_at, line_of
+from rows.assembler import ASSEMBLER, BASE, IMAGE, assemble, entry, fails, has_bytes
+from support.players import Row
+from support.program import TOP
 
 PLAYER = "test_assembler"
 
@@ -181,11 +181,11 @@ def spellings():
 def lines_and_addresses():
     yield assemble(programs()[2][1].encode())
     for line, goes, address in tables(section("Lines and addresses"), ["Breakpoint on line", "Goes to line", "Address"]):
-        yield bind(int(line), "none") if goes == "none" else bind(int(line), int(goes), number(address))
+        yield IMAGE.bind(int(line), "none") if goes == "none" else IMAGE.bind(int(line), int(goes), number(address))
     for address, line, name in tables(section("Lines and addresses"), ["Address", "Line", "Name"]):
-        yield line_of(number(address), line)
+        yield IMAGE.line_of(number(address), line)
         found = re.fullmatch("`([^`]+)`(?: and ([0-9]+) bytes)?", name)
-        yield label_at(number(address), found[1], int(found[2] or 0)) if found else label_at(number(address), "none")
+        yield IMAGE.label_at(number(address), found[1], int(found[2] or 0)) if found else IMAGE.label_at(number(address), "none")
 
 
 def pseudo_instructions():

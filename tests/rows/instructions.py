@@ -1,5 +1,6 @@
 """Words of RV32I as they are read and written, their texts, and the names of registers."""
-from playing import Row
+from support.machine import REGISTERS
+from support.players import Row
 
 PLAYER = "test_machine"
 
@@ -131,8 +132,7 @@ ILLEGAL = (
     0x00002063, 0x00003003, 0x00003023, 0x00001067, 0x00200073, 0x00001073, 0x10500073, 0x00000001,
 )
 
-ALL_REGISTERS = "zero ra sp gp tp t0 t1 t2 s0 s1 a0 a1 a2 a3 a4 a5 a6 a7 s2 s3 s4 s5 s6 s7 s8 s9 s10 s11 t3 t4 t5 t6".split()
-REGISTERS = ((0, "zero"), (1, "ra"), (2, "sp"), (8, "s0"), (10, "a0"), (17, "a7"), (18, "s2"), (27, "s11"), (28, "t3"), (31, "t6"))
+SOME_REGISTERS = ((0, "zero"), (1, "ra"), (2, "sp"), (8, "s0"), (10, "a0"), (17, "a7"), (18, "s2"), (27, "s11"), (28, "t3"), (31, "t6"))
 
 ROWS = [
     Row("words of the assembler have their texts", [step for word, address, wanted in ASSEMBLED for step in (
@@ -161,7 +161,7 @@ ROWS = [
         *each_others(0xfffff0b7, "Lui", rd=1, upper=0xfffff000),
     ], MANUAL),
     Row("targets wrap", [text(0x8000006f, 0x10000, "jal zero, 0xfff10000")], PROFILE),
-    Row("each register has its name", [step for number, text in REGISTERS for step in (name(number, text), register(text, number))], HANDBOOK),
+    Row("each register has its name", [step for number, text in SOME_REGISTERS for step in (name(number, text), register(text, number))], HANDBOOK),
     Row("registers have other names too", [
         register("fp", 8),
         register("x0", 0),
@@ -178,7 +178,7 @@ ROWS = [
         digits("0x", 0xffffffff, "0xffffffff"),
         digits("word", 0x01234567, "word01234567"),
     ], "worked by hand"),
-    Row("each register is named and found", [step for number, text in enumerate(ALL_REGISTERS) for step in (
+    Row("each register is named and found", [step for number, text in enumerate(REGISTERS) for step in (
         name(number, text), register(text, number), register("x%d" % number, number))], HANDBOOK),
     Row("texts that found no memory are made again", [
         text(0x12345537, 0, "lui a0, 0x12345"),

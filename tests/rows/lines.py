@@ -1,7 +1,9 @@
 """Line tables: which line an address is of, where a line is, and the nearest label; and the parts of an image."""
-from playing import Row
+from support.line_table import LineTable
+from support.players import Row
 
 PLAYER = "test_machine"
+LINES = LineTable("lines")
 
 PROFILE = "worked by hand from the definitions of crates/image/specs/Lines.antt"
 
@@ -15,32 +17,16 @@ def table(rows=THREE_LINES, labels=(), end=0x10020):
         + [("lines new %d" % end, "ok")]
 
 
-def line_of(address, wanted):
-    return "lines line_of %d" % address, str(wanted)
-
-
-def address_of(line, wanted):
-    return "lines address_of %d" % line, str(wanted)
-
-
-def bind(line, *wanted):
-    return "lines bind %d" % line, " ".join(map(str, wanted))
-
-
 def starts(address, wanted):
     return "lines starts %d" % address, wanted
 
 
-def label_at(address, *wanted):
-    return "lines label_at %d" % address, " ".join(map(str, wanted))
-
-
 def lines_are(*pairs):
-    return [line_of(address, line) for address, line in pairs]
+    return [LINES.line_of(address, line) for address, line in pairs]
 
 
 def labels_are(*found):
-    return [label_at(*each) for each in found]
+    return [LINES.label_at(*each) for each in found]
 
 
 # Lines 1, 3, 5, .. with a word each and as much data after it, each with a label.
@@ -67,14 +53,14 @@ ROWS = [
         + [starts(address, "true") for address in (0x10000, 0x1000c, 0x10010)]
         + [starts(address, "false") for address in (0xffff, 0x10004, 0x10008, 0x10014, 0x1001c, 0x10020)], PROFILE),
     Row("a line without code is bound to the next", table() + [
-        address_of(0, "none"), bind(0, 3, 0x10000),
-        address_of(3, 0x10000), bind(3, 3, 0x10000),
-        address_of(4, "none"), bind(4, 5, 0x1000c),
-        address_of(5, 0x1000c), bind(5, 5, 0x1000c),
-        address_of(6, "none"), bind(6, 9, 0x10010),
-        address_of(9, 0x10010), bind(9, 9, 0x10010),
-        address_of(10, "none"), bind(10, "none"),
-        address_of(0xffffffff, "none"), bind(0xffffffff, "none"),
+        LINES.address_of(0, "none"), LINES.bind(0, 3, 0x10000),
+        LINES.address_of(3, 0x10000), LINES.bind(3, 3, 0x10000),
+        LINES.address_of(4, "none"), LINES.bind(4, 5, 0x1000c),
+        LINES.address_of(5, 0x1000c), LINES.bind(5, 5, 0x1000c),
+        LINES.address_of(6, "none"), LINES.bind(6, 9, 0x10010),
+        LINES.address_of(9, 0x10010), LINES.bind(9, 9, 0x10010),
+        LINES.address_of(10, "none"), LINES.bind(10, "none"),
+        LINES.address_of(0xffffffff, "none"), LINES.bind(0xffffffff, "none"),
     ], PROFILE),
     Row("the first of the nearest labels is answered", table(labels=(
         ("early", 0x8000),
@@ -106,27 +92,27 @@ ROWS = [
         (0x10020, "none"),
     ), PROFILE),
     Row("an empty table knows no line", table(rows=(), labels=(("late", 0x10002),), end=0x10004) + [
-        line_of(0x10000, "none"),
-        address_of(0, "none"), bind(0, "none"),
+        LINES.line_of(0x10000, "none"),
+        LINES.address_of(0, "none"), LINES.bind(0, "none"),
         starts(0x10000, "false"),
-        label_at(0x10001, "none"),
-        label_at(0x10003, "late", 1),
+        LINES.label_at(0x10001, "none"),
+        LINES.label_at(0x10003, "late", 1),
     ], PROFILE),
     Row("an image gives its parts back", table(rows=(), end=0x10004) + [
         ("lines image %d 13000000" % 0x10000, "ok"),
         ("lines bytes", "13000000"),
         ("lines parts", "%d 13000000" % 0x10000),
-        label_at(0x10000, "none"),
+        LINES.label_at(0x10000, "none"),
     ], "what the image was made of"),
     Row("a table of ten thousand lines and labels is searched", MANY + [
         step for n in (0, 1, 4999, 5000, 9998, 9999) for step in (
-            line_of(0x10000 + 8 * n, 2 * n + 1), line_of(0x10003 + 8 * n, 2 * n + 1), line_of(0x10004 + 8 * n, "none"),
+            LINES.line_of(0x10000 + 8 * n, 2 * n + 1), LINES.line_of(0x10003 + 8 * n, 2 * n + 1), LINES.line_of(0x10004 + 8 * n, "none"),
             starts(0x10000 + 8 * n, "true"), starts(0x10001 + 8 * n, "false"),
-            address_of(2 * n + 1, 0x10000 + 8 * n), address_of(2 * n, "none"), bind(2 * n, 2 * n + 1, 0x10000 + 8 * n),
-            label_at(0x10007 + 8 * n, "l%d" % n, 7),
+            LINES.address_of(2 * n + 1, 0x10000 + 8 * n), LINES.address_of(2 * n, "none"), LINES.bind(2 * n, 2 * n + 1, 0x10000 + 8 * n),
+            LINES.label_at(0x10007 + 8 * n, "l%d" % n, 7),
         )
-    ] + [line_of(0x10000 + 80000, "none"), bind(20000, "none"), label_at(0x10000 + 80000, "none")], PROFILE),
+    ] + [LINES.line_of(0x10000 + 80000, "none"), LINES.bind(20000, "none"), LINES.label_at(0x10000 + 80000, "none")], PROFILE),
     Row("ten thousand labels that fall are searched", table(rows=(), end=0x10000 + 40000, labels=[
         ("l%d" % n, 0x10000 + 4 * (9999 - n)) for n in range(10000)
-    ]) + [label_at(0x10003 + 4 * (9999 - n), "l%d" % n, 3) for n in (0, 1, 5000, 9998, 9999)], PROFILE),
+    ]) + [LINES.label_at(0x10003 + 4 * (9999 - n), "l%d" % n, 3) for n in (0, 1, 5000, 9998, 9999)], PROFILE),
 ]

@@ -1,6 +1,6 @@
 """Listings of texts, and what comes in their place."""
-from listings import INCREMENT_LISTING
-from playing import Row
+from support.programs import INCREMENT_LISTING
+from support.players import Row
 
 PLAYER = "test_assembler"
 

@@ -1,8 +1,9 @@
 """Answers: what requests answer that look into a stopped machine or change it."""
 import base64
 
-from playing import Row
 from rows.answers import BASE, EXAMPLES, NO_REFERENCES, PATH, SIZE, bytes_at, looks, reads, words_of
+from support.machine import REGISTERS, go, sets
+from support.players import Row
 
 PLAYER = "test_answers"
 
@@ -11,7 +12,6 @@ BY_HAND = "worked by hand from docs/PROTOCOL.md, \"Frames and variables\""
 
 IDS = {"staleReference": 8, "unknownReference": 9, "unknownName": 10, "badValue": 11, "notWritable": 12, "badMemoryReference": 13, "outsideMemory": 14,
        "tooMuch": 15, "badExpression": 16}
-NAMES = ("zero ra sp gp tp t0 t1 t2 s0 s1 a0 a1 a2 a3 a4 a5 a6 a7 s2 s3 s4 s5 s6 s7 s8 s9 s10 s11 t3 t4 t5 t6").split()
 END = BASE + SIZE
 
 # A program that calls itself, and what it is in words: lines, labels, and each word.
@@ -40,14 +40,6 @@ def r_after(moves, **options):
 
 def p_after(moves, **options):
     return loaded(P_LINES, P_LABELS, P_WORDS, **options) + [("run %d" % moves, "ok")]
-
-
-def sets(name, value):
-    return "set %d %d" % (NAMES.index(name), value), "ok"
-
-
-def go(address):
-    return "go %d" % address, "ok"
 
 
 def bases(line, column):
@@ -162,7 +154,7 @@ def variables(number, *values, **asked):
 
 def registers(pc=BASE, **values):
     given = {"sp": END, **values}
-    return [(name, given.get(name, 0)) for name in NAMES] + [("pc", pc)]
+    return [(name, given.get(name, 0)) for name in REGISTERS] + [("pc", pc)]
 
 
 def no_scopes(number, why):

@@ -1,5 +1,5 @@
 """The memory of the machine: what is read and written, and each fault."""
-from playing import Row
+from support.players import Row
 
 PLAYER = "test_machine"
 BASE = 0x10000

@@ -1,10 +1,10 @@
 """Bodies and the requests that they are read as; responses as they are made, written and read; the texts of errors."""
 from json import dumps
 
-from playing import Row
 from rows.requests import NAMES as REQUESTS
-from sessions import CANCELLED, CAPABILITIES, DISCONNECTED, REFUSED, THREADS
-from sessions import INITIALIZE as FIRST
+from support.players import Row
+from support.texts import CANCELLED, CAPABILITIES, DISCONNECTED, REFUSED, THREADS
+from support.texts import INITIALIZE as FIRST
 
 PLAYER = "test_messages"
 LIMIT = 1048576

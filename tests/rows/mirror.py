@@ -5,10 +5,10 @@ A row for each line of the table of what a message tells (crates/mirror/specs/Fo
 from base64 import b64encode
 from json import dumps
 
-from playing import Row
-from program import frame
 from rows.events import stop, text_of as event
-from texts import CAPABILITIES
+from support.players import Row
+from support.program import frame
+from support.texts import CAPABILITIES
 
 PLAYER = "test_mirror"
 RULES = "docs/HEADLINE.md and docs/PROTOCOL.md, worked by hand"

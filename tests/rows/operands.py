@@ -1,7 +1,7 @@
 """Each instruction stepped with operands at their edges: 0, 1, -1, the greatest and the least number, each sign of an immediate, branches
 taken and not taken."""
-from playing import Row
 from rows.steps import BASE, MANUAL, PROFILE, go, hart, holds, memory, pc, registers, sets, steps, x
+from support.players import Row
 
 PLAYER = "test_machine"
 

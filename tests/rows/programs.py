@@ -1,6 +1,6 @@
 """A whole program, step by step as another simulator ran it."""
-from playing import Row
 from rows.steps import BASE, hart, memory, pc, registers, steps
+from support.players import Row
 
 PLAYER = "test_machine"
 

@@ -1,7 +1,7 @@
 """Requests with their arguments, each as it is read from a body: every argument given, none that may be absent, and odd ones."""
 from base64 import b64encode
 
-from playing import Row
+from support.players import Row
 
 PLAYER = "test_messages"
 LIMIT = 1048576

@@ -4,8 +4,8 @@ A script has one event a line: `connect`, `send JSON` (one framed piece), `bytes
 `drop`; its last line is `watch C N` or `watch C all`. Words are parted by one space. Numbers are decimal digits: of 32 bits for a slice and
 a connection, of 64 for the others.
 """
-from playing import Row
-from program import frame
+from support.players import Row
+from support.program import frame
 
 PLAYER = "test_scripts"
 RULES = "the rules at the head of this table, worked by hand"

@@ -1,8 +1,8 @@
 """The events of a session: what each answers, when it is refused, and what the session then says of itself."""
-from debugging import GONE, REPEATED, UNKNOWN, WAS_CANCELLED, WRONG_PHASE
-from playing import Row
-from program import frame
-from texts import ANSWERS, CANCELLED, CAPABILITIES, DISCONNECTED, FIRST, FIRST_ANSWER, SESSION, THREADS, refused, request
+from support.debugging import GONE, REPEATED, UNKNOWN, WAS_CANCELLED, WRONG_PHASE
+from support.players import Row
+from support.program import frame
+from support.texts import ANSWERS, CANCELLED, CAPABILITIES, DISCONNECTED, FIRST, FIRST_ANSWER, SESSION, THREADS, refused, request
 
 PLAYER = "test_session"
 PROFILE = "docs/PROTOCOL.md, worked by hand"

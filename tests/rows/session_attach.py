@@ -1,13 +1,14 @@
 """Editors that join a program that is there: what they are told of it, what they may do with it, and what becomes of it when they go."""
-from breaks import NO_CODE, UNKNOWN, at, is_not, is_set, on
-from debugging import (ASSEMBLY_FAILED, BAD_ARGUMENTS, CALLS, CIRCLES, COUNTS, ENDED, INITIALIZED, PATH, PRINTS, RECURS, REPEATED, TERMINATED,
-                       WAS_CANCELLED, WRONG_PHASE, exits, printed, stopped)
-from looks import BASE, CONTINUED, NO_MACHINE, Looking, frame_at, frame_of_no_line, loaded, looking, registers
-from playing import Row
-from program import frame
 from rows.session_breaks import NO_INSTRUCTION, at_instructions, at_lines, back
 from rows.session_runs import EBREAK, ENTRY, EXITS, KEEPS, LIMIT, PAUSE, STEP, limited
-from texts import refused
+from support.breaks import NO_CODE, UNKNOWN, at, is_not, is_set, on
+from support.debugging import (ASSEMBLY_FAILED, BAD_ARGUMENTS, ENDED, INITIALIZED, PATH, REPEATED, TERMINATED, WAS_CANCELLED, WRONG_PHASE,
+                               exits, printed, stopped)
+from support.looks import BASE, CONTINUED, NO_MACHINE, Looking, frame_at, frame_of_no_line, loaded, looking, registers
+from support.players import Row
+from support.program import frame
+from support.programs import CALLS, CIRCLES, COUNTS, PRINTS, RECURS
+from support.texts import refused
 
 PLAYER = "test_session"
 PROFILE = "docs/PROTOCOL.md, worked by hand"

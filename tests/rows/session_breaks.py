@@ -1,9 +1,10 @@
 """Breakpoints in a session: an editor sets them, they stop the program, other lists take their place, and they go with the editor."""
-from breaks import ADDRESS, CONDITION, HIT, MOST, NO_CODE, UNKNOWN, at, body_of, is_not, is_set, on
-from debugging import (BAD_ARGUMENTS, CALLS, CIRCLES, COUNTS, ENDED, EXHAUSTED, INITIALIZED, PATH, PRINTS, RECURS, REPEATED, TERMINATED,
-                       TOO_MUCH, WAS_CANCELLED, WRONG_PHASE, debugging, exits, launched, printed, stopped, success_text)
-from playing import Row
 from rows.session_runs import EBREAK, ENTRY, GREATEST, GREATEST_RETIRED, LIMIT, PAUSE, STEP, in_slices, limited, without_memory
+from support.breaks import ADDRESS, CONDITION, HIT, MOST, NO_CODE, UNKNOWN, at, body_of, is_not, is_set, on
+from support.debugging import (BAD_ARGUMENTS, ENDED, EXHAUSTED, INITIALIZED, PATH, REPEATED, TERMINATED, TOO_MUCH, WAS_CANCELLED,
+                               WRONG_PHASE, debugging, exits, launched, printed, stopped, success_text)
+from support.players import Row
+from support.programs import CALLS, CIRCLES, COUNTS, PRINTS, RECURS
 
 PLAYER = "test_session"
 PROFILE = "docs/PROTOCOL.md, \"Breakpoints\", and docs/MACHINE.md, \"Breakpoints\", worked by hand"

@@ -1,11 +1,13 @@
 """What an editor sees of a program that stands still, and what it changes: frames, scopes, variables, expressions, memory, instructions."""
-from breaks import ADDRESS, at, is_not, is_set, on
-from debugging import BAD_ARGUMENTS, CALLS, COUNTS, INITIALIZED, PRINTS, RECURS, TOO_MUCH, exits, printed, stopped
-from looks import (BAD_EXPRESSION, BAD_MEMORY_REFERENCE, BAD_VALUE, BASE, END, NOT_WRITABLE, OUTSIDE_MEMORY, REGISTERS, UNKNOWN_NAME, Looking,
-                   frame_at, frame_of_no_line, instruction, loaded, looking, no_instruction, registers, stack, text)
-from playing import Row
 from rows.session_breaks import LEAPS, NO_INSTRUCTION, at_instructions, at_lines, back
 from rows.session_runs import EBREAK, ENTRY, GREATEST, PAUSE, STEP
+from support.breaks import ADDRESS, at, is_not, is_set, on
+from support.debugging import BAD_ARGUMENTS, INITIALIZED, TOO_MUCH, exits, printed, stopped
+from support.looks import (BAD_EXPRESSION, BAD_MEMORY_REFERENCE, BAD_VALUE, BASE, END, NOT_WRITABLE, OUTSIDE_MEMORY, REGISTERS,
+                           UNKNOWN_NAME, Looking, frame_at, frame_of_no_line, instruction, loaded, looking, no_instruction, registers,
+                           stack, text)
+from support.players import Row
+from support.programs import CALLS, COUNTS, PRINTS, RECURS
 
 PLAYER = "test_session"
 PROFILE = "docs/PROTOCOL.md and docs/MACHINE.md, worked by hand"

@@ -1,9 +1,10 @@
 """What each request answers in each phase of a connection, and in which order the reasons for a refusal are looked at."""
-from breaks import MOST, at, body_of, on
-from debugging import (BAD_ARGUMENTS, CALLS, CIRCLES, ENDED, GONE, INITIALIZED, NO_THREAD, NOT_STOPPED, PATH, REPEATED, TERMINATED, TOO_MUCH,
-                       UNKNOWN, WAS_CANCELLED, WRONG_PHASE, Debugging, debugging, exits, stopped)
-from looks import BASE, CONTINUED, NO_MACHINE, UNKNOWN_REFERENCE, frame_at, frames, memory, text
-from playing import Row
+from support.breaks import MOST, at, body_of, on
+from support.debugging import (BAD_ARGUMENTS, ENDED, GONE, INITIALIZED, NO_THREAD, NOT_STOPPED, PATH, REPEATED, TERMINATED, TOO_MUCH,
+                               UNKNOWN, WAS_CANCELLED, WRONG_PHASE, Debugging, debugging, exits, stopped)
+from support.looks import BASE, CONTINUED, NO_MACHINE, UNKNOWN_REFERENCE, frame_at, frames, memory, text
+from support.players import Row
+from support.programs import CALLS, CIRCLES
 
 PLAYER = "test_session"
 PROFILE = "docs/PROTOCOL.md, worked by hand"

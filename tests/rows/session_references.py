@@ -1,12 +1,13 @@
 """The numbers of frames and scopes: who gets one, in which order, how long it is good, and when there is no further one."""
-from breaks import at, body_of, is_set, on
-from debugging import (BAD_ARGUMENTS, CALLS, CIRCLES, COUNTS, ENDED, EXHAUSTED, NO_THREAD, NOT_STOPPED, RECURS, REPEATED, TERMINATED, WAS_CANCELLED,
-                       WRONG_PHASE, exits, stopped, success_text)
-from looks import (BAD_EXPRESSION, BASE, CONTINUED, END, NOT_WRITABLE, STALE, UNKNOWN_NAME, UNKNOWN_REFERENCE, frame_at, frames, loaded, looking,
-                   registers, stack)
-from playing import Row
 from rows.session_breaks import at_lines, back
 from rows.session_runs import ENTRY, GREATEST, PAUSE, STEP, limited, without_memory
+from support.breaks import at, body_of, is_set, on
+from support.debugging import (BAD_ARGUMENTS, ENDED, EXHAUSTED, NO_THREAD, NOT_STOPPED, REPEATED, TERMINATED, WAS_CANCELLED, WRONG_PHASE,
+                               exits, stopped, success_text)
+from support.looks import (BAD_EXPRESSION, BASE, CONTINUED, END, NOT_WRITABLE, STALE, UNKNOWN_NAME, UNKNOWN_REFERENCE, frame_at, frames,
+                           loaded, looking, registers, stack)
+from support.players import Row
+from support.programs import CALLS, CIRCLES, COUNTS
 
 PLAYER = "test_session"
 PROFILE = "docs/PROTOCOL.md, worked by hand"

@@ -1,8 +1,8 @@
 """Programs that are debugged: launched, given time in slices, stepped through, paused, restarted and ended; and what is told of them."""
-from debugging import (ASSEMBLY_FAILED, CALLS, CIRCLES, COUNTS, ENDED, INITIALIZED, PATH, PRINTS, RECURS, TERMINATED, UNREADABLE, WAS_CANCELLED,
-                       WRONG_PHASE, Debugging, debugging, exits, printed, stopped,
-                       success_text)
-from playing import Row
+from support.debugging import (ASSEMBLY_FAILED, ENDED, INITIALIZED, PATH, TERMINATED, UNREADABLE, WAS_CANCELLED, WRONG_PHASE, Debugging,
+                               debugging, exits, printed, stopped, success_text)
+from support.players import Row
+from support.programs import CALLS, CIRCLES, COUNTS, PRINTS, RECURS
 
 PLAYER = "test_session"
 PROFILE = "docs/PROTOCOL.md and docs/MACHINE.md, worked by hand"

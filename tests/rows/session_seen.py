@@ -1,10 +1,11 @@
 """Snapshots: what there is to see of a session, with the queries of a mirror, whether an editor was told of it or not."""
-from breaks import at, is_set
-from debugging import CALLS, PATH, PRINTS, RECURS, exits, printed, stopped
-from looks import BASE, END, Looking, frame_at, loaded, looking
-from playing import Row
 from rows.session_breaks import at_lines
 from rows.session_runs import EBREAK, ENTRY
+from support.breaks import at, is_set
+from support.debugging import PATH, exits, printed
+from support.looks import BASE, END, Looking, frame_at, loaded, looking
+from support.players import Row
+from support.programs import CALLS, PRINTS, RECURS
 
 PLAYER = "test_session"
 PROFILE = "docs/MACHINE.md and docs/PROTOCOL.md, worked by hand"

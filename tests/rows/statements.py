@@ -1,5 +1,5 @@
 """Lines of assembly: what they say, how they may be spelled, and what is wrong with them."""
-from playing import Row
+from support.players import Row
 
 PLAYER = "test_assembler"
 

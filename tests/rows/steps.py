@@ -1,5 +1,5 @@
 """Steps of a hart: what each answers, and where it leaves pc, the registers and memory."""
-from playing import Row
+from support.players import Row
 
 PLAYER = "test_machine"
 BASE = 0x10000

@@ -1,7 +1,7 @@
 """Whole connections over wires and through doors, and servers over streams that give and take a few bytes at a time, are interrupted, and fail."""
-from playing import Row
-from program import frame
-from texts import ANSWERS, FIRST, FIRST_ANSWER, SESSION, THREADS, refused, request
+from support.players import Row
+from support.program import frame
+from support.texts import ANSWERS, FIRST, FIRST_ANSWER, SESSION, THREADS, refused, request
 
 PLAYER = "test_transport"
 PROFILE = "docs/PROTOCOL.md, worked by hand"

@@ -1,29 +1,15 @@
 """What an editor sees of a stopped machine: registers, words of the stack, values that it sets, and numbers of frames and scopes."""
-from playing import Row
+from support.machine import BASE, REGISTERS, go, sets, write
+from support.players import Row
 
 PLAYER = "test_variables"
-BASE = 0x10000
 END = BASE + 65536
 GREATEST = 2147483647
 
-NAMES = ("zero ra sp gp tp t0 t1 t2 s0 s1 a0 a1 a2 a3 a4 a5 a6 a7 s2 s3 s4 s5 s6 s7 s8 s9 s10 s11 t3 t4 t5 t6").split()
 
 DAP = "DAP specification, \"Lifetime of Objects References\""
 ISA = "RISC-V Unprivileged ISA 20191213, table 25.1"
 BY_HAND = "worked by hand from docs/DEFINITIONS.md, \"variables\""
-
-
-def sets(name, value):
-    """Sets a register of the hart, whatever an editor may set."""
-    return "set %d %d" % (NAMES.index(name), value), "ok"
-
-
-def go(address):
-    return "go %d" % address, "ok"
-
-
-def write(address, block):
-    return "write %d %s" % (address, block.hex()), "ok"
 
 
 def listed(command, variables):
@@ -31,7 +17,7 @@ def listed(command, variables):
 
 
 def registers(pc=BASE, **values):
-    return listed("registers", [(name, values.get(name, 0)) for name in NAMES] + [("pc", pc)])
+    return listed("registers", [(name, values.get(name, 0)) for name in REGISTERS] + [("pc", pc)])
 
 
 def stack(*words):
@@ -72,9 +58,9 @@ END_STOP = "end", "ok"
 ROWS = [
     Row("registers have their names, and pc is the last", [
         registers(),
-        *(sets(name, 0x11111111 + number) for number, name in enumerate(NAMES) if number),
+        *(sets(name, 0x11111111 + number) for number, name in enumerate(REGISTERS) if number),
         go(0x10004),
-        registers(0x10004, **{name: 0x11111111 + number for number, name in enumerate(NAMES) if number}),
+        registers(0x10004, **{name: 0x11111111 + number for number, name in enumerate(REGISTERS) if number}),
     ], ISA),
     Row("words of the stack end with memory", [
         sets("sp", END - 4), write(END - 4, bytes((0x0c, 0, 1, 0))), stack(0x0001000C),
@@ -110,8 +96,8 @@ ROWS = [
         *(register(name, "1", "UnknownName") for name in ("q", "", "x1", "fp", "x0", "A0", "a0 ", "a00", "sp+0", "PC")),
         register("q", "z", "UnknownName"), register("a0", "z", "BadValue"),
         registers(),
-        *(register(name, str(number), number) for number, name in enumerate(NAMES) if number),
-        registers(**{name: number for number, name in enumerate(NAMES)}),
+        *(register(name, str(number), number) for number, name in enumerate(REGISTERS) if number),
+        registers(**{name: number for number, name in enumerate(REGISTERS)}),
     ], ISA),
     Row("a target has one number in a stop", [
         following(1), number(0, "none"),

@@ -4,8 +4,8 @@ import os
 import re
 import subprocess
 
-import playing
-from program import TOP, expect
+from support.players import tables
+from support.program import TOP, expect
 
 SPAN = re.compile(r"`([^`\n]+)`")
 FOLDERS = ("bench", "crates", "docs", "editors", "examples", "tests")
@@ -193,7 +193,7 @@ def each_definition_of_a_request_is_in_its_file():
 
 def each_row_that_is_named_is_there():
     only_tested = text_of("docs/DEFINITIONS.md").partition("## Only tested\n")[2].partition("\n## ")[0]
-    rows = {(table, row.name) for table, module in playing.tables() for row in module.ROWS}
+    rows = {(table, row.name) for table, module in tables() for row in module.ROWS}
     named = [(table, name) for table, names in re.findall(r'(\w+): ((?:"[^"]+"(?:, )?)+)', only_tested)
              for name in re.findall(r'"([^"]+)"', names)]
     expect(len(named) > 10, True, "rows are named")

@@ -5,18 +5,17 @@ import subprocess
 import tempfile
 from concurrent.futures import ThreadPoolExecutor
 
-from program import PROGRAM, TOP, expect, run
-from texts import ANSWERS, SESSION
+from support.program import TOP, expect
 
 MOST = 100000
 
 
 def preload(folder):
-    """Builds tests/refuse.c, which refuses one allocation of the process that it is preloaded into."""
+    """Builds tests/support/refuse.c, which refuses one allocation of the process that it is preloaded into."""
     if shutil.which("cc") is None:
         raise AssertionError("there is no C compiler: install the Debian package gcc")
     library = os.path.join(folder, "refuse.so")
-    subprocess.run(["cc", "-O2", "-Wall", "-Werror", "-shared", "-fPIC", "-o", library, os.path.join(TOP, "tests", "refuse.c"), "-ldl"], check=True)
+    subprocess.run(["cc", "-O2", "-Wall", "-Werror", "-shared", "-fPIC", "-o", library, os.path.join(TOP, "tests", "support", "refuse.c"), "-ldl"], check=True)
     return library
 
 
@@ -52,12 +51,3 @@ def ends_well_without_memory(tell, told):
             expect(out, told[:len(out)], "what was told before it")
 
     expect(len(each_refusal(once)) > 5, True, "some allocations were refused")
-
-
-def the_program_ends_well_without_memory():
-    ends_well_without_memory(lambda environment: run(SESSION, environment=environment), ANSWERS)
-
-
-def checks():
-    """Each check with its name."""
-    return [(check.__name__.replace("_", " "), check) for check in (the_program_ends_well_without_memory,)]

@@ -5,10 +5,11 @@ import re
 import subprocess
 import tempfile
 
-from debugging import CALLS, CIRCLES, PATH, PRINTS, RECURS
-from looks import REGISTERS
-from program import PROGRAM, TOP, expect
-from refusals import each_refusal
+from support.allocations import each_refusal
+from support.debugging import PATH
+from support.machine import REGISTERS
+from support.program import PROGRAM, TOP, expect
+from support.programs import CALLS, CIRCLES, PRINTS, RECURS
 
 NAME = "script"
 FILE = "p.s"

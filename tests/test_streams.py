@@ -1,18 +1,14 @@
 """The built program over standard streams of other kinds: descriptors that do not block, files, devices, and none."""
 import os
-import pty
 import signal
-import socket
 import subprocess
 import tempfile
 import threading
 import time
-import tty
 
-from program import PROGRAM, SECONDS, expect, frame
-from texts import ANSWERS, DISCONNECTED, FIRST, FIRST_ANSWER, SESSION, THREADS, request
-
-FAULT = b"rvdap: read or write fault\n"
+from support.program import PROGRAM, SECONDS, expect, frame
+from support.streams import FAULT, KINDS, Streams, pipes
+from support.texts import ANSWERS, DISCONNECTED, FIRST, FIRST_ANSWER, SESSION, THREADS, request
 
 # More than a pipe, a socket or a terminal holds.
 COUNT = 3000
@@ -20,84 +16,6 @@ MANY = FIRST + b"".join(request(n, "threads") for n in range(2, COUNT + 2))
 MANY_ANSWERS = FIRST_ANSWER + b"".join(frame(THREADS % (n, n)) for n in range(2, COUNT + 2))
 LAST = request(COUNT + 2, "disconnect")
 LAST_ANSWER = frame(DISCONNECTED % (COUNT + 2, COUNT + 2))
-
-
-def pipes():
-    """An input and an output for the program, and the descriptors by which the test writes the one and reads the other."""
-    (its_input, to_it), (from_it, its_output) = os.pipe(), os.pipe()
-    return its_input, its_output, to_it, from_it
-
-
-def one_socket():
-    its, ours = socket.socketpair()
-    its = its.detach()
-    ours = ours.detach()
-    return its, os.dup(its), ours, os.dup(ours)
-
-
-def one_terminal():
-    ours, its = pty.openpty()
-    tty.setraw(its)
-    return its, os.dup(its), ours, os.dup(ours)
-
-
-KINDS = (pipes, one_socket, one_terminal)
-
-
-class Streams:
-    """The program over an input and an output that do not block, which a kind gives."""
-
-    def __init__(self, kind, words=()):
-        its_input, its_output, self.to_it, self.from_it = kind()
-        for descriptor in (its_input, its_output):
-            os.set_blocking(descriptor, False)
-        self.process = subprocess.Popen([PROGRAM, *words], stdin=its_input, stdout=its_output, stderr=subprocess.PIPE)
-        # A program that waits for what never comes ends so, and its test with it.
-        self.limit = threading.Timer(SECONDS, self.process.kill)
-        self.limit.start()
-        for descriptor in (its_input, its_output):
-            os.close(descriptor)
-
-    def __enter__(self):
-        return self
-
-    def __exit__(self, *_):
-        self.limit.cancel()
-        self.process.kill()
-        self.process.wait()
-        self.process.stderr.close()
-        for descriptor in (self.to_it, self.from_it):
-            if descriptor is not None:
-                os.close(descriptor)
-
-    def write(self, data):
-        while data:
-            data = data[os.write(self.to_it, data):]
-
-    def read(self, count, piece=1 << 16):
-        """So many bytes of output, in pieces of at most so many."""
-        said = b""
-        while len(said) < count:
-            more = os.read(self.from_it, min(piece, count - len(said)))
-            if not more:
-                break
-            said += more
-        return said
-
-    def close_input(self):
-        os.close(self.to_it)
-        self.to_it = None
-
-    def close_output(self):
-        os.close(self.from_it)
-        self.from_it = None
-
-    def end(self):
-        """The status, what is on standard error, and how many seconds of processor time the program took."""
-        err = self.process.stderr.read()
-        _, status, used = os.wait4(self.process.pid, 0)
-        self.process.returncode = os.waitstatus_to_exitcode(status)
-        return self.process.returncode, err, used.ru_utime + used.ru_stime
 
 
 def an_empty_input_that_does_not_block_is_waited_for():

@@ -1,9 +1,12 @@
 """The built program, as an editor meets it that sets breakpoints: what it says of them, and where they stop a program."""
-from breaks import ADDRESS, CONDITION, NO_CODE, UNKNOWN, at, body_of, is_not, is_set, on
-from launching import CONTINUED, DONE, ENDLESS, EXITED, INITIALIZED, PRINTED, STOPPED, TERMINATED, expect_all, file_of, frames, is_told, is_told_however_cut
-from program import Talk, answered, expect, frame, run
-from refusals import ends_well_without_memory
-from texts import CAPABILITIES, DISCONNECTED, FIRST, FIRST_ANSWER, refused, request
+from support.allocations import ends_well_without_memory
+from support.breaks import ADDRESS, CONDITION, NO_CODE, UNKNOWN, at, body_of, is_not, is_set, on
+from support.files import file_of
+from support.launches import (CONTINUED, DONE, EXITED, INITIALIZED, PRINTED, STOPPED, TERMINATED, expect_all, frames, is_told,
+                              is_told_however_cut)
+from support.program import Talk, answered, expect, frame, run
+from support.programs import CIRCLES
+from support.texts import CAPABILITIES, DISCONNECTED, FIRST, FIRST_ANSWER, refused, request
 
 # Texts of docs/PROTOCOL.md, sections 4 and 5.
 SET = '{"body":%s,"command":"%s","request_seq":%d,"seq":%d,"success":true,"type":"response"}'
@@ -165,7 +168,7 @@ def a_log_message_is_ignored():
 
 def a_breakpoint_stops_a_long_run_at_its_hit():
     """Two million rounds of one instruction; the program is not held before."""
-    with file_of(ENDLESS) as path, Talk() as talk:
+    with file_of(CIRCLES) as path, Talk() as talk:
         sent, told = launched(path)
         sent += lines(3, path, at(1, "pc == 65536", "2000001")) + request(4, "configurationDone")
         told += said_of_lines(3, 4, is_set(1, 0x10000, 1)) + frame(DONE % ("configurationDone", 4, 5)) + hit(6, 1)

@@ -4,13 +4,15 @@ import subprocess
 import tempfile
 import threading
 
-from breaks import at, is_set
-from debugging import CIRCLES, COUNTS, ENDED, INITIALIZED, NOT_STOPPED, RECURS, exits, stopped
-from launching import file_of, is_told, is_told_however_cut
-from looks import (BAD_EXPRESSION, BASE, END, NO_MACHINE, NOT_WRITABLE, OUTSIDE_MEMORY, STALE, UNKNOWN_REFERENCE, Looking, frame_at, instruction,
-                   no_instruction, registers, stack)
-from program import PROGRAM, SECONDS, TOP, Talk, expect
-from refusals import ends_well_without_memory
+from support.allocations import ends_well_without_memory
+from support.breaks import at, is_set
+from support.debugging import ENDED, INITIALIZED, NOT_STOPPED, exits, stopped
+from support.files import file_of
+from support.launches import is_told, is_told_however_cut
+from support.looks import (BAD_EXPRESSION, BASE, END, NO_MACHINE, NOT_WRITABLE, OUTSIDE_MEMORY, STALE, UNKNOWN_REFERENCE, Looking, frame_at,
+                           instruction, no_instruction, registers, stack)
+from support.program import PROGRAM, SECONDS, TOP, Talk, expect
+from support.programs import CIRCLES, COUNTS, RECURS
 
 # A program that holds a transcript against the protocol's published schema, where there is one at hand.
 VALIDATOR = os.environ.get("DAP_VALIDATE")

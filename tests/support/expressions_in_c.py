@@ -1,7 +1,7 @@
 #!/usr/bin/env python3
 """Writes tests/rows/expressions_in_c.txt: random expressions from a fixed seed, each after the value that C gives it.
 
-Usage: tests/expressions_in_c.py
+Usage: tests/support/expressions_in_c.py
 
 It needs a C compiler; the tests only read the file. Which operator takes which operands is left to C: operators stand in the C program
 as in the expression, with no brackets added. What C leaves undefined, or means otherwise, is settled within single operands, by casts:
@@ -16,7 +16,7 @@ import random
 import subprocess
 import tempfile
 
-TOP = os.path.dirname(os.path.dirname(os.path.abspath(__file__)))
+TOP = os.path.dirname(os.path.dirname(os.path.dirname(os.path.abspath(__file__))))
 DATA = os.path.join(TOP, "tests", "rows", "expressions_in_c.txt")
 SEED = 20191213
 OF_EACH_KIND = 220
@@ -24,7 +24,7 @@ LONGEST = 90
 
 BASE = 0x10000
 PC = 0x00010204
-REGISTERS = {"a0": 5, "a1": 0xfffffffb, "a2": 0x80000000, "a3": 0x7fffffff, "a4": 33, "a5": 0x12345678, "s1": 0xffffffff, "t6": 0x00010100}
+VALUES = {"a0": 5, "a1": 0xfffffffb, "a2": 0x80000000, "a3": 0x7fffffff, "a4": 33, "a5": 0x12345678, "s1": 0xffffffff, "t6": 0x00010100}
 # 251 does not divide the number of bytes, so that words at different addresses differ.
 MEMORY = bytes(i * 7 % 251 for i in range(0x400))
 
@@ -117,7 +117,7 @@ class Maker:
     def leaf(self):
         kind = self.chance.random()
         if kind < 0.45:
-            name = self.chance.choice(sorted(REGISTERS))
+            name = self.chance.choice(sorted(VALUES))
             return name, name
         if kind < 0.5:
             return "pc", "pc"
@@ -148,7 +148,7 @@ def made(chance, kind):
 
 def program(kind, read):
     """The C program that prints the value of each."""
-    machine = dict(REGISTERS, pc=PC)
+    machine = dict(VALUES, pc=PC)
     variables = "\n".join("static volatile %s %s = (%s)%du;" % (kind, name, kind, value) for name, value in machine.items())
     prints = "\n".join('    printf("0x%%08x\\n", (uint32_t)(%s));' % it for it in read)
     return PROGRAM % (", ".join(str(byte) for byte in MEMORY), variables, BASE, prints)

@@ -1,5 +1,5 @@
 """Requests as an editor writes them, and the texts of their answers as docs/PROTOCOL.md has them."""
-from program import frame
+from support.program import frame
 
 INITIALIZE = '{"seq":1,"type":"request","command":"initialize","arguments":{"adapterID":"rvdap"}}'
 CAPABILITIES = (

@@ -3,13 +3,11 @@ session in which it looks."""
 import base64
 import json
 
-from debugging import INITIALIZED, PATH, Debugging
+from support.debugging import INITIALIZED, PATH, Debugging
+from support.machine import BASE, REGISTERS
 
-BASE = 0x10000
 MIB = 1 << 20
 END = BASE + MIB
-
-REGISTERS = ("zero ra sp gp tp t0 t1 t2 s0 s1 a0 a1 a2 a3 a4 a5 a6 a7 s2 s3 s4 s5 s6 s7 s8 s9 s10 s11 t3 t4 t5 t6").split()
 
 # Why a look is refused: the name and the number.
 STALE = ("staleReference", 8)

@@ -6,9 +6,9 @@ import tempfile
 import threading
 import time
 
-from program import PROGRAM, TOP, Talk, expect, frame, run
-from texts import (ANSWERS, CANCELLED, CAPABILITIES, DISCONNECTED, FIRST, FIRST_ANSWER, INITIALIZE, REFUSED, SESSION, THREADS, refused,
-                   request)
+from support.program import PROGRAM, TOP, Talk, expect, frame, run
+from support.texts import (ANSWERS, CANCELLED, CAPABILITIES, DISCONNECTED, FIRST, FIRST_ANSWER, INITIALIZE, REFUSED, SESSION, THREADS,
+                           refused, request)
 
 # The body of a success of `continue`, as a member.
 CONTINUED = '"body":{"allThreadsContinued":true},'

@@ -1,19 +1,10 @@
 """A session in which a program is debugged, written down: what an editor asks and is told, as commands of the session's player and their
 answers. The numbers of both sides are counted here."""
-from breaks import body_of
-from program import frame
-from texts import CAPABILITIES, REFUSED, THREADS, request
+from support.breaks import body_of
+from support.program import frame
+from support.texts import CAPABILITIES, REFUSED, THREADS, request
 
 PATH = "/w/p.s"
-
-# Programs, each a text of one statement a line. The first exits with 6 after 6 instructions, and the third with 0 after 24; the second
-# prints 7 and stops at its ebreak, the fourth instruction; the fourth and the fifth run for ever.
-CALLS = b"_start: li a0, 5\ncall f\nli a7, 93\necall\nf: addi a0, a0, 1\nret\n"
-PRINTS = b"li a0, 7\nli a7, 1\necall\nebreak\ne: j e\n"
-RECURS = (b"_start: li a0, 2\ncall g\nli a7, 93\necall\ng: beqz a0, d\naddi a0, a0, -1\naddi sp, sp, -4\nsw ra, 0(sp)\ncall g\n"
-          b"lw ra, 0(sp)\naddi sp, sp, 4\nd: ret\n")
-COUNTS = b"_start: call f\nj _start\nf: addi a0, a0, 1\nret\n"
-CIRCLES = b"e: j e\n"
 
 # Why a request is refused: the name and the number.
 UNKNOWN = ("unknownCommand", 1)

@@ -8,11 +8,10 @@ import importlib
 import os
 import subprocess
 from dataclasses import dataclass
-from functools import partial
 from itertools import zip_longest
 
-from program import TOP, expect
-from refusals import each_refusal
+from support.allocations import each_refusal
+from support.program import TOP, expect
 
 SECONDS = 120
 NO_MEMORY = "NoMemory"
@@ -93,31 +92,8 @@ def first_of(wanted, lines, status):
     return wanted if status == 0 else wanted[:len(lines)]
 
 
-def what_is_no_command_ends_a_run():
-    for line in ("fed 00", "feed", "feed 00 00", "feed 0", "feed 0g", "new", "new x", "new 4294967296", "next ", " next", ""):
-        expect(play("test_framing", ["new 5", line, "next"]), (["ok", "?"], 2), "the answers with the line %r" % line)
-
-
-def an_answer_that_is_not_taken_ends_a_run():
-    with open("/dev/full", "wb") as full:
-        ran = subprocess.run([program_of("test_framing")], input=b"new 5\nnext\n", stdout=full, timeout=SECONDS)
-    expect(ran.returncode, 1, "the status with a full device")
-
-
 def tables():
     """The name and the module of each table."""
     for path in sorted(glob.glob(os.path.join(TOP, "tests", "rows", "[!_]*.py"))):
         name = os.path.splitext(os.path.basename(path))[0]
         yield name, importlib.import_module("rows." + name)
-
-
-def checks():
-    """Each check with its name: of the players, and a row played, where it says so with each allocation refused too."""
-    found = [(check.__name__.replace("_", " "), check) for check in (what_is_no_command_ends_a_run, an_answer_that_is_not_taken_ends_a_run)]
-    for table, module in tables():
-        for row in module.ROWS:
-            found.append(("%s: %s" % (table, row.name), partial(is_played, module.PLAYER, row)))
-            if row.refused:
-                which = "each allocation" if row.refused == 1 else "one allocation of %d" % row.refused
-                found.append(("%s: %s, %s refused" % (table, row.name, which), partial(is_played_without_memory, module.PLAYER, row)))
-    return found

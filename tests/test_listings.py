@@ -3,19 +3,11 @@ import os
 import subprocess
 import tempfile
 
-from program import PROGRAM, TOP, expect
-from refusals import each_refusal
+from support.allocations import each_refusal
+from support.files import file_of
+from support.program import PROGRAM, TOP, expect
+from support.programs import INCREMENT, INCREMENT_LISTING
 
-INCREMENT = os.path.join(TOP, "examples", "increment.s")
-INCREMENT_LISTING = b"""\
-00010000 00500513 addi a0, zero, 5
-00010004 00000097 auipc ra, 0x0
-00010008 010080e7 jalr ra, 16(ra)
-0001000c 05d00893 addi a7, zero, 93
-00010010 00000073 ecall
-00010014 00150513 addi a0, a0, 1
-00010018 00008067 jalr zero, 0(ra)
-"""
 LONGEST = 1048576
 
 # Each error: its pass, its name, and a text whose last line has it. They stand in the order of the help.
@@ -40,21 +32,14 @@ def listed(*words, environment=None, output=subprocess.PIPE):
     return ran.stdout, ran.stderr, ran.returncode
 
 
-def with_file(text, check):
-    """Calls check(path) with a file that holds the text (bytes)."""
-    with tempfile.TemporaryDirectory() as folder:
-        path = os.path.join(folder, "text.s")
-        with open(path, "wb") as file:
-            file.write(text)
-        check(path)
-
-
 def expect_listing(text, lines):
-    with_file(text, lambda path: expect(listed(path), (lines, b"", 0), "a listing"))
+    with file_of(text) as path:
+        expect(listed(path), (lines, b"", 0), "a listing")
 
 
 def expect_fault(text, reason):
-    with_file(text, lambda path: expect(listed(path), (b"", b"rvdap: %s: %s\n" % (path.encode(), reason), 1), reason))
+    with file_of(text) as path:
+        expect(listed(path), (b"", b"rvdap: %s: %s\n" % (path.encode(), reason), 1), reason)
 
 
 def the_example_is_listed():

@@ -2,7 +2,7 @@
 import os
 import subprocess
 
-from program import TOP, expect
+from support.program import TOP, expect
 
 RUNNER = os.path.join(TOP, "tests", "mutants", "run")
 OWN = os.path.join(TOP, "tests", "mutants", "own")

@@ -8,10 +8,10 @@ import struct
 import subprocess
 import time
 
-from debugging import CALLS, CIRCLES, COUNTS
-from listings import with_file
-from program import PROGRAM, SECONDS, expect, frame
-from texts import ANSWERS, FIRST, FIRST_ANSWER, SESSION, request
+from support.files import file_of
+from support.program import PROGRAM, SECONDS, expect, frame
+from support.programs import CALLS, CIRCLES, COUNTS
+from support.texts import ANSWERS, FIRST, FIRST_ANSWER, SESSION, request
 
 FAULT = b"rvdap: read or write fault\n"
 BAD = b"rvdap: bad message\n"
@@ -148,7 +148,7 @@ def the_first_session_over_tcp():
 
 
 def two_editors_one_after_the_other():
-    def check(path):
+    with file_of(CIRCLES) as path:
         with Server() as server:
             with server.editor() as first:
                 first.sends(launches(path)).expects(*STARTED)
@@ -159,8 +159,6 @@ def two_editors_one_after_the_other():
                 second.sends(request(4, "pause", **THREAD)).expects('"pause"', '"stopped"')
                 second.sends(request(5, "stackTrace", **THREAD)).expects('"totalFrames"')
             expect(server.is_up(), True, "the server outlives its editors")
-
-    with_file(CIRCLES, check)
 
 
 def a_third_waits_while_one_is_served():
@@ -205,13 +203,11 @@ def a_bad_message_ends_its_connection_alone():
 # ---- a program that is given
 
 def a_given_program_is_joined():
-    def check(path):
+    with file_of(CALLS) as path:
         with Server("--program", path, "--memory", "8") as server, server.editor() as editor:
             editor.sends(attaches()).expects(*JOINED, '"reason":"entry"')
             editor.sends(request(4, "readMemory", memoryReference="0x00011fff", count=2)).expects('"unreadableBytes":1')
             editor.sends(request(5, "continue", **THREAD)).expects('"continue"', '"exitCode":6', '"terminated"')
-
-    with_file(CALLS, check)
 
 
 def without_a_program_there_is_none_to_join():
@@ -220,20 +216,18 @@ def without_a_program_there_is_none_to_join():
 
 
 def a_given_program_that_is_not_right_is_said():
-    def check(path):
+    with file_of(b"nop\nj x\n") as path:
         for words, status, err in ((["--program", path], 1, b"rvdap: %s: line 2: Undefined\n" % path.encode()),
                                    (["--program", path + "x"], 1, b"rvdap: %sx: cannot read\n" % path.encode())):
             ran = subprocess.run([PROGRAM, "--listen", "127.0.0.1:0", *words], capture_output=True, timeout=SECONDS)
             expect((ran.stdout, ran.stderr, ran.returncode), (b"", err, status), " ".join(words))
-
-    with_file(b"nop\nj x\n", check)
 
 
 # ---- peers that behave badly
 
 def a_peer_that_vanishes_leaves_the_program_running():
     """It is gone in the middle of a frame; the next one finds the program where it is."""
-    def check(path):
+    with file_of(COUNTS) as path:
         for reset in (False, True):
             with Server() as server:
                 with server.editor() as editor:
@@ -248,8 +242,6 @@ def a_peer_that_vanishes_leaves_the_program_running():
                 with server.editor() as editor:
                     editor.sends(attaches()).expects(*JOINED, '"continued"')
                     editor.sends(request(4, "pause", **THREAD)).expects('"pause"', '"stopped"')
-
-    with_file(COUNTS, check)
 
 
 def a_peer_that_closes_its_side_is_answered_first():
@@ -305,7 +297,7 @@ def many_connections_at_constant_memory():
 # ---- time
 
 def a_pause_of_an_endless_program_is_answered_at_once():
-    def check(path):
+    with file_of(CIRCLES) as path:
         with Server() as server, server.editor() as editor:
             editor.sends(launches(path)).expects(*STARTED)
             time.sleep(0.3)
@@ -313,8 +305,6 @@ def a_pause_of_an_endless_program_is_answered_at_once():
             begun = time.monotonic()
             editor.sends(request(4, "pause", **THREAD)).expects('"pause"', '"reason":"pause"')
             expect(time.monotonic() - begun < 0.5, True, "the time of a pause")
-
-    with_file(CIRCLES, check)
 
 
 def nothing_spins_while_nothing_runs():

@@ -1,26 +1,15 @@
 """The built program, as an editor meets it that launches a program: what it answers, and what it tells of the program."""
-import contextlib
 import os
-import tempfile
 import time
 
-from program import SECONDS, Talk, answered, expect, frame, run
-from refusals import each_refusal
-from streams import FAULT, Streams, pipes
-from texts import CAPABILITIES, DISCONNECTED, FIRST, FIRST_ANSWER, THREADS, refused, request
-
-# Texts of docs/PROTOCOL.md, sections 4 and 5.
-DONE = '{"command":"%s","request_seq":%d,"seq":%d,"success":true,"type":"response"}'
-CONTINUED = '{"body":{"allThreadsContinued":true},"command":"continue","request_seq":%d,"seq":%d,"success":true,"type":"response"}'
-FAILED = ('{"body":{"error":{"format":"%s","id":17}},"command":"launch","message":"assemblyFailed","request_seq":%d,"seq":%d,'
-          '"success":false,"type":"response"}')
-INITIALIZED = '{"event":"initialized","seq":%d,"type":"event"}'
-STOPPED = '{"body":{"allThreadsStopped":true,"reason":"%s","threadId":1},"event":"stopped","seq":%d,"type":"event"}'
-TRAPPED = ('{"body":{"allThreadsStopped":true,"reason":"exception","text":"%s","threadId":1},"event":"stopped","seq":%d,'
-           '"type":"event"}')
-PRINTED = r'{"body":{"category":"stdout","output":"%d\n"},"event":"output","seq":%d,"type":"event"}'
-EXITED = '{"body":{"exitCode":%d},"event":"exited","seq":%d,"type":"event"}'
-TERMINATED = '{"event":"terminated","seq":%d,"type":"event"}'
+from support.allocations import each_refusal
+from support.files import file_of
+from support.launches import (CONTINUED, DONE, EXITED, FAILED, INITIALIZED, PRINTED, STOPPED, TERMINATED, TRAPPED, expect_all, frames,
+                              is_told, is_told_however_cut, started)
+from support.program import SECONDS, Talk, answered, expect, frame, run
+from support.programs import CIRCLES
+from support.streams import FAULT, Streams, pipes
+from support.texts import CAPABILITIES, DISCONNECTED, FIRST, FIRST_ANSWER, THREADS, refused, request
 
 # Prints -7, and ends with the code 3: six lines of one instruction each.
 PRINTS = """_start: li a0, -7
@@ -30,8 +19,6 @@ PRINTS = """_start: li a0, -7
         li a7, 93
         ecall
 """
-
-ENDLESS = "e: j e\n"
 
 # Prints 0, 1, 2 and so on, for ever.
 PRINTS_FOR_EVER = """        li a7, 1
@@ -70,26 +57,6 @@ STORES_BEFORE = """        li t0, %d
 NO_KIB = "error: invalid value '%s' for '--memory <KIB>': not a multiple of 4 from 4 to 16384"
 
 
-@contextlib.contextmanager
-def file_of(text):
-    """The path of a file that holds a text, or bytes. Its name has a blank and a letter beyond ASCII."""
-    with tempfile.TemporaryDirectory() as folder:
-        path = os.path.join(folder, "é p.s")
-        with open(path, "wb") as file:
-            file.write(text if isinstance(text, bytes) else text.encode())
-        yield path
-
-
-def frames(*bodies):
-    return b"".join(map(frame, bodies))
-
-
-def started(path, **arguments):
-    """The requests by which a program is launched and started, and what is told of them."""
-    return (FIRST + request(2, "launch", program=path, **arguments) + request(3, "configurationDone"),
-            FIRST_ANSWER + frames(DONE % ("launch", 2, 2), INITIALIZED % 3, DONE % ("configurationDone", 3, 4)))
-
-
 def stepped(path):
     """A session that steps through PRINTS: what the editor sends, each time with all that it then waits for."""
     one = {"threadId": 1}
@@ -107,32 +74,6 @@ def stepped(path):
         (request(11, "threads"), frame(THREADS % (11, 21))),
         (request(12, "disconnect"), frame(DISCONNECTED % (12, 22))),
     ]
-
-
-def expect_all(talk, told, what):
-    """The rest of what the program says is this, and it ends well."""
-    expect(talk.read(len(told)), told, what)
-    expect(talk.end(), (0, b""), "the end")
-    expect(talk.read_so_far + talk.process.stdout.read(), b"", "what comes after it")
-
-
-def is_told(text, session):
-    """Fails unless the program answers each part of a session with the file of this text as the session says."""
-    with file_of(text) as path, Talk() as talk:
-        for sent, told in session(path):
-            expect(talk.answers(sent, told), told, "what is told after %r" % sent)
-        expect_all(talk, b"", "the rest")
-
-
-def is_told_however_cut(text, session):
-    """The same, with each part cut in two."""
-    with file_of(text) as path:
-        for cut in (1, 15, 18, 20, 21, 22, 23, 30, 50, -2, -1):
-            with Talk() as talk:
-                for sent, told in session(path):
-                    talk.write(sent[:cut])
-                    expect(talk.answers(sent[cut:], told), told, "what is told after %r, cut at %d" % (sent, cut))
-                expect_all(talk, b"", "the rest")
 
 
 def a_program_is_stepped_from_its_entry_to_its_end():
@@ -208,7 +149,7 @@ def a_text_with_an_error_is_refused_with_its_line():
 
 
 def a_program_without_an_end_runs_until_the_end_of_the_input_is_met():
-    with file_of(ENDLESS) as path:
+    with file_of(CIRCLES) as path:
         sent, told = started(path)
         expect(run(sent), (told, b"", 0), "a program that runs for ever, and no more input")
         expect(run(sent + FIRST[:30]), (told, b"", 0), "the same, and an unfinished frame")
@@ -222,7 +163,7 @@ def the_end_of_the_input_is_met_while_a_program_runs():
 
 
 def a_program_without_an_end_is_paused_at_once_and_goes_on():
-    with file_of(ENDLESS) as path, Talk() as talk:
+    with file_of(CIRCLES) as path, Talk() as talk:
         sent, told = started(path)
         expect(talk.answers(sent, told), told, "what is told of the start")
         expect(talk.has_more(0.4), False, "something is told of a program that runs")
@@ -253,7 +194,7 @@ def an_editor_that_vanishes_while_the_program_prints_is_a_fault():
 
 
 def an_editor_that_vanishes_while_the_program_runs_is_a_fault():
-    with file_of(ENDLESS) as path, Talk() as talk:
+    with file_of(CIRCLES) as path, Talk() as talk:
         sent, told = started(path)
         expect(talk.answers(sent, told), told, "what is told before")
         talk.process.stdout.close()

@@ -4,10 +4,10 @@ import os
 import subprocess
 import tempfile
 
-from playing import play, tables
-from program import expect
 from rows.messages import PLAYER, REFUSALS
 from rows.requests import NAMES as REQUESTS
+from support.players import play, tables
+from support.program import expect
 
 # A program that holds a transcript against the protocol's published schema.
 VALIDATOR = os.environ.get("DAP_VALIDATE")

@@ -3,9 +3,10 @@ from outside that the definitions are the intended ones: the player asks a mirro
 import json
 import random
 
-from debugging import CALLS, CIRCLES, COUNTS, PATH, PRINTS, RECURS
-from playing import play
-from program import expect, frame
+from support.debugging import PATH
+from support.players import play
+from support.program import expect, frame
+from support.programs import CALLS, CIRCLES, COUNTS, PRINTS, RECURS
 
 PLAYER = "test_watch_events"
 SEED = 20261124
