@@ -20,6 +20,9 @@ class Mutant:
 
     def __init__(self, crate, name, lines, refused):
         self.name, self.lines = name, lines
+        for path, index in lines:
+            if is_of_law(crate, path, index):
+                raise BadEdit("line %d of %s is of a law, which has no body to make wrong: change something that it speaks of" % (index + 1, path))
         around = {function_at(crate, path, index) for path, index in lines}
         self.is_alone, self.touched = None in around, around - {None}
         self.refused = set(refused) or self.touched
@@ -38,11 +41,22 @@ class Mutant:
 
 
 def function_at(crate, path, index):
-    """The function of src/ that a line belongs to, as the prover calls it, or None. The file is in the layout of rt fmt."""
+    """The function of src/ that a line belongs to, as the prover calls it, or None."""
+    return next((name for name, lines, _ in functions_in(crate, path) if index in lines), None)
+
+
+def is_of_law(crate, path, index):
+    """Whether a line is of the clauses of a law: a function that does nothing, so that no mutant of it is wrong."""
+    return any(index in lines[:-1] and is_law for _, lines, is_law in functions_in(crate, path))
+
+
+def functions_in(crate, path):
+    """The functions of a file of src/ that have a body: the prover's name, the indices of its lines, and whether the body is empty. The file is in the
+    layout of rt fmt."""
     if not path.startswith("src/"):
-        return None
+        return
     lines, owner, module = crate.lines(path), [], module_of(path)
-    for first, line in enumerate(lines[:index + 1]):
+    for first, line in enumerate(lines):
         function, impl = FUNCTION.match(line), IMPL.match(line)
         if impl:
             owner = (module if impl[1] else home_of(crate, path, impl[2])) + [capitalized(impl[2]) + re.sub(r"\W", "", impl[1] or "")]
@@ -50,14 +64,12 @@ def function_at(crate, path, index):
             name = "::".join((owner if function[1] else module) + [function[2]])
             ends = (function[1] + "}", function[1] + "{}")
             last = first if line.endswith("}") else next(i for i in range(first, len(lines)) if lines[i] in ends)
-            if index <= last:
-                return name
-    return None
+            yield name, range(first, last + 1), lines[last] == ends[1]
 
 
 def has_body(lines):
     """Whether the function that begins with these lines has a body, as one that a trait declares has not."""
-    return next(line for line in lines if line.endswith((";", "{"))).endswith("{")
+    return next(line for line in lines if line.endswith((";", "{", "{}"))).endswith(("{", "{}"))
 
 
 def module_of(path):
