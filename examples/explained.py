@@ -89,7 +89,7 @@ def of_stop(body):
 
 
 EVENTS = {
-    "initialized": lambda body: "it may be told its breakpoints", "stopped": of_stop, "continued": lambda body: "it runs",
+    "initialized": lambda body: "ready for breakpoints (initialized)", "stopped": of_stop, "continued": lambda body: "it runs",
     "output": lambda body: "printed: " + body["output"].rstrip("\n"), "exited": lambda body: "exited with %d" % body["exitCode"],
     "terminated": lambda body: "the program has ended",
 }

@@ -24,7 +24,7 @@ print:
     li   a7, 93              # exit, with a0 as the status
     ecall
 
-# sort(a0: where the words begin, a1: how many): puts the least word first, and sorts the others.
+# sort(a0: where the words begin, a1: how many): puts the smallest word first, and sorts the others.
 sort:
     li   t0, 2
     bltu a1, t0, sorted
@@ -33,7 +33,7 @@ sort:
     sw   a0, 4(sp)
     sw   a1, 0(sp)
     call least
-    lw   t0, 4(sp)           # t0: where the first word is, a0: where the least is
+    lw   t0, 4(sp)           # t0: where the first word is, a0: where the smallest is
     lw   t1, 0(t0)
     lw   t2, 0(a0)
     sw   t2, 0(t0)           # they change places
@@ -47,7 +47,7 @@ sort:
 sorted:
     ret
 
-# least(a0: where the words begin, a1: how many): a0 is where the least of them is.
+# least(a0: where the words begin, a1: how many): a0 is where the smallest of them is.
 least:
     slli t0, a1, 2
     add  t0, a0, t0          # t0: the end
