@@ -1,8 +1,11 @@
-"""The sample of functions that save ra by hand: what an editor is told of its calls is what its text says."""
+"""The examples, and the tables of docs/TEACHING.md and docs/TROUBLE.md: what they say is what comes of it."""
 import json
+import math
 import os
+import re
 import subprocess
 
+from support.files import file_of
 from support.program import PROGRAM, TOP, expect
 
 NESTED = os.path.join(TOP, "examples", "nested.s")
@@ -58,9 +61,69 @@ def it_ends_with_what_its_functions_compute():
     expect(reasons[-1], {"exitCode": 13}, "the end")
 
 
+def rows(page, header):
+    """The rows of the table of a page that has this header, each a list of its cells."""
+    with open(os.path.join(TOP, "docs", page), encoding="utf-8") as file:
+        table = file.read().partition("\n%s\n|---" % header)[2].partition("\n\n")[0]
+    return [[cell.strip() for cell in line.strip("|").split(" | ")] for line in table.split("\n")[1:]]
+
+
+def code(cell):
+    """The spans of code of a cell, without those of links."""
+    return re.findall("`([^`]*)`", re.sub(r"\]\([^)]*\)", "]", cell))
+
+
+def assembled(text):
+    """What `rvdap asm` says of a text, without its name; nothing where it is listed."""
+    with file_of(text) as path:
+        ran = subprocess.run([PROGRAM, "asm", path], capture_output=True, text=True, timeout=60)
+        return ran.stderr.replace("rvdap: %s: " % path, "").strip()
+
+
+def stop_of(text):
+    """Why a run of a text stops, as examples/run says it; nothing where it ends by itself."""
+    with file_of(text) as path:
+        ran = subprocess.run([os.path.join(TOP, "examples", "run"), "--rvdap", PROGRAM, path], capture_output=True, text=True, timeout=60)
+        return ran.stderr.strip().rpartition(": ")[2]
+
+
+def each_habit_of_other_simulators_is_met_as_the_table_says():
+    table = rows("TEACHING.md", "| They write | Here | Write |")
+    expect(len(table) > 30, True, "rows of the table")
+    for written, here, instead in table:
+        text, fix = "\n".join(code(written)), "\n".join(code(instead.partition(";")[0]))
+        if here.startswith("stops: "):
+            expect(stop_of(text), code(here)[0], "a run of %r" % text)
+            expect(stop_of(fix) == code(here)[0] and bool(fix), False, "a run of %r" % fix)
+        else:
+            expect(assembled(text), code(here)[0], "the text %r" % text)
+        if fix:
+            expect(assembled(fix), "", "the text %r" % fix)
+
+
+def collatz(number):
+    steps = 0
+    while number != 1:
+        number, steps = 3 * number + 1 if number % 2 else number // 2, steps + 1
+    return steps
+
+
+def fibonacci(count):
+    return 1 if count < 3 else fibonacci(count - 1) + fibonacci(count - 2)
+
+
+def the_exercises_print_what_the_table_says():
+    wanted = [sum((3, -1, 4, -1, 5)), max(3, 9, -20, 7), bin(0xF0F00001).count("1"), math.gcd(84, 36), 123 * 45, collatz(27), fibonacci(10),
+              ", ".join(map(str, sorted((30, 10, 40, 20))))]
+    printed = [prints for _, prints in rows("TEACHING.md", "| Write a program that | It prints |")]
+    expect(printed, list(map(str, wanted)), "what the exercises print")
+
+
 def checks():
     """Each check with its name."""
     return [(check.__name__.replace("_", " "), check) for check in (
         each_caller_is_shown_and_stepping_out_stops_in_it,
         it_ends_with_what_its_functions_compute,
+        each_habit_of_other_simulators_is_met_as_the_table_says,
+        the_exercises_print_what_the_table_says,
     )]

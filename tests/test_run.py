@@ -11,8 +11,8 @@ SORT, UNDEFINED = (os.path.join(TOP, "examples", name) for name in ("sort.s", "u
 
 # Prints -7 and 2147483647, and ends with the code 259, of which the low 8 bits are 3.
 PRINTS = b"li a7, 1\nli a0, -7\necall\nli a0, 2147483647\necall\nli a7, 93\nli a0, 259\necall\n"
-# Prints 1, and then runs for ever.
-ENDLESS = b"li a7, 1\nli a0, 1\necall\ne: j e\n"
+# Runs for ever, and prints 1 each time.
+ENDLESS = b"li a7, 1\nli a0, 1\ne: ecall\nj e\n"
 # Prints 1, and then loads from address 0, on line 4.
 TRAPS = b"li a7, 1\nli a0, 1\n_start: ecall\nlw a0, 0(zero)\n"
 EBREAK = b"f: nop\nebreak\nnop\n"
@@ -39,6 +39,7 @@ def a_trap_is_said_with_its_line():
     # It begins at its label, not at its first line.
     expect_run(TRAPS, "", "3: _start: unknown environment call\n", 123)
     expect_run(TRAPS.replace(b"_start: ", b"f: "), "1\n", "4: f+4: load access fault\n", 123)
+    expect_run(b"nop\n", "", " 0x00010004: illegal instruction\n", 123)
 
 
 def an_ebreak_stops_it():
@@ -46,7 +47,10 @@ def an_ebreak_stops_it():
 
 
 def the_time_is_limited():
-    expect_run(ENDLESS, "1\n", " not done after 3 seconds\n", 124, "--seconds", "3")
+    with file_of(ENDLESS) as path:
+        printed, said, status = run(RUN, "--seconds", "3", path)
+    expect((said, status), (path + ": not done after 3 seconds\n", 124), "a run without end")
+    expect(set(printed.split("\n")), {"1", ""}, "what it prints before the time is up")
 
 
 def an_error_is_said_with_its_line_as_compilers_do():
@@ -80,7 +84,7 @@ def submissions_are_graded():
     texts = (b"li a7, 1\nli a0, 1\necall\nli a7, 93\nli a0, 3\necall\n", PRINTS, PRINTS.replace(b"-7", b"7"), PRINTS.replace(b"259", b"4"),
              ENDLESS, EBREAK, b"call f\n")
     why = (": printed 1 as number 1, and not -7", None, ": printed 7 as number 1, and not -7", ": exit code 4, and not 3",
-           ": not done after 5 seconds", ": 3: f+8: stopped after an ebreak", ": 1: error: Undefined: no line defines a label that is used here")
+           ": not done after 4 seconds", ": 3: f+8: stopped after an ebreak", ": 1: error: Undefined: no line defines a label that is used here")
     with tempfile.TemporaryDirectory() as folder:
         paths = [os.path.join(folder, "%d.s" % number) for number in range(len(texts))]
         for path, text in zip([*paths, os.path.join(folder, "expected")], [*texts, b"-7\n2147483647\n"]):
@@ -88,7 +92,7 @@ def submissions_are_graded():
                 file.write(text)
         wanted = "".join("%s  %s%s\n" % ("failed" if fault else "passed", path, fault or "") for path, fault in zip(paths, why))
         expected = os.path.join(folder, "expected")
-        expect(run(GRADE, "--seconds", "5", "--status", "3", expected, *paths), (wanted + "1 of 7 passed\n", "", 1), "seven submissions")
+        expect(run(GRADE, "--seconds", "4", "--status", "3", expected, *paths), (wanted + "1 of 7 passed\n", "", 1), "seven submissions")
         expect(run(GRADE, "--status", "3", expected, paths[1]), ("passed  %s\n1 of 1 passed\n" % paths[1], "", 0), "one that is right")
         printed = run(GRADE, expected, UNDEFINED)[0]
         expect(printed.startswith("failed  %s: 4: error: Undefined: " % UNDEFINED), True, "the example with an error: %r" % printed)
