@@ -62,10 +62,10 @@ def it_ends_with_what_its_functions_compute():
 
 
 def rows(page, header):
-    """The rows of the table of a page that has this header, each a list of its cells."""
+    """The rows of all tables of a page that have this header, each a list of its cells."""
     with open(os.path.join(TOP, "docs", page), encoding="utf-8") as file:
-        table = file.read().partition("\n%s\n|---" % header)[2].partition("\n\n")[0]
-    return [[cell.strip() for cell in line.strip("|").split(" | ")] for line in table.split("\n")[1:]]
+        tables = file.read().split("\n%s\n|---" % header)[1:]
+    return [[cell.strip() for cell in line.strip("|").split(" | ")] for table in tables for line in table.partition("\n\n")[0].split("\n")[1:]]
 
 
 def code(cell):
@@ -80,11 +80,19 @@ def assembled(text):
         return ran.stderr.replace("rvdap: %s: " % path, "").strip()
 
 
-def stop_of(text):
-    """Why a run of a text stops, as examples/run says it; nothing where it ends by itself."""
+def ran(text):
+    """A run of a text by examples/run."""
     with file_of(text) as path:
-        ran = subprocess.run([os.path.join(TOP, "examples", "run"), "--rvdap", PROGRAM, path], capture_output=True, text=True, timeout=60)
-        return ran.stderr.strip().rpartition(": ")[2]
+        return subprocess.run([os.path.join(TOP, "examples", "run"), "--rvdap", PROGRAM, path], capture_output=True, text=True, timeout=60)
+
+
+def stop_of(text):
+    """Why a run of a text stops; nothing where it ends by itself."""
+    return ran(text).stderr.strip().rpartition(": ")[2]
+
+
+def printed_by(text):
+    return ran(text).stdout
 
 
 def each_habit_of_other_simulators_is_met_as_the_table_says():
@@ -119,6 +127,24 @@ def the_exercises_print_what_the_table_says():
     expect(printed, list(map(str, wanted)), "what the exercises print")
 
 
+def the_guide_multiplies():
+    fix, = ["\n".join(code(cells[3])) for cells in rows("MACHINE.md", "| Lines | Reported | Why | Fix |") if "mul" in cells[0]]
+    for first, second in ((6, 7), (-3, 5), (9, 0), (65536, 3000)):
+        product = (first * second + 2**31) % 2**32 - 2**31
+        text = "li a1, %d\nli a2, %d\n%s\nli a7, 1\necall\nli a7, 93\nli a0, 0\necall\n" % (first, second, fix)
+        expect(printed_by(text), "%d\n" % product, "the product of %d and %d" % (first, second))
+
+
+def the_guide_reads_hexadecimal():
+    table = rows("MACHINE.md", "| Shown | Unsigned | Signed |")
+    expect(len(table), 5, "the rows of numbers")
+    for shown, unsigned, signed in table:
+        value = int(shown, 16)
+        expect(int(unsigned.rpartition("= ")[2].replace(",", "")), value, "%s as an unsigned number" % shown)
+        expect(int(signed.replace(",", "")), value - 2**32 * (value >> 31), "%s as a signed number" % shown)
+        expect(printed_by("li a0, %s\nli a7, 1\necall\nebreak\n" % shown), signed.replace(",", "") + "\n", "%s is printed" % shown)
+
+
 def checks():
     """Each check with its name."""
     return [(check.__name__.replace("_", " "), check) for check in (
@@ -126,4 +152,6 @@ def checks():
         it_ends_with_what_its_functions_compute,
         each_habit_of_other_simulators_is_met_as_the_table_says,
         the_exercises_print_what_the_table_says,
+        the_guide_multiplies,
+        the_guide_reads_hexadecimal,
     )]
