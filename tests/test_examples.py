@@ -1,4 +1,4 @@
-"""The examples, and the tables of docs/TEACHING.md and docs/TROUBLE.md: what they say is what comes of it."""
+"""The examples, and what docs/TEACHING.md and docs/MACHINE.md say in tables about programs: each is tried with the built program."""
 import json
 import math
 import os
@@ -135,6 +135,25 @@ def the_guide_multiplies():
         expect(printed_by(text), "%d\n" % product, "the product of %d and %d" % (first, second))
 
 
+def the_programs_of_the_guide_are_examples():
+    with open(os.path.join(TOP, "docs", "MACHINE.md"), encoding="utf-8") as file:
+        texts = re.findall(r"```asm\n(.*?)```\n", file.read(), re.DOTALL)
+    for name, text, printed in (("squares.s", texts[0], "1\n4\n9\n"), ("count.s", texts[1], "2\n")):
+        with open(os.path.join(TOP, "examples", name), encoding="utf-8") as file:
+            expect(file.read(), text, "examples/%s" % name)
+        run = ran(text)
+        expect((run.stdout, run.stderr, run.returncode), (printed, "", 0), "a run of examples/%s" % name)
+
+
+def traps_are_shown_as_the_guide_says():
+    texts = {"FetchOutside": "j 0", "Illegal": "nop", "JumpMisaligned": "j 65538", "LoadMisaligned": "lw a0, 1(sp)", "LoadOutside": "lb a0, 0(sp)",
+             "StoreMisaligned": "sh a0, 1(zero)", "StoreOutside": "sw a0, 0(zero)", "UnknownCall": "ecall"}
+    table = rows("MACHINE.md", "| Cause | An editor shows | When |")
+    expect([code(cause) for cause, _, _ in table], [[cause] for cause in texts], "the causes")
+    for cause, shown, _ in table:
+        expect(stop_of(texts[code(cause)[0]] + "\n"), code(shown)[0], "the stop of %s" % cause)
+
+
 def the_guide_reads_hexadecimal():
     table = rows("MACHINE.md", "| Shown | Unsigned | Signed |")
     expect(len(table), 5, "the rows of numbers")
@@ -153,5 +172,7 @@ def checks():
         each_habit_of_other_simulators_is_met_as_the_table_says,
         the_exercises_print_what_the_table_says,
         the_guide_multiplies,
+        the_programs_of_the_guide_are_examples,
+        traps_are_shown_as_the_guide_says,
         the_guide_reads_hexadecimal,
     )]
