@@ -36,7 +36,7 @@ def expected_frames(function, line):
 
 
 def played():
-    """Each message of the session, with the command of the last request before it."""
+    """The requests and the messages of the session, in order."""
     ran = subprocess.run([os.path.join(TOP, "examples", "play"), os.path.join(TOP, "examples", "nesting"), PROGRAM],
                          cwd=TOP, capture_output=True, text=True, timeout=60)
     expect((ran.stderr, ran.returncode), ("", 0), "examples/play examples/nesting")
@@ -65,7 +65,8 @@ def rows(page, header):
     """The rows of all tables of a page that have this header, each a list of its cells."""
     with open(os.path.join(TOP, "docs", page), encoding="utf-8") as file:
         tables = file.read().split("\n%s\n|---" % header)[1:]
-    return [[cell.strip() for cell in line.strip("|").split(" | ")] for table in tables for line in table.partition("\n\n")[0].split("\n")[1:]]
+    lines = [line for table in tables for line in table.partition("\n\n")[0].split("\n")[1:]]
+    return [[cell.strip() for cell in line.strip("|").split(" | ")] for line in lines]
 
 
 def code(cell):
@@ -80,19 +81,20 @@ def assembled(text):
         return ran.stderr.replace("rvdap: %s: " % path, "").strip()
 
 
-def ran(text):
+def run_of(text):
     """A run of a text by examples/run."""
     with file_of(text) as path:
-        return subprocess.run([os.path.join(TOP, "examples", "run"), "--rvdap", PROGRAM, path], capture_output=True, text=True, timeout=60)
+        command = [os.path.join(TOP, "examples", "run"), "--rvdap", PROGRAM, path]
+        return subprocess.run(command, capture_output=True, text=True, timeout=60)
 
 
 def stop_of(text):
     """Why a run of a text stops; nothing where it ends by itself."""
-    return ran(text).stderr.strip().rpartition(": ")[2]
+    return run_of(text).stderr.strip().rpartition(": ")[2]
 
 
 def printed_by(text):
-    return ran(text).stdout
+    return run_of(text).stdout
 
 
 def each_habit_of_other_simulators_is_met_as_the_table_says():
@@ -100,13 +102,10 @@ def each_habit_of_other_simulators_is_met_as_the_table_says():
     expect(len(table) > 30, True, "rows of the table")
     for written, here, instead in table:
         text, fix = "\n".join(code(written)), "\n".join(code(instead.partition(";")[0]))
-        if here.startswith("stops: "):
-            expect(stop_of(text), code(here)[0], "a run of %r" % text)
-            expect(stop_of(fix) == code(here)[0] and bool(fix), False, "a run of %r" % fix)
-        else:
-            expect(assembled(text), code(here)[0], "the text %r" % text)
+        what_comes = stop_of if here.startswith("stops: ") else assembled
+        expect(what_comes(text), code(here)[0], "what comes of %r" % text)
         if fix:
-            expect(assembled(fix), "", "the text %r" % fix)
+            expect((assembled(fix), what_comes(fix) != code(here)[0]), ("", True), "the text %r" % fix)
 
 
 def collatz(number):
@@ -121,8 +120,8 @@ def fibonacci(count):
 
 
 def the_exercises_print_what_the_table_says():
-    wanted = [sum((3, -1, 4, -1, 5)), max(3, 9, -20, 7), bin(0xF0F00001).count("1"), math.gcd(84, 36), 123 * 45, collatz(27), fibonacci(10),
-              ", ".join(map(str, sorted((30, 10, 40, 20))))]
+    wanted = [sum((3, -1, 4, -1, 5)), max(3, 9, -20, 7), bin(0xF0F00001).count("1"), math.gcd(84, 36), 123 * 45, collatz(27),
+              fibonacci(10), ", ".join(map(str, sorted((30, 10, 40, 20))))]
     printed = [prints for _, prints in rows("TEACHING.md", "| Write a program that | It prints |")]
     expect(printed, list(map(str, wanted)), "what the exercises print")
 
@@ -141,13 +140,13 @@ def the_programs_of_the_guide_are_examples():
     for name, text, printed in (("squares.s", texts[0], "1\n4\n9\n"), ("count.s", texts[1], "2\n")):
         with open(os.path.join(TOP, "examples", name), encoding="utf-8") as file:
             expect(file.read(), text, "examples/%s" % name)
-        run = ran(text)
-        expect((run.stdout, run.stderr, run.returncode), (printed, "", 0), "a run of examples/%s" % name)
+        ran = run_of(text)
+        expect((ran.stdout, ran.stderr, ran.returncode), (printed, "", 0), "a run of examples/%s" % name)
 
 
 def traps_are_shown_as_the_guide_says():
-    texts = {"FetchOutside": "j 0", "Illegal": "nop", "JumpMisaligned": "j 65538", "LoadMisaligned": "lw a0, 1(sp)", "LoadOutside": "lb a0, 0(sp)",
-             "StoreMisaligned": "sh a0, 1(zero)", "StoreOutside": "sw a0, 0(zero)", "UnknownCall": "ecall"}
+    texts = {"FetchOutside": "j 0", "Illegal": "nop", "JumpMisaligned": "j 65538", "LoadMisaligned": "lw a0, 1(sp)",
+             "LoadOutside": "lb a0, 0(sp)", "StoreMisaligned": "sh a0, 1(zero)", "StoreOutside": "sw a0, 0(zero)", "UnknownCall": "ecall"}
     table = rows("MACHINE.md", "| Cause | An editor shows | When |")
     expect([code(cause) for cause, _, _ in table], [[cause] for cause in texts], "the causes")
     for cause, shown, _ in table:

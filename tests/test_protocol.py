@@ -48,8 +48,8 @@ def function_breakpoints_are_an_unknown_command():
 
 
 def memory_is_looked_at_before_the_rule_on_listening():
-    for words, said in ((["--once", "--memory", "5"], b"invalid value '5' for '--memory <KIB>'"), (["--once", "--memory", "8"], b"'--once'"),
-                        (["--once", "--memory", "5", "--bad"], b"'--bad'")):
+    for words, said in ((["--once", "--memory", "5"], b"invalid value '5' for '--memory <KIB>'"),
+                        (["--once", "--memory", "8"], b"'--once'"), (["--once", "--memory", "5", "--bad"], b"'--bad'")):
         ran = subprocess.run([PROGRAM, *words], stdin=subprocess.DEVNULL, capture_output=True, timeout=60)
         expect((ran.stdout, ran.returncode, said in ran.stderr.splitlines()[0]), (b"", 2, True), "what is said of %s" % words)
 

@@ -54,9 +54,10 @@ def the_time_is_limited():
 
 
 def an_error_is_said_with_its_line_as_compilers_do():
-    expect_run(b"nop\n  addi a0, a0, 2048\n", "", "2: error: OutOfRange: a number does not fit its place, an instruction is not at a multiple of 4,"
-               " or a target is too far\n  addi a0, a0, 2048\n", 125)
-    expect_run(b"nop\n# \xff\n", "", "2: error: NotUtf8: the line has a byte that is not UTF-8: save the file as UTF-8\n# \ufffd\n", 125)
+    expect_run(b"nop\n  addi a0, a0, 2048\n", "", "2: error: OutOfRange: a number does not fit its place, an instruction is not at a"
+               " multiple of 4, or a target is too far\n  addi a0, a0, 2048\n", 125)
+    expect_run(b"nop\n# \xff\n", "",
+               "2: error: NotUtf8: the line has a byte that is not UTF-8: save the file as UTF-8\n# \ufffd\n", 125)
 
 
 def each_error_has_a_hint():
@@ -81,10 +82,11 @@ def memory_is_given_to_the_program():
 
 
 def submissions_are_graded():
-    texts = (b"li a7, 1\nli a0, 1\necall\nli a7, 93\nli a0, 3\necall\n", PRINTS, PRINTS.replace(b"-7", b"7"), PRINTS.replace(b"259", b"4"),
-             ENDLESS, EBREAK, b"call f\n")
+    texts = (b"li a7, 1\nli a0, 1\necall\nli a7, 93\nli a0, 3\necall\n", PRINTS, PRINTS.replace(b"-7", b"7"),
+             PRINTS.replace(b"259", b"4"), ENDLESS, EBREAK, b"call f\n")
     why = (": printed 1 as number 1, and not -7", None, ": printed 7 as number 1, and not -7", ": exit code 4, and not 3",
-           ": not done after 4 seconds", ": 3: f+8: stopped after an ebreak", ": 1: error: Undefined: no line defines a label that is used here")
+           ": not done after 4 seconds", ": 3: f+8: stopped after an ebreak",
+           ": 1: error: Undefined: no line defines a label that is used here")
     with tempfile.TemporaryDirectory() as folder:
         paths = [os.path.join(folder, "%d.s" % number) for number in range(len(texts))]
         for path, text in zip([*paths, os.path.join(folder, "expected")], [*texts, b"-7\n2147483647\n"]):

@@ -153,13 +153,14 @@ def one_that_ended_shows_nothing():
         expect(editor.ask("stackTrace", threadId=1)["body"]["totalFrames"], 1, "what it shows there")
         editor.ask("continue", threadId=1)
         editor.event("terminated")
-        expect((editor.refusal("stackTrace", threadId=1), editor.refusal("evaluate", expression="a0")), ("ended", "ended"), "after its end")
+        for command, arguments in (("stackTrace", {"threadId": 1}), ("evaluate", {"expression": "a0"})):
+            expect(editor.refusal(command, **arguments), "ended", "%s after its end" % command)
     with_editor(ENDS, act)
 
 
 def traps_stop_it_again_and_again():
-    for text, said in ((b"ecall\n", "unknown environment call"), (b"nop\n", "illegal instruction"), (b"lw a0, 8(zero)\n", "load access fault"),
-                       (b"sw a0, 8(zero)\n", "store access fault")):
+    for text, said in ((b"ecall\n", "unknown environment call"), (b"nop\n", "illegal instruction"),
+                       (b"lw a0, 8(zero)\n", "load access fault"), (b"sw a0, 8(zero)\n", "store access fault")):
         stop = stop_of(text)
         expect((stop["reason"], stop["text"]), ("exception", said), "the stop of %r" % text)
 
