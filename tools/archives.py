@@ -27,7 +27,7 @@ def tar_gz(files, seconds, prefix=""):
             entry.mtime, entry.mode, entry.uname, entry.gname = seconds, mode, "root", "root"
             entry.type, entry.size = (tarfile.DIRTYPE, 0) if data is None else (tarfile.REGTYPE, len(data))
             tar.addfile(entry, None if data is None else io.BytesIO(data))
-    return gzip.compress(made.getvalue(), mtime=0)
+    return gzip.compress(made.getvalue(), 6, mtime=0)
 
 
 def ar(members, seconds):
