@@ -365,13 +365,24 @@ def bash_completes_the_words_of_help():
     expect([size for size in sizes if size % 4 or not 4 <= size <= 16384], [], "sizes of memory that are none")
 
 
-def zsh_and_fish_complete_the_words_of_help():
+def zsh_and_fish_have_the_words_of_help():
     zsh, fish = text_of("packaging", "completions", "_rvdap"), text_of("packaging", "completions", "rvdap.fish")
     options = re.findall(r"^ +'(--\w+)\[", zsh, re.M) + re.findall(r"\{(-\w),(--\w+)\}", zsh) + re.findall(r"(\w+)\\:\"", zsh)
     found = {word for it in options for word in ([it] if isinstance(it, str) else it)}
     expect(found, words_of_help(), "zsh")
     found = {"--" + word for word in re.findall(r" -l (\w+)", fish)} | {"-" + word for word in re.findall(r" -s (\w)", fish)}
     expect(found | set(re.findall(r" -a (\w+) ", fish)), words_of_help(), "fish")
+
+
+def fish_completes_the_words_of_help():
+    if not shutil.which("fish"):
+        print("left out: fish completes the words of --help, since there is none here")
+        return
+    file = os.path.join(TOP, "packaging", "completions", "rvdap.fish")
+    said = {line: said_by("fish", "--no-config", "-c", "source $argv[1]; complete -C $argv[2]", file, line) for line in ("rvdap ", "rvdap -", "rvdap asm -")}
+    offered = {line: {it.split("\t")[0] for it in text.splitlines()} for line, text in said.items()}
+    expect(offered["rvdap "] | offered["rvdap -"], words_of_help(), "the first word")
+    expect(offered["rvdap asm -"], words_of_help("asm"), "options after asm")
 
 
 def each_shell_reads_its_completions():
@@ -389,4 +400,4 @@ def checks():
         make_test_runs_the_tests, make_install_installs_what_is_documented, packages_are_the_same_each_time, a_time_has_to_be_known,
         the_tar_file_unpacks_and_debugs, the_debian_package_unpacks_and_debugs, dpkg_reads_the_package, the_extension_is_packed_whole,
         the_program_needs_libc_alone, the_manual_page_has_the_words_of_help, the_manual_page_is_one, bash_completes_the_words_of_help,
-        zsh_and_fish_complete_the_words_of_help, each_shell_reads_its_completions)]
+        zsh_and_fish_have_the_words_of_help, fish_completes_the_words_of_help, each_shell_reads_its_completions)]

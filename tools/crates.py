@@ -20,10 +20,11 @@ def below(table, name):
 
 
 def texts_of(folder):
-    """The files of a crate, without what was made of them."""
-    for place, folders, names in os.walk(folder):
-        folders[:] = sorted(set(folders) - {"out"})
-        yield from (os.path.join(place, name) for name in sorted(names))
+    """The files that a crate is proved from."""
+    for part in ("src", "specs", "proofs"):
+        for place, folders, names in os.walk(os.path.join(folder, part)):
+            folders.sort()
+            yield from (os.path.join(place, name) for name in sorted(names))
 
 
 def size_of(folder):
