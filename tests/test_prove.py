@@ -48,6 +48,8 @@ for it in os.environ["BELOW_" + name].split():
 if words != (["run", "--", "--version"] if name == "rvdap" else ["lib"]):
     sys.exit("the words are %s" % words)
 note("begin")
+if os.path.exists("out/incremental/kept"):
+    note("kept")
 make("out/incremental/kept", name)
 print("rt: chose --jobs 1 for %s" % name, flush=True)
 print("so far: 1 of 2 functions", flush=True)
@@ -175,12 +177,13 @@ def a_failure_shows_its_last_lines():
         shown = ["fn b::f%d: not proved" % number for number in range(20, 60)]
         said = ["b is not proved: rt ended with status 1. All that was said is in build/prove.log"]
         expect((status, "\n".join([*shown, *said]) in out), (1, True), "the status and the last lines of\n%s" % out)
-        expect("f19" in out, False, "more than 40 lines")
+        expect(("f19" in out, out.count(" is not proved: ")), (False, 1), "whether there are more than 40 lines, and the failures that are told")
         expect({name for _, name in notes(top)}, {"a", "b", "c"}, "what was begun")
         expect("b: fn b::f19: not proved" in text_of(top, "build/prove.log"), True, "the log")
         expect(text_of(top, "crates/b/out/incremental/kept"), "b", "what rt kept of the failed one")
         _, status = proved(top)
-        expect((status, {name for _, name in notes(top)}), (0, {"b", "d", "rvdap"}), "the next run")
+        seen = notes(top)
+        expect((status, {name for _, name in seen}, ("kept", "b") in seen), (0, {"b", "d", "rvdap"}, True), "the next run, from what rt kept")
 
 
 def what_is_proved_stays_so():

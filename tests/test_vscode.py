@@ -7,6 +7,7 @@ import json
 import os
 import re
 import shutil
+import socket
 import subprocess
 import tempfile
 import threading
@@ -206,7 +207,7 @@ def the_grammar_has_the_words_of_the_language():
             with open(path, "w", encoding="ascii") as file:
                 file.write(word + "\n")
             ran = subprocess.run([PROGRAM, "asm", path], capture_output=True, text=True, check=False)
-            expect(ran.stderr.strip()[-len("Instruction"):] != "Instruction", True, "%s is known: %s" % (word, ran.stderr))
+            expect("UnknownInstruction" in ran.stderr, False, "whether %s is unknown: %s" % (word, ran.stderr))
 
 
 def command():
@@ -220,30 +221,25 @@ def command():
 
 
 class Client:
-    """An editor at the command that VS Code finds, where a folder of the path has the built program. events: those not yet waited for."""
+    """An editor that writes to one stream and reads from another. events: those that came and were not waited for."""
 
-    def __init__(self, folder):
-        os.symlink(PROGRAM, os.path.join(folder, "rvdap"))
-        path = folder + ":" + os.environ["PATH"]
-        expect(shutil.which(command()[0], path=path), os.path.join(folder, "rvdap"), "the command that is found")
-        self.process = subprocess.Popen(command(), env={**os.environ, "PATH": path}, stdin=subprocess.PIPE, stdout=subprocess.PIPE)
-        self.limit = threading.Timer(SECONDS, self.process.kill)
-        self.limit.start()
-        self.number, self.events, self.answers = 0, [], {}
+    def __init__(self, to_it, from_it):
+        self.to_it, self.from_it, self.number, self.events, self.answers = to_it, from_it, 0, [], {}
 
     def send(self, command, **arguments):
         """Sends a request, and answers its number."""
         self.number += 1
         body = json.dumps({"command": command, "arguments": arguments, "type": "request", "seq": self.number}).encode()
-        self.process.stdin.write(b"Content-Length: %d\r\n\r\n%s" % (len(body), body))
-        self.process.stdin.flush()
+        self.to_it.write(b"Content-Length: %d\r\n\r\n%s" % (len(body), body))
+        self.to_it.flush()
         return self.number
 
     def read(self):
         """Reads the next message."""
-        header = self.process.stdout.readline() + self.process.stdout.readline()
+        header = self.from_it.readline() + self.from_it.readline()
         length = re.fullmatch(rb"Content-Length: (\d+)\r\n\r\n", header)
-        message = json.loads(self.process.stdout.read(int(length[1])))
+        expect(bool(length), True, "%r is a header" % header)
+        message = json.loads(self.from_it.read(int(length[1])))
         if message["type"] == "event":
             self.events.append(message)
         else:
@@ -272,32 +268,42 @@ class Client:
                     return it.get("body")
             self.read()
 
-    def end(self):
-        """What VS Code does at the end of a session; the program ends by itself."""
-        self.ask("disconnect", restart=False)
-        self.process.stdin.close()
-        expect(self.process.wait(SECONDS), 0, "the status")
+
+@contextlib.contextmanager
+def started(words, **how):
+    """A process that is ended with the test, or when its time is up."""
+    with subprocess.Popen(words, **how) as process:
+        limit = threading.Timer(SECONDS, process.kill)
+        limit.start()
+        try:
+            yield process
+        finally:
+            limit.cancel()
+            process.kill()
 
 
 @contextlib.contextmanager
 def client():
+    """An editor of the command that VS Code finds, where a folder of the path has the built program, which ends with status 0."""
     with tempfile.TemporaryDirectory() as folder:
-        made = Client(folder)
-        try:
-            yield made
-        finally:
-            made.limit.cancel()
-            made.process.kill()
-            made.process.wait()
-            made.process.stdin.close()
-            made.process.stdout.close()
+        os.symlink(PROGRAM, os.path.join(folder, "rvdap"))
+        path = folder + ":" + os.environ["PATH"]
+        expect(shutil.which(command()[0], path=path), os.path.join(folder, "rvdap"), "the command that is found")
+        with started(command(), env={**os.environ, "PATH": path}, stdin=subprocess.PIPE, stdout=subprocess.PIPE) as process:
+            yield Client(process.stdin, process.stdout)
+            process.stdin.close()
+            expect(process.wait(SECONDS), 0, "the status")
+
+
+def configuration(path):
+    """What F5 launches a file with: the initial configuration, and what VS Code adds to it."""
+    [said] = debugger()["initialConfigurations"]
+    said = {word: path if value == "${file}" else value for word, value in said.items()}
+    return {**said, "__configurationTarget": 6, "__sessionId": "0b6e7e37-6d2f-4f9e-a6b5-3d4a3e1f4a60"}
 
 
 def launched(editor, path):
-    """The answer of a launch, as F5 sends it with the initial configuration."""
-    [said] = debugger()["initialConfigurations"]
-    said = {word: path if value == "${file}" else value for word, value in said.items()}
-    return editor.ask("launch", **said, __configurationTarget=6, __sessionId="0b6e7e37-6d2f-4f9e-a6b5-3d4a3e1f4a60")
+    return editor.ask("launch", **configuration(path))
 
 
 def source(path):
@@ -329,7 +335,7 @@ def refreshed(editor):
 
 def hovered(editor, word, frame):
     """The value in a hover, or None where there is none to show."""
-    said = editor.ask("evaluate", expression=word, frameId=frame["id"], context="hover")
+    said = editor.ask("evaluate", expression=word, frameId=frame["id"], context="hover", line=frame["line"], column=9, source=source(SORT))
     return said["body"]["result"] if said["success"] else None
 
 
@@ -368,14 +374,14 @@ def a_program_is_debugged_in_the_order_of_vs_code():
 
 def ends_anew(editor):
     """Starts the program anew, takes the breakpoint away, and lets it run to its end."""
-    editor.body("restart")
+    editor.body("restart", arguments=configuration(SORT))
     expect(refreshed(editor)[0], "entry", "a restart")
     editor.body("setBreakpoints", source=source(SORT), lines=[], breakpoints=[], sourceModified=False)
     editor.body("continue", threadId=1)
     expect(editor.event("exited"), {"exitCode": 0}, "the exit")
     editor.event("terminated")
     expect([it["body"]["output"] for it in editor.events if it["event"] == "output"], ["10\n", "20\n", "30\n", "40\n"], "what was printed")
-    editor.end()
+    editor.body("disconnect", terminateDebuggee=False)
 
 
 def an_instruction_breakpoint_of_the_disassembly_stops():
@@ -390,7 +396,9 @@ def an_instruction_breakpoint_of_the_disassembly_stops():
         editor.body("continue", threadId=1)
         reason, frames, _, _ = refreshed(editor)
         expect((reason, frames[0]["line"]), ("instruction breakpoint", 5), "where it stops")
-        editor.end()
+        editor.body("terminate", restart=False)  # the button Stop
+        editor.event("terminated")
+        editor.body("disconnect", terminateDebuggee=False)
 
 
 def a_program_with_an_error_is_told_with_its_line():
@@ -399,8 +407,34 @@ def a_program_with_an_error_is_told_with_its_line():
         said = launched(editor, UNDEFINED)
         error = said["body"]["error"]
         shown = re.sub(r"\{(\w+)\}", lambda it: str(error.get("variables", {}).get(it[1], it[0])), error["format"])
-        expect((said["success"], shown), (False, "line 4: Undefined"), "the text of the dialog")
-        editor.end()
+        expect((said["success"], shown), (False, "line 4: Undefined"), "the text of the box")
+        editor.body("disconnect", restart=False)
+
+
+def joined(port):
+    """Joins the program at a port with the snippet's configuration, sees it at its entry, and leaves it by the button Disconnect."""
+    [said] = [it["body"] for it in debugger()["configurationSnippets"] if it["body"]["request"] == "attach"]
+    said = {**{name: inserted(value) for name, value in said.items()}, "debugServer": port}
+    with socket.create_connection(("127.0.0.1", said["debugServer"]), timeout=SECONDS) as line:
+        with line.makefile("wb") as to_it, line.makefile("rb") as from_it:
+            editor = Client(to_it, from_it)
+            editor.body("initialize", **FLAGS)
+            editor.body("attach", **said)
+            [breakpoint] = configured(editor, SORT, [{"line": 36}])
+            expect(breakpoint["verified"], True, "the breakpoint")
+            reason, frames, _, _ = refreshed(editor)
+            expect((reason, frames[0]["line"]), ("entry", 3), "the program at the port")
+            editor.body("disconnect", terminateDebuggee=False)
+
+
+def a_program_at_a_port_is_joined_and_left():
+    with socket.create_server(("127.0.0.1", 0)) as free:
+        port = free.getsockname()[1]
+    words = [PROGRAM, "--listen", "127.0.0.1:%d" % port, "--program", SORT]
+    with started(words, stdin=subprocess.DEVNULL, stderr=subprocess.PIPE, text=True) as process:
+        expect(process.stderr.readline(), "listening on 127.0.0.1:%d\n" % port, "what it says first")
+        joined(port)
+        joined(port)
 
 
 def checks():
@@ -408,4 +442,4 @@ def checks():
         the_manifest_has_what_it_needs, languages_and_files_are_there, the_debugger_says_what_one_may, configurations_fit_their_attributes,
         the_problem_matcher_finds_the_line, configurations_of_the_readme_fit, each_line_of_the_examples_is_coloured,
         the_grammar_has_the_words_of_the_language, a_program_is_debugged_in_the_order_of_vs_code,
-        an_instruction_breakpoint_of_the_disassembly_stops, a_program_with_an_error_is_told_with_its_line)]
+        an_instruction_breakpoint_of_the_disassembly_stops, a_program_with_an_error_is_told_with_its_line, a_program_at_a_port_is_joined_and_left)]
