@@ -76,9 +76,9 @@ def make(top, *words, path=None, **more):
 
 
 def expect_session(out, what):
-    """The session over examples/sort.s, as examples/play explains it: 30, 10, 40 and 20 are sorted, but for two words that are changed there."""
+    """The session over examples/sort.s, as examples/play explains it: it sorts 30, 10, 40 and 20, but for two words, since it sets a0."""
     lines = [line.strip() for line in out.splitlines()]
-    wanted = ["stopped: entry", "stopped: breakpoint 1", "stopped: step", "printed: 10", "printed: 20", "printed: 40", "printed: 30", "exited with 0"]
+    wanted = ["stopped: entry", "stopped: breakpoint 1", "stopped: step", *("printed: %d" % it for it in (10, 20, 40, 30)), "exited with 0"]
     expect([line for line in lines if line.startswith(("stopped", "printed", "exited"))], wanted, what)
 
 
@@ -97,7 +97,8 @@ def without_rt_and_program_make_says_what_is_absent():
             expect((err.splitlines()[0], status), (said, 2), "make %s" % target)
         for target in ("build", "test"):
             out, err, status = make(top, target)
-            expect((out, err.splitlines()[0].startswith("make: rt is absent: put the bin folder"), status), ("", True, 2), "make %s" % target)
+            is_told = err.startswith("make: rt is absent: put the bin folder")
+            expect((out, is_told, status), ("", True, 2), "make %s" % target)
 
 
 def make_build_proves_and_keeps_the_program():
@@ -171,7 +172,7 @@ def packages_are_the_same_each_time():
 def a_time_has_to_be_known():
     with copied() as top:
         _, err, status = make(top, "dist")
-        expect(("SOURCE_DATE_EPOCH is not set" in err, status), (True, 2), "make dist without git and SOURCE_DATE_EPOCH, which says %s" % err)
+        expect(("SOURCE_DATE_EPOCH is not set" in err, status), (True, 2), "make dist without git, which says %s" % err)
 
 
 def members_of_ar(data):
@@ -200,7 +201,8 @@ def unpack(data, root):
 def expect_debugs(root, documents, program):
     """Debugs an example of the package with its program, by its player of sessions."""
     player = [sys.executable, os.path.join(root, documents, "examples", "play"), "--explained", "examples/sorting"]
-    expect_session(said_by(*player, os.path.join(root, program), cwd=os.path.join(root, documents)), "a session with the program of the package")
+    said = said_by(*player, os.path.join(root, program), cwd=os.path.join(root, documents))
+    expect_session(said, "a session with the program of the package")
 
 
 def documents_of(top):
@@ -229,7 +231,8 @@ def debian_places():
 
 def the_debian_package_unpacks_and_debugs():
     members = members_of_ar(packages()[names_of_packages()[1]])
-    expect((list(members), members["debian-binary"]), (["debian-binary", "control.tar.gz", "data.tar.gz"], b"2.0\n"), "the parts of the package")
+    expect(list(members), ["debian-binary", "control.tar.gz", "data.tar.gz"], "the parts of the package")
+    expect(members["debian-binary"], b"2.0\n", "the version of its form")
     with tempfile.TemporaryDirectory() as root:
         found = unpack(members["data.tar.gz"], root)
         wanted = [*debian_places(), "usr/share/doc/rvdap/copyright", *("usr/share/doc/rvdap/" + path for path in documents_of(TOP))]
@@ -265,7 +268,8 @@ def dpkg_reads_the_package():
         path, root = os.path.join(folder, "rvdap.deb"), os.path.join(folder, "root")
         with open(path, "wb") as file:
             file.write(packages()[names_of_packages()[1]])
-        expect(said_by("dpkg-deb", "--show", "--showformat=${Package} ${Version} ${Architecture}", path), "rvdap %s amd64" % version(), "what it is")
+        said = said_by("dpkg-deb", "--show", "--showformat=${Package} ${Version} ${Architecture}", path)
+        expect(said, "rvdap %s amd64" % version(), "what it is")
         said_by("dpkg-deb", "-x", path, root)
         expect_debugs(root, "usr/share/doc/rvdap", "usr/bin/rvdap")
 
@@ -329,14 +333,16 @@ def the_manual_page_has_the_words_of_help():
     expect({title.split()[0] for title in titles_of("SCRIPTS")}, set(re.findall(r"^  (\w+)", events, re.M)), "events of a script")
     expect(re.search(r'^\.TH RVDAP 1 \S+ "(.*?)"', manual_page())[1], "rvdap " + version(), "the version")
     usage = said_by(PROGRAM, "--help").partition("Usage: ")[2].partition("\n\n")[0]
-    expect([line.split()[1] for line in usage.splitlines()], ["[--memory", "--listen", "asm", "watch"], "the ways to use it, as the page has them")
+    ways = [line.split()[1] for line in usage.splitlines()]
+    expect(ways, ["[--memory", "--listen", "asm", "watch"], "the ways to use it, as the page has them")
 
 
 def the_manual_page_is_one():
     if not shutil.which("mandoc"):
         print("left out: mandoc reads the manual page, since there is none here")
         return
-    ran = subprocess.run(["mandoc", "-T", "lint", "-W", "warning", os.path.join(TOP, "packaging", "rvdap.1")], capture_output=True, text=True, check=False)
+    words = ["mandoc", "-T", "lint", "-W", "warning", os.path.join(TOP, "packaging", "rvdap.1")]
+    ran = subprocess.run(words, capture_output=True, text=True, check=False)
     expect((ran.stdout, ran.returncode), ("", 0), "what mandoc warns of")
 
 
@@ -356,11 +362,12 @@ def completed_by_bash(*words):
 def bash_completes_the_words_of_help():
     expect(completed_by_bash(""), words_of_help(), "the first word")
     expect(completed_by_bash("--l"), {"--listen"}, "a word that has begun")
-    expect(completed_by_bash("--listen", "127.0.0.1:1", ""), words_of_help() - words_of_help("asm") - {"asm", "watch", "--version", "-V"}, "after one")
+    expect(completed_by_bash("--listen", "127.0.0.1:1", ""), {"--memory", "--listen", "--program", "--once"}, "after an option")
     for command in ("asm", "watch"):
         expect(completed_by_bash(command, "-"), words_of_help(command), "options after " + command)
-    expect([completed_by_bash(*words, "") for words in (["asm"], ["--program"], ["watch"])], [{"a.s", "c"}, {"a.s", "c"}, {"a.s", "b.txt", "c"}], "files")
-    expect([completed_by_bash("asm", "a.s", ""), completed_by_bash("--listen", "")], [set(), {"127.0.0.1:4711"}], "no more files, and an address")
+    for words, files in {"asm": "a.s c", "--program": "a.s c", "watch": "a.s b.txt c", "asm a.s": ""}.items():
+        expect(completed_by_bash(*words.split(), ""), set(files.split()), "files after " + words)
+    expect(completed_by_bash("--listen", ""), {"127.0.0.1:4711"}, "an address")
     sizes = sorted(map(int, completed_by_bash("--memory", "")))
     expect([size for size in sizes if size % 4 or not 4 <= size <= 16384], [], "sizes of memory that are none")
 
@@ -379,8 +386,10 @@ def fish_completes_the_words_of_help():
         print("left out: fish completes the words of --help, since there is none here")
         return
     file = os.path.join(TOP, "packaging", "completions", "rvdap.fish")
-    said = {line: said_by("fish", "--no-config", "-c", "source $argv[1]; complete -C $argv[2]", file, line) for line in ("rvdap ", "rvdap -", "rvdap asm -")}
-    offered = {line: {it.split("\t")[0] for it in text.splitlines()} for line, text in said.items()}
+    script, offered = "source $argv[1]; complete -C $argv[2]", {}
+    for line in ("rvdap ", "rvdap -", "rvdap asm -"):
+        said = said_by("fish", "--no-config", "-c", script, file, line)
+        offered[line] = {it.split("\t")[0] for it in said.splitlines()}
     expect(offered["rvdap "] | offered["rvdap -"], words_of_help(), "the first word")
     expect(offered["rvdap asm -"], words_of_help("asm"), "options after asm")
 
@@ -390,7 +399,8 @@ def each_shell_reads_its_completions():
         if not shutil.which(shell):
             print("left out: whether %s reads its completions, since there is none here" % shell)
             continue
-        ran = subprocess.run([shell, "-n", os.path.join(TOP, "packaging", "completions", name)], capture_output=True, text=True, check=False)
+        words = [shell, "-n", os.path.join(TOP, "packaging", "completions", name)]
+        ran = subprocess.run(words, capture_output=True, text=True, check=False)
         expect((ran.stderr, ran.returncode), ("", 0), shell)
 
 

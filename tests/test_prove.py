@@ -73,7 +73,8 @@ def repository():
     with tempfile.TemporaryDirectory() as folder:
         top = os.path.join(folder, "top")
         shutil.copytree(os.path.join(TOP, "tools"), os.path.join(top, "tools"), ignore=shutil.ignore_patterns("__pycache__"))
-        texts = {"crates.txt": LIST, "HANDLES": "Handles allowed: none.\n", "docs/INSTALL.md": "```\nrattle-kit-0 logic 0\n```\n", "../bin/rt": RT.replace("%s", sys.executable, 1)}
+        texts = {"crates.txt": LIST, "HANDLES": "Handles allowed: none.\n", "docs/INSTALL.md": "```\nrattle-kit-0 logic 0\n```\n",
+                 "../bin/rt": RT.replace("%s", sys.executable, 1)}
         texts.update({"crates/%s/src/lib.rt" % name: name for name in (*BELOW, "other", "test_a")})
         for path, text in texts.items():
             path = os.path.join(top, path)
@@ -86,13 +87,14 @@ def repository():
 
 def environment(top, **more):
     folder = os.path.dirname(top)
+    path = os.path.join(folder, "bin") + ":" + os.environ["PATH"]
     below = {"BELOW_" + name: " ".join(names) for name, names in BELOW.items()}
-    return {**os.environ, "PATH": os.path.join(folder, "bin") + ":" + os.environ["PATH"], "NOTES": os.path.join(folder, "notes"), **below, **more}
+    return {**os.environ, "PATH": path, "NOTES": os.path.join(folder, "notes"), **below, **more}
 
 
 def begun(top, out=subprocess.PIPE, **more):
-    return subprocess.Popen([sys.executable, os.path.join(top, "tools", "prove")], env=environment(top, **more), stdin=subprocess.DEVNULL, stdout=out,
-                            stderr=subprocess.STDOUT, text=True)
+    words = [sys.executable, os.path.join(top, "tools", "prove")]
+    return subprocess.Popen(words, env=environment(top, **more), stdin=subprocess.DEVNULL, stdout=out, stderr=subprocess.STDOUT, text=True)
 
 
 def proved(top, **more):
@@ -124,7 +126,8 @@ def each_crate_after_those_below_it():
         expect((status, sorted(name for word, name in seen if word == "begin")), (0, sorted(BELOW)), "what was proved, after\n%s" % out)
         for name, names in BELOW.items():
             for it in names:
-                expect(seen.index(("end", it)) < seen.index(("begin", name)), True, "%s was proved before %s was begun, in %s" % (it, name, seen))
+                is_before = seen.index(("end", it)) < seen.index(("begin", name))
+                expect(is_before, True, "%s was proved before %s was begun, in %s" % (it, name, seen))
         expect(text_of(top, "crates/rvdap/out/rvdap"), "program", "the program")
         expect(os.path.exists(os.path.join(top, "build", "prove")), False, "the copies are there after the run")
 
@@ -143,14 +146,16 @@ def two_side_by_side():
 def a_line_for_each_crate_and_a_log():
     with repository() as top:
         lines = proved(top)[0].splitlines()
-        forms = [r"Proving 5 crates, \d+ side by side\. .* about 45 minutes on four idle cores; .*", r"Meanwhile README\.md .* build/prove\.log\."]
+        forms = [r"Proving 5 crates, \d+ side by side\. .* about 45 minutes on four idle cores; .*",
+                 r"Meanwhile README\.md .* build/prove\.log\."]
         forms += [r"\[ %d/5\] (%s) +2 functions  0:\d\d" % it for it in enumerate(("a", "b|c", "b|c", "d", "rvdap"), 1)]
         expect(len(lines), len(forms), "how many lines there are in %s" % lines)
         for line, form in zip(lines, forms):
             expect(bool(re.fullmatch(form, line)), True, "the line %r has the form %s" % (line, form))
         log = text_of(top, "build/prove.log").splitlines()
         expect([line for line in log if line.startswith("d: ")],
-               ["d: rt: chose --jobs 1 for d", "d: so far: 1 of 2 functions", "d: fn d::f: proved", "d: logic=proved functions=2 sum=0"], "the log")
+               ["d: rt: chose --jobs 1 for d", "d: so far: 1 of 2 functions", "d: fn d::f: proved", "d: logic=proved functions=2 sum=0"],
+               "the log")
 
 
 def a_line_that_moves_on_a_terminal():
@@ -177,13 +182,14 @@ def a_failure_shows_its_last_lines():
         shown = ["fn b::f%d: not proved" % number for number in range(20, 60)]
         said = ["b is not proved: rt ended with status 1. All that was said is in build/prove.log"]
         expect((status, "\n".join([*shown, *said]) in out), (1, True), "the status and the last lines of\n%s" % out)
-        expect(("f19" in out, out.count(" is not proved: ")), (False, 1), "whether there are more than 40 lines, and the failures that are told")
+        expect(("f19" in out, out.count(" is not proved: ")), (False, 1), "whether more lines are shown, and how many failures")
         expect({name for _, name in notes(top)}, {"a", "b", "c"}, "what was begun")
         expect("b: fn b::f19: not proved" in text_of(top, "build/prove.log"), True, "the log")
         expect(text_of(top, "crates/b/out/incremental/kept"), "b", "what rt kept of the failed one")
         _, status = proved(top)
         seen = notes(top)
-        expect((status, {name for _, name in seen}, ("kept", "b") in seen), (0, {"b", "d", "rvdap"}, True), "the next run, from what rt kept")
+        expect((status, {name for _, name in seen}), (0, {"b", "d", "rvdap"}), "the next run")
+        expect(("kept", "b") in seen, True, "it begins with what rt kept of the failed one")
 
 
 def what_is_proved_stays_so():
@@ -195,7 +201,8 @@ def what_is_proved_stays_so():
         with open(os.path.join(top, "crates", "c", "src", "lib.rt"), "a", encoding="utf-8") as file:
             file.write("changed")
         out, status = proved(top)
-        expect((status, [it for it in notes(top) if it[0] == "begin"]), (0, [("begin", it) for it in ("c", "d", "rvdap")]), "after a change")
+        begun_now = [name for word, name in notes(top) if word == "begin"]
+        expect((status, begun_now), (0, ["c", "d", "rvdap"]), "after a change")
         expect("Proving 3 of 5 crates" in out, True, "what is said of it, in %s" % out)
         shutil.rmtree(os.path.join(top, "crates", "b", "out"))
         proved(top)
@@ -236,8 +243,16 @@ def another_kit_is_told():
     with repository() as top:
         with open(os.path.join(top, "docs", "INSTALL.md"), "w", encoding="utf-8") as file:
             file.write("rattle-kit-1 logic 1\n")
-        first = proved(top)[0].splitlines()[0]
-        expect(first, "This kit is rattle-kit-0 logic 0. The proofs were checked by rattle-kit-1 logic 1, and another kit may refuse them.", "the first line")
+        said = "This kit is rattle-kit-0 logic 0. The proofs were checked by rattle-kit-1 logic 1, and another kit may refuse them."
+        expect(proved(top)[0].splitlines()[0], said, "the first line")
+
+
+def the_documents_name_one_kit():
+    said = {}
+    for path in ("README.md", "docs/INSTALL.md", "docs/PROOFS.md"):
+        said.update((line, path) for line in re.findall(r"^rattle-kit\S* .*$", text_of(TOP, path), re.M))
+    expect(len(said), 1, "how many kits are named, by %s" % said)
+    expect(len(re.findall(r"^rattle-kit\S* .*$", text_of(TOP, "docs/INSTALL.md"), re.M)), 1, "the line that tools/prove looks for")
 
 
 def the_program_stands_on_its_crates():
@@ -245,15 +260,17 @@ def the_program_stands_on_its_crates():
     found = crates.below(table, "rvdap")
     listed = re.findall(r"^(\w+): ?(.*)$", text_of(TOP, "crates.txt"), re.M)
     expect([name for name in found if name.startswith(("test", "bench"))], [], "crates of tests and benches")
-    expect([name for name in found if not os.path.isfile(os.path.join(TOP, "crates", name, "src", "lib.rt"))], [], "libraries that are not there")
+    absent = [name for name in found if not os.path.isfile(os.path.join(TOP, "crates", name, "src", "lib.rt"))]
+    expect(absent, [], "libraries that are not there")
     for name, uses in listed:
         if name in [*found, "rvdap"]:
-            here = [it for it in uses.split("#")[0].split() if os.path.isdir(os.path.join(TOP, "crates", it))]
-            expect(set(here) <= set(found[:found.index(name)] if name in found else found), True, "all of %s comes before %s" % (here, name))
+            here = {it for it in uses.split("#")[0].split() if os.path.isdir(os.path.join(TOP, "crates", it))}
+            before = found[:found.index(name)] if name in found else found
+            expect(here - set(before), set(), "what %s stands on, and what does not come before it" % name)
 
 
 def checks():
     return [("tools/prove: " + check.__name__.replace("_", " "), check) for check in (
         each_crate_after_those_below_it, two_side_by_side, a_line_for_each_crate_and_a_log, a_line_that_moves_on_a_terminal,
         a_failure_shows_its_last_lines, what_is_proved_stays_so, an_interrupt_leaves_what_is_proved, one_at_a_time_in_a_checkout,
-        another_kit_is_told, the_program_stands_on_its_crates)]
+        another_kit_is_told, the_documents_name_one_kit, the_program_stands_on_its_crates)]

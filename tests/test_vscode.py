@@ -1,4 +1,4 @@
-"""The extension of VS Code: its declarations by the rules of VS Code's contribution points, and a session in the order of VS Code's requests.
+"""The extension of VS Code: its declarations by the rules of contribution points, and sessions in the order of VS Code's requests.
 
 VS Code itself has no part in this: its rules and its order are written down here as they are known.
 """
@@ -22,8 +22,9 @@ CATEGORIES = {"Programming Languages", "Snippets", "Linters", "Themes", "Debugge
               "Extension Packs", "Language Packs", "Data Science", "Machine Learning", "Visualization", "Notebooks", "Education", "Testing"}
 POINTS = {"languages", "grammars", "breakpoints", "debuggers", "problemMatchers"}
 # What a debugger may say, with the kind of each value.
-DEBUGGER = {"type": str, "label": str, "program": str, "args": list, "runtime": str, "runtimeArgs": list, "variables": dict, "languages": list,
-            "initialConfigurations": list, "configurationSnippets": list, "configurationAttributes": dict, "strings": dict}
+DEBUGGER = {"type": str, "label": str, "program": str, "args": list, "runtime": str, "runtimeArgs": list, "variables": dict,
+            "languages": list, "initialConfigurations": list, "configurationSnippets": list, "configurationAttributes": dict,
+            "strings": dict}
 MATCHER = {"name", "label", "owner", "source", "severity", "applyTo", "fileLocation", "pattern", "background", "base"}
 KINDS = {"string": str, "boolean": bool, "number": (int, float), "object": dict, "array": list}
 # What each configuration has, whatever its debugger.
@@ -138,7 +139,8 @@ def the_problem_matcher_finds_the_line():
     with tempfile.TemporaryDirectory() as folder:
         path = os.path.join(folder, "é 1: line 2.s")
         shutil.copy(UNDEFINED, path)
-        ran = subprocess.run([PROGRAM] + [word.replace("${file}", path) for word in task["args"]], capture_output=True, text=True, check=False)
+        words = [PROGRAM, *(word.replace("${file}", path) for word in task["args"])]
+        ran = subprocess.run(words, capture_output=True, text=True, check=False)
         pattern = matcher["pattern"]
         found = [re.search(pattern["regexp"], line) for line in (ran.stdout + ran.stderr).splitlines()]
         expect((ran.returncode, [[it[pattern[word]] for word in ("file", "line", "message")] for it in found if it]),
@@ -181,7 +183,8 @@ def each_line_of_the_examples_is_coloured():
               ("# -1", "comment.line.number-sign")]
     expect([it[1:] for it in colours("_start: lw a0, %lo(x.y$)(sp) # -1")], wanted, "colours")
     wanted = [("add", "entity.name.function"), ("a0", "entity.name.function"), (".word", "keyword.control.directive"),
-              ("-0x1F", "constant.numeric"), ("add", "variable.other.name"), ("x31", "variable.language.register"), ("x32", "variable.other.name")]
+              ("-0x1F", "constant.numeric"), ("add", "variable.other.name"), ("x31", "variable.language.register"),
+              ("x32", "variable.other.name")]
     expect([it[1:] for it in colours("add:a0:\t.word -0x1F, add, x31, x32")], wanted, "colours of names that are words elsewhere")
     names = sorted(name for name in os.listdir(os.path.join(TOP, "examples")) if name.endswith(".s"))
     expect(len(names) >= 3, True, "examples")
@@ -311,7 +314,7 @@ def source(path):
 
 
 def configured(editor, path, lines):
-    """Sends the breakpoints as VS Code does: those of each file, and the empty list of those at instructions, without waiting between them."""
+    """Sends the breakpoints as VS Code does: those of each file, and none at instructions, without waiting between them."""
     editor.event("initialized")
     sent = [editor.send("setBreakpoints", source=source(path), lines=[it["line"] for it in lines], breakpoints=lines, sourceModified=False),
             editor.send("setInstructionBreakpoints", breakpoints=[])]
@@ -342,7 +345,8 @@ def hovered(editor, word, frame):
 def expect_disassembly(editor, frame):
     """The view of the disassembly: 400 entries, whose addresses are numbers, with the instruction of the frame at the middle."""
     at = frame["instructionPointerReference"]
-    entries = editor.body("disassemble", memoryReference=at, offset=0, instructionOffset=-200, instructionCount=400, resolveSymbols=True)["instructions"]
+    block = {"offset": 0, "instructionOffset": -200, "instructionCount": 400, "resolveSymbols": True}
+    entries = editor.body("disassemble", memoryReference=at, **block)["instructions"]
     addresses = [int(it["address"], 16) for it in entries]
     expect((len(entries), addresses[200], entries[200]["instruction"]), (400, int(at, 16), "lw t0, 4(sp)"), "the disassembly")
     expect(addresses, sorted(addresses), "the addresses")
@@ -350,15 +354,16 @@ def expect_disassembly(editor, frame):
 
 def a_program_is_debugged_in_the_order_of_vs_code():
     with client() as editor:
-        capabilities = editor.body("initialize", **FLAGS)
-        expect((launched(editor, SORT)["success"], "supportsStepBack" in capabilities), (True, False), "the launch, and a step back that is offered")
+        editor.body("initialize", **FLAGS)
+        expect(launched(editor, SORT)["success"], True, "the launch")
         [breakpoint] = configured(editor, SORT, [{"line": 36, "condition": "[sp] == 2"}])
         expect((breakpoint["verified"], breakpoint["line"]), (True, 36), "the breakpoint")
         reason, frames, _, _ = refreshed(editor)
         expect((reason, frames[0]["line"]), ("entry", 3), "the entry")
         editor.body("continue", threadId=1)
         reason, frames, scopes, registers = refreshed(editor)
-        expect((reason, [it["line"] for it in frames], [it["name"] for it in scopes]), ("breakpoint", [36, 44, 44, 14], ["Registers", "Stack"]), "there")
+        expect((reason, [it["line"] for it in frames]), ("breakpoint", [36, 44, 44, 14]), "the stop at the breakpoint")
+        expect([it["name"] for it in scopes], ["Registers", "Stack"], "the scopes")
         expect([hovered(editor, word, frames[0]) for word in ("a1", "sort", "4", "lw", "[[sp + 4]]")],
                ["0x00000002", None, "0x00000004", None, "0x00000028"], "hovers")
         expect_disassembly(editor, frames[0])
@@ -442,4 +447,5 @@ def checks():
         the_manifest_has_what_it_needs, languages_and_files_are_there, the_debugger_says_what_one_may, configurations_fit_their_attributes,
         the_problem_matcher_finds_the_line, configurations_of_the_readme_fit, each_line_of_the_examples_is_coloured,
         the_grammar_has_the_words_of_the_language, a_program_is_debugged_in_the_order_of_vs_code,
-        an_instruction_breakpoint_of_the_disassembly_stops, a_program_with_an_error_is_told_with_its_line, a_program_at_a_port_is_joined_and_left)]
+        an_instruction_breakpoint_of_the_disassembly_stops, a_program_with_an_error_is_told_with_its_line,
+        a_program_at_a_port_is_joined_and_left)]

@@ -49,7 +49,8 @@ def sums_of(top, table, names, kit):
 
 
 def longest_first(top, table, names, waiting):
-    """Those that wait of these crates, given lowest first; first those with the most text on their way up to the last: they hold up the most."""
+    """Those that wait of these crates, given lowest first. First are those with the most text on their way up to the last:
+    they hold up the most."""
     weights = {}
     for name in reversed(names):
         above = [weights[it] for it in weights if name in table[it]]

@@ -1,4 +1,7 @@
-"""What a person sees of the proofs: a line for each crate that is proved, and on a terminal a last line that moves. All that is said is in a log."""
+"""What a person sees of the proofs: a line for each crate that is proved, and on a terminal a last line that moves.
+
+All that `rt` says is in a log.
+"""
 import re
 import shutil
 import sys
@@ -37,7 +40,8 @@ class Progress:
 
     def fails(self, name, status, log):
         del self.functions[name]
-        self.shows("\n".join([*self.said[name], "%s is not proved: rt ended with status %d. All that was said is in %s" % (name, status, log)]))
+        why = "%s is not proved: rt ended with status %d. All that was said is in %s" % (name, status, log)
+        self.shows("\n".join([*self.said[name], why]))
 
     def shows(self, text):
         """Prints lines, in place of the one that moves."""
