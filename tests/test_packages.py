@@ -187,9 +187,10 @@ def members_of_ar(data):
     return found
 
 
-def unpack(data, root):
-    """Unpacks a tar file, whose members are root's and of the one time, and answers its files by path."""
+def unpack(data, root, has_folders=True):
+    """Unpacks a tar file, whose members are root's and of the one time, with its folders or without, and answers its files by path."""
     with tarfile.open(fileobj=io.BytesIO(data)) as tar:
+        expect(any(it.isdir() for it in tar.getmembers()), has_folders, "whether folders are in it")
         for it in tar.getmembers():
             wanted = (0, 0, EPOCH, 0o755 if it.isdir() or it.mode & 0o100 else 0o644, True)
             expect((it.uid, it.gid, it.mtime, it.mode, it.isdir() or it.isfile()), wanted, "the owner, time, mode and kind of %s" % it.name)
@@ -216,7 +217,8 @@ def documents_of(top):
 def the_tar_file_unpacks_and_debugs():
     with tempfile.TemporaryDirectory() as root:
         name = "rvdap-%s-linux-x86-64" % version()
-        found = unpack(packages()[name + ".tar.gz"], root)
+        # It has no folders, so that those of ~/.local keep their modes.
+        found = unpack(packages()[name + ".tar.gz"], root, has_folders=False)
         wanted = [*table_of_places(), *("share/doc/rvdap/" + path for path in documents_of(TOP))]
         expect(found, sorted(name + "/" + path for path in wanted), "the files")
         expect_debugs(os.path.join(root, name), "share/doc/rvdap", "bin/rvdap")
@@ -248,7 +250,7 @@ def the_debian_package_unpacks_and_debugs():
 def expect_control(data, root, files):
     """The description of the package, and the sums of its files."""
     with tempfile.TemporaryDirectory() as folder:
-        expect(unpack(data, folder), ["control", "md5sums"], "what describes the package")
+        expect(unpack(data, folder, has_folders=False), ["control", "md5sums"], "what describes the package")
         with open(os.path.join(folder, "control"), encoding="utf-8") as file:
             fields = dict(re.findall(r"^(\S+): (.*)$", file.read(), re.M))
         wanted = {"Package": "rvdap", "Version": version(), "Architecture": "amd64", "Depends": "libc6 (>= %d.%d)" % GLIBC}
@@ -299,8 +301,11 @@ def the_program_needs_libc_alone():
     expect(re.findall(r"^ +NEEDED +(\S+)$", said, re.M), ["libc.so.6"], "the libraries that the program needs")
     versions = sorted(tuple(map(int, it.split("."))) for it in re.findall(r" GLIBC_([\d.]+)$", said, re.M))
     expect(bool(versions) and versions[-1] <= GLIBC, True, "the C library that it needs, of %s" % versions)
-    named = re.search(r"glibc (\d+)\.(\d+) or later", text_of("docs", "INSTALL.md"))
-    expect((int(named[1]), int(named[2])), GLIBC, "the C library in docs/INSTALL.md")
+
+
+def the_document_names_the_c_library():
+    named = re.findall(r"glibc (\d+)\.(\d+) or later", text_of("docs", "INSTALL.md"))
+    expect([(int(one), int(other)) for one, other in named], [GLIBC], "the C library in docs/INSTALL.md")
 
 
 def words_of_help(*words):
@@ -406,8 +411,10 @@ def each_shell_reads_its_completions():
 
 def checks():
     return [("packages: " + check.__name__.replace("_", " "), check) for check in (
-        make_run_takes_a_program_that_is_built, without_rt_and_program_make_says_what_is_absent, make_build_proves_and_keeps_the_program,
-        make_test_runs_the_tests, make_install_installs_what_is_documented, packages_are_the_same_each_time, a_time_has_to_be_known,
-        the_tar_file_unpacks_and_debugs, the_debian_package_unpacks_and_debugs, dpkg_reads_the_package, the_extension_is_packed_whole,
-        the_program_needs_libc_alone, the_manual_page_has_the_words_of_help, the_manual_page_is_one, bash_completes_the_words_of_help,
-        zsh_and_fish_have_the_words_of_help, fish_completes_the_words_of_help, each_shell_reads_its_completions)]
+        make_run_takes_a_program_that_is_built, without_rt_and_program_make_says_what_is_absent,
+        make_build_proves_and_keeps_the_program, make_test_runs_the_tests, make_install_installs_what_is_documented,
+        packages_are_the_same_each_time, a_time_has_to_be_known, the_tar_file_unpacks_and_debugs,
+        the_debian_package_unpacks_and_debugs, dpkg_reads_the_package, the_extension_is_packed_whole,
+        the_program_needs_libc_alone, the_document_names_the_c_library, the_manual_page_has_the_words_of_help,
+        the_manual_page_is_one, bash_completes_the_words_of_help, zsh_and_fish_have_the_words_of_help,
+        fish_completes_the_words_of_help, each_shell_reads_its_completions)]

@@ -16,11 +16,11 @@ def folders_of(paths):
     return sorted(found)
 
 
-def tar_gz(files, seconds, prefix=""):
-    """A tar file, compressed, with the folders; all belongs to root."""
+def tar_gz(files, seconds, prefix="", has_folders=True):
+    """A tar file, compressed; all belongs to root. Where it has the folders, unpacking sets their modes, also of those that were there."""
     made = io.BytesIO()
     with tarfile.open(fileobj=made, mode="w", format=tarfile.GNU_FORMAT) as tar:
-        entries = {path: (None, 0o755) for path in folders_of(files)}
+        entries = {path: (None, 0o755) for path in folders_of(files)} if has_folders else {}
         entries.update(files)
         for path, (data, mode) in sorted(entries.items()):
             entry = tarfile.TarInfo(prefix + path)
