@@ -224,6 +224,18 @@ def the_tar_file_unpacks_and_debugs():
         expect_debugs(os.path.join(root, name), "share/doc/rvdap", "bin/rvdap")
 
 
+def the_document_installs_the_tar_file():
+    text = text_of("docs", "INSTALL.md")
+    expect([name for name in names_of_packages() if "`%s`" % name not in text], [], "packages that docs/INSTALL.md does not name")
+    [command] = re.findall(r"\| `(mkdir .*?)` \|", text)
+    with tempfile.TemporaryDirectory() as home:
+        name = names_of_packages()[0]
+        with open(os.path.join(home, name), "wb") as file:
+            file.write(packages()[name])
+        said_by("sh", "-c", command, cwd=home, env={**os.environ, "HOME": home})
+        expect(said_by(os.path.join(home, ".local", "bin", "rvdap"), "--version"), "rvdap %s\n" % version(), "the program in ~/.local")
+
+
 def debian_places():
     """Where Debian has what is installed."""
     for place in table_of_places():
@@ -414,7 +426,7 @@ def checks():
         make_run_takes_a_program_that_is_built, without_rt_and_program_make_says_what_is_absent,
         make_build_proves_and_keeps_the_program, make_test_runs_the_tests, make_install_installs_what_is_documented,
         packages_are_the_same_each_time, a_time_has_to_be_known, the_tar_file_unpacks_and_debugs,
-        the_debian_package_unpacks_and_debugs, dpkg_reads_the_package, the_extension_is_packed_whole,
-        the_program_needs_libc_alone, the_document_names_the_c_library, the_manual_page_has_the_words_of_help,
-        the_manual_page_is_one, bash_completes_the_words_of_help, zsh_and_fish_have_the_words_of_help,
-        fish_completes_the_words_of_help, each_shell_reads_its_completions)]
+        the_document_installs_the_tar_file, the_debian_package_unpacks_and_debugs, dpkg_reads_the_package,
+        the_extension_is_packed_whole, the_program_needs_libc_alone, the_document_names_the_c_library,
+        the_manual_page_has_the_words_of_help, the_manual_page_is_one, bash_completes_the_words_of_help,
+        zsh_and_fish_have_the_words_of_help, fish_completes_the_words_of_help, each_shell_reads_its_completions)]

@@ -15,6 +15,7 @@ from support.program import TOP, expect
 sys.path.insert(0, os.path.join(TOP, "tools"))
 
 import crates  # noqa: E402
+import machine  # noqa: E402
 
 # d stands on b and c, which stand on a; the program stands on all but other and test_a. `hex` is a library of the kit.
 LIST = """# heading
@@ -93,7 +94,7 @@ def environment(top, **more):
 
 
 def begun(top, out=subprocess.PIPE, **more):
-    words = [sys.executable, os.path.join(top, "tools", "prove")]
+    words = [sys.executable, os.path.join(top, "tools", "prove"), "--at-once", "2"]
     return subprocess.Popen(words, env=environment(top, **more), stdin=subprocess.DEVNULL, stdout=out, stderr=subprocess.STDOUT, text=True)
 
 
@@ -133,9 +134,6 @@ def each_crate_after_those_below_it():
 
 
 def two_side_by_side():
-    if len(os.sched_getaffinity(0)) < 2:
-        print("left out: two crates side by side, which needs two processors")
-        return
     with repository() as top:
         proved(top, SECONDS_b="0.5", SECONDS_c="0.5")
         seen = notes(top)
@@ -146,7 +144,7 @@ def two_side_by_side():
 def a_line_for_each_crate_and_a_log():
     with repository() as top:
         lines = proved(top)[0].splitlines()
-        forms = [r"Proving 5 crates, \d+ side by side\. .* about 45 minutes on four idle cores; .*",
+        forms = [r"Proving 5 crates, 2 side by side\. .* about 45 minutes on four idle cores; .*",
                  r"Meanwhile README\.md .* build/prove\.log\."]
         forms += [r"\[ %d/5\] (%s) +2 functions  0:\d\d" % it for it in enumerate(("a", "b|c", "b|c", "d", "rvdap"), 1)]
         expect(len(lines), len(forms), "how many lines there are in %s" % lines)
@@ -239,6 +237,20 @@ def one_at_a_time_in_a_checkout():
         expect((run.communicate(timeout=60), run.returncode)[1], 0, "the first one")
 
 
+def as_many_as_the_machine_has_room_for():
+    text = "MemTotal:       24555068 kB\nMemFree:         1000 kB\nMemAvailable:   17825792 kB\n"
+    expect(machine.available(text), 17 * 2**30, "the free memory")
+    rooms = [machine.room(processors, gigabytes * 10**9) for processors, gigabytes in ((4, 24), (8, 10), (2, 24), (4, 2), (1, 24))]
+    expect(rooms, [4, 3, 2, 1, 1], "how many at a time")
+    expect(1 <= machine.at_once() <= len(os.sched_getaffinity(0)), True, "how many here")
+
+
+def a_word_that_is_none_is_refused():
+    for words in (["--help"], ["--at-once"], ["--at-once", "0"], ["--at-once", "2", "3"]):
+        ran = subprocess.run([sys.executable, os.path.join(TOP, "tools", "prove"), *words], capture_output=True, text=True, check=False)
+        expect((ran.returncode, "Usage: tools/prove [--at-once N]" in ran.stderr), (1, True), "tools/prove %s" % words)
+
+
 def another_kit_is_told():
     with repository() as top:
         with open(os.path.join(top, "docs", "INSTALL.md"), "w", encoding="utf-8") as file:
@@ -273,4 +285,5 @@ def checks():
     return [("tools/prove: " + check.__name__.replace("_", " "), check) for check in (
         each_crate_after_those_below_it, two_side_by_side, a_line_for_each_crate_and_a_log, a_line_that_moves_on_a_terminal,
         a_failure_shows_its_last_lines, what_is_proved_stays_so, an_interrupt_leaves_what_is_proved, one_at_a_time_in_a_checkout,
-        another_kit_is_told, the_documents_name_one_kit, the_program_stands_on_its_crates)]
+        as_many_as_the_machine_has_room_for, a_word_that_is_none_is_refused, another_kit_is_told, the_documents_name_one_kit,
+        the_program_stands_on_its_crates)]
