@@ -20,8 +20,10 @@ build: toolchain python
 	@tools/prove
 	@install -D -m 755 crates/rvdap/out/rvdap $(PROGRAM)
 
-# The gate, then the mutants, and then the process tests on the programs that the gate left.
+# The gate, then the mutants, and then the process tests on the programs that the gate left. The gate refuses a second crates.txt, as in
+# copies that a killed tools/prove left; those of one that is at work stay.
 test: toolchain compiler python
+	@test ! -d build/prove || flock -n build/prove.lock rm -rf build/prove
 	tests/run
 
 # Measures the program beside bench/floor.c in the same run.
