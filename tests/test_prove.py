@@ -1,4 +1,5 @@
 """tools/prove, with a stand-in for `rt`, which proves nothing: it waits a little, makes files and prints lines as `rt` does."""
+import glob
 import os
 import pty
 import re
@@ -52,15 +53,15 @@ note("begin")
 if os.path.exists("out/incremental/kept"):
     note("kept")
 make("out/incremental/kept", name)
-print("rt: chose --jobs 1 for %s" % name, flush=True)
-print("so far: 1 of 2 functions", flush=True)
+if name != os.environ.get("SILENT"):
+    print("rt: chose --jobs 1 for %s\\nso far: 1 of 2 functions" % name, flush=True)
 time.sleep(float(os.environ.get("SECONDS_" + name, 0.05)))
 if os.environ.get("FAILS") == name:
     for number in range(60):
         print("fn %s::f%d: not proved" % (name, number))
     sys.exit(1)
-print("fn %s::f: proved" % name)
-print("logic=proved functions=2 sum=0", flush=True)
+if name != os.environ.get("SILENT"):
+    print("fn %s::f: proved\\nlogic=proved functions=2 sum=0" % name, flush=True)
 make("out/rlib/stamp", name)
 make("out/rlib/%s.rlib/checked.a" % name, name)
 make("out/" + name, "program")
@@ -156,6 +157,12 @@ def a_line_for_each_crate_and_a_log():
                "the log")
 
 
+def a_crate_of_which_nothing_is_said_is_unchanged():
+    with repository() as top:
+        out, _ = proved(top, SILENT="d")
+        expect(re.findall(r"^(\[ \d/5\] \w+) +unchanged  0:\d\d$", out, re.M), ["[ 4/5] d"], "the line of d, in %s" % out)
+
+
 def a_line_that_moves_on_a_terminal():
     with repository() as top:
         ours, theirs = pty.openpty()
@@ -202,6 +209,11 @@ def what_is_proved_stays_so():
         begun_now = [name for word, name in notes(top) if word == "begin"]
         expect((status, begun_now), (0, ["c", "d", "rvdap"]), "after a change")
         expect("Proving 3 of 5 crates" in out, True, "what is said of it, in %s" % out)
+        for place in glob.glob(os.path.join(top, "crates", "*", "out", "*")):
+            if os.path.basename(place) not in ("incremental", "rlib"):
+                os.remove(place)
+        proved(top)
+        expect([name for word, name in notes(top) if word == "begin"], ["rvdap"], "after the gate, which gives back libraries alone")
         shutil.rmtree(os.path.join(top, "crates", "b", "out"))
         proved(top)
         expect(notes(top), [("begin", "b"), ("end", "b")], "after what was made of b is gone")
@@ -283,7 +295,8 @@ def the_program_stands_on_its_crates():
 
 def checks():
     return [("tools/prove: " + check.__name__.replace("_", " "), check) for check in (
-        each_crate_after_those_below_it, two_side_by_side, a_line_for_each_crate_and_a_log, a_line_that_moves_on_a_terminal,
-        a_failure_shows_its_last_lines, what_is_proved_stays_so, an_interrupt_leaves_what_is_proved, one_at_a_time_in_a_checkout,
+        each_crate_after_those_below_it, two_side_by_side, a_line_for_each_crate_and_a_log,
+        a_crate_of_which_nothing_is_said_is_unchanged, a_line_that_moves_on_a_terminal, a_failure_shows_its_last_lines,
+        what_is_proved_stays_so, an_interrupt_leaves_what_is_proved, one_at_a_time_in_a_checkout,
         as_many_as_the_machine_has_room_for, a_word_that_is_none_is_refused, another_kit_is_told, the_documents_name_one_kit,
         the_program_stands_on_its_crates)]

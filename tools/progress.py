@@ -35,7 +35,7 @@ class Progress:
     def ends(self, name):
         """A crate is proved."""
         self.proved += 1
-        self.shows("[%2d/%d] %-14s %14s  %s" % (self.proved, self.total, name, self.functions.pop(name), self.clock()))
+        self.shows("[%2d/%d] %-14s %14s  %s" % (self.proved, self.total, name, self.functions.pop(name) or "unchanged", self.clock()))
         self.move()
 
     def fails(self, name, status, log):
