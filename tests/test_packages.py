@@ -62,7 +62,7 @@ def path_without_rt(folder):
     if not os.path.exists(made):
         os.mkdir(made)
         os.symlink(sys.executable, os.path.join(made, "python3"))
-        for name in ("make", "sh", "install", "rm", "true"):
+        for name in ("make", "sh", "install", "rm"):
             os.symlink(shutil.which(name), os.path.join(made, name))
     return made
 
