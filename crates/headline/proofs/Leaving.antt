@@ -1,40 +1,34 @@
 -- The success of each command: what it tells is so, and what it leaves owes as it may.
-use Rattle.std.proofs.Common.{◌≡◌, ℕ, ◌+◌, IsTrue, Bool, true, false, List, Option, Some, None, Result, refl, sym, ap, ◌∙◌, subst}
-use Rattle.std.specs.Prelude.{IfOk, take, ◌&&◌, not}
-use Rattle.answers.specs.Looking.{looks_in}
+use Rattle.std.proofs.Common.{◌≡◌, ◌+◌, IsTrue, Bool, true, false, List, Option, Some, None, Result, refl, sym, ap, ◌∙◌, subst, Ok, cond, length}
+use Rattle.std.specs.Prelude.{[], IfOk, take, ◌&&◌, not}
 use Rattle.answers.specs.References.{reference_of}
 use Rattle.answers.specs.Targets.{target_of}
 use Rattle.answers.specs.declared.set_variable.Setting.{Setting}
 use Rattle.answers.specs.declared.write_memory.Writing.{Writing}
-use Rattle.assembler.specs.Placed.{error_of}
-use Rattle.assembler.specs.declared.error.AsmError.{AsmError}
 use Rattle.debuggee.specs.Programs.{Program, ended, first_run, is_ended, is_running, left, marked, on_program, restarted, resumed, stopped, with_hart, with_instructions, with_source, written}
 use Rattle.debuggee.specs.declared.run.Mark.TheVariants as mark
 use Rattle.debuggee.specs.declared.run.Why.TheVariants as why
+use Rattle.headline.proofs.Leading.{Leads, SameBut}
+use Rattle.headline.specs.Holding.{Holds}
+use Rattle.debuggee.specs.declared.run.Run.TheVariants as a_run
+use Rattle.replies.specs.declared.response.ResponseBody.TheVariants as body
 use Rattle.facts.specs.Facts.{Facts, nothing_known}
 use Rattle.mirror.specs.Folding.{in_state, succeeded}
-use Rattle.mirror.specs.Requests.{place_of}
 use Rattle.mirror.specs.declared.asked.Asked.TheVariants as asks
 use Rattle.facts.specs.declared.run.RunState.TheVariants.{Running}
 use Rattle.protocol.specs.declared.command.Command.{Command}
-use Rattle.protocol.specs.declared.command.Command.TheVariants.{Initialize, Launch, Attach, ConfigurationDone, Threads, Cancel, Restart, Terminate, Disconnect, SetBreakpoints, SetInstructionBreakpoints, SetExceptionBreakpoints, Continue, Next, StepIn, StepOut, Pause, StackTrace, Scopes, Variables, SetVariable, Evaluate, Disassemble, ReadMemory, WriteMemory}
+use Rattle.protocol.specs.declared.command.Command.TheVariants.{ConfigurationDone, Threads, Cancel, SetBreakpoints, SetInstructionBreakpoints, SetExceptionBreakpoints, Continue, Next, StepIn, StepOut, StackTrace, Variables, SetVariable, ReadMemory, WriteMemory}
 use Rattle.replies.specs.declared.event.Event.TheVariants as event
-use Rattle.session.proofs.Breaking.{by_answer}
-use Rattle.session.proofs.Looked.{by_look, by_setting, by_writing}
 use Rattle.session.proofs.Orderly.{Orderly, OrderlyIn, OrderlyOf}
 use Rattle.session.proofs.Reaching.{if_keeps}
 use Rattle.session.specs.Acts.{Answering, Now}
-use Rattle.session.specs.Breaks.{view_of}
-use Rattle.session.specs.Demands.{goes_on as still_goes, run_of}
+use Rattle.session.specs.Breaks.{view_of, with_list, replaces}
+use Rattle.session.specs.Demands.{goes_on as still_goes, run_of, has_none}
 use Rattle.session.specs.Disconnect.{departed, is_to_end, is_to_stand}
 use Rattle.session.specs.Initialize.{agreed}
-use Rattle.session.specs.Launch.{assembles, error_text, loads}
-use Rattle.protocol.specs.declared.launch.LaunchArguments.{LaunchArguments}
+use Rattle.session.specs.Launch.{error_text, loads}
 use Rattle.protocol.specs.declared.refusal.Refusal.TheVariants.{AssemblyFailed, FileUnreadable}
-use Rattle.session.specs.Phases.{is_initialized_in}
-use Rattle.session.specs.Stepping.{granularity_of}
 use Rattle.session.specs.declared.terms.Terms.{Terms}
-use Rattle.stepping.specs.declared.goal.Goal.TheVariants as goal
 use Rattle.answers.specs.StackTrace.{frames_given}
 use Rattle.variables.specs.Numbers.{at_next_stop, with_targets}
 use Rattle.headline.proofs.Agreeing.{Agrees, OwesOf, OwesRunning, marked_agrees, nothing_agrees}
@@ -46,9 +40,26 @@ use Rattle.headline.proofs.Listing.{instructions_set_so, source_set_so}
 use Rattle.headline.proofs.Owing.{marked_owes}
 use Rattle.headline.proofs.Placing.{read_agrees}
 use Rattle.headline.proofs.Resuming.{alone, attach_leads, goes_on, initialize_agrees, launch_agrees, restarted_same, resumed_same, with_event}
-use Rattle.headline.proofs.Showing.{look_leads, other_look_leads}
 use Rattle.headline.proofs.Truth.{owes_nothing}
 use Rattle.headline.proofs.Valuing.{that_body, variables_agree}
+use Rattle.session.proofs.BySuccess.{BySuccess, by_success, SetsList, Looks, not_absent, has_program, agreed_body, step_body, agrees, steps}
+use Rattle.session.specs.Successes.{agreeing, resuming, changing}
+use Rattle.protocol.specs.declared.refusal.Refusal.{Refusal}
+use Rattle.answers.specs.SetVariable.{set_variable}
+use Rattle.session.proofs.Breaking.{answer_on}
+use Rattle.replies.specs.declared.response.ResponseBody.{ResponseBody}
+use Rattle.session.specs.Looking.{seen_in}
+use Rattle.mirror.specs.declared.asked.Asked.{Asked}
+use Rattle.mirror.specs.Requests.{asked_of}
+use Rattle.breakpoints.specs.Stops.{Wanted}
+use Rattle.session.specs.ConfigurationDone.{begins, joins}
+use Rattle.session.specs.Phases.{is_active_in}
+use Rattle.session.specs.declared.phase.Phase.TheVariants.{Active}
+use Rattle.session.specs.Shown.{shown_by}
+use Rattle.protocol.specs.declared.set_variable.SetVariableArguments.{SetVariableArguments}
+use Rattle.protocol.specs.declared.write_memory.WriteMemoryArguments.{WriteMemoryArguments}
+use Rattle.answers.specs.WriteMemory.{write_memory}
+use Rattle.headline.proofs.Showing.{Tells, shown_leads, other_tells_so}
 
 -- ---- what is left owes as it may
 
@@ -67,54 +78,44 @@ departed_owes ends stands p e =
 abbrev Owes : Answering → Type 0
 Owes a = OwesOf a.debuggee.program
 
-looks_owe : (now : Now) (terms : Terms) (command : Command) → IsTrue (looks_in command) → OwesNothing now.debuggee.program → Owes (Rattle.session.specs.Looking.looks_on now.debuggee.program now terms command)
-looks_owe now terms command looks e =
-    let same = owes_nothing now.debuggee.program e in
-    by_look Owes now.debuggee.program now terms command looks (λ _. same) (λ _ _. same) (λ _ _ _ _ _ _. same)
+listed_owes : (c : Command) (list : List Wanted) (p : Program) → p.owed ≡ None → OwesRunning (with_list c list p)
+listed_owes (SetBreakpoints arguments) list p e = nothing (with_source list p) e
+listed_owes other list p e = nothing (with_instructions list p) e
+
+module _ (now : Now) (terms : Terms) (e : OwesNothing now.debuggee.program) where
+  same_owes : OwesOf now.debuggee.program
+  same_owes = owes_nothing now.debuggee.program e
+
+  makes_owe : (f : Program → Program) → ((p : Program) → p.owed ≡ None → OwesRunning (f p)) → OwesOf (on_program f now.debuggee.program)
+  makes_owe f each = made_owes f now.debuggee.program e each
+
+  successes_owe : BySuccess now terms (λ c a. Owes a)
+  successes_owe = record {
+    initialized = λ _. same_owes;
+    unreadable = λ _. same_owes;
+    loaded = λ _ _ _ some. absurd (some refl);
+    wrong = λ _ _ _ _. same_owes;
+    attaches = same_owes;
+    begun = λ _. makes_owe first_run (λ p _ _. refl);
+    joined = λ _. same_owes;
+    agreed = λ _ _. same_owes;
+    restarts = makes_owe (λ p. first_run (restarted p)) (λ p _ _. refl);
+    terminates = makes_owe (ended None) (λ p n. nothing (ended None p) n);
+    leaves = λ arguments. makes_owe (λ p. departed (is_to_end terms arguments) (is_to_stand terms arguments) (left p))
+        (λ p _. departed_owes (is_to_end terms arguments) (is_to_stand terms arguments) (left p) refl);
+    pauses = λ _. makes_owe (marked mark.Pause) (λ p n. marked_owes mark.Pause p (nothing p n));
+    stepped = λ _ _ g. makes_owe (resumed g) (λ p _ _. refl);
+    absent = λ _ _ _. same_owes;
+    refused = λ _ _ _ _. same_owes;
+    sets_none = λ _ _ _ _ _ _ _. same_owes;
+    sets_list = λ c _ _ _ list _ _ _ _. makes_owe (with_list c list) (listed_owes c list);
+    shows = λ _ _ _ _ _ _ _ _. same_owes;
+    sets_register = λ _ _ setting _ _ _. makes_owe (with_hart setting.hart) (λ p n. nothing (with_hart setting.hart p) n);
+    writes = λ arguments _ writing _ _ _. let bytes = take writing.count arguments.bytes in makes_owe (written writing.address bytes) (λ p n. nothing (written writing.address bytes p) n);
+  }
 
 pub commands_owe : CommandsOwe
-commands_owe now terms file (Initialize arguments) e = owes_nothing now.debuggee.program e
-commands_owe now terms None (Launch arguments) e = owes_nothing now.debuggee.program e
-commands_owe now terms (Some text) (Launch arguments) e = by (error_of text now.size) where
-  by : (error : Option AsmError) → Owes (assembles now terms arguments text error)
-  by None = λ some. absurd (some refl)
-  by (Some error) = owes_nothing now.debuggee.program e
-commands_owe now terms file Attach e = owes_nothing now.debuggee.program e
-commands_owe now terms file ConfigurationDone e = if_keeps Owes terms.launched _ _ (λ _. made_owes first_run now.debuggee.program e (λ p _ _. refl)) (λ _. owes_nothing now.debuggee.program e)
-commands_owe now terms file Threads e = owes_nothing now.debuggee.program e
-commands_owe now terms file (Cancel arguments) e = owes_nothing now.debuggee.program e
-commands_owe now terms file Restart e = made_owes (λ p. first_run (restarted p)) now.debuggee.program e (λ p _ _. refl)
-commands_owe now terms file Terminate e = made_owes (ended None) now.debuggee.program e (λ p n. nothing (ended None p) n)
-commands_owe now terms file (Disconnect arguments) e =
-    made_owes (λ p. departed (is_to_end terms arguments) (is_to_stand terms arguments) (left p)) now.debuggee.program e (λ p _. departed_owes (is_to_end terms arguments) (is_to_stand terms arguments) (left p) refl)
-commands_owe now terms file (SetBreakpoints arguments) e =
-    let same = owes_nothing now.debuggee.program e in
-    by_answer Owes now.debuggee.program now terms (SetBreakpoints arguments) refl (λ _. same) (λ _ _. same) (λ _ _ _ _ _. same)
-    (λ _ _ list _ _ _ _. made_owes (with_source list) now.debuggee.program e (λ p n. nothing (with_source list p) n))
-commands_owe now terms file (SetInstructionBreakpoints arguments) e =
-    let same = owes_nothing now.debuggee.program e in
-    by_answer Owes now.debuggee.program now terms (SetInstructionBreakpoints arguments) refl (λ _. same) (λ _ _. same) (λ _ _ _ _ _. same)
-    (λ _ _ list _ _ _ _. made_owes (with_instructions list) now.debuggee.program e (λ p n. nothing (with_instructions list p) n))
-commands_owe now terms file SetExceptionBreakpoints e = owes_nothing now.debuggee.program e
-commands_owe now terms file (Continue arguments) e = made_owes (resumed goal.Go) now.debuggee.program e (λ p _ _. refl)
-commands_owe now terms file (Next arguments) e = made_owes (resumed (goal.Over (granularity_of arguments.granularity))) now.debuggee.program e (λ p _ _. refl)
-commands_owe now terms file (StepIn arguments) e = made_owes (resumed (goal.In (granularity_of arguments.granularity))) now.debuggee.program e (λ p _ _. refl)
-commands_owe now terms file (StepOut arguments) e = made_owes (resumed (goal.Out (granularity_of arguments.granularity))) now.debuggee.program e (λ p _ _. refl)
-commands_owe now terms file (Pause arguments) e = made_owes (marked mark.Pause) now.debuggee.program e (λ p n. marked_owes mark.Pause p (nothing p n))
-commands_owe now terms file (StackTrace arguments) e = looks_owe now terms (StackTrace arguments) refl e
-commands_owe now terms file (Scopes arguments) e = looks_owe now terms (Scopes arguments) refl e
-commands_owe now terms file (Variables arguments) e = looks_owe now terms (Variables arguments) refl e
-commands_owe now terms file (Evaluate arguments) e = looks_owe now terms (Evaluate arguments) refl e
-commands_owe now terms file (Disassemble arguments) e = looks_owe now terms (Disassemble arguments) refl e
-commands_owe now terms file (ReadMemory arguments) e = looks_owe now terms (ReadMemory arguments) refl e
-commands_owe now terms file (SetVariable arguments) e =
-    let same = owes_nothing now.debuggee.program e in
-    by_setting Owes now.debuggee.program now terms arguments (λ _. same) (λ _ _. same)
-    (λ _ setting _ _ _. made_owes (with_hart setting.hart) now.debuggee.program e (λ p n. nothing (with_hart setting.hart p) n))
-commands_owe now terms file (WriteMemory arguments) e =
-    let same = owes_nothing now.debuggee.program e in
-    by_writing Owes now.debuggee.program now terms arguments (λ _. same) (λ _ _. same)
-    (λ _ writing _ _ _. let bytes = take writing.count arguments.bytes in made_owes (written writing.address bytes) now.debuggee.program e (λ p n. nothing (written writing.address bytes p) n))
+commands_owe now terms file command e = by_success now terms (λ c a. Owes a) (successes_owe now terms e) file command
 
 -- ---- what is told is so
 
@@ -136,90 +137,118 @@ module _ (now : Now) (terms : Terms) (f : Facts) (h : Agrees f now.debuggee.prog
   with_same : (g : Facts) (p : Program) → now.debuggee.program ≡ Some p → Agrees g (Some p) now.numbers terms → Agrees g now.debuggee.program now.numbers terms
   with_same g p is a = subst (λ (program : Option Program). Agrees g program now.numbers terms) (sym is) a
 
-  restarts_so : Comes now terms Restart → AnswerLeads now f (Some asks.Resume) (Rattle.session.specs.Restart.success now terms)
-  restarts_so comes =
-      alone (in_state Running f) _ (at_next_stop now.numbers) terms
-      (goes_on now terms f (at_next_stop now.numbers) (λ p. first_run (restarted p)) comes.taken (λ p. refl) restarted_same comes.meets.loaded h)
+-- what comes of a request that may come
+abbrev LeadsTaken : Now → Terms → Facts → Command → Answering → Type 0
+LeadsTaken now terms f c a = Comes now terms c → AnswerLeads now f (Some (asked_of c)) a
 
-launch_leads : (now : Now) (terms : Terms) (arguments : LaunchArguments) (text : List ℕ) (f : Facts) → is_initialized_in terms.phase ≡ true → Agrees f now.debuggee.program now.numbers terms
-    → (error : Option AsmError) → AnswerLeads now f (Some asks.Launch) (assembles now terms arguments text error)
-launch_leads now terms arguments text f taken h None =
-    let a = launch_agrees f now.debuggee.program (loads now terms arguments text).debuggee.program now.numbers terms taken h in
-    with_event (record f { launched = true }) (record f { launched = true }) event.Initialized (loads now terms arguments text).debuggee.program now.numbers (loads now terms arguments text).terms refl a.holds a
-launch_leads now terms arguments text f taken h (Some error) = refusal_leads now terms f (Some asks.Launch) AssemblyFailed (Some (error_text error)) h
+agreed_tells : (c : Command) → IsTrue (agrees c) → (f : Facts) → succeeded (agreed_body c) (asked_of c) f ≡ f
+agreed_tells Threads kind f = refl
+agreed_tells (Cancel arguments) kind f = refl
+agreed_tells SetExceptionBreakpoints kind f = refl
+agreed_tells other kind f = absurd (let no : false ≡ true = kind in cc)
+
+step_tells : (c : Command) → IsTrue (steps c) → (f : Facts) → succeeded (step_body c) (asked_of c) f ≡ in_state Running f
+step_tells (Continue arguments) kind f = refl
+step_tells (Next arguments) kind f = refl
+step_tells (StepIn arguments) kind f = refl
+step_tells (StepOut arguments) kind f = refl
+step_tells other kind f = absurd (let no : false ≡ true = kind in cc)
+
+module _ (now : Now) (terms : Terms) (f : Facts) (h : Agrees f now.debuggee.program now.numbers terms) where
+  agrees_so : (c : Command) → IsTrue (agrees c) → AnswerLeads now f (Some (asked_of c)) (agreeing now terms (agreed_body c))
+  agrees_so c kind =
+      subst (λ (g : Facts). Holds g (shown_by now.debuggee.program now.numbers) × Leads terms now.numbers g now.debuggee.program []) (sym (agreed_tells c kind f)) (alone f now.debuggee.program now.numbers terms h)
+
+  resumes_so : (asked : Asked) (body : ResponseBody) (makes : Program → Program) → succeeded body asked f ≡ in_state Running f → is_active_in terms.phase ≡ true → ((p : Program) → (makes p).run ≡ a_run.Running) → ((p : Program) → SameBut p (makes p))
+      → has_none (run_of now.debuggee.program) ≡ false → AnswerLeads now f (Some asked) (resuming now terms makes body)
+  resumes_so asked body makes tells active runs same there =
+      subst (λ (g : Facts). Holds g (shown_by (on_program makes now.debuggee.program) (at_next_stop now.numbers)) × Leads terms (at_next_stop now.numbers) g (on_program makes now.debuggee.program) []) (sym tells)
+      (alone (in_state Running f) _ (at_next_stop now.numbers) terms (goes_on now terms f (at_next_stop now.numbers) makes active runs same there h))
+
+  done_so : (launched : Bool) → terms.launched ≡ launched → Comes now terms ConfigurationDone
+      → AnswerLeads now f (Some asks.ConfigurationDone) (cond launched (begins now (record terms { phase = Active })) (joins now (record terms { phase = Active })))
+  done_so launched e comes =
+      subst (λ (l : Bool). AnswerLeads now f (Some asks.ConfigurationDone) (cond l (begins now (record terms { phase = Active })) (joins now (record terms { phase = Active })))) e
+      (done_leads now terms f comes.taken comes.meets.loaded h)
+
+  none_set : (c : Command) → SetsList c → Comes now terms c → (p : Program) (b : ResponseBody) → now.debuggee.program ≡ Some p → (answer_on p now terms c).result ≡ Ok b → (answer_on p now terms c).list ≡ None
+      → AnswerLeads now f (Some (asked_of c)) (agreeing now terms b)
+  none_set (SetBreakpoints arguments) kind comes p b is e none =
+      alone _ now.debuggee.program now.numbers terms (with_same now terms f h _ p is
+      ((source_set_so f p now.numbers terms comes.taken (of now terms f h p is) arguments p.image.lines (view_of terms p) (now.debuggee.last_break + 1) refl b e).0 none))
+  none_set (SetInstructionBreakpoints arguments) kind comes p b is e none =
+      alone _ now.debuggee.program now.numbers terms (with_same now terms f h _ p is
+      ((instructions_set_so f p now.numbers terms comes.taken (of now terms f h p is) arguments p.machine.size (now.debuggee.last_break + 1) b e).0 none))
+  none_set other kind comes p b is e none = absurd (let no : false ≡ true = kind.sets in cc)
+
+  list_set : (c : Command) → SetsList c → Comes now terms c → (p : Program) (b : ResponseBody) (list : List Wanted) → now.debuggee.program ≡ Some p → (answer_on p now terms c).result ≡ Ok b → (answer_on p now terms c).list ≡ Some list
+      → AnswerLeads now f (Some (asked_of c)) (replaces now terms c b (record { list = list; last = now.debuggee.last_break + length list }))
+  list_set (SetBreakpoints arguments) kind comes p b list is e some =
+      alone _ (on_program (with_source list) now.debuggee.program) now.numbers terms (with_made now terms f h _ (with_source list) p is
+      ((source_set_so f p now.numbers terms comes.taken (of now terms f h p is) arguments p.image.lines (view_of terms p) (now.debuggee.last_break + 1) refl b e).1 list some))
+  list_set (SetInstructionBreakpoints arguments) kind comes p b list is e some =
+      alone _ (on_program (with_instructions list) now.debuggee.program) now.numbers terms (with_made now terms f h _ (with_instructions list) p is
+      ((instructions_set_so f p now.numbers terms comes.taken (of now terms f h p is) arguments p.machine.size (now.debuggee.last_break + 1) b e).1 list some))
+  list_set other kind comes p b list is e some = absurd (let no : false ≡ true = kind.sets in cc)
+
+  look_tells : (c : Command) → Looks c → Comes now terms c → (p : Program) (b : ResponseBody) → now.debuggee.program ≡ Some p → (seen_in p now terms c).result ≡ Ok b → Agrees f (Some p) now.numbers terms
+      → Tells (asked_of c) f p now.numbers terms b (seen_in p now terms c).targets
+  look_tells (StackTrace arguments) kind comes p b is e a =
+      that_body (λ b. Agrees (succeeded b (asks.StackTrace arguments.start_frame) f) (Some p) (with_targets now.numbers (frames_given arguments p.machine)) terms) _ b
+      (frames_agree arguments p now.numbers (view_of terms p) f terms comes.taken (stands now p is comes.meets.still) a) e
+  look_tells (Variables arguments) kind comes p b is e a =
+      variables_agree f p now.numbers terms arguments b comes.taken (stands now p is comes.meets.still) a (target_of now.numbers arguments.variables_reference) e
+  look_tells (ReadMemory arguments) kind comes p b is e a =
+      read_agrees f p now.numbers terms b comes.taken (stands now p is comes.meets.still) a arguments (reference_of arguments.memory_reference) e
+  look_tells other kind comes p b is e a = other_tells_so now terms other (asked_of other) f p b kind.looks refl a
+
+  register_set : (arguments : SetVariableArguments) → Comes now terms (SetVariable arguments) → (p : Program) (setting : Setting) → now.debuggee.program ≡ Some p → set_variable arguments p.machine now.numbers ≡ Ok setting
+      → AnswerLeads now f (Some (asks.SetVariable arguments.name)) (changing now terms (with_hart setting.hart) setting.body)
+  register_set arguments comes p setting is e =
+      let g : Facts = succeeded setting.body (asks.SetVariable arguments.name) f in
+      alone g (on_program (with_hart setting.hart) now.debuggee.program) now.numbers terms
+      (with_made now terms f h g (with_hart setting.hart) p is
+      (subst (λ (r : Result Setting Refusal). IfOk r (λ setting. Agrees (succeeded setting.body (asks.SetVariable arguments.name) f) (Some (with_hart setting.hart p)) now.numbers terms)) e
+      (setting_so f p now.numbers terms comes.taken (stands now p is comes.meets.still) (of now terms f h p is) arguments (of_program now p is comes.orderly).range.machine.machine.x (target_of now.numbers arguments.variables_reference))))
+
+  bytes_written_so : (arguments : WriteMemoryArguments) → Comes now terms (WriteMemory arguments) → (p : Program) (writing : Writing) → now.debuggee.program ≡ Some p → write_memory arguments p.machine.memory ≡ Ok writing
+      → AnswerLeads now f (Some (asked_of (WriteMemory arguments))) (changing now terms (written writing.address (take writing.count arguments.bytes)) writing.body)
+  bytes_written_so arguments comes p writing is e =
+      let asked : Asked = asked_of (WriteMemory arguments) in
+      let made : Program → Program = written writing.address (take writing.count arguments.bytes) in
+      alone (succeeded writing.body asked f) (on_program made now.debuggee.program) now.numbers terms
+      (with_made now terms f h (succeeded writing.body asked f) made p is
+      (subst (λ (r : Result Writing Refusal). IfOk r (λ writing. Agrees (succeeded writing.body asked f) (Some (written writing.address (take writing.count arguments.bytes) p)) now.numbers terms)) e
+      (writing_so f p now.numbers terms comes.taken (stands now p is comes.meets.still) (of now terms f h p is) arguments)))
+
+  successes_lead : BySuccess now terms (LeadsTaken now terms f)
+  successes_lead = record {
+    initialized = λ arguments comes.
+        alone f now.debuggee.program now.numbers (agreed terms arguments) (initialize_agrees f now.debuggee.program now.numbers terms (agreed terms arguments) comes.taken refl h);
+    unreadable = λ _ _. refusal_leads now terms f (Some asks.Launch) FileUnreadable None h;
+    loaded = λ arguments text _ comes.
+        let a = launch_agrees f now.debuggee.program (loads now terms arguments text).debuggee.program now.numbers terms comes.taken h in
+        with_event (record f { launched = true }) (record f { launched = true }) event.Initialized (loads now terms arguments text).debuggee.program now.numbers (loads now terms arguments text).terms refl a.holds a;
+    wrong = λ _ _ error _ _. refusal_leads now terms f (Some asks.Launch) AssemblyFailed (Some (error_text error)) h;
+    attaches = λ comes.
+        let a = attach_leads f now.debuggee.program now.numbers terms comes.taken h in with_event f f event.Initialized now.debuggee.program now.numbers _ refl a.holds a;
+    begun = done_so true;
+    joined = done_so false;
+    agreed = λ c kind _. agrees_so c kind.kind;
+    restarts = λ comes. resumes_so asks.Resume body.Empty (λ p. first_run (restarted p)) refl comes.taken (λ p. refl) restarted_same comes.meets.loaded;
+    terminates = λ comes. terminate_leads now terms f comes.taken comes.meets h;
+    leaves = λ _ _. alone nothing_known _ (at_next_stop now.numbers) _ (nothing_agrees _ (at_next_stop now.numbers) _ refl);
+    pauses = λ _ _. alone f _ now.numbers terms (marked_agrees mark.Pause f now.debuggee.program now.numbers terms h);
+    stepped = λ c kind g comes.
+        resumes_so (asked_of c) (step_body c) (resumed g) (step_tells c kind.kind f) (sym (kind.active terms.phase) ∙ comes.taken) (λ p. refl) (resumed_same g) (has_program now c kind.loaded comes.meets.loaded);
+    absent = λ c about none comes. not_absent now c about comes.meets.loaded none;
+    refused = λ c _ refusal _ _. refusal_leads now terms f (Some (asked_of c)) refusal None h;
+    sets_none = λ c kind p b is e none comes. none_set c kind comes p b is e none;
+    sets_list = λ c kind p b list is e some _ comes. list_set c kind comes p b list is e some;
+    shows = λ c kind p b is e _ _ comes. shown_leads now terms c (asked_of c) f p b is (look_tells c kind comes p b is e (of now terms f h p is));
+    sets_register = λ arguments p setting is e _ comes. register_set arguments comes p setting is e;
+    writes = λ arguments p writing is e _ comes. bytes_written_so arguments comes p writing is e;
+  }
 
 pub commands_lead : CommandsLead
-commands_lead now terms file (Initialize arguments) f comes h =
-    alone f now.debuggee.program now.numbers (agreed terms arguments) (initialize_agrees f now.debuggee.program now.numbers terms (agreed terms arguments) comes.taken refl h)
-commands_lead now terms None (Launch arguments) f comes h = refusal_leads now terms f (Some asks.Launch) FileUnreadable None h
-commands_lead now terms (Some text) (Launch arguments) f comes h = launch_leads now terms arguments text f comes.taken h (error_of text now.size)
-commands_lead now terms file Attach f comes h =
-    let a = attach_leads f now.debuggee.program now.numbers terms comes.taken h in
-    with_event f f event.Initialized now.debuggee.program now.numbers _ refl a.holds a
-commands_lead now terms file ConfigurationDone f comes h = done_leads now terms f comes.taken comes.meets.loaded h
-commands_lead now terms file Threads f comes h = alone f now.debuggee.program now.numbers terms h
-commands_lead now terms file (Cancel arguments) f comes h = alone f now.debuggee.program now.numbers terms h
-commands_lead now terms file Restart f comes h = restarts_so now terms f h comes
-commands_lead now terms file Terminate f comes h = terminate_leads now terms f comes.taken comes.meets h
-commands_lead now terms file (Disconnect arguments) f comes h =
-    alone nothing_known _ (at_next_stop now.numbers) _ (nothing_agrees _ (at_next_stop now.numbers) _ refl)
-commands_lead now terms file (SetBreakpoints arguments) f comes h =
-    by_answer (AnswerLeads now f (Some (asks.SetBreakpoints arguments.source.path))) now.debuggee.program now terms (SetBreakpoints arguments) refl
-    (λ _. alone f now.debuggee.program now.numbers terms h)
-    (λ refusal _. refusal_leads now terms f (Some (asks.SetBreakpoints arguments.source.path)) refusal None h)
-    (λ p b is e none. alone _ now.debuggee.program now.numbers terms (with_same now terms f h _ p is
-    ((source_set_so f p now.numbers terms comes.taken (of now terms f h p is) arguments p.image.lines (view_of terms p) (now.debuggee.last_break + 1) refl b e).0 none)))
-    (λ p b list is e some _. alone _ (on_program (with_source list) now.debuggee.program) now.numbers terms (with_made now terms f h _ (with_source list) p is
-    ((source_set_so f p now.numbers terms comes.taken (of now terms f h p is) arguments p.image.lines (view_of terms p) (now.debuggee.last_break + 1) refl b e).1 list some)))
-commands_lead now terms file (SetInstructionBreakpoints arguments) f comes h =
-    by_answer (AnswerLeads now f (Some asks.SetInstructionBreakpoints)) now.debuggee.program now terms (SetInstructionBreakpoints arguments) refl
-    (λ _. alone f now.debuggee.program now.numbers terms h)
-    (λ refusal _. refusal_leads now terms f (Some asks.SetInstructionBreakpoints) refusal None h)
-    (λ p b is e none. alone _ now.debuggee.program now.numbers terms (with_same now terms f h _ p is
-    ((instructions_set_so f p now.numbers terms comes.taken (of now terms f h p is) arguments p.machine.size (now.debuggee.last_break + 1) b e).0 none)))
-    (λ p b list is e some _. alone _ (on_program (with_instructions list) now.debuggee.program) now.numbers terms (with_made now terms f h _ (with_instructions list) p is
-    ((instructions_set_so f p now.numbers terms comes.taken (of now terms f h p is) arguments p.machine.size (now.debuggee.last_break + 1) b e).1 list some)))
-commands_lead now terms file SetExceptionBreakpoints f comes h = alone f now.debuggee.program now.numbers terms h
-commands_lead now terms file (Continue arguments) f comes h =
-    alone (in_state Running f) _ (at_next_stop now.numbers) terms (goes_on now terms f (at_next_stop now.numbers) (resumed goal.Go) comes.taken (λ p. refl) (resumed_same goal.Go) comes.meets.loaded h)
-commands_lead now terms file (Next arguments) f comes h =
-    let g = goal.Over (granularity_of arguments.granularity) in
-    alone (in_state Running f) _ (at_next_stop now.numbers) terms (goes_on now terms f (at_next_stop now.numbers) (resumed g) comes.taken (λ p. refl) (resumed_same g) comes.meets.loaded h)
-commands_lead now terms file (StepIn arguments) f comes h =
-    let g = goal.In (granularity_of arguments.granularity) in
-    alone (in_state Running f) _ (at_next_stop now.numbers) terms (goes_on now terms f (at_next_stop now.numbers) (resumed g) comes.taken (λ p. refl) (resumed_same g) comes.meets.loaded h)
-commands_lead now terms file (StepOut arguments) f comes h =
-    let g = goal.Out (granularity_of arguments.granularity) in
-    alone (in_state Running f) _ (at_next_stop now.numbers) terms (goes_on now terms f (at_next_stop now.numbers) (resumed g) comes.taken (λ p. refl) (resumed_same g) comes.meets.loaded h)
-commands_lead now terms file (Pause arguments) f comes h = alone f _ now.numbers terms (marked_agrees mark.Pause f now.debuggee.program now.numbers terms h)
-commands_lead now terms file (StackTrace arguments) f comes h =
-    look_leads now terms (StackTrace arguments) (asks.StackTrace arguments.start_frame) f refl refl h
-    (λ p b is e a. that_body (λ b. Agrees (succeeded b (asks.StackTrace arguments.start_frame) f) (Some p) (with_targets now.numbers (frames_given arguments p.machine)) terms) _ b
-    (frames_agree arguments p now.numbers (view_of terms p) f terms comes.taken (stands now p is comes.meets.still) a) e)
-commands_lead now terms file (Scopes arguments) f comes h = other_look_leads now terms (Scopes arguments) f refl h
-commands_lead now terms file (Variables arguments) f comes h =
-    look_leads now terms (Variables arguments) asks.Variables f refl refl h
-    (λ p b is e a. variables_agree f p now.numbers terms arguments b comes.taken (stands now p is comes.meets.still) a (target_of now.numbers arguments.variables_reference) e)
-commands_lead now terms file (Evaluate arguments) f comes h = other_look_leads now terms (Evaluate arguments) f refl h
-commands_lead now terms file (Disassemble arguments) f comes h = other_look_leads now terms (Disassemble arguments) f refl h
-commands_lead now terms file (ReadMemory arguments) f comes h =
-    look_leads now terms (ReadMemory arguments) asks.ReadMemory f refl refl h
-    (λ p b is e a. read_agrees f p now.numbers terms b comes.taken (stands now p is comes.meets.still) a arguments (reference_of arguments.memory_reference) e)
-commands_lead now terms file (SetVariable arguments) f comes h =
-    by_setting (AnswerLeads now f (Some (asks.SetVariable arguments.name))) now.debuggee.program now terms arguments
-    (λ _. alone f now.debuggee.program now.numbers terms h)
-    (λ refusal _. refusal_leads now terms f (Some (asks.SetVariable arguments.name)) refusal None h)
-    (λ p setting is e _. alone (succeeded setting.body (asks.SetVariable arguments.name) f) (on_program (with_hart setting.hart) now.debuggee.program) now.numbers terms
-    (with_made now terms f h (succeeded setting.body (asks.SetVariable arguments.name) f) (with_hart setting.hart) p is
-    (subst (λ (r : Result Setting _). IfOk r (λ setting. Agrees (succeeded setting.body (asks.SetVariable arguments.name) f) (Some (with_hart setting.hart p)) now.numbers terms)) e
-    (setting_so f p now.numbers terms comes.taken (stands now p is comes.meets.still) (of now terms f h p is) arguments (of_program now p is comes.orderly).range.machine.machine.x (target_of now.numbers arguments.variables_reference)))))
-commands_lead now terms file (WriteMemory arguments) f comes h =
-    let place = place_of arguments.memory_reference arguments.offset in
-    let asked = asks.WriteMemory place arguments.bytes in
-    by_writing (AnswerLeads now f (Some asked)) now.debuggee.program now terms arguments
-    (λ _. alone f now.debuggee.program now.numbers terms h)
-    (λ refusal _. refusal_leads now terms f (Some asked) refusal None h)
-    (λ p writing is e _. alone (succeeded writing.body asked f) (on_program (written writing.address (take writing.count arguments.bytes)) now.debuggee.program) now.numbers terms
-    (with_made now terms f h (succeeded writing.body asked f) (written writing.address (take writing.count arguments.bytes)) p is
-    (subst (λ (r : Result Writing _). IfOk r (λ writing. Agrees (succeeded writing.body asked f) (Some (written writing.address (take writing.count arguments.bytes) p)) now.numbers terms)) e
-    (writing_so f p now.numbers terms comes.taken (stands now p is comes.meets.still) (of now terms f h p is) arguments))))
+commands_lead now terms file command f comes h = by_success now terms (LeadsTaken now terms f) (successes_lead now terms f h) file command comes

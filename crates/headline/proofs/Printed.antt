@@ -1,42 +1,30 @@
 -- What is printed is told while the program runs: only what is owed is told so, and a program that owes something runs.
-use Rattle.std.proofs.Common.{◌≡◌, ℕ, ℤ, zero, suc, IsTrue, Bool, true, false, eqb, leb, ltb, List, [], ◌∷◌, ◌++◌, length, map, Option, Some, None, refl, sym, ◌∙◌, subst}
+use Rattle.std.proofs.Common.{◌≡◌, ℕ, ℤ, zero, suc, Bool, true, false, eqb, leb, ltb, List, [], ◌∷◌, ◌++◌, length, map, Option, Some, None, refl, sym, ◌∙◌, subst}
 use Rattle.std.specs.Prelude.{All, ⊤, not}
 use Rattle.std.proofs.lemmas.List.Elements.{All-push, All-nil}
-use Rattle.answers.specs.Answers.{sets_breakpoints}
-use Rattle.answers.specs.Looking.{looks_in}
-use Rattle.assembler.specs.Placed.{error_of}
-use Rattle.assembler.specs.declared.error.AsmError.{AsmError}
 use Rattle.debuggee.specs.Programs.{Debuggee, Program, ended, is_running, next_tick, stopped, told, why_marked}
 use Rattle.debuggee.specs.declared.run.Mark.{Mark}
 use Rattle.debuggee.specs.declared.run.Run.{Run}
 use Rattle.debuggee.specs.declared.run.Run.TheVariants as a_run
 use Rattle.debuggee.specs.declared.run.Why.{Why}
 use Rattle.debuggee.specs.declared.run.Why.TheVariants as why
-use Rattle.protocol.specs.declared.command.Command.{Command}
-use Rattle.protocol.specs.declared.command.Command.TheVariants.{Initialize, Launch, Attach, ConfigurationDone, Threads, Cancel, Restart, Terminate, Disconnect, SetBreakpoints, SetInstructionBreakpoints, SetExceptionBreakpoints, Continue, Next, StepIn, StepOut, Pause, StackTrace, Scopes, Variables, SetVariable, Evaluate, Disassemble, ReadMemory, WriteMemory}
 use Rattle.replies.specs.declared.event.Event.{Event as Told}
 use Rattle.replies.specs.declared.event.Event.TheVariants as event
 use Rattle.replies.specs.declared.message.Message.{Message}
 use Rattle.replies.specs.declared.message.Message.TheVariants.{Response as IsResponse, Event as IsEvent}
-use Rattle.session.proofs.Breaking.{by_answer}
 use Rattle.session.proofs.ByForms.{accepting, on, on_with}
-use Rattle.session.proofs.Looked.{by_look, by_setting, by_writing}
 use Rattle.session.proofs.Reaching.{each_life, if_keeps, performed_append, reached}
 use Rattle.session.proofs.Serving.{of_answer}
 use Rattle.session.proofs.Turning.{said_debuggee}
 use Rattle.session.specs.Acts.{Act, Answering, Become, Now, Seen, Tell, refers}
-use Rattle.session.specs.Breaks.{success_on}
 use Rattle.session.specs.ConfigurationDone.{run_events}
 use Rattle.session.specs.Demands.{run_of}
 use Rattle.session.specs.Effects.{beats, enough, next_by, performed}
-use Rattle.session.specs.Launch.{assembles}
 use Rattle.session.specs.Laws.{RunsAs}
-use Rattle.session.specs.Looking.{looks_on}
 use Rattle.session.specs.Outcomes.{Outcome, answering, answers_next, closing, next_turn, outcome_at, turn_by, turn_of}
 use Rattle.session.specs.Phases.{is_active}
 use Rattle.session.specs.References.{past_referred}
 use Rattle.session.specs.Refusals.{answer_to, response_to}
-use Rattle.session.specs.Requests.{success_of}
 use Rattle.session.specs.Sessions.{After, Beginning, Effect, Life, Said, Session, histories, hung_on, performed_on, said_next, said_on, waiting_of}
 use Rattle.session.specs.Slices.{Beat, beat, beat_by, beat_of, concludes, exits, goes, goes_unless, halts, is_runnable_by, moves_by, prints, telling, tells}
 use Rattle.session.specs.Telling.{exit_events, output_event, stop_event}
@@ -55,6 +43,7 @@ use Rattle.headline.proofs.Agreeing.{OwesOf, OwesRunning, never}
 use Rattle.headline.proofs.Leaving.{commands_lead, commands_owe}
 use Rattle.headline.proofs.Truth.{Told as HasTold, beats_so, event_so, told_at_first}
 use Rattle.headline.specs.Printed.{PrintsRunning, WhatIsPrintedRuns}
+use Rattle.session.proofs.BySuccess.{BySuccess, by_success}
 
 -- ---- what an answer tells is nothing printed
 
@@ -73,51 +62,39 @@ AllSilent (e ∷ es) = IsSilent e × AllSilent es
 abbrev Silent : Answering → Type 0
 Silent a = AllSilent a.events
 
-sets_silent : (now : Now) (terms : Terms) (command : Command) → IsTrue (sets_breakpoints command) → Silent (success_on now.debuggee.program now terms command)
-sets_silent now terms command sets = by_answer Silent now.debuggee.program now terms command sets (λ _. tt) (λ _ _. tt) (λ _ _ _ _ _. tt) (λ _ _ _ _ _ _ _. tt)
-
-looks_silent : (now : Now) (terms : Terms) (command : Command) → IsTrue (looks_in command) → Silent (looks_on now.debuggee.program now terms command)
-looks_silent now terms command looks = by_look Silent now.debuggee.program now terms command looks (λ _. tt) (λ _ _. tt) (λ _ _ _ _ _ _. tt)
-
 run_silent : (run : Option Run) → AllSilent (run_events run)
 run_silent None = tt
 run_silent (Some a_run.Running) = (tt, tt)
 run_silent (Some (a_run.Stopped why)) = (tt, tt)
 run_silent (Some (a_run.Ended code)) = tt
 
-success_silent : (now : Now) (terms : Terms) (file : Option (List ℕ)) (command : Command) → Silent (success_of now terms file command)
-success_silent now terms file (Initialize arguments) = tt
-success_silent now terms None (Launch arguments) = tt
-success_silent now terms (Some text) (Launch arguments) = by (error_of text now.size) where
-  by : (error : Option AsmError) → Silent (assembles now terms arguments text error)
-  by None = (tt, tt)
-  by (Some e) = tt
-success_silent now terms file Attach = (tt, tt)
-success_silent now terms file ConfigurationDone = if_keeps Silent terms.launched _ _ (λ _. tt) (λ _. run_silent (run_of now.debuggee.program))
-success_silent now terms file Threads = tt
-success_silent now terms file (Cancel arguments) = tt
-success_silent now terms file Restart = tt
-success_silent now terms file Terminate = (tt, tt)
-success_silent now terms file (Disconnect arguments) = tt
-success_silent now terms file (SetBreakpoints arguments) = sets_silent now terms (SetBreakpoints arguments) refl
-success_silent now terms file (SetInstructionBreakpoints arguments) = sets_silent now terms (SetInstructionBreakpoints arguments) refl
-success_silent now terms file SetExceptionBreakpoints = tt
-success_silent now terms file (Continue arguments) = tt
-success_silent now terms file (Next arguments) = tt
-success_silent now terms file (StepIn arguments) = tt
-success_silent now terms file (StepOut arguments) = tt
-success_silent now terms file (Pause arguments) = tt
-success_silent now terms file (StackTrace arguments) = looks_silent now terms (StackTrace arguments) refl
-success_silent now terms file (Scopes arguments) = looks_silent now terms (Scopes arguments) refl
-success_silent now terms file (Variables arguments) = looks_silent now terms (Variables arguments) refl
-success_silent now terms file (Evaluate arguments) = looks_silent now terms (Evaluate arguments) refl
-success_silent now terms file (Disassemble arguments) = looks_silent now terms (Disassemble arguments) refl
-success_silent now terms file (ReadMemory arguments) = looks_silent now terms (ReadMemory arguments) refl
-success_silent now terms file (SetVariable arguments) = by_setting Silent now.debuggee.program now terms arguments (λ _. tt) (λ _ _. tt) (λ _ _ _ _ _. tt)
-success_silent now terms file (WriteMemory arguments) = by_writing Silent now.debuggee.program now terms arguments (λ _. tt) (λ _ _. tt) (λ _ _ _ _ _. tt)
+successes_silent : (now : Now) (terms : Terms) → BySuccess now terms (λ c a. Silent a)
+successes_silent now terms = record {
+  initialized = λ _. tt;
+  unreadable = λ _. tt;
+  loaded = λ _ _ _. (tt, tt);
+  wrong = λ _ _ _ _. tt;
+  attaches = (tt, tt);
+  begun = λ _. tt;
+  joined = λ _. run_silent (run_of now.debuggee.program);
+  agreed = λ _ _. tt;
+  restarts = tt;
+  terminates = (tt, tt);
+  leaves = λ _. tt;
+  pauses = λ _. tt;
+  stepped = λ _ _ _. tt;
+  absent = λ _ _ _. tt;
+  refused = λ _ _ _ _. tt;
+  sets_none = λ _ _ _ _ _ _ _. tt;
+  sets_list = λ _ _ _ _ _ _ _ _ _. tt;
+  shows = λ _ _ _ _ _ _ _ _. tt;
+  sets_register = λ _ _ _ _ _ _. tt;
+  writes = λ _ _ _ _ _ _. tt;
+}
 
 answer_silent : (now : Now) (terms : Terms) (file : Option (List ℕ)) (p : Pending) → Silent (answer_to now terms file p)
-answer_silent now terms file p = of_answer (λ ask (a : Answering). Silent a) now terms file p.ask p.fate (λ _ _. tt) (λ r _ _. success_silent now terms file r.command)
+answer_silent now terms file p = of_answer (λ ask (a : Answering). Silent a) now terms file p.ask p.fate (λ _ _. tt)
+    (λ r _ _. by_success now terms (λ c a. Silent a) (successes_silent now terms) file r.command)
 
 -- ---- acts that make or tell something of the program
 

@@ -1,6 +1,6 @@
 -- Requests that look in: what their successes tell is so, and numbers that are issued leave what is known.
-use Rattle.std.proofs.Common.{◌≡◌, ℕ, ◌+◌, Bool, true, false, cond, List, [], ◌∷◌, ◌++◌, Option, Some, None, Ok, refl, sym, ap, ◌∙◌, subst}
-use Rattle.std.specs.Prelude.{IsTrue, slice_get}
+use Rattle.std.proofs.Common.{◌≡◌, ℕ, ◌+◌, Bool, true, false, cond, List, [], ◌∷◌, ◌++◌, Option, Some, None, refl, sym, ap, ◌∙◌, subst}
+use Rattle.std.specs.Prelude.{◌||◌, not, IsTrue, slice_get}
 use Rattle.answers.specs.Looking.{looks_in}
 use Rattle.answers.specs.StackTrace.{addresses}
 use Rattle.debuggee.specs.Programs.{Program}
@@ -13,9 +13,8 @@ use Rattle.facts.specs.declared.frame.FrameInfo.{FrameInfo}
 use Rattle.protocol.specs.declared.command.Command.{Command}
 use Rattle.replies.specs.declared.response.ResponseBody.{ResponseBody}
 use Rattle.replies.specs.declared.response.ResponseBody.TheVariants as body
-use Rattle.session.proofs.Looked.{by_look}
 use Rattle.session.specs.Acts.{Now}
-use Rattle.session.specs.Looking.{issues, looks_on, seen_in}
+use Rattle.session.specs.Looking.{issues, seen_in}
 use Rattle.session.specs.declared.terms.Terms.{Terms}
 use Rattle.variables.specs.Numbers.{Numbers, has, number_from, number_in, with_all, with_one, with_targets}
 use Rattle.variables.specs.References.{is_same}
@@ -23,11 +22,10 @@ use Rattle.variables.specs.declared.target.Target.{Target}
 use Rattle.variables.specs.declared.target.Target.TheVariants.{Frame}
 use Rattle.session.proofs.Reaching.{if_keeps}
 use Rattle.headline.proofs.Agreeing.{Agrees, FramesNumbered, never}
-use Rattle.headline.proofs.Commands.{AnswerLeads, refusal_leads}
-use Rattle.headline.proofs.Leading.{Leads}
+use Rattle.headline.proofs.Commands.{AnswerLeads}
 use Rattle.headline.proofs.Resuming.{alone}
-use Rattle.headline.specs.Holding.{Holds, HoldsAt}
-use Rattle.session.specs.Shown.{frame_at, frame_in, or_zero, shown_by, shown_of}
+use Rattle.headline.specs.Holding.{HoldsAt}
+use Rattle.session.specs.Shown.{frame_at, frame_in, or_zero, shown_of}
 
 -- ---- numbers that were issued stay
 
@@ -101,25 +99,31 @@ other_tells (body.Disassemble b) f = refl
 abbrev pub Tells : Asked → Facts → Program → Numbers → Terms → ResponseBody → List Target → Type 0
 Tells asked f p numbers terms b targets = Agrees (succeeded b asked f) (Some p) (with_targets numbers targets) terms
 
--- a look, where each body that it answers is so
-pub look_leads : (now : Now) (terms : Terms) (command : Command) (asked : Asked) (f : Facts) → IsTrue (looks_in command) → succeeded body.Empty asked f ≡ f → Agrees f now.debuggee.program now.numbers terms
-    → ((p : Program) (b : ResponseBody) → now.debuggee.program ≡ Some p → (seen_in p now terms command).result ≡ Ok b → Agrees f (Some p) now.numbers terms → Tells asked f p now.numbers terms b (seen_in p now terms command).targets)
-    → AnswerLeads now f (Some asked) (looks_on now.debuggee.program now terms command)
-look_leads now terms command asked f looks none h each =
-    by_look (AnswerLeads now f (Some asked)) now.debuggee.program now terms command looks
-    (λ _. subst (λ (g : Facts). Holds g (shown_by now.debuggee.program now.numbers) × Leads terms now.numbers g now.debuggee.program []) (sym none) (alone f now.debuggee.program now.numbers terms h))
-    (λ refusal _. refusal_leads now terms f (Some asked) refusal None h)
-    (λ p b is e _ _. shown_leads p b is (each p b is e (subst (λ (program : Option Program). Agrees f program now.numbers terms) is h)))
-  where
-    shown_leads : (p : Program) (b : ResponseBody) → now.debuggee.program ≡ Some p → Tells asked f p now.numbers terms b (seen_in p now terms command).targets
-        → AnswerLeads now f (Some asked) (issues now terms b (seen_in p now terms command).targets)
-    shown_leads p b is so =
-        let targets = (seen_in p now terms command).targets in
-        alone (succeeded b asked f) now.debuggee.program (with_targets now.numbers targets) terms
-        (subst (λ (program : Option Program). Agrees (succeeded b asked f) program (with_targets now.numbers targets) terms) (sym is) so)
+-- a look that shows something, where what its body tells is so
+pub shown_leads : (now : Now) (terms : Terms) (command : Command) (asked : Asked) (f : Facts) (p : Program) (b : ResponseBody) → now.debuggee.program ≡ Some p
+    → Tells asked f p now.numbers terms b (seen_in p now terms command).targets → AnswerLeads now f (Some asked) (issues now terms b (seen_in p now terms command).targets)
+shown_leads now terms command asked f p b is so =
+    let targets = (seen_in p now terms command).targets in
+    alone (succeeded b asked f) now.debuggee.program (with_targets now.numbers targets) terms
+    (subst (λ (program : Option Program). Agrees (succeeded b asked f) program (with_targets now.numbers targets) terms) (sym is) so)
 
--- `scopes`, `evaluate` and `disassemble`
-pub other_look_leads : (now : Now) (terms : Terms) (command : Command) (f : Facts) → IsTrue (looks_in command) → Agrees f now.debuggee.program now.numbers terms → AnswerLeads now f (Some asks.Other) (looks_on now.debuggee.program now terms command)
-other_look_leads now terms command f looks h =
-    look_leads now terms command asks.Other f looks refl h
-    (λ p b is e a. subst (λ (g : Facts). Agrees g (Some p) (with_targets now.numbers (seen_in p now terms command).targets) terms) (sym (other_tells b f)) (issued_agrees f p now.numbers (seen_in p now terms command).targets terms a))
+abbrev pub is_other : Asked → Bool
+is_other asks.Other = true
+is_other asked = false
+
+other_is : (asked : Asked) → is_other asked ≡ true → asked ≡ asks.Other
+other_is asks.Other e = refl
+other_is asked e = absurd (let no : false ≡ true = e in cc)
+
+so_of_look : (other looks : Bool) → (other || not looks) ≡ true → looks ≡ true → other ≡ true
+so_of_look true looks e h = refl
+so_of_look false true e h = e
+so_of_look false false e h = h
+
+-- a look whose success tells nothing
+pub other_tells_so : (now : Now) (terms : Terms) (command : Command) (asked : Asked) (f : Facts) (p : Program) (b : ResponseBody) → IsTrue (looks_in command) → (is_other asked || not (looks_in command)) ≡ true
+    → Agrees f (Some p) now.numbers terms → Tells asked f p now.numbers terms b (seen_in p now terms command).targets
+other_tells_so now terms command asked f p b looks e a =
+    let targets = (seen_in p now terms command).targets in
+    subst (λ (asked : Asked). Tells asked f p now.numbers terms b targets) (sym (other_is asked (so_of_look (is_other asked) (looks_in command) e looks)))
+    (subst (λ (g : Facts). Agrees g (Some p) (with_targets now.numbers targets) terms) (sym (other_tells b f)) (issued_agrees f p now.numbers targets terms a))

@@ -1,37 +1,25 @@
 -- What a turn queues: there is to see at its end what there was to see at each message.
 use Rattle.std.proofs.Common.{◌≡◌, ℕ, Bool, true, false, ltb, List, [], ◌∷◌, map, Option, Some, None, refl, sym, ◌∙◌, subst}
-use Rattle.std.specs.Prelude.{All, IsTrue}
+use Rattle.std.specs.Prelude.{All}
 use Rattle.std.proofs.lemmas.List.Elements.{All-cons, All-nil}
-use Rattle.answers.specs.Answers.{sets_breakpoints}
-use Rattle.answers.specs.Looking.{looks_in}
-use Rattle.assembler.specs.Placed.{error_of}
-use Rattle.assembler.specs.declared.error.AsmError.{AsmError}
 use Rattle.debuggee.specs.Programs.{Program}
 use Rattle.debuggee.specs.declared.run.Run.{Run}
 use Rattle.debuggee.specs.declared.run.Run.TheVariants as a_run
-use Rattle.protocol.specs.declared.command.Command.{Command}
-use Rattle.protocol.specs.declared.command.Command.TheVariants.{Initialize, Launch, Attach, ConfigurationDone, Threads, Cancel, Restart, Terminate, Disconnect, SetBreakpoints, SetInstructionBreakpoints, SetExceptionBreakpoints, Continue, Next, StepIn, StepOut, Pause, StackTrace, Scopes, Variables, SetVariable, Evaluate, Disassemble, ReadMemory, WriteMemory}
 use Rattle.replies.specs.declared.event.Event.{Event as Told}
 use Rattle.replies.specs.declared.event.Event.TheVariants as event
 use Rattle.replies.specs.declared.message.Message.{Message}
 use Rattle.replies.specs.declared.message.Message.TheVariants.{Response as IsResponse}
-use Rattle.session.proofs.Breaking.{by_answer}
 use Rattle.session.proofs.ByForms.{on, on_with}
 use Rattle.session.proofs.Joined.{program_of}
-use Rattle.session.proofs.Looked.{by_look, by_setting, by_writing}
 use Rattle.session.proofs.Reaching.{if_keeps, performed_append}
 use Rattle.session.proofs.Serving.{of_answer}
 use Rattle.session.specs.Acts.{Answering, Now, refers}
-use Rattle.session.specs.Breaks.{success_on}
 use Rattle.session.specs.ConfigurationDone.{run_events}
 use Rattle.session.specs.Demands.{run_of}
 use Rattle.session.specs.Effects.{performed}
-use Rattle.session.specs.Launch.{assembles}
-use Rattle.session.specs.Looking.{looks_on}
 use Rattle.session.specs.Outcomes.{Outcome, answering, answers_next, closing, done, next_turn, outcome_at, turn_by, turn_of}
 use Rattle.session.specs.Refusals.{answer_to, response_to}
 use Rattle.session.specs.References.{past_referred}
-use Rattle.session.specs.Requests.{success_of}
 use Rattle.session.specs.Sessions.{Effect, Session, histories, hung_on, replied_on}
 use Rattle.session.specs.Telling.{stop_event}
 use Rattle.session.specs.declared.event.Applied.TheVariants.{Turn as DidTurn}
@@ -46,6 +34,7 @@ use Rattle.headline.proofs.Agreeing.{OwesOf, OwesRunning, never}
 use Rattle.headline.proofs.Following.{tells_follow}
 use Rattle.headline.specs.News.{Fits, IsFollowed}
 use Rattle.headline.proofs.Newly.{Plain, just_told, nothing_newly, plain_told, said_told, same_life}
+use Rattle.session.proofs.BySuccess.{BySuccess, by_success}
 
 -- ---- no answer tells what was printed
 
@@ -64,46 +53,34 @@ joined_plain (Some a_run.Running) = one event.Continued refl
 joined_plain (Some (a_run.Stopped why)) = one (stop_event why []) refl
 joined_plain (Some (a_run.Ended code)) = none
 
-sets_plain : (now : Now) (terms : Terms) (command : Command) → IsTrue (sets_breakpoints command) → AllPlain (success_on now.debuggee.program now terms command)
-sets_plain now terms command sets = by_answer AllPlain now.debuggee.program now terms command sets (λ _. none) (λ refusal plain. none) (λ p b is e f. none) (λ p b list is e f within. none)
-
-looks_plain : (now : Now) (terms : Terms) (command : Command) → IsTrue (looks_in command) → AllPlain (looks_on now.debuggee.program now terms command)
-looks_plain now terms command looks = by_look AllPlain now.debuggee.program now terms command looks (λ _. none) (λ refusal plain. none) (λ p b is e plain room. none)
-
-success_plain : (now : Now) (terms : Terms) (file : Option (List ℕ)) (command : Command) → AllPlain (success_of now terms file command)
-success_plain now terms file (Initialize arguments) = none
-success_plain now terms None (Launch arguments) = none
-success_plain now terms (Some text) (Launch arguments) = by (error_of text now.size) where
-  by : (error : Option AsmError) → AllPlain (assembles now terms arguments text error)
-  by None = one event.Initialized refl
-  by (Some e) = none
-success_plain now terms file Attach = one event.Initialized refl
-success_plain now terms file ConfigurationDone = if_keeps AllPlain terms.launched _ _ (λ _. none) (λ _. joined_plain (run_of now.debuggee.program))
-success_plain now terms file Threads = none
-success_plain now terms file (Cancel arguments) = none
-success_plain now terms file Restart = none
-success_plain now terms file Terminate = one event.Terminated refl
-success_plain now terms file (Disconnect arguments) = none
-success_plain now terms file (SetBreakpoints arguments) = sets_plain now terms (SetBreakpoints arguments) refl
-success_plain now terms file (SetInstructionBreakpoints arguments) = sets_plain now terms (SetInstructionBreakpoints arguments) refl
-success_plain now terms file SetExceptionBreakpoints = none
-success_plain now terms file (Continue arguments) = none
-success_plain now terms file (Next arguments) = none
-success_plain now terms file (StepIn arguments) = none
-success_plain now terms file (StepOut arguments) = none
-success_plain now terms file (Pause arguments) = none
-success_plain now terms file (StackTrace arguments) = looks_plain now terms (StackTrace arguments) refl
-success_plain now terms file (Scopes arguments) = looks_plain now terms (Scopes arguments) refl
-success_plain now terms file (Variables arguments) = looks_plain now terms (Variables arguments) refl
-success_plain now terms file (Evaluate arguments) = looks_plain now terms (Evaluate arguments) refl
-success_plain now terms file (Disassemble arguments) = looks_plain now terms (Disassemble arguments) refl
-success_plain now terms file (ReadMemory arguments) = looks_plain now terms (ReadMemory arguments) refl
-success_plain now terms file (SetVariable arguments) = by_setting AllPlain now.debuggee.program now terms arguments (λ _. none) (λ refusal plain. none) (λ p setting is e plain. none)
-success_plain now terms file (WriteMemory arguments) = by_writing AllPlain now.debuggee.program now terms arguments (λ _. none) (λ refusal plain. none) (λ p writing is e plain. none)
+successes_plain : (now : Now) (terms : Terms) → BySuccess now terms (λ c a. AllPlain a)
+successes_plain now terms = record {
+  initialized = λ _. none;
+  unreadable = λ _. none;
+  loaded = λ _ _ _. one event.Initialized refl;
+  wrong = λ _ _ _ _. none;
+  attaches = one event.Initialized refl;
+  begun = λ _. none;
+  joined = λ _. joined_plain (run_of now.debuggee.program);
+  agreed = λ _ _. none;
+  restarts = none;
+  terminates = one event.Terminated refl;
+  leaves = λ _. none;
+  pauses = λ _. none;
+  stepped = λ _ _ _. none;
+  absent = λ _ _ _. none;
+  refused = λ _ _ _ _. none;
+  sets_none = λ _ _ _ _ _ _ _. none;
+  sets_list = λ _ _ _ _ _ _ _ _ _. none;
+  shows = λ _ _ _ _ _ _ _ _. none;
+  sets_register = λ _ _ _ _ _ _. none;
+  writes = λ _ _ _ _ _ _. none;
+}
 
 answer_plain : (now : Now) (terms : Terms) (file : Option (List ℕ)) (p : Pending) → AllPlain (answer_to now terms file p)
 answer_plain now terms file p =
-    of_answer (λ ask answer. AllPlain answer) now terms file p.ask p.fate (λ refusal _. none) (λ r taken meets. success_plain now terms file r.command)
+    of_answer (λ ask answer. AllPlain answer) now terms file p.ask p.fate (λ refusal _. none)
+    (λ r taken meets. by_success now terms (λ c a. AllPlain a) (successes_plain now terms) file r.command)
 
 -- ---- an answer
 

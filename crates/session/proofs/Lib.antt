@@ -24,6 +24,7 @@ pub mod Asked
 pub mod Orderly
 pub mod Breaking
 pub mod Looked
+pub mod BySuccess
 pub mod Numbering
 pub mod Turning
 pub mod Once

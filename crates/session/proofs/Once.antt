@@ -1,13 +1,9 @@
 -- `initialize` succeeds once at most on a connection.
 use Rattle.std.proofs.Common.{◌≡◌, ℕ, ◌+◌, ◌≤◌, Bool, true, false, ltb, List, [], ◌∷◌, ◌++◌, map, Option, Some, None, refl, sym, subst, arith}
-use Rattle.std.specs.Prelude.{All, IsTrue, Ok}
+use Rattle.std.specs.Prelude.{All, Ok}
 use Rattle.std.proofs.lemmas.List.Elements.{All-push, All-nil}
-use Rattle.answers.specs.Answers.{sets_breakpoints}
-use Rattle.assembler.specs.Placed.{error_of}
-use Rattle.assembler.specs.declared.error.AsmError.{AsmError}
 use Rattle.debuggee.specs.Programs.{Program}
 use Rattle.protocol.specs.declared.command.Command.{Command}
-use Rattle.protocol.specs.declared.command.Command.TheVariants.{Initialize, Launch, Attach, ConfigurationDone, Threads, Cancel, Restart, Terminate, Disconnect, SetBreakpoints, SetInstructionBreakpoints, SetExceptionBreakpoints, Continue, Next, StepIn, StepOut, Pause, StackTrace, Scopes, Variables, SetVariable, Evaluate, Disassemble, ReadMemory, WriteMemory}
 use Rattle.replies.specs.declared.event.Event.{Event}
 use Rattle.replies.specs.declared.message.Message.TheVariants.{Response, Event as IsEvent}
 use Rattle.replies.specs.declared.response.Outcome.TheVariants.{Done}
@@ -21,23 +17,20 @@ use Rattle.session.specs.declared.phase.Phase.TheVariants.{Fresh, Initialized, C
 use Rattle.session.specs.declared.terms.Terms.{Terms}
 use Rattle.session.specs.Acts.{Answering, Now, Tell, refers}
 use Rattle.session.specs.References.{past_referred}
-use Rattle.session.specs.Breaks.{success_on}
 use Rattle.session.specs.Effects.{performed}
-use Rattle.session.specs.Launch.{assembles}
 use Rattle.session.specs.Laws.{initializes, initializes_by, times_initialized, InitializesOnce}
 use Rattle.session.specs.Outcomes.{answering, closing}
 use Rattle.session.specs.Phases.{is_fresh_in}
 use Rattle.session.specs.Refusals.{answer_to, response_to}
-use Rattle.session.specs.Requests.{is_taken_in, success_of}
+use Rattle.session.specs.Requests.{is_taken_in}
 use Rattle.session.specs.Sessions.{Beginning, Session, Life, Said, said_next, said_on, replied_on, hung_on, performed_on, histories, After}
-use Rattle.session.proofs.Breaking.{IsPlain, answer_on, by_answer, is_plain}
-use Rattle.session.proofs.Looked.{by_look, by_setting, by_writing}
-use Rattle.session.specs.Looking.{looks_on}
-use Rattle.answers.specs.Looking.{looks_in}
+use Rattle.session.proofs.Breaking.{IsPlain, answer_on, is_plain}
 use Rattle.session.proofs.Serving.{of_answer}
 use Rattle.session.proofs.Reaching.{if_keeps, each_life, performed_append}
 use Rattle.session.proofs.ByForms.{on, on_with}
 use Rattle.session.proofs.Turning.{KeptByEvents, reached_by_events}
+use Rattle.session.proofs.BySuccess.{BySuccess, by_success, SetsList, agreed_body, step_body}
+use Rattle.session.specs.Successes.{agreeing}
 
 -- how often it can have succeeded by then
 abbrev Suits : Phase → ℕ → Type 0
@@ -143,56 +136,39 @@ answer_keeps l p rest s a fits h =
 
 -- ---- each answer fits
 
-same_fits : (n : ℕ) (phase : Phase) → n + 0 ≤ 1 → Suits phase (n + 0) → (n + 0 ≤ 1) × Suits phase (n + 0)
-same_fits n phase few suits = (few, suits)
-
 of_none : (phase : Phase) (n k : ℕ) → k ≡ 0 → n + 0 ≤ 1 → Suits phase (n + 0) → (n + k ≤ 1) × Suits phase (n + k)
 of_none phase n k is few suits = subst (λ (i : ℕ). (n + i ≤ 1) × Suits phase (n + i)) (sym is) (few, suits)
 
-sets_fit : (now : Now) (terms : Terms) (command : Command) (n : ℕ) → IsTrue (sets_breakpoints command) → n + 0 ≤ 1 → Suits terms.phase (n + 0) → Fits n (success_on now.debuggee.program now terms command)
-sets_fit now terms command n sets few suits =
-    by_answer (Fits n) now.debuggee.program now terms command sets (λ _. (few, suits)) (λ refusal plain. (few, suits))
-    (λ p b is e f. of_none terms.phase n (initializes (Done b)) (none p b e) few suits)
-    (λ p b list is e f within. of_none terms.phase n (initializes (Done b)) (none p b e) few suits)
-  where
-    none : (p : Program) (b : ResponseBody) → (answer_on p now terms command).result ≡ Ok b → initializes (Done b) ≡ 0
-    none p b e = subst IsPlain e (is_plain p now terms command sets)
+module _ (now : Now) (terms : Terms) (n : ℕ) (few : n + 0 ≤ 1) (suits : Suits terms.phase (n + 0)) where
+  -- a body that is none of `initialize`
+  other : (b : ResponseBody) → initializes (Done b) ≡ 0 → Fits n (agreeing now terms b)
+  other b none = of_none terms.phase n (initializes (Done b)) none few suits
 
-looks_fit : (now : Now) (terms : Terms) (command : Command) (n : ℕ) → IsTrue (looks_in command) → n + 0 ≤ 1 → Suits terms.phase (n + 0) → Fits n (looks_on now.debuggee.program now terms command)
-looks_fit now terms command n looks few suits =
-    by_look (Fits n) now.debuggee.program now terms command looks (λ _. (few, suits)) (λ refusal plain. (few, suits))
-    (λ p b is e none room. of_none terms.phase n (initializes (Done b)) none few suits)
-
-command_fits : (now : Now) (terms : Terms) (file : Option (List ℕ)) (command : Command) (n : ℕ) → is_taken_in terms.phase command ≡ true → n + 0 ≤ 1 → Suits terms.phase (n + 0) → Fits n (success_of now terms file command)
-command_fits now terms file (Initialize arguments) n taken few suits = let one = first_time terms.phase n taken suits in (one, one)
-command_fits now terms None (Launch arguments) n taken few suits = (few, suits)
-command_fits now terms (Some text) (Launch arguments) n taken few suits = by (error_of text now.size) where
-  by : (error : Option AsmError) → Fits n (assembles now terms arguments text error)
-  by None = (few, few)
-  by (Some e) = (few, suits)
-command_fits now terms file Attach n taken few suits = (few, few)
-command_fits now terms file ConfigurationDone n taken few suits = if_keeps (Fits n) terms.launched _ _ (λ _. (few, few)) (λ _. (few, few))
-command_fits now terms file Threads n taken few suits = (few, suits)
-command_fits now terms file (Cancel arguments) n taken few suits = (few, suits)
-command_fits now terms file Restart n taken few suits = (few, suits)
-command_fits now terms file Terminate n taken few suits = (few, suits)
-command_fits now terms file (Disconnect arguments) n taken few suits = (few, few)
-command_fits now terms file (SetBreakpoints arguments) n taken few suits = sets_fit now terms (SetBreakpoints arguments) n refl few suits
-command_fits now terms file (SetInstructionBreakpoints arguments) n taken few suits = sets_fit now terms (SetInstructionBreakpoints arguments) n refl few suits
-command_fits now terms file SetExceptionBreakpoints n taken few suits = (few, suits)
-command_fits now terms file (Continue arguments) n taken few suits = (few, suits)
-command_fits now terms file (Next arguments) n taken few suits = (few, suits)
-command_fits now terms file (StepIn arguments) n taken few suits = (few, suits)
-command_fits now terms file (StepOut arguments) n taken few suits = (few, suits)
-command_fits now terms file (Pause arguments) n taken few suits = (few, suits)
-command_fits now terms file (StackTrace arguments) n taken few suits = looks_fit now terms (StackTrace arguments) n refl few suits
-command_fits now terms file (Scopes arguments) n taken few suits = looks_fit now terms (Scopes arguments) n refl few suits
-command_fits now terms file (Variables arguments) n taken few suits = looks_fit now terms (Variables arguments) n refl few suits
-command_fits now terms file (Evaluate arguments) n taken few suits = looks_fit now terms (Evaluate arguments) n refl few suits
-command_fits now terms file (Disassemble arguments) n taken few suits = looks_fit now terms (Disassemble arguments) n refl few suits
-command_fits now terms file (ReadMemory arguments) n taken few suits = looks_fit now terms (ReadMemory arguments) n refl few suits
-command_fits now terms file (SetVariable arguments) n taken few suits = by_setting (Fits n) now.debuggee.program now terms arguments (λ _. (few, suits)) (λ refusal plain. (few, suits)) (λ p setting is e none. of_none terms.phase n (initializes (Done setting.body)) none few suits)
-command_fits now terms file (WriteMemory arguments) n taken few suits = by_writing (Fits n) now.debuggee.program now terms arguments (λ _. (few, suits)) (λ refusal plain. (few, suits)) (λ p writing is e none. of_none terms.phase n (initializes (Done writing.body)) none few suits)
+  successes_fit : BySuccess now terms (λ c a. is_taken_in terms.phase c ≡ true → Fits n a)
+  successes_fit = record {
+    initialized = λ _ taken. let one = first_time terms.phase n taken suits in (one, one);
+    unreadable = λ _ _. (few, suits);
+    loaded = λ _ _ _ _. (few, few);
+    wrong = λ _ _ _ _ _. (few, suits);
+    attaches = λ _. (few, few);
+    begun = λ _ _. (few, few);
+    joined = λ _ _. (few, few);
+    agreed = λ c kind _. other (agreed_body c) kind.plain;
+    restarts = λ _. (few, suits);
+    terminates = λ _. (few, suits);
+    leaves = λ _ _. (few, few);
+    pauses = λ _ _. (few, suits);
+    stepped = λ c kind _ _. other (step_body c) kind.plain;
+    absent = λ _ _ _ _. (few, suits);
+    refused = λ _ _ _ _ _. (few, suits);
+    sets_none = λ c kind p b is e _ _. other b (set_is_plain c kind p b e);
+    sets_list = λ c kind p b list is e _ _ _. other b (set_is_plain c kind p b e);
+    shows = λ _ _ p b is e none _ _. other b none;
+    sets_register = λ _ p setting is e none _. other setting.body none;
+    writes = λ _ p writing is e none _. other writing.body none;
+  } where
+    set_is_plain : (c : Command) → SetsList c → (p : Program) (b : ResponseBody) → (answer_on p now terms c).result ≡ Ok b → initializes (Done b) ≡ 0
+    set_is_plain c kind p b e = subst IsPlain e (is_plain p now terms c kind.sets)
 
 once : KeptByEvents (OnceWith 0)
 once = record {
@@ -208,7 +184,8 @@ once = record {
   answers = λ l p rest file s _ _ _ h. answer_keeps l p rest s (answer_to (on_with (Some l) (p ∷ rest) s).now l.terms file p)
       (of_answer (λ ask answer. Fits (times_initialized s.life.said) answer) (on_with (Some l) (p ∷ rest) s).now l.terms file p.ask p.fate
       (λ refusal _. (h.present, h.suits))
-      (λ r taken _. command_fits (on_with (Some l) (p ∷ rest) s).now l.terms file r.command (times_initialized s.life.said) taken h.present h.suits)) h;
+      (λ r taken _. by_success (on_with (Some l) (p ∷ rest) s).now l.terms (λ c a. is_taken_in l.terms.phase c ≡ true → Fits (times_initialized s.life.said) a)
+      (successes_fit (on_with (Some l) (p ∷ rest) s).now l.terms (times_initialized s.life.said) h.present h.suits) file r.command taken)) h;
   takes = λ n s h. record { before = h.before; present = h.present; suits = h.suits };
 }
 

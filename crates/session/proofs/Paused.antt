@@ -1,10 +1,7 @@
 -- A program that runs and is marked retires no instruction.
 use Rattle.std.proofs.Common.{◌≡◌, ℕ, zero, suc, Bool, true, false, leb, ltb, eqb, List, [], ◌∷◌, map, length, Option, Some, None, ◌⊎◌, inl, inr, refl, sym, ap, ◌∙◌, subst, arith}
-use Rattle.std.specs.Prelude.{IsTrue, not, bytes_eq, is_some, MatchOption}
-use Rattle.answers.specs.Answers.{sets_breakpoints}
+use Rattle.std.specs.Prelude.{◌&&◌, not, bytes_eq, is_some, MatchOption}
 use Rattle.assembler.specs.Assembled.{assembled}
-use Rattle.assembler.specs.Placed.{error_of}
-use Rattle.assembler.specs.declared.error.AsmError.{AsmError}
 use Rattle.breakpoints.specs.Stops.{Wanted}
 use Rattle.debuggee.specs.Programs.{with_instructions, with_source}
 use Rattle.debuggee.specs.Programs.{Debuggee, Program, ended, first_mark, first_run, is_running, just_loaded, marked, marked_by, on_program, restarted, stopped, told, why_marked}
@@ -14,7 +11,7 @@ use Rattle.debuggee.specs.declared.run.Run.{Run}
 use Rattle.debuggee.specs.declared.run.Run.TheVariants as run
 use Rattle.debuggee.specs.declared.run.Why.TheVariants as why
 use Rattle.protocol.specs.declared.command.Command.{Command}
-use Rattle.protocol.specs.declared.command.Command.TheVariants.{Initialize, Launch, Attach, ConfigurationDone, Threads, Cancel, Restart, Terminate, Disconnect, SetBreakpoints, SetInstructionBreakpoints, SetExceptionBreakpoints, Continue, Next, StepIn, StepOut, Pause, StackTrace, Scopes, Variables, SetVariable, Evaluate, Disassemble, ReadMemory, WriteMemory}
+use Rattle.protocol.specs.declared.command.Command.TheVariants.{SetBreakpoints, SetVariable, WriteMemory}
 use Rattle.protocol.specs.Commands.{name_of}
 use Rattle.protocol.specs.declared.disconnect.TheConstants.{NAME as DISCONNECT}
 use Rattle.replies.specs.declared.message.Message.TheVariants.{Response as IsResponse}
@@ -30,14 +27,13 @@ use Rattle.session.specs.declared.terms.Terms.{Terms}
 use Rattle.session.specs.Acts.{Answering, Now, Become, Refer, Agree, Reply, Tell}
 use Rattle.session.specs.Arrivals.{name_asked}
 use Rattle.variables.specs.Laws.{Call}
-use Rattle.session.specs.Breaks.{success_on, with_list}
+use Rattle.session.specs.Breaks.{with_list}
 use Rattle.session.specs.Demands.{goes_on, run_of}
 use Rattle.session.specs.Effects.{Slicing, beats, enough, next_by, performed}
-use Rattle.session.specs.Launch.{assembles}
 use Rattle.session.specs.Laws.{EditorLeaves, IsAtRest, IsMarked, MarkedRetiresNone, PauseMarks, RetiresNone, RetiresNoneIn}
 use Rattle.session.specs.Outcomes.{Outcome, answering, answers_next, closing, next_turn, outcome_at, turn_by, turn_of}
 use Rattle.session.specs.Refusals.{answer_to, response_to}
-use Rattle.session.specs.Requests.{demand_of, is_taken_in, success_of}
+use Rattle.session.specs.Requests.{demand_of}
 use Rattle.session.specs.Sessions.{Session, Effect, agreed_on, histories, hung_on, performed_on, referred_on, replied_on, waiting_of}
 use Rattle.session.specs.Slices.{Beat, beat_by, beat_of, ending_of, ends, goes_unless, is_runnable_by, telling, tells}
 use Rattle.session.specs.Telling.{stop_event}
@@ -46,10 +42,10 @@ use Rattle.stepping.specs.declared.tick.Outcome.{Outcome as CameTo}
 use Rattle.stepping.specs.declared.tick.Outcome.TheVariants.{Went, Stopped, Ended}
 use Rattle.session.proofs.ByForms.{on, on_with}
 use Rattle.session.proofs.Reaching.{if_keeps, performed_append}
-use Rattle.session.proofs.Breaking.{by_answer}
 use Rattle.session.proofs.Serving.{Meets, of_answer}
 use Rattle.session.proofs.Joined.{becomes_program, concluded_as, program_of, same_debuggee, telling_program, tells_only, told_only}
 use Rattle.session.proofs.Turning.{said_debuggee}
+use Rattle.session.proofs.BySuccess.{BySuccess, by_success}
 
 -- it runs and is marked, or does not run
 Waits : Option Program → Type 0
@@ -208,49 +204,47 @@ listed_waits : (command : Command) (list : List Wanted) (p : Program) → is_run
 listed_waits (SetBreakpoints arguments) list p r m = marked_one (with_source list p) r m
 listed_waits other list p r m = marked_one (with_instructions list p) r m
 
-sets_wait : (now : Now) (terms : Terms) (command : Command) → IsTrue (sets_breakpoints command) → Marked now.debuggee.program → Waits (success_on now.debuggee.program now terms command).debuggee.program
-sets_wait now terms command sets h =
-    let same = still_marked now.debuggee.program h in
-    by_answer (λ a. Waits a.debuggee.program) now.debuggee.program now terms command sets (λ _. same) (λ refusal plain. same) (λ p b is e f. same)
-    (λ p b list is e f within. on_waits (with_list command list) now.debuggee.program h (listed_waits command list))
+-- the answer to a request of which the program is as it asks
+abbrev WaitsTaken : Now → Command → Answering → Type 0
+WaitsTaken now c a = Meets (run_of now.debuggee.program) (demand_of c) → Goes (name_of c) a
 
-command_waits : (now : Now) (terms : Terms) (file : Option (List ℕ)) (command : Command) → Marked now.debuggee.program → is_taken_in terms.phase command ≡ true → Meets (run_of now.debuggee.program) (demand_of command) → Goes (name_of command) (success_of now terms file command)
-command_waits now terms file (Initialize arguments) h taken meets = inl (still_marked now.debuggee.program h)
-command_waits now terms None (Launch arguments) h taken meets = inl (still_marked now.debuggee.program h)
-command_waits now terms (Some text) (Launch arguments) h taken meets = by (error_of text now.size) where
-  by : (error : Option AsmError) → Goes (name_of (Launch arguments)) (assembles now terms arguments text error)
-  by None = inl (rests_one (just_loaded (assembled text) arguments.program arguments.stop_on_entry now.size) refl)
-  by (Some e) = inl (still_marked now.debuggee.program h)
-command_waits now terms file Attach h taken meets = inl (still_marked now.debuggee.program h)
-command_waits now terms file ConfigurationDone h taken meets =
-    if_keeps (Goes (name_of ConfigurationDone)) terms.launched _ _ (λ _. inl (on_waits first_run now.debuggee.program h (λ p r m. begun_waits p p refl m))) (λ _. inl (still_marked now.debuggee.program h))
-command_waits now terms file Threads h taken meets = inl (still_marked now.debuggee.program h)
-command_waits now terms file (Cancel arguments) h taken meets = inl (still_marked now.debuggee.program h)
-command_waits now terms file Restart h taken meets = inl (on_waits (λ p. first_run (restarted p)) now.debuggee.program h (λ p r m. begun_waits p (restarted p) refl m))
-command_waits now terms file Terminate h taken meets = inl (on_waits (ended None) now.debuggee.program h (λ p r m. rests_one (ended None p) refl))
-command_waits now terms file (Disconnect arguments) h taken meets = inr refl
-command_waits now terms file (SetBreakpoints arguments) h taken meets = inl (sets_wait now terms (SetBreakpoints arguments) refl h)
-command_waits now terms file (SetInstructionBreakpoints arguments) h taken meets = inl (sets_wait now terms (SetInstructionBreakpoints arguments) refl h)
-command_waits now terms file SetExceptionBreakpoints h taken meets = inl (still_marked now.debuggee.program h)
-command_waits now terms file (Continue arguments) h taken meets = no_step now.debuggee.program h meets.still
-command_waits now terms file (Next arguments) h taken meets = no_step now.debuggee.program h meets.still
-command_waits now terms file (StepIn arguments) h taken meets = no_step now.debuggee.program h meets.still
-command_waits now terms file (StepOut arguments) h taken meets = no_step now.debuggee.program h meets.still
-command_waits now terms file (Pause arguments) h taken meets = inl (on_waits (marked mark.Pause) now.debuggee.program h (λ p r m. marked_waits mark.Pause p r m))
-command_waits now terms file (StackTrace arguments) h taken meets = no_step now.debuggee.program h meets.still
-command_waits now terms file (Scopes arguments) h taken meets = no_step now.debuggee.program h meets.still
-command_waits now terms file (Variables arguments) h taken meets = no_step now.debuggee.program h meets.still
-command_waits now terms file (Evaluate arguments) h taken meets = no_step now.debuggee.program h meets.still
-command_waits now terms file (Disassemble arguments) h taken meets = no_step now.debuggee.program h meets.still
-command_waits now terms file (ReadMemory arguments) h taken meets = no_step now.debuggee.program h meets.still
-command_waits now terms file (SetVariable arguments) h taken meets = no_step now.debuggee.program h meets.still
-command_waits now terms file (WriteMemory arguments) h taken meets = no_step now.debuggee.program h meets.still
+module _ (now : Now) (terms : Terms) (h : Marked now.debuggee.program) where
+  same : Waits now.debuggee.program
+  same = still_marked now.debuggee.program h
+
+  -- it wants the program to stand still
+  no_still : {A : Type 0} (c : Command) → (demand_of c).still ≡ true → Meets (run_of now.debuggee.program) (demand_of c) → A
+  no_still c still meets = no_step now.debuggee.program h (subst (λ (s : Bool). (s && goes_on (run_of now.debuggee.program)) ≡ false) still meets.still)
+
+  successes_wait : BySuccess now terms (WaitsTaken now)
+  successes_wait = record {
+    initialized = λ _ _. inl same;
+    unreadable = λ _ _. inl same;
+    loaded = λ arguments text _ _. inl (rests_one (just_loaded (assembled text) arguments.program arguments.stop_on_entry now.size) refl);
+    wrong = λ _ _ _ _ _. inl same;
+    attaches = λ _. inl same;
+    begun = λ _ _. inl (on_waits first_run now.debuggee.program h (λ p r m. begun_waits p p refl m));
+    joined = λ _ _. inl same;
+    agreed = λ _ _ _. inl same;
+    restarts = λ _. inl (on_waits (λ p. first_run (restarted p)) now.debuggee.program h (λ p r m. begun_waits p (restarted p) refl m));
+    terminates = λ _. inl (on_waits (ended None) now.debuggee.program h (λ p r m. rests_one (ended None p) refl));
+    leaves = λ _ _. inr refl;
+    pauses = λ _ _. inl (on_waits (marked mark.Pause) now.debuggee.program h (λ p r m. marked_waits mark.Pause p r m));
+    stepped = λ c kind _ meets. no_still c kind.still meets;
+    absent = λ _ _ _ _. inl same;
+    refused = λ _ _ _ _ _. inl same;
+    sets_none = λ _ _ _ _ _ _ _ _. inl same;
+    sets_list = λ c _ _ _ list _ _ _ _ _. inl (on_waits (with_list c list) now.debuggee.program h (listed_waits c list));
+    shows = λ c kind _ _ _ _ _ _ meets. no_still c kind.still meets;
+    sets_register = λ arguments _ _ _ _ _ meets. no_still (SetVariable arguments) refl meets;
+    writes = λ arguments _ _ _ _ _ meets. no_still (WriteMemory arguments) refl meets;
+  }
 
 answer_waits : (now : Now) (terms : Terms) (file : Option (List ℕ)) (p : Pending) → Marked now.debuggee.program → Goes (name_asked p.ask) (answer_to now terms file p)
 answer_waits now terms file p h =
     of_answer (λ ask answer. Goes (name_asked ask) answer) now terms file p.ask p.fate
     (λ refusal _. inl (still_marked now.debuggee.program h))
-    (λ r taken meets. command_waits now terms file r.command h taken meets)
+    (λ r taken meets. by_success now terms (WaitsTaken now) (successes_wait now terms h) file r.command meets)
 
 -- ---- an event
 

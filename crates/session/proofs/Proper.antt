@@ -1,7 +1,6 @@
 -- Each answer is proper.
-use Rattle.std.proofs.Common.{◌≡◌, ℕ, ◌+◌, ◌<◌, ◌≤◌, Bool, true, false, ltb, List, [], ◌∷◌, map, Option, Some, None, Result, Ok, refl, sym, ap, ◌∙◌, subst, arith}
-use Rattle.std.specs.Prelude.{All, IfOk, IsTrue, codes, ◌^◌, ◌&&◌}
-use Rattle.answers.specs.Answers.{sets_breakpoints}
+use Rattle.std.proofs.Common.{◌≡◌, ℕ, ◌+◌, ◌<◌, ◌≤◌, Bool, true, false, ltb, List, [], ◌∷◌, map, Option, Some, None, Result, Ok, refl, sym, subst, arith}
+use Rattle.std.specs.Prelude.{All, IfOk, codes, ◌^◌}
 use Rattle.answers.specs.Laws.{HoldsWords, IsNarrow, NumbersFit}
 use Rattle.answers.proofs.Proper.{answers_are_proper as breaks_are_proper}
 use Rattle.assembler.specs.Assembled.{IsNarrowRow}
@@ -12,10 +11,7 @@ use Rattle.debuggee.specs.declared.run.Run.TheVariants.{Running, Stopped, Ended}
 use Rattle.session.specs.ConfigurationDone.{run_events}
 use Rattle.image.specs.Lines.{line_in, start_of}
 use Rattle.std.proofs.lemmas.List.Elements.{All-push, All-nil, All-weaker}
-use Rattle.assembler.specs.Placed.{error_of}
-use Rattle.assembler.specs.declared.error.AsmError.{AsmError}
 use Rattle.protocol.specs.declared.command.Command.{Command}
-use Rattle.protocol.specs.declared.command.Command.TheVariants.{Initialize, Launch, Attach, ConfigurationDone, Threads, Cancel, Restart, Terminate, Disconnect, SetBreakpoints, SetInstructionBreakpoints, SetExceptionBreakpoints, Continue, Next, StepIn, StepOut, Pause, StackTrace, Scopes, Variables, SetVariable, Evaluate, Disassemble, ReadMemory, WriteMemory}
 use Rattle.protocol.specs.declared.refusal.Refusal.{Refusal}
 use Rattle.protocol.specs.Commands.{name_of}
 use Rattle.protocol.specs.Laws.{AsksLinesWithin}
@@ -34,30 +30,27 @@ use Rattle.session.specs.declared.terms.Terms.{Terms}
 use Rattle.session.specs.Acts.{Answering, Now, Tell, refers}
 use Rattle.session.specs.References.{past_referred}
 use Rattle.session.specs.Arrivals.{number_of, name_asked}
-use Rattle.session.specs.Breaks.{success_on, view_of}
-use Rattle.session.specs.Demands.{has_none, run_of}
+use Rattle.session.specs.Breaks.{view_of}
+use Rattle.session.specs.Demands.{run_of}
 use Rattle.session.specs.Effects.{performed}
-use Rattle.session.specs.Launch.{assembles}
 use Rattle.session.specs.Laws.{AnswersAreProper}
 use Rattle.session.specs.Outcomes.{answering, closing}
 use Rattle.session.specs.Refusals.{answer_to, response_to}
-use Rattle.session.specs.Requests.{demand_of, is_taken_in, success_of}
 use Rattle.session.specs.Sessions.{Beginning, Session, Life, Said, said_next, said_on, replied_on, hung_on, performed_on, histories, After}
 use Rattle.session.proofs.Reaching.{if_keeps, each_life, performed_append}
 use Rattle.session.proofs.ByForms.{on, on_with, saying}
 use Rattle.session.proofs.Turning.{BoundsIn, KeptByEvents, reached_by_events}
 use Rattle.session.proofs.Asked.{AreRead, IsRead, asks_that_wait, has_no_text, number_is}
-use Rattle.session.proofs.Breaking.{answer_on, by_answer}
-use Rattle.session.proofs.Looked.{by_look, by_setting, by_writing}
-use Rattle.session.specs.Looking.{looks_on, seen_in}
+use Rattle.session.proofs.Breaking.{answer_on}
+use Rattle.session.specs.Looking.{seen_in}
 use Rattle.session.specs.Phases.{base_of}
-use Rattle.answers.specs.Looking.{looks_in}
 use Rattle.answers.specs.declared.set_variable.Setting.{Setting}
 use Rattle.answers.specs.declared.write_memory.Writing.{Writing}
 use Rattle.answers.proofs.ProperLooking.{looks_are_proper}
 use Rattle.answers.proofs.ProperValues.{settings_are_proper, writings_are_proper}
 use Rattle.session.proofs.Orderly.{Orderly, OrderlyIn, OrderlyOf, stop_is_proper}
 use Rattle.session.proofs.Serving.{of_answer}
+use Rattle.session.proofs.BySuccess.{BySuccess, by_success, Has, SetsList, Looks, not_absent}
 
 -- ---- one answer
 
@@ -80,26 +73,6 @@ narrow_table p h = record {
   places = All-weaker IsNarrowRow (λ row. start_of row < 2 ^ 32) (λ row narrow. narrow.1) p.image.lines.rows h.image;
 }
 
--- what such a request is answered is of that request, where there is a program
-sets_fit : (now : Now) (terms : Terms) (command : Command) → IsTrue (sets_breakpoints command) → has_none (run_of now.debuggee.program) ≡ false → AsksLinesWithin command → BoundsIn now → OrderlyIn now.debuggee → Fits (name_of command) (success_on now.debuggee.program now terms command)
-sets_fit now terms command sets there asks few h =
-    by_answer (Fits (name_of command)) now.debuggee.program now terms command sets
-    (λ none. absurd (let no : true ≡ false = sym (ap (λ (x : Option Program). has_none (run_of x)) none) ∙ there in cc))
-    (λ refusal plain. record { outcome = sym plain; events = tt })
-    (λ p b is e f. record { outcome = done p b None is e f tt; events = tt })
-    (λ p b list is e f within. record { outcome = done p b (Some list) is e f (let least = few.references in omega (arith, within, least)); events = tt })
-  where
-    done : (p : Program) (b : ResponseBody) (list : Option (List Wanted)) → now.debuggee.program ≡ Some p → (answer_on p now terms command).result ≡ Ok b → (answer_on p now terms command).list ≡ list
-        → NumbersFit (now.debuggee.last_break + 1) list → IsOutcomeOf (name_of command) (Done b)
-    done p b list is e f fit =
-        subst (λ (result : Result ResponseBody Refusal). IfOk result (λ b. IsOutcomeOf (name_of command) (Done b))) e
-        (breaks_are_proper command p.image.lines p.machine.size (view_of terms p) (now.debuggee.last_break + 1) sets (narrow_table p (subst OrderlyOf is h)) asks
-        (subst (NumbersFit (now.debuggee.last_break + 1)) (sym f) fit))
-
--- a request that asks for a program has one
-no_program : {A : Type 0} (now : Now) → has_none (run_of now.debuggee.program) ≡ false → now.debuggee.program ≡ None → A
-no_program now there none = absurd (let no : true ≡ false = sym (ap (λ (x : Option Program). has_none (run_of x)) none) ∙ there in cc)
-
 -- the numbers of an orderly program are words
 holds_words : (p : Program) → Orderly p → HoldsWords p.machine
 holds_words p h =
@@ -110,19 +83,6 @@ base_small : (starts_at1 : Bool) → base_of starts_at1 < 2 ^ 32
 base_small true = omega arith
 base_small false = omega arith
 
--- what is shown is of that request
-looks_fit : (now : Now) (terms : Terms) (command : Command) → IsTrue (looks_in command) → has_none (run_of now.debuggee.program) ≡ false → BoundsIn now → OrderlyIn now.debuggee → Fits (name_of command) (looks_on now.debuggee.program now terms command)
-looks_fit now terms command looks there b h =
-    by_look (Fits (name_of command)) now.debuggee.program now terms command looks
-    (λ none. no_program now there none) (λ refusal plain. record { outcome = sym plain; events = tt })
-    (λ p body is e none room. record { outcome = shown p body is e; events = tt })
-  where
-    shown : (p : Program) (body : ResponseBody) → now.debuggee.program ≡ Some p → (seen_in p now terms command).result ≡ Ok body → IsOutcomeOf (name_of command) (Done body)
-    shown p body is e =
-        let o : Orderly p = subst OrderlyOf is h in
-        subst (λ (result : Result ResponseBody Refusal). IfOk result (λ b. IsOutcomeOf (name_of command) (Done b))) e
-        (looks_are_proper command p.machine p.image.lines now.numbers (view_of terms p) looks (holds_words p o) (narrow_table p o) (record { within = b.numbers.0; last = b.numbers.1 }) (base_small terms.columns_start_at1))
-
 -- how a program runs that was joined
 run_is_told : (run : Option Run) → AllTold (run_events run)
 run_is_told None = tt
@@ -131,50 +91,61 @@ run_is_told (Some (Stopped why)) = (stop_is_proper why [] tt, tt)
 run_is_told (Some (Ended code)) = tt
 
 -- the body of a success is that of its request
-success_fits : (now : Now) (terms : Terms) (file : Option (List ℕ)) (command : Command) → is_taken_in terms.phase command ≡ true
-    → ((demand_of command).loaded && has_none (run_of now.debuggee.program)) ≡ false → AsksLinesWithin command → BoundsIn now → OrderlyIn now.debuggee
-    → Fits (name_of command) (success_of now terms file command)
-success_fits now terms file (Initialize arguments) taken there asks few h = record { outcome = (refl, refl); events = tt }
-success_fits now terms None (Launch arguments) taken there asks few h = record { outcome = refl; events = tt }
-success_fits now terms (Some text) (Launch arguments) taken there asks few h = by (error_of text now.size) where
-  by : (error : Option AsmError) → Fits (name_of (Launch arguments)) (assembles now terms arguments text error)
-  by None = record { outcome = (refl, refl); events = (refl, tt) }
-  by (Some e) = record { outcome = refl; events = tt }
-success_fits now terms file Attach taken there asks few h = record { outcome = (refl, refl); events = (refl, tt) }
-success_fits now terms file ConfigurationDone taken there asks few h =
-    if_keeps (Fits (name_of ConfigurationDone)) terms.launched _ _ (λ _. record { outcome = (refl, refl); events = tt })
-    (λ _. record { outcome = (refl, refl); events = run_is_told (run_of now.debuggee.program) })
-success_fits now terms file Threads taken there asks few h = record { outcome = (refl, refl); events = tt }
-success_fits now terms file (Cancel arguments) taken there asks few h = record { outcome = (refl, refl); events = tt }
-success_fits now terms file Restart taken there asks few h = record { outcome = (refl, refl); events = tt }
-success_fits now terms file Terminate taken there asks few h = record { outcome = (refl, refl); events = (refl, tt) }
-success_fits now terms file (Disconnect arguments) taken there asks few h = record { outcome = (refl, refl); events = tt }
-success_fits now terms file (SetBreakpoints arguments) taken there asks few h = sets_fit now terms (SetBreakpoints arguments) refl there asks few h
-success_fits now terms file (SetInstructionBreakpoints arguments) taken there asks few h = sets_fit now terms (SetInstructionBreakpoints arguments) refl there asks few h
-success_fits now terms file SetExceptionBreakpoints taken there asks few h = record { outcome = (refl, refl); events = tt }
-success_fits now terms file (Continue arguments) taken there asks few h = record { outcome = (refl, refl); events = tt }
-success_fits now terms file (Next arguments) taken there asks few h = record { outcome = (refl, refl); events = tt }
-success_fits now terms file (StepIn arguments) taken there asks few h = record { outcome = (refl, refl); events = tt }
-success_fits now terms file (StepOut arguments) taken there asks few h = record { outcome = (refl, refl); events = tt }
-success_fits now terms file (Pause arguments) taken there asks few h = record { outcome = (refl, refl); events = tt }
-success_fits now terms file (StackTrace arguments) taken there asks few h = looks_fit now terms (StackTrace arguments) refl there few h
-success_fits now terms file (Scopes arguments) taken there asks few h = looks_fit now terms (Scopes arguments) refl there few h
-success_fits now terms file (Variables arguments) taken there asks few h = looks_fit now terms (Variables arguments) refl there few h
-success_fits now terms file (Evaluate arguments) taken there asks few h = looks_fit now terms (Evaluate arguments) refl there few h
-success_fits now terms file (Disassemble arguments) taken there asks few h = looks_fit now terms (Disassemble arguments) refl there few h
-success_fits now terms file (ReadMemory arguments) taken there asks few h = looks_fit now terms (ReadMemory arguments) refl there few h
-success_fits now terms file (SetVariable arguments) taken there asks few h = by_setting (Fits (name_of (SetVariable arguments))) now.debuggee.program now terms arguments
-    (λ none. no_program now there none) (λ refusal plain. record { outcome = sym plain; events = tt })
-    (λ p setting is e none. record { outcome = subst (λ (r : Result Setting Refusal). IfOk r (λ s. IsOutcomeOf (codes "setVariable") (Done s.body))) e (settings_are_proper arguments p.machine now.numbers); events = tt })
-success_fits now terms file (WriteMemory arguments) taken there asks few h = by_writing (Fits (name_of (WriteMemory arguments))) now.debuggee.program now terms arguments
-    (λ none. no_program now there none) (λ refusal plain. record { outcome = sym plain; events = tt })
-    (λ p writing is e none. record { outcome = subst (λ (r : Result Writing Refusal). IfOk r (λ w. IsOutcomeOf (codes "writeMemory") (Done w.body))) e (writings_are_proper arguments p.machine.memory); events = tt })
+abbrev FitsTaken : Now → Command → Answering → Type 0
+FitsTaken now c a = Has now c → AsksLinesWithin c → Fits (name_of c) a
+
+module _ (now : Now) (terms : Terms) (few : BoundsIn now) (h : OrderlyIn now.debuggee) where
+  abbrev IsOf : Command → Result ResponseBody Refusal → Type 0
+  IsOf c result = IfOk result (λ b. IsOutcomeOf (name_of c) (Done b))
+
+  set_is_of : (c : Command) → SetsList c → AsksLinesWithin c → (p : Program) (b : ResponseBody) (list : Option (List Wanted)) → now.debuggee.program ≡ Some p → (answer_on p now terms c).result ≡ Ok b
+      → (answer_on p now terms c).list ≡ list → NumbersFit (now.debuggee.last_break + 1) list → IsOutcomeOf (name_of c) (Done b)
+  set_is_of c kind asks p b list is e f fit =
+      subst (IsOf c) e
+      (breaks_are_proper c p.image.lines p.machine.size (view_of terms p) (now.debuggee.last_break + 1) kind.sets (narrow_table p (subst OrderlyOf is h)) asks
+      (subst (NumbersFit (now.debuggee.last_break + 1)) (sym f) fit))
+
+  shown_is_of : (c : Command) → Looks c → (p : Program) (b : ResponseBody) → now.debuggee.program ≡ Some p → (seen_in p now terms c).result ≡ Ok b → IsOutcomeOf (name_of c) (Done b)
+  shown_is_of c kind p b is e =
+      let o : Orderly p = subst OrderlyOf is h in
+      subst (IsOf c) e
+      (looks_are_proper c p.machine p.image.lines now.numbers (view_of terms p) kind.looks (holds_words p o) (narrow_table p o) (record { within = few.numbers.0; last = few.numbers.1 }) (base_small terms.columns_start_at1))
+
+  successes_fit : BySuccess now terms (FitsTaken now)
+  successes_fit = record {
+    initialized = λ _ _ _. record { outcome = (refl, refl); events = tt };
+    unreadable = λ _ _ _. record { outcome = refl; events = tt };
+    loaded = λ _ _ _ _ _. record { outcome = (refl, refl); events = (refl, tt) };
+    wrong = λ _ _ _ _ _ _. record { outcome = refl; events = tt };
+    attaches = λ _ _. record { outcome = (refl, refl); events = (refl, tt) };
+    begun = λ _ _ _. record { outcome = (refl, refl); events = tt };
+    joined = λ _ _ _. record { outcome = (refl, refl); events = run_is_told (run_of now.debuggee.program) };
+    agreed = λ _ kind _ _. record { outcome = kind.outcome; events = tt };
+    restarts = λ _ _. record { outcome = (refl, refl); events = tt };
+    terminates = λ _ _. record { outcome = (refl, refl); events = (refl, tt) };
+    leaves = λ _ _ _. record { outcome = (refl, refl); events = tt };
+    pauses = λ _ _ _. record { outcome = (refl, refl); events = tt };
+    stepped = λ _ kind _ _ _. record { outcome = kind.outcome; events = tt };
+    absent = λ c about none there _. not_absent now c about there none;
+    refused = λ _ _ refusal plain _ _. record { outcome = sym plain; events = tt };
+    sets_none = λ c kind p b is e f _ asks. record { outcome = set_is_of c kind asks p b None is e f tt; events = tt };
+    sets_list = λ c kind p b list is e f within _ asks. record { outcome = set_is_of c kind asks p b (Some list) is e f (let least = few.references in omega (arith, within, least)); events = tt };
+    shows = λ c kind p b is e _ _ _ _. record { outcome = shown_is_of c kind p b is e; events = tt };
+    sets_register = λ arguments p setting is e _ _ _. record {
+      outcome = subst (λ (r : Result Setting Refusal). IfOk r (λ s. IsOutcomeOf (codes "setVariable") (Done s.body))) e (settings_are_proper arguments p.machine now.numbers);
+      events = tt;
+    };
+    writes = λ arguments p writing is e _ _ _. record {
+      outcome = subst (λ (r : Result Writing Refusal). IfOk r (λ w. IsOutcomeOf (codes "writeMemory") (Done w.body))) e (writings_are_proper arguments p.machine.memory);
+      events = tt;
+    };
+  }
 
 answer_fits : (now : Now) (terms : Terms) (file : Option (List ℕ)) (p : Pending) → IsRead p.ask → BoundsIn now → OrderlyIn now.debuggee → Fits (name_asked p.ask) (answer_to now terms file p)
 answer_fits now terms file p h bounds orderly =
     of_answer (λ ask answer. IsRead ask → Fits (name_asked ask) answer) now terms file p.ask p.fate
     (λ refusal is read. record { outcome = sym (has_no_text p.ask refusal read is); events = tt })
-    (λ r taken meets read. success_fits now terms file r.command taken meets.loaded read.1.0 bounds orderly) h
+    (λ r taken meets read. by_success now terms (FitsTaken now) (successes_fit now terms bounds orderly) file r.command meets.loaded read.1.0) h
 
 -- ---- every session
 

@@ -1,17 +1,14 @@
 -- What is told of the program's run is so.
 use Rattle.std.proofs.Common.{◌≡◌, ℕ, Bool, true, false, ltb, List, [], ◌∷◌, map, Option, Some, None, refl, sym, ap, ◌∙◌, subst}
-use Rattle.std.specs.Prelude.{All, IsTrue, ◌&&◌}
+use Rattle.std.specs.Prelude.{All, ◌&&◌}
 use Rattle.std.proofs.lemmas.List.Elements.{All-push, All-nil}
-use Rattle.answers.specs.Answers.{sets_breakpoints}
-use Rattle.assembler.specs.Placed.{error_of}
-use Rattle.assembler.specs.declared.error.AsmError.{AsmError}
 use Rattle.debuggee.specs.Programs.{Debuggee, Program, ended, first_run, is_ended, is_running, on_program, restarted, resumed}
 use Rattle.debuggee.specs.declared.run.Run.{Run}
 use Rattle.debuggee.specs.declared.run.Run.TheVariants.{Running, Stopped, Ended}
 use Rattle.session.specs.ConfigurationDone.{run_events}
 use Rattle.session.specs.Telling.{reason_of, text_of}
 use Rattle.protocol.specs.declared.command.Command.{Command}
-use Rattle.protocol.specs.declared.command.Command.TheVariants.{Initialize, Launch, Attach, ConfigurationDone, Threads, Cancel, Restart, Terminate, Disconnect, SetBreakpoints, SetInstructionBreakpoints, SetExceptionBreakpoints, Continue, Next, StepIn, StepOut, Pause, StackTrace, Scopes, Variables, SetVariable, Evaluate, Disassemble, ReadMemory, WriteMemory}
+use Rattle.protocol.specs.declared.command.Command.TheVariants.{Restart}
 use Rattle.protocol.specs.Commands.{name_of}
 use Rattle.replies.specs.declared.event.Event.{Event as Told}
 use Rattle.replies.specs.declared.message.Message.{Message}
@@ -25,26 +22,18 @@ use Rattle.session.specs.declared.terms.Terms.{Terms}
 use Rattle.session.specs.Acts.{Answering, Now, Tell, refers}
 use Rattle.session.specs.References.{past_referred}
 use Rattle.session.specs.Arrivals.{name_asked}
-use Rattle.session.specs.Breaks.{success_on}
 use Rattle.session.specs.Demands.{has_none, run_of}
 use Rattle.session.specs.Effects.{performed}
-use Rattle.session.specs.Launch.{assembles}
 use Rattle.session.specs.Laws.{IsStop, RunsAreTold, RunsAs, SaysItsRun, is_resume, is_success}
 use Rattle.session.specs.Outcomes.{answering, closing}
 use Rattle.session.specs.Refusals.{answer_to, response_to}
-use Rattle.session.specs.Requests.{demand_of, is_taken_in, success_of}
-use Rattle.session.specs.Stepping.{granularity_of}
-use Rattle.session.specs.Successes.{resuming}
-use Rattle.stepping.specs.declared.goal.Goal.TheVariants as goal
+use Rattle.session.specs.Successes.{resuming, agreeing}
 use Rattle.session.specs.Sessions.{Beginning, Session, Life, Said, said_next, said_on, hung_on, performed_on, histories, After}
 use Rattle.session.proofs.Reaching.{if_keeps, each_life, performed_append}
 use Rattle.session.proofs.ByForms.{on, on_with}
-use Rattle.session.proofs.Breaking.{by_answer}
-use Rattle.session.proofs.Looked.{by_look, by_setting, by_writing}
-use Rattle.session.specs.Looking.{looks_on}
-use Rattle.answers.specs.Looking.{looks_in}
 use Rattle.session.proofs.Serving.{of_answer, not_taken}
 use Rattle.session.proofs.Turning.{KeptByEvents, reached_by_events, said_debuggee}
+use Rattle.session.proofs.BySuccess.{BySuccess, by_success, Has, has_program, agreed_body, step_body}
 
 -- ---- one answer
 
@@ -69,31 +58,13 @@ runs_as P f (Some p) last_break there h = h p
 never : {A : Type 0} → false ≡ true → A
 never e = absurd (not_taken e)
 
-abbrev Has : Now → Command → Type 0
-Has now command = ((demand_of command).loaded && has_none (run_of now.debuggee.program)) ≡ false
+only_success : (x y : Bool) → y ≡ false → (x && y) ≡ false
+only_success true y e = e
+only_success false y e = refl
 
 -- an answer that lets the program go on, where there is one
 goes_on : (name : List ℕ) (now : Now) (terms : Terms) (f : Program → Program) (body : ResponseBody) → has_none (run_of now.debuggee.program) ≡ false → ((p : Program) → Goes (f p).run) → Says name (resuming now terms f body)
 goes_on name now terms f body there goes = record { response = λ _. runs_as Goes f now.debuggee.program now.debuggee.last_break there goes; events = tt }
-
--- one that sets breakpoints lets nothing go on
-sets_say : (now : Now) (terms : Terms) (command : Command) → IsTrue (sets_breakpoints command) → is_resume (name_of command) ≡ false → Says (name_of command) (success_on now.debuggee.program now terms command)
-sets_say now terms command sets none =
-    by_answer (Says (name_of command)) now.debuggee.program now terms command sets
-    (λ _. record { response = no; events = tt }) (λ refusal plain. record { response = never; events = tt })
-    (λ p b is e f. record { response = no; events = tt }) (λ p b list is e f within. record { response = no; events = tt })
-  where
-    no : {A : Type 0} → is_resume (name_of command) ≡ true → A
-    no h = never (sym none ∙ h)
-
--- one that looks lets nothing go on
-looks_say : (now : Now) (terms : Terms) (command : Command) → IsTrue (looks_in command) → is_resume (name_of command) ≡ false → Says (name_of command) (looks_on now.debuggee.program now terms command)
-looks_say now terms command looks none =
-    by_look (Says (name_of command)) now.debuggee.program now terms command looks
-    (λ _. record { response = no; events = tt }) (λ refusal plain. record { response = never; events = tt }) (λ p b is e plain room. record { response = no; events = tt })
-  where
-    no : {A : Type 0} → is_resume (name_of command) ≡ true → A
-    no h = never (sym none ∙ h)
 
 -- how a program runs that was joined
 run_is_said : (program : Option Program) (last_break : ℕ) → AllSay (record { program = program; last_break = last_break }) (run_events (run_of program))
@@ -104,49 +75,45 @@ run_is_said (Some p) last_break = by p.run refl where
   by (Stopped why) e = (subst (IsStop (record { hit_breakpoint_ids = []; reason = reason_of why; text = text_of why })) (sym e) (refl, refl), tt)
   by (Ended code) e = tt
 
-success_says : (now : Now) (terms : Terms) (file : Option (List ℕ)) (command : Command) → is_taken_in terms.phase command ≡ true → Has now command → Says (name_of command) (success_of now terms file command)
-success_says now terms file (Initialize arguments) taken there = record { response = never; events = tt }
-success_says now terms None (Launch arguments) taken there = record { response = never; events = tt }
-success_says now terms (Some text) (Launch arguments) taken there = by (error_of text now.size) where
-  by : (error : Option AsmError) → Says (name_of (Launch arguments)) (assembles now terms arguments text error)
-  by None = record { response = never; events = (tt, tt) }
-  by (Some e) = record { response = never; events = tt }
-success_says now terms file Attach taken there = record { response = never; events = (tt, tt) }
-success_says now terms file ConfigurationDone taken there =
-    if_keeps (Says (name_of ConfigurationDone)) terms.launched _ _ (λ _. record { response = never; events = tt })
-    (λ _. record { response = never; events = run_is_said now.debuggee.program now.debuggee.last_break })
-success_says now terms file Threads taken there = record { response = never; events = tt }
-success_says now terms file (Cancel arguments) taken there = record { response = never; events = tt }
-success_says now terms file Restart taken there = goes_on (name_of Restart) now terms (λ p. first_run (restarted p)) body.Empty there (λ p. refl)
-success_says now terms file Terminate taken there = record {
-  response = never;
-  events = (runs_as (λ run. is_ended run ≡ true) (ended None) now.debuggee.program now.debuggee.last_break there (λ p. refl), tt);
+-- a success that tells nothing, of a request that lets nothing go on
+quiet : (c : Command) (a : Answering) → is_resume (name_of c) ≡ false → a.events ≡ [] → Says (name_of c) a
+quiet c a stays none = record { response = λ e. never (sym (only_success (is_success a.outcome) (is_resume (name_of c)) stays) ∙ e); events = subst (AllSay a.debuggee) (sym none) tt }
+
+abbrev SaysTaken : Now → Command → Answering → Type 0
+SaysTaken now c a = Has now c → Says (name_of c) a
+
+successes_say : (now : Now) (terms : Terms) → BySuccess now terms (SaysTaken now)
+successes_say now terms = record {
+  initialized = λ _ _. record { response = never; events = tt };
+  unreadable = λ _ _. record { response = never; events = tt };
+  loaded = λ _ _ _ _. record { response = never; events = (tt, tt) };
+  wrong = λ _ _ _ _ _. record { response = never; events = tt };
+  attaches = λ _. record { response = never; events = (tt, tt) };
+  begun = λ _ _. record { response = never; events = tt };
+  joined = λ _ _. record { response = never; events = run_is_said now.debuggee.program now.debuggee.last_break };
+  agreed = λ c kind _. quiet c (agreeing now terms (agreed_body c)) kind.stays refl;
+  restarts = λ there. goes_on (name_of Restart) now terms (λ p. first_run (restarted p)) body.Empty there (λ p. refl);
+  terminates = λ there. record {
+    response = never;
+    events = (runs_as (λ run. is_ended run ≡ true) (ended None) now.debuggee.program now.debuggee.last_break there (λ p. refl), tt);
+  };
+  leaves = λ _ _. record { response = never; events = tt };
+  pauses = λ _ _. record { response = never; events = tt };
+  stepped = λ c kind goal there. goes_on (name_of c) now terms (resumed goal) (step_body c) (has_program now c kind.loaded there) (λ p. refl);
+  absent = λ c about _ _. quiet c (agreeing now terms body.Empty) about.stays refl;
+  refused = λ _ _ _ _ _. record { response = never; events = tt };
+  sets_none = λ c kind _ b _ _ _ _. quiet c (agreeing now terms b) kind.about.stays refl;
+  sets_list = λ c kind _ b list _ _ _ _ _. quiet c _ kind.about.stays refl;
+  shows = λ c kind _ b _ _ _ _ _. quiet c _ kind.about.stays refl;
+  sets_register = λ _ _ _ _ _ _ _. record { response = never; events = tt };
+  writes = λ _ _ _ _ _ _ _. record { response = never; events = tt };
 }
-success_says now terms file (Disconnect arguments) taken there = record { response = never; events = tt }
-success_says now terms file (SetBreakpoints arguments) taken there = sets_say now terms (SetBreakpoints arguments) refl refl
-success_says now terms file (SetInstructionBreakpoints arguments) taken there = sets_say now terms (SetInstructionBreakpoints arguments) refl refl
-success_says now terms file SetExceptionBreakpoints taken there = record { response = never; events = tt }
-success_says now terms file (Continue arguments) taken there = goes_on (name_of (Continue arguments)) now terms (resumed goal.Go) body.Continue there (λ p. refl)
-success_says now terms file (Next arguments) taken there = goes_on (name_of (Next arguments)) now terms (resumed (goal.Over (granularity_of arguments.granularity))) body.Empty there (λ p. refl)
-success_says now terms file (StepIn arguments) taken there = goes_on (name_of (StepIn arguments)) now terms (resumed (goal.In (granularity_of arguments.granularity))) body.Empty there (λ p. refl)
-success_says now terms file (StepOut arguments) taken there = goes_on (name_of (StepOut arguments)) now terms (resumed (goal.Out (granularity_of arguments.granularity))) body.Empty there (λ p. refl)
-success_says now terms file (Pause arguments) taken there = record { response = never; events = tt }
-success_says now terms file (StackTrace arguments) taken there = looks_say now terms (StackTrace arguments) refl refl
-success_says now terms file (Scopes arguments) taken there = looks_say now terms (Scopes arguments) refl refl
-success_says now terms file (Variables arguments) taken there = looks_say now terms (Variables arguments) refl refl
-success_says now terms file (Evaluate arguments) taken there = looks_say now terms (Evaluate arguments) refl refl
-success_says now terms file (Disassemble arguments) taken there = looks_say now terms (Disassemble arguments) refl refl
-success_says now terms file (ReadMemory arguments) taken there = looks_say now terms (ReadMemory arguments) refl refl
-success_says now terms file (SetVariable arguments) taken there = by_setting (Says (name_of (SetVariable arguments))) now.debuggee.program now terms arguments
-    (λ _. record { response = never; events = tt }) (λ refusal plain. record { response = never; events = tt }) (λ p setting is e none. record { response = never; events = tt })
-success_says now terms file (WriteMemory arguments) taken there = by_writing (Says (name_of (WriteMemory arguments))) now.debuggee.program now terms arguments
-    (λ _. record { response = never; events = tt }) (λ refusal plain. record { response = never; events = tt }) (λ p writing is e none. record { response = never; events = tt })
 
 answer_says : (now : Now) (terms : Terms) (file : Option (List ℕ)) (p : Pending) → Says (name_asked p.ask) (answer_to now terms file p)
 answer_says now terms file p =
     of_answer (λ ask answer. Says (name_asked ask) answer) now terms file p.ask p.fate
     (λ refusal _. record { response = never; events = tt })
-    (λ r taken meets. success_says now terms file r.command taken meets.loaded)
+    (λ r taken meets. by_success now terms (SaysTaken now) (successes_say now terms) file r.command meets.loaded)
 
 -- ---- every session
 

@@ -1,19 +1,15 @@
 -- What is kept by each event, where answers are looked at whole.
 use Rattle.std.proofs.Common.{◌≡◌, ℕ, ℤ, zero, suc, ◌+◌, ◌<◌, ◌≤◌, Bool, true, false, ltb, leb, eqb, List, [], ◌∷◌, ◌++◌, map, length, Option, Some, None, Result, Ok, Err, refl, sym, subst, append-nil, ltb-true, arith}
-use Rattle.std.specs.Prelude.{IsTrue, IfOk, IfSome, ◌^◌, ◌&&◌, not, take}
+use Rattle.std.specs.Prelude.{IfOk, IfSome, ◌^◌, ◌&&◌, not, take}
 use Rattle.std.proofs.lemmas.Bool.Decides.{nat_tests}
-use Rattle.answers.specs.Answers.{sets_breakpoints}
 use Rattle.assembler.specs.Assembled.{assembled}
-use Rattle.assembler.specs.Placed.{error_of}
 use Rattle.assembler.proofs.Narrow.{assembled_is_narrow}
-use Rattle.assembler.specs.declared.error.AsmError.{AsmError}
-use Rattle.debuggee.specs.Programs.{Debuggee, Program, on_program, with_program, ended, first_run, left, marked, next_tick, restarted, resumed, stopped, told, why_marked, with_hart, written}
+use Rattle.debuggee.specs.Programs.{Debuggee, Program, with_program, ended, first_run, left, marked, next_tick, restarted, resumed, stopped, told, why_marked, with_hart, written}
 use Rattle.debuggee.specs.declared.run.Mark.{Mark}
 use Rattle.debuggee.specs.declared.run.Mark.TheVariants as mark
 use Rattle.debuggee.specs.declared.run.Why.{Why}
 use Rattle.debuggee.specs.declared.run.Why.TheVariants as why
 use Rattle.protocol.specs.declared.command.Command.{Command}
-use Rattle.protocol.specs.declared.command.Command.TheVariants.{Initialize, Launch, Attach, ConfigurationDone, Threads, Cancel, Restart, Terminate, Disconnect, SetBreakpoints, SetInstructionBreakpoints, SetExceptionBreakpoints, Continue, Next, StepIn, StepOut, Pause, StackTrace, Scopes, Variables, SetVariable, Evaluate, Disassemble, ReadMemory, WriteMemory}
 use Rattle.replies.specs.Events.{IsProperEvent}
 use Rattle.replies.specs.declared.event.Event.{Event as Told}
 use Rattle.replies.specs.declared.message.Message.{Message}
@@ -30,23 +26,19 @@ use Rattle.session.specs.declared.link.Link.{Link}
 use Rattle.session.specs.declared.pending.Pending.{Pending}
 use Rattle.session.specs.declared.terms.Terms.{Terms}
 use Rattle.session.specs.Acts.{Act, Answering, Now, Seen, read_on, Open, Close, Agree, Become, Refer, Reply, Tell, Take}
-use Rattle.session.specs.Breaks.{success_on, with_list}
+use Rattle.session.specs.Breaks.{with_list}
 use Rattle.session.specs.Config.{HasImage, first_program, is_size}
 use Rattle.session.specs.Disconnect.{departed, is_to_end, is_to_stand}
 use Rattle.session.specs.Effects.{performed, beats, enough, next_by}
-use Rattle.session.specs.Launch.{assembles}
 use Rattle.session.specs.Laws.{SaysItsRun}
 use Rattle.session.specs.Limits.{are_limits, greatest_limits, is_within}
 use Rattle.session.specs.Outcomes.{Outcome, outcome_at, answers_next, closing, holding, leaving, next_turn, answering, turn_by, turn_of}
 use Rattle.session.specs.Phases.{is_active}
 use Rattle.session.specs.Refusals.{answer_to, response_to}
-use Rattle.session.specs.Requests.{is_taken_in, success_of}
 use Rattle.session.specs.Sessions.{Beginning, Session, After, Effect, histories, agreed_on, hung_on, performed_on, referred_on, replied_on, said_on, start, waiting_of}
 use Rattle.session.specs.Slices.{Beat, beat, beat_by, beat_of, concludes, ends, exits, goes, goes_unless, halts, is_runnable_by, moves_by, prints, retires, telling, tells}
-use Rattle.session.specs.Stepping.{granularity_of}
 use Rattle.session.specs.Telling.{exit_events, output_event, stop_event}
 use Rattle.stepping.specs.RunLaws.{HasSignedCode}
-use Rattle.stepping.specs.declared.goal.Goal.TheVariants as goal
 use Rattle.stepping.specs.declared.tick.Outcome.{Outcome as CameTo}
 use Rattle.stepping.specs.declared.tick.Outcome.TheVariants.{Went, Stopped, Ended}
 use Rattle.stepping.specs.declared.tick.Reason.TheVariants as met
@@ -54,11 +46,9 @@ use Rattle.stepping.specs.declared.tick.Tick.{Tick}
 use Rattle.variables.specs.Laws.{Call}
 use Rattle.session.proofs.Reaching.{if_keeps, performed_append, reached}
 use Rattle.session.proofs.ByForms.{on, on_with, accepting, saying}
-use Rattle.session.proofs.Breaking.{by_answer, ids_are_words}
-use Rattle.session.proofs.Looked.{by_look, by_setting, by_writing}
-use Rattle.session.specs.Looking.{looks_on, seen_in}
-use Rattle.answers.specs.Looking.{looks_in}
-use Rattle.answers.specs.SetVariable.{set_in, setting_of}
+use Rattle.session.proofs.Breaking.{ids_are_words}
+use Rattle.session.specs.Looking.{seen_in}
+use Rattle.answers.specs.SetVariable.{set_in, setting_of, set_variable}
 use Rattle.answers.specs.Targets.{target_of}
 use Rattle.answers.specs.declared.set_variable.Setting.{Setting}
 use Rattle.image.specs.Memory.{first_address}
@@ -80,6 +70,7 @@ use Rattle.variables.specs.declared.target.Target.TheVariants as target
 use Rattle.session.proofs.Asked.{AreRead, IsRead, asks_that_wait, joined_are_read}
 use Rattle.session.proofs.Serving.{of_answer}
 use Rattle.session.proofs.Orderly.{AreWords, Orderly, OrderlyIn, OrderlyOf, departed_orderly, ended_orderly, entered_orderly, exit_is_proper, first_run_orderly, hart_orderly, written_orderly, ids_are_words as named_are_words, left_orderly, listed_orderly, loaded_orderly, marked_orderly, moved_orderly, next_fits, output_is_proper, owed_fits, restarted_orderly, resumed_orderly, stop_is_proper, stopped_orderly, told_orderly, with_orderly}
+use Rattle.session.proofs.BySuccess.{BySuccess, by_success}
 
 -- numbers of references that are among those that may be issued
 abbrev pub AreGiven : Numbers → Type 0
@@ -220,19 +211,6 @@ Leaves now a = OrderlyIn a.debuggee × AreGiven (referred a.references now.numbe
 makes : (now : Now) (f : Program → Program) → ((p : Program) → Orderly p → Orderly (f p)) → OrderlyIn now.debuggee → OrderlyIn (with_program f now.debuggee)
 makes now f keeps h = with_orderly f keeps now.debuggee.program h
 
-sets_orderly : (now : Now) (terms : Terms) (command : Command) → IsTrue (sets_breakpoints command) → BoundsIn now → OrderlyIn now.debuggee → Leaves now (success_on now.debuggee.program now terms command)
-sets_orderly now terms command sets b h =
-    by_answer (Leaves now) now.debuggee.program now terms command sets (λ _. (h, b.numbers)) (λ refusal plain. (h, b.numbers)) (λ p body is e f. (h, b.numbers))
-    (λ p body list is e f within. (
-      with_orderly (with_list command list) (listed_orderly command list (ids_are_words p now terms command list f (let few = b.references in omega (arith, within, few)))) now.debuggee.program h,
-      b.numbers,
-    ))
-
-looks_orderly : (now : Now) (terms : Terms) (command : Command) → IsTrue (looks_in command) → BoundsIn now → OrderlyIn now.debuggee → Leaves now (looks_on now.debuggee.program now terms command)
-looks_orderly now terms command looks b h =
-    by_look (Leaves now) now.debuggee.program now terms command looks (λ _. (h, b.numbers)) (λ refusal plain. (h, b.numbers))
-    (λ p body is e none room. (h, issued_given now.numbers (seen_in p now terms command).targets b.numbers room))
-
 -- a hart in which a register was set is in range
 setting_fits : (hart : Hart) (number : Result ℕ Refusal) (value : Option ℕ) → HartInRange hart → IfSome value IsWord → IfOk (setting_of hart number value) (λ setting. HartInRange setting.hart)
 setting_fits hart (Err refusal) value h w = tt
@@ -248,56 +226,60 @@ set_fits arguments p (Ok target.Registers) h =
 set_fits arguments p (Ok target.Stack) h = tt
 set_fits arguments p (Err refusal) h = tt
 
-command_orderly : (now : Now) (terms : Terms) (file : Option (List ℕ)) (command : Command) → is_taken_in terms.phase command ≡ true → GivesBytes command → BoundsIn now → OrderlyIn now.debuggee → Leaves now (success_of now terms file command)
-command_orderly now terms file (Initialize arguments) taken gives b h = (h, b.numbers)
-command_orderly now terms None (Launch arguments) taken gives b h = (h, b.numbers)
-command_orderly now terms (Some text) (Launch arguments) taken gives b h = by (error_of text now.size) refl where
-  by : (error : Option AsmError) → error_of text now.size ≡ error → Leaves now (assembles now terms arguments text error)
-  by None e = (loaded_orderly (assembled text) arguments.program arguments.stop_on_entry now.size (assembled_is_narrow text now.size e) (assembled_is_in_range text now.size e) b.memory, b.numbers)
-  by (Some error) e = (h, b.numbers)
-command_orderly now terms file Attach taken gives b h = (h, b.numbers)
-command_orderly now terms file ConfigurationDone taken gives b h = if_keeps (Leaves now) terms.launched _ _ (λ _. (makes now first_run first_run_orderly h, b.numbers)) (λ _. (h, b.numbers))
-command_orderly now terms file Threads taken gives b h = (h, b.numbers)
-command_orderly now terms file (Cancel arguments) taken gives b h = (h, b.numbers)
-command_orderly now terms file Restart taken gives b h = (makes now (λ p. first_run (restarted p)) (λ p o. first_run_orderly (restarted p) (restarted_orderly p o)) h, ended_given now.numbers b.numbers)
-command_orderly now terms file Terminate taken gives b h = (makes now (ended None) (ended_orderly None) h, b.numbers)
-command_orderly now terms file (Disconnect arguments) taken gives b h = (
-  makes now (λ p. departed (is_to_end terms arguments) (is_to_stand terms arguments) (left p))
-      (λ p o. departed_orderly (is_to_end terms arguments) (is_to_stand terms arguments) (left p) (left_orderly p o)) h,
-  ended_given now.numbers b.numbers,
-)
-command_orderly now terms file (SetBreakpoints arguments) taken gives b h = sets_orderly now terms (SetBreakpoints arguments) refl b h
-command_orderly now terms file (SetInstructionBreakpoints arguments) taken gives b h = sets_orderly now terms (SetInstructionBreakpoints arguments) refl b h
-command_orderly now terms file SetExceptionBreakpoints taken gives b h = (h, b.numbers)
-command_orderly now terms file (Continue arguments) taken gives b h = (makes now (resumed goal.Go) (resumed_orderly goal.Go) h, ended_given now.numbers b.numbers)
-command_orderly now terms file (Next arguments) taken gives b h = let g = goal.Over (granularity_of arguments.granularity) in (makes now (resumed g) (resumed_orderly g) h, ended_given now.numbers b.numbers)
-command_orderly now terms file (StepIn arguments) taken gives b h = let g = goal.In (granularity_of arguments.granularity) in (makes now (resumed g) (resumed_orderly g) h, ended_given now.numbers b.numbers)
-command_orderly now terms file (StepOut arguments) taken gives b h = let g = goal.Out (granularity_of arguments.granularity) in (makes now (resumed g) (resumed_orderly g) h, ended_given now.numbers b.numbers)
-command_orderly now terms file (Pause arguments) taken gives b h = (makes now (marked mark.Pause) (marked_orderly mark.Pause) h, b.numbers)
-command_orderly now terms file (StackTrace arguments) taken gives b h = looks_orderly now terms (StackTrace arguments) refl b h
-command_orderly now terms file (Scopes arguments) taken gives b h = looks_orderly now terms (Scopes arguments) refl b h
-command_orderly now terms file (Variables arguments) taken gives b h = looks_orderly now terms (Variables arguments) refl b h
-command_orderly now terms file (Evaluate arguments) taken gives b h = looks_orderly now terms (Evaluate arguments) refl b h
-command_orderly now terms file (Disassemble arguments) taken gives b h = looks_orderly now terms (Disassemble arguments) refl b h
-command_orderly now terms file (ReadMemory arguments) taken gives b h = looks_orderly now terms (ReadMemory arguments) refl b h
-command_orderly now terms file (SetVariable arguments) taken gives b h = by_setting (Leaves now) now.debuggee.program now terms arguments (λ _. (h, b.numbers)) (λ refusal plain. (h, b.numbers))
-    (λ p setting is e none. (
-      set_of now.debuggee.program p setting is h
-          (subst (λ (r : Result Setting Refusal). IfOk r (λ s. HartInRange s.hart)) e (set_fits arguments p (target_of now.numbers arguments.variables_reference) (subst OrderlyOf is h))),
+-- the answer to a request whose bytes are bytes
+abbrev LeavesTaken : Now → Command → Answering → Type 0
+LeavesTaken now c a = GivesBytes c → Leaves now a
+
+module _ (now : Now) (terms : Terms) (b : BoundsIn now) (h : OrderlyIn now.debuggee) where
+  -- it changes nothing, or makes something of the program
+  same : (OrderlyIn now.debuggee) × AreGiven now.numbers
+  same = (h, b.numbers)
+
+  makes_so : (f : Program → Program) → ((p : Program) → Orderly p → Orderly (f p)) → OrderlyIn (with_program f now.debuggee) × AreGiven now.numbers
+  makes_so f keeps = (makes now f keeps h, b.numbers)
+
+  ends_stop : (f : Program → Program) → ((p : Program) → Orderly p → Orderly (f p)) → OrderlyIn (with_program f now.debuggee) × AreGiven (at_next_stop now.numbers)
+  ends_stop f keeps = (makes now f keeps h, ended_given now.numbers b.numbers)
+
+  register_set : (arguments : SetVariableArguments) (p : Program) (setting : Setting) → now.debuggee.program ≡ Some p → set_variable arguments p.machine now.numbers ≡ Ok setting → HartInRange setting.hart
+  register_set arguments p setting is e =
+      subst (λ (r : Result Setting Refusal). IfOk r (λ s. HartInRange s.hart)) e (set_fits arguments p (target_of now.numbers arguments.variables_reference) (subst OrderlyOf is h))
+
+  successes_orderly : BySuccess now terms (LeavesTaken now)
+  successes_orderly = record {
+    initialized = λ _ _. same;
+    unreadable = λ _ _. same;
+    loaded = λ arguments text e _. (
+      loaded_orderly (assembled text) arguments.program arguments.stop_on_entry now.size (assembled_is_narrow text now.size e) (assembled_is_in_range text now.size e) b.memory,
       b.numbers,
-    )) where
-      set_of : (program : Option Program) (p : Program) (setting : Setting) → program ≡ Some p → OrderlyOf program → HartInRange setting.hart → OrderlyOf (on_program (with_hart setting.hart) program)
-      set_of program p setting is h fits = with_orderly (with_hart setting.hart) (λ q o. hart_orderly setting.hart q fits o) program h
-command_orderly now terms file (WriteMemory arguments) taken gives b h = by_writing (Leaves now) now.debuggee.program now terms arguments (λ _. (h, b.numbers)) (λ refusal plain. (h, b.numbers))
-    (λ p writing is e none. (
-      makes now (written writing.address (take writing.count arguments.bytes))
-          (λ q o. written_orderly writing.address (take writing.count arguments.bytes) q (All-take IsByte writing.count arguments.bytes gives) o) h,
+    );
+    wrong = λ _ _ _ _ _. same;
+    attaches = λ _. same;
+    begun = λ _ _. makes_so first_run first_run_orderly;
+    joined = λ _ _. same;
+    agreed = λ _ _ _. same;
+    restarts = λ _. ends_stop (λ p. first_run (restarted p)) (λ p o. first_run_orderly (restarted p) (restarted_orderly p o));
+    terminates = λ _. makes_so (ended None) (ended_orderly None);
+    leaves = λ arguments _. ends_stop (λ p. departed (is_to_end terms arguments) (is_to_stand terms arguments) (left p))
+        (λ p o. departed_orderly (is_to_end terms arguments) (is_to_stand terms arguments) (left p) (left_orderly p o));
+    pauses = λ _ _. makes_so (marked mark.Pause) (marked_orderly mark.Pause);
+    stepped = λ _ _ g _. ends_stop (resumed g) (resumed_orderly g);
+    absent = λ _ _ _ _. same;
+    refused = λ _ _ _ _ _. same;
+    sets_none = λ _ _ _ _ _ _ _ _. same;
+    sets_list = λ c _ p _ list _ _ f within _. (
+      with_orderly (with_list c list) (listed_orderly c list (ids_are_words p now terms c list f (let few = b.references in omega (arith, within, few)))) now.debuggee.program h,
       b.numbers,
-    ))
+    );
+    shows = λ c _ p _ _ _ _ room _. (h, issued_given now.numbers (seen_in p now terms c).targets b.numbers room);
+    sets_register = λ arguments p setting is e _ _. makes_so (with_hart setting.hart) (λ q o. hart_orderly setting.hart q (register_set arguments p setting is e) o);
+    writes = λ arguments _ writing _ _ _ gives. makes_so (written writing.address (take writing.count arguments.bytes))
+        (λ q o. written_orderly writing.address (take writing.count arguments.bytes) q (All-take IsByte writing.count arguments.bytes gives) o);
+  }
 
 answer_orderly : (now : Now) (terms : Terms) (file : Option (List ℕ)) (p : Pending) → IsRead p.ask → BoundsIn now → OrderlyIn now.debuggee → Leaves now (answer_to now terms file p)
 answer_orderly now terms file p read b h =
-    of_answer (λ ask answer. IsRead ask → Leaves now answer) now terms file p.ask p.fate (λ refusal _ _. (h, b.numbers)) (λ r taken _ is. command_orderly now terms file r.command taken is.1.1 b h) read
+    of_answer (λ ask answer. IsRead ask → Leaves now answer) now terms file p.ask p.fate (λ refusal _ _. (h, b.numbers)) (λ r taken _ is. by_success now terms (LeavesTaken now) (successes_orderly now terms b h) file r.command is.1.1) read
 
 -- ---- what changes no program
 
