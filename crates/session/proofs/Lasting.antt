@@ -40,7 +40,7 @@ use Rattle.session.specs.Arrivals.{is_repeat}
 use Rattle.session.specs.Demands.{asks_stopped, goes_on, has_ended, has_none, is_no_thread, run_of}
 use Rattle.session.specs.Looking.{looks_on, shows_by}
 use Rattle.session.specs.SetVariable.{sets_by, sets_on}
-use Rattle.session.specs.Refusals.{answer_by, first_refusal, is_cancelled, is_unknown, names_none, refusals, unmet, where_so}
+use Rattle.session.specs.Refusals.{answer_by, first_refusal, is_cancelled, names_none, refusals, unmet, where_so}
 use Rattle.session.specs.Requests.{demand_of, is_taken_in, success_of}
 use Rattle.stepping.specs.Ticks.{Debugged}
 use Rattle.variables.specs.Registers.{name_answer, number_of, unless_zero}
@@ -315,13 +315,12 @@ before_is_other run phase r fate =
     let demand = demand_of r.command in
     other_first (is_repeat fate) refusal.RepeatedSequence _ refl
     (other_first (is_cancelled fate) refusal.Cancelled _ refl
-    (other_first (is_unknown (Request r)) refusal.UnknownCommand _ refl
     (other_first (not (is_taken_in phase r.command)) refusal.WrongPhase _ refl
     (other_first (demand.loaded && has_none run) refusal.NoMachine _ refl
     (other_first (demand.alive && has_ended run) refusal.Ended _ refl
     (other_first (is_no_thread demand.thread) refusal.NoThread _ refl
     (other_first (demand.still && goes_on run) refusal.NotStopped _ refl
-    (other_first (names_none fate) refusal.RequestGone [] refl tt))))))))
+    (other_first (names_none fate) refusal.RequestGone [] refl tt)))))))
 
 skip : (reason : Bool) (why : Refusal) (rest : List (Option Refusal)) → first_refusal (where_so reason why ∷ rest) ≡ None → first_refusal rest ≡ None
 skip true why rest e = absurd (let no : Some why ≡ None = e in cc)
@@ -331,8 +330,8 @@ skip false why rest e = e
 has_program : (program : Option Program) (phase : Phase) (r : ARequest) (fate : Fate) → demand_of r.command ≡ asks_stopped → first_refusal (refusals (run_of program) phase (record { ask = Request r; fate = fate })) ≡ None → (p : Program) × (program ≡ Some p)
 has_program (Some p) phase r fate stops e = (p, refl)
 has_program None phase r fate stops e =
-    let four = skip (not (is_taken_in phase r.command)) refusal.WrongPhase _ (skip (is_unknown (Request r)) refusal.UnknownCommand _ (skip (is_cancelled fate) refusal.Cancelled _ (skip (is_repeat fate) refusal.RepeatedSequence _ e))) in
-    let asked = subst (λ (d : Demand). first_refusal (unmet None d ++ where_so (names_none fate) refusal.RequestGone ∷ []) ≡ None) stops four in
+    let three = skip (not (is_taken_in phase r.command)) refusal.WrongPhase _ (skip (is_cancelled fate) refusal.Cancelled _ (skip (is_repeat fate) refusal.RepeatedSequence _ e)) in
+    let asked = subst (λ (d : Demand). first_refusal (unmet None d ++ where_so (names_none fate) refusal.RequestGone ∷ []) ≡ None) stops three in
     absurd (let no : Some refusal.NoMachine ≡ None = asked in cc)
 
 -- ---- the law

@@ -1,4 +1,4 @@
--- An answer refuses, or it is the success of a request that the phase takes: so a request that is not served is refused.
+-- An answer refuses, or it is the success of a request that the phase takes: so a request that could not be read is refused.
 use Rattle.std.proofs.Common.{◌≡◌, ℕ, Bool, true, false, List, [], ◌∷◌, ◌++◌, Option, Some, None, ◌⊎◌, inl, inr, refl}
 use Rattle.std.specs.Prelude.{not, ◌&&◌}
 use Rattle.protocol.specs.Refusals.{has_text}
@@ -10,7 +10,7 @@ use Rattle.session.specs.declared.pending.Ask.TheVariants.{Request, Bad}
 use Rattle.session.specs.declared.pending.Fate.{Fate}
 use Rattle.session.specs.Acts.{Answering, Now}
 use Rattle.session.specs.Arrivals.{is_repeat}
-use Rattle.session.specs.Refusals.{is_cancelled, is_unknown, misread, names_none, where_so, first_refusal, answer_by, answer_to, unmet}
+use Rattle.session.specs.Refusals.{is_cancelled, misread, names_none, where_so, first_refusal, answer_by, answer_to, unmet}
 use Rattle.session.specs.Requests.{demand_of, is_taken_in, success_of}
 use Rattle.session.specs.Successes.{refusing}
 use Rattle.session.specs.Demands.{goes_on, has_ended, has_none, is_no_thread, run_of}
@@ -46,8 +46,7 @@ of_request : (P : Answering → Type 0) (now : Now) (terms : Terms) (file : Opti
 of_request P now terms file r fate refuses succeeds =
     by_reason Q (is_repeat fate) RepeatedSequence _ (refuses RepeatedSequence (inr refl))
     (by_reason Q (is_cancelled fate) IsCancelled _ (refuses IsCancelled (inr refl))
-    (by_reason Q (is_unknown (Request r)) UnknownCommand _ (refuses UnknownCommand (inr refl))
-    (by_phase (is_taken_in terms.phase r.command) refl))) where
+    (by_phase (is_taken_in terms.phase r.command) refl)) where
       Q : Option Refusal → Type 0
       Q refusal = P (answer_by now terms file refusal (Request r))
 
@@ -70,8 +69,7 @@ of_bad : (P : Answering → Type 0) (now : Now) (terms : Terms) (file : Option (
 of_bad P now terms file seq command refusal fate refuses =
     by_reason Q (is_repeat fate) RepeatedSequence _ (refuses RepeatedSequence (inr refl))
     (by_reason Q (is_cancelled fate) IsCancelled _ (refuses IsCancelled (inr refl))
-    (by_reason Q (is_unknown (Bad seq command refusal)) UnknownCommand _ (refuses UnknownCommand (inr refl))
-    (refuses refusal (inl refl)))) where
+    (refuses refusal (inl refl))) where
       Q : Option Refusal → Type 0
       Q why = P (answer_by now terms file why (Bad seq command refusal))
 

@@ -13,7 +13,6 @@ use Rattle.session.specs.declared.event.Event.{Event}
 use Rattle.session.specs.declared.event.Event.TheVariants.{Connect, Recv, Turn, Sent}
 use Rattle.session.specs.Limits.{greatest_limits}
 use Rattle.session.specs.Outcomes.{is_finished}
-use Rattle.session.specs.Requests.{is_served}
 use Rattle.session.specs.Sessions.{After, Beginning, histories, waiting_of}
 use Rattle.session.specs.Writing.{frame_of}
 
@@ -50,7 +49,7 @@ abbrev one_answered : List Event
 one_answered = Connect ∷ Recv first_piece ∷ Turn None ∷ []
 
 the_refusal_waits : waiting_of (After first one_answered) ≡ refusal
-unfolding json_on_literals reading_of start_of json_of incoming_of is_served frame_of
+unfolding json_on_literals reading_of start_of json_of incoming_of frame_of
 the_refusal_waits = refl
 
 -- the rest of `disconnect` came too, and both were answered
@@ -58,12 +57,12 @@ abbrev both_answered : List Event
 both_answered = one_answered ++ Recv second_piece ∷ Turn None ∷ []
 
 both_answers_wait : waiting_of (After first both_answered) ≡ refusal ++ success
-unfolding json_on_literals reading_of start_of json_of incoming_of is_served frame_of
+unfolding json_on_literals reading_of start_of json_of incoming_of frame_of
 both_answers_wait = refl
 
 -- 180 bytes were sent
 the_rest_waits : waiting_of (After first (both_answered ++ Sent 180 ∷ [])) ≡ drop 180 (refusal ++ success)
-unfolding json_on_literals reading_of start_of json_of incoming_of is_served frame_of
+unfolding json_on_literals reading_of start_of json_of incoming_of frame_of
 the_rest_waits = refl
 
 -- all 276 were
@@ -71,5 +70,5 @@ abbrev all_sent : List Event
 all_sent = both_answered ++ Sent 180 ∷ Sent 96 ∷ []
 
 all_is_said : is_finished (histories.see (After first all_sent)) ≡ true
-unfolding json_on_literals reading_of start_of json_of incoming_of is_served frame_of
+unfolding json_on_literals reading_of start_of json_of incoming_of frame_of
 all_is_said = refl

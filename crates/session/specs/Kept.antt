@@ -142,22 +142,6 @@ abbrev pub events_of : Option AnEvent → List AnEvent
 events_of None = []
 events_of (Some event) = event ∷ []
 
--- whether the answer to a request may take memory, beside its messages
-abbrev pub takes_memory : Command → Bool
-takes_memory (Launch arguments) = true
-takes_memory ConfigurationDone = true
-takes_memory (SetBreakpoints arguments) = true
-takes_memory (SetInstructionBreakpoints arguments) = true
-takes_memory (StackTrace arguments) = true
-takes_memory (Scopes arguments) = true
-takes_memory (Variables arguments) = true
-takes_memory (SetVariable arguments) = true
-takes_memory (Evaluate arguments) = true
-takes_memory (Disassemble arguments) = true
-takes_memory (ReadMemory arguments) = true
-takes_memory (WriteMemory arguments) = true
-takes_memory other = false
-
 -- whether it changes the program that there is, and no list of breakpoints
 abbrev pub IsOfProgram : Change → Type 0
 IsOfProgram change.Nothing = ⊥

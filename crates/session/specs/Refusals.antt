@@ -15,7 +15,7 @@ use Rattle.session.specs.Demands.{asks_nothing, goes_on, has_ended, has_none, is
 use Rattle.session.specs.Successes.{refusing}
 use Rattle.protocol.specs.declared.refusal.Refusal.{Refusal}
 use Rattle.protocol.specs.declared.refusal.Refusal.TheVariants.{RepeatedSequence, Cancelled as IsCancelled, WrongPhase}
-use Rattle.protocol.specs.declared.refusal.Refusal.TheVariants.{UnknownCommand, RequestGone}
+use Rattle.protocol.specs.declared.refusal.Refusal.TheVariants.{RequestGone}
 use Rattle.replies.specs.declared.response.Outcome.{Outcome}
 use Rattle.replies.specs.declared.response.Response.{Response}
 use Rattle.session.specs.declared.phase.Phase.{Phase}
@@ -26,7 +26,7 @@ use Rattle.session.specs.declared.pending.Fate.TheVariants.{Waits, Repeated, Can
 use Rattle.session.specs.declared.pending.Pending.{Pending}
 use Rattle.session.specs.Acts.{Now, Answering}
 use Rattle.session.specs.Arrivals.{number_of, name_asked, is_repeat}
-use Rattle.session.specs.Requests.{demand_of, is_served, is_taken_in, success_of}
+use Rattle.session.specs.Requests.{demand_of, is_taken_in, success_of}
 
 -- whether a later `cancel` named the request
 abbrev pub is_cancelled : Fate → Bool
@@ -46,11 +46,7 @@ names_none NamesNone = true
 abbrev pub where_so : Bool → Refusal → Option Refusal
 where_so reason refusal = if reason then Some refusal else None
 
--- whether its name is one that the session does not serve, whatever its arguments are
-abbrev pub is_unknown : Ask → Bool
-is_unknown ask = not (is_served (name_asked ask))
-
--- why the request could not be read as one that the adapter has
+-- why the request could not be read as one that the adapter has: its name is unknown, or its arguments are bad
 abbrev pub misread : Ask → Option Refusal
 misread (Request r) = None
 misread (Bad seq command refusal) = Some refusal
@@ -76,9 +72,7 @@ unmet run demand =
 
 -- those of the reasons that the request itself gives, in order
 abbrev pub as_it_stands : Phase → Ask → List (Option Refusal)
-as_it_stands phase ask =
-    where_so (is_unknown ask) UnknownCommand
-    ∷ misread ask
+as_it_stands phase ask = misread ask
     ∷ where_so (comes_wrong phase ask) WrongPhase
     ∷ []
 

@@ -1,34 +1,8 @@
 -- The requests: in which phases each is taken, what it asks of the program that is debugged, and what comes of it. This
--- is the list of them; what there is to say of one stands in the file of its name.
+-- is the list of them; what there is to say of one is in the file of its name.
 --
--- A session serves those of the profile, and no others (DAP specification, `Request.command`).
-use Rattle.std.specs.Prelude.{◌≡◌, ℕ, Bool, true, false, List, [], ◌∷◌, Option, codes, bytes_eq, refl}
-use Rattle.std.specs.List.{list_any}
-use Rattle.protocol.specs.declared.initialize.TheConstants.{NAME as INITIALIZE}
-use Rattle.protocol.specs.declared.launch.TheConstants.{NAME as LAUNCH}
-use Rattle.protocol.specs.declared.attach.TheConstants.{NAME as ATTACH}
-use Rattle.protocol.specs.declared.configuration_done.TheConstants.{NAME as CONFIGURATION_DONE}
-use Rattle.protocol.specs.declared.threads.TheConstants.{NAME as THREADS}
-use Rattle.protocol.specs.declared.cancel.TheConstants.{NAME as CANCEL}
-use Rattle.protocol.specs.declared.restart.TheConstants.{NAME as RESTART}
-use Rattle.protocol.specs.declared.terminate.TheConstants.{NAME as TERMINATE}
-use Rattle.protocol.specs.declared.disconnect.TheConstants.{NAME as DISCONNECT}
-use Rattle.protocol.specs.declared.set_breakpoints.TheConstants.{NAME as SET_BREAKPOINTS}
-use Rattle.protocol.specs.declared.set_instruction_breakpoints.TheConstants.{NAME as SET_INSTRUCTION_BREAKPOINTS}
-use Rattle.protocol.specs.declared.set_exception_breakpoints.TheConstants.{NAME as SET_EXCEPTION_BREAKPOINTS}
-use Rattle.protocol.specs.declared.continue_.TheConstants.{NAME as CONTINUE}
-use Rattle.protocol.specs.declared.next.TheConstants.{NAME as NEXT}
-use Rattle.protocol.specs.declared.step_in.TheConstants.{NAME as STEP_IN}
-use Rattle.protocol.specs.declared.step_out.TheConstants.{NAME as STEP_OUT}
-use Rattle.protocol.specs.declared.pause.TheConstants.{NAME as PAUSE}
-use Rattle.protocol.specs.declared.stack_trace.TheConstants.{NAME as STACK_TRACE}
-use Rattle.protocol.specs.declared.scopes.TheConstants.{NAME as SCOPES}
-use Rattle.protocol.specs.declared.variables.TheConstants.{NAME as VARIABLES}
-use Rattle.protocol.specs.declared.set_variable.TheConstants.{NAME as SET_VARIABLE}
-use Rattle.protocol.specs.declared.evaluate.TheConstants.{NAME as EVALUATE}
-use Rattle.protocol.specs.declared.disassemble.TheConstants.{NAME as DISASSEMBLE}
-use Rattle.protocol.specs.declared.read_memory.TheConstants.{NAME as READ_MEMORY}
-use Rattle.protocol.specs.declared.write_memory.TheConstants.{NAME as WRITE_MEMORY}
+-- A session serves those that `protocol` reads, and no others (DAP specification, `Request.command`).
+use Rattle.std.specs.Prelude.{ℕ, Bool, List, Option}
 use Rattle.protocol.specs.declared.command.Command.{Command}
 use Rattle.protocol.specs.declared.command.Command.TheVariants.{Initialize, Launch, Attach, ConfigurationDone, Threads, Cancel}
 use Rattle.protocol.specs.declared.command.Command.TheVariants.{Restart, Terminate, Disconnect, SetExceptionBreakpoints}
@@ -61,25 +35,6 @@ use Rattle.session.specs.Pause as pause
 use Rattle.session.specs.Looking as looking
 use Rattle.session.specs.SetVariable as set_variable
 use Rattle.session.specs.WriteMemory as write_memory
-
--- the names of the requests that are served
-abbrev pub served : List (List ℕ)
-served = INITIALIZE.now ∷ LAUNCH.now ∷ ATTACH.now ∷ CONFIGURATION_DONE.now ∷ THREADS.now ∷ CANCEL.now ∷ RESTART.now ∷ TERMINATE.now
-    ∷ DISCONNECT.now ∷ SET_BREAKPOINTS.now ∷ SET_INSTRUCTION_BREAKPOINTS.now ∷ SET_EXCEPTION_BREAKPOINTS.now
-    ∷ CONTINUE.now ∷ NEXT.now ∷ STEP_IN.now ∷ STEP_OUT.now ∷ PAUSE.now ∷ STACK_TRACE.now ∷ SCOPES.now
-    ∷ VARIABLES.now ∷ SET_VARIABLE.now ∷ EVALUATE.now ∷ DISASSEMBLE.now ∷ READ_MEMORY.now ∷ WRITE_MEMORY.now ∷ []
-
--- whether a request of that name is served
-unfoldable pub is_served : List ℕ → Bool
-is_served name = list_any (bytes_eq name) served
-
-a_served_request : is_served (codes "threads") ≡ true
-unfolding is_served
-a_served_request = refl
-
-one_that_is_not_served : is_served (codes "goto") ≡ false
-unfolding is_served
-one_that_is_not_served = refl
 
 -- whether the request is taken in the phase
 abbrev pub is_taken_in : Phase → Command → Bool

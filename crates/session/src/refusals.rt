@@ -11,7 +11,7 @@ use crate::demand::Demand;
 use crate::lent::Lent;
 use crate::pending::{Ask, Fate, Pending};
 use crate::phase::Phase;
-use crate::requests::{demand_of, is_served, is_taken_in, success_of};
+use crate::requests::{demand_of, is_taken_in, success_of};
 use crate::terms::Terms;
 use debuggee::{Program, Run};
 use protocol::{Command, Refusal};
@@ -82,9 +82,6 @@ fn refusal_by_itself(run: Option<Run>, phase: Phase, ask: &Ask) -> Option<Refusa
 fn refusal_as_it_stands(phase: Phase, ask: &Ask) -> Option<Refusal>
     ensures { result ≡ spec.first_refusal (spec.as_it_stands phase ask.now) }
 {
-    if !is_served(ask.name()) {
-        return Some(Refusal::UnknownCommand);
-    }
     match ask {
         Ask::Request(request) => {
             if is_taken_in(phase, &request.command) {

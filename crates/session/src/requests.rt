@@ -1,9 +1,9 @@
 //! The requests, each in a module of its own. This is the list of them.
-ghost use Rattle.std.specs.Prelude.{◌≡◌, false, IfOk};
+ghost use Rattle.std.specs.Prelude.{◌≡◌, IfOk};
 ghost use Rattle.std.specs.Option.{option_copied};
 ghost use Rattle.session.specs.Acts.{Now as ANow};
-ghost use Rattle.session.specs.Kept.{IsLendable, IsLent, answering_as, takes_memory};
-ghost use Rattle.session.specs.Requests.{demand_of, is_served, is_taken_in, success_of};
+ghost use Rattle.session.specs.Kept.{IsLendable, IsLent, answering_as};
+ghost use Rattle.session.specs.Requests.{demand_of, is_taken_in, success_of};
 
 mod attach;
 mod breaks;
@@ -31,43 +31,7 @@ use crate::terms::Terms;
 use debuggee::Program;
 use protocol::Command;
 use std::alloc::{AllocError, Global};
-use stepping::Goal;
 use variables::Handles;
-
-/// Whether a request of that name is served (`Request.command`).
-#[tactic(auto, unfolding(crate::specs::Requests::is_served))]
-pub(crate) fn is_served(name: &str) -> bool
-    ensures { result ≡ is_served name.now }
-{
-    matches!(
-        name,
-        protocol::initialize::NAME
-            | protocol::launch::NAME
-            | protocol::attach::NAME
-            | protocol::configuration_done::NAME
-            | protocol::threads::NAME
-            | protocol::cancel::NAME
-            | protocol::restart::NAME
-            | protocol::terminate::NAME
-            | protocol::disconnect::NAME
-            | protocol::set_breakpoints::NAME
-            | protocol::set_instruction_breakpoints::NAME
-            | protocol::set_exception_breakpoints::NAME
-            | protocol::continue_::NAME
-            | protocol::next::NAME
-            | protocol::step_in::NAME
-            | protocol::step_out::NAME
-            | protocol::pause::NAME
-            | protocol::stack_trace::NAME
-            | protocol::scopes::NAME
-            | protocol::variables::NAME
-            | protocol::set_variable::NAME
-            | protocol::evaluate::NAME
-            | protocol::disassemble::NAME
-            | protocol::read_memory::NAME
-            | protocol::write_memory::NAME
-    )
-}
 
 /// Whether the request is taken in the phase.
 pub(crate) fn is_taken_in(phase: Phase, command: &Command) -> bool
@@ -142,11 +106,24 @@ pub(crate) fn success_of(
         → answering_as now.debuggee a ≡ success_of now terms (option_copied file.entry) command.now) }
 {
     match command {
+        Command::Initialize(arguments) => Ok(initialize::success(terms, arguments)),
         Command::Launch(arguments) => launch::success(alloc, terms, lent.size, file, arguments),
+        Command::Attach => Ok(attach::success(terms)),
+        Command::ConfigurationDone => configuration_done::success(alloc, terms, program),
+        Command::Threads => Ok(threads::success(terms)),
+        Command::Cancel(_) => Ok(cancel::success(terms)),
+        Command::Restart => Ok(restart::success(terms)),
+        Command::Terminate => Ok(terminate::success(terms)),
+        Command::Disconnect(arguments) => Ok(disconnect::success(terms, arguments)),
         Command::SetBreakpoints(_) | Command::SetInstructionBreakpoints(_) => {
             breaks::success(alloc, terms, program, lent, command)
         }
-        Command::ConfigurationDone => configuration_done::success(alloc, terms, program),
+        Command::SetExceptionBreakpoints => Ok(set_exception_breakpoints::success(terms)),
+        Command::Continue(_) => Ok(continue_::success(terms)),
+        Command::Next(arguments) => Ok(steps::over(terms, arguments.granularity)),
+        Command::StepIn(arguments) => Ok(steps::into(terms, arguments.granularity)),
+        Command::StepOut(arguments) => Ok(steps::out(terms, arguments.granularity)),
+        Command::Pause(_) => Ok(pause::success(terms)),
         Command::StackTrace(_)
         | Command::Scopes(_)
         | Command::Variables(_)
@@ -157,51 +134,5 @@ pub(crate) fn success_of(
             set_variable::success(alloc, terms, program, handles, arguments)
         }
         Command::WriteMemory(arguments) => write_memory::success(alloc, terms, program, arguments),
-        other => Ok(plain_success_of(terms, file, other)),
-    }
-}
-
-// The same of any other request, which needs no memory.
-fn plain_success_of(terms: Terms, file: Option<&[u8]>, command: &Command) -> Answer
-    requires { takes_memory command.now ≡ false }
-    ensures { (now : ANow)
-        → answering_as now.debuggee result ≡ success_of now terms (option_copied file.entry) command.now }
-{
-    let _ = file;
-    match command {
-        Command::Initialize(arguments) => initialize::success(terms, arguments),
-        Command::Launch(_)
-        | Command::ConfigurationDone
-        | Command::SetBreakpoints(_)
-        | Command::SetInstructionBreakpoints(_)
-        | Command::StackTrace(_)
-        | Command::Scopes(_)
-        | Command::Variables(_)
-        | Command::SetVariable(_)
-        | Command::Evaluate(_)
-        | Command::Disassemble(_)
-        | Command::ReadMemory(_)
-        | Command::WriteMemory(_) => unreachable!(),
-        Command::Attach => attach::success(terms),
-        Command::Threads => threads::success(terms),
-        Command::Cancel(_) => cancel::success(terms),
-        Command::Restart => restart::success(terms),
-        Command::Terminate => terminate::success(terms),
-        Command::Disconnect(arguments) => disconnect::success(terms, arguments),
-        Command::SetExceptionBreakpoints => set_exception_breakpoints::success(terms),
-        Command::Continue(_) => continue_::success(terms),
-        Command::Next(arguments) => {
-            let granularity = steps::granularity_of(arguments.granularity);
-            steps::success(terms, Goal::Over(granularity))
-        }
-        Command::StepIn(arguments) => {
-            let granularity = steps::granularity_of(arguments.granularity);
-            steps::success(terms, Goal::In(granularity))
-        }
-        Command::StepOut(arguments) => {
-            let granularity = steps::granularity_of(arguments.granularity);
-            steps::success(terms, Goal::Out(granularity))
-        }
-        Command::Pause(_) => pause::success(terms),
     }
 }
