@@ -1,5 +1,5 @@
--- So many beats end each slice.
-use Rattle.std.proofs.Common.{◌≡◌, ℕ, zero, suc, ◌+◌, ◌-◌, ◌*◌, ◌<◌, ◌≤◌, Bool, true, false, leb, ltb, List, [], ◌∷◌, length, Option, Some, None, refl, sym, ap, ◌∙◌, subst, arith}
+-- So many beats end each slice, in each world of sessions in which what is done to the program is done, and what is told of a tick leaves what it concludes.
+use Rattle.std.proofs.Common.{◌≡◌, ℕ, zero, suc, ◌+◌, ◌-◌, ◌*◌, ◌<◌, ◌≤◌, Bool, true, false, leb, ltb, [], ◌∷◌, Option, Some, None, refl, sym, ap, ◌∙◌, subst, arith}
 use Rattle.std.specs.Prelude.{not}
 use Rattle.std.proofs.lemmas.Bool.Decides.{nat_tests}
 use Rattle.debuggee.specs.Programs.{Program, entered, moved, next_tick, stays, told, why_marked}
@@ -7,13 +7,10 @@ use Rattle.debuggee.specs.declared.run.Why.TheVariants as why
 use Rattle.debuggee.specs.declared.run.Mark.{Mark}
 use Rattle.session.specs.declared.event.Ending.{Ending}
 use Rattle.session.specs.declared.event.Ending.TheVariants as ending
-use Rattle.session.specs.declared.link.Link.{Link}
-use Rattle.session.specs.declared.pending.Pending.{Pending}
 use Rattle.session.specs.declared.state.TheConstants.{FULL}
 use Rattle.session.specs.Acts.{Now}
 use Rattle.session.specs.Beats.{concluded}
-use Rattle.session.specs.Effects.{Slicing, after_beat, beats, enough, next_beat, next_by, sliced}
-use Rattle.session.specs.Kept.{Kept, keepings, settled}
+use Rattle.session.specs.Effects.{Slicing, after_beat, beats, enough, next_beat, next_by, sliced, World, performed}
 use Rattle.session.specs.Slices.{Beat, beat, beat_by, beat_of, becomes, ending_of, ends, goes, goes_unless, is_runnable_by, moves_by, retires, runs, stops, telling}
 use Rattle.stepping.specs.declared.tick.Outcome.{Outcome}
 use Rattle.stepping.specs.declared.tick.Outcome.TheVariants.{Went, Stopped, Ended}
@@ -21,7 +18,6 @@ use Rattle.stepping.specs.declared.tick.Reason.TheVariants as met
 use Rattle.stepping.specs.declared.tick.Tick.{Tick}
 use Rattle.session.proofs.Advancing.{move_retires}
 use Rattle.session.proofs.Reaching.{if_keeps}
-use Rattle.session.proofs.Told.{tick_tells, with_one}
 
 -- ---- what is left of a slice: the moves, what is owed, and the check
 
@@ -55,128 +51,136 @@ unfolding rank_of
 few None = omega arith
 few (Some p) = let a = owed_few p.owed in let b = due_few p.machine.check_due in omega (arith, a, b)
 
--- ---- a beat that goes on lowers it
+-- ---- what is needed of a world
 
-abbrev Falls : ℕ → ℕ → Kept → Option Program → Beat → Type 0
-Falls n m k program b = b.ending ≡ None → rank n (m + b.moved) (after_beat keepings b k).now.debuggee.program < rank n m program
+-- the program that is debugged
+abbrev pub program_in : {S : Type 0} → World S → S → Option Program
+program_in w s = (w.see s).now.debuggee.program
 
-settled_program : (l : Option Link) (seq : ℕ) (rest : List Pending) (now : Now) → (settled l seq rest now).debuggee.program ≡ now.debuggee.program
-settled_program None seq rest now = refl
-settled_program (Some link) seq rest now = if_keeps (λ (x : Now). x.debuggee.program ≡ now.debuggee.program) (ltb link.seq seq) _ now (λ _. refl) (λ _. refl)
+pub record Follows {S : Type 0} (w : World S) : Type 0 where
+  pub becomes : (now : Now) (q : Program) (s : S) → program_in w (w.perform (becomes now q) s) ≡ Some q
+  pub tells : (s : S) (p : Program) (tick : Tick) → program_in w (performed w (telling (w.see s).now p tick) s) ≡ Some (concluded tick.outcome (told p))
 
-tells_fall : (n m : ℕ) (k : Kept) (p : Program) (tick : Tick) → p.owed ≡ Some tick → Falls n m k (Some p) (record { acts = telling k.now p tick; moved = 0; ending = ending_of tick.outcome })
-unfolding rank rank_of owed_rank
-tells_fall n m k p tick owes on = by tick.outcome refl on where
-  by : (outcome : Outcome) → tick.outcome ≡ outcome → ending_of outcome ≡ None → rank n (m + 0) (after_beat keepings (record { acts = telling k.now p tick; moved = 0; ending = ending_of tick.outcome }) k).now.debuggee.program < rank n m (Some p)
-  by (Stopped reason) e x = absurd (cc)
-  by (Ended code) e x = absurd (cc)
-  by Went e x =
-      let after : (after_beat keepings (record { acts = telling k.now p tick; moved = 0; ending = ending_of tick.outcome }) k).now.debuggee.program ≡ Some (told p) =
-      ap (λ (t : Kept). t.now.debuggee.program) (tick_tells k p tick)
-      ∙ settled_program k.now.link _ k.now.arrivals.pending (with_one (concluded tick.outcome (told p)) k).now
-      ∙ ap (λ (o : Outcome). let r : Option Program = Some (concluded o (told p)) in r) e in
-      let one : owed_rank p.owed ≡ 1 = ap owed_rank owes in
-      let goal : rank n (m + 0) (Some (told p)) < rank n m (Some p) = omega (arith, one) in
-      subst (λ (q : Option Program). rank n (m + 0) q < rank n m (Some p)) (sym after) goal
+module _ {S : Type 0} (w : World S) (h : Follows w) where
+  -- ---- a beat that goes on lowers it
 
-checks_fall : (n m : ℕ) (k : Kept) (p : Program) → p.machine.check_due ≡ true → Falls n m k (Some p) (record { acts = becomes k.now (entered p) ∷ []; moved = 0; ending = None })
-unfolding rank rank_of due_rank
-checks_fall n m k p due on =
-    let two : due_rank p.machine.check_due ≡ 2 = ap due_rank due in
-    let few = owed_few (entered p).owed in
-    omega (arith, two, few)
+  abbrev Falls : ℕ → ℕ → S → Option Program → Beat → Type 0
+  Falls n m k program b = b.ending ≡ None → rank n (m + b.moved) (program_in w (after_beat w b k)) < rank n m program
 
-retires_fall : (n m : ℕ) (k : Kept) (p : Program) → p.machine.check_due ≡ false → m < n → stays (next_tick p).outcome ≡ false → Falls n m k (Some p) (retires k.now p)
-unfolding rank rank_of due_rank
-retires_fall n m k p due lt e on =
-    let none : due_rank (moved p).machine.check_due ≡ 0 = ap due_rank ((move_retires p due e).0 ∙ due) in
-    let few = owed_few (moved p).owed in
-    omega (arith, none, few, lt)
+  tells_fall : (n m : ℕ) (s : S) (p : Program) (tick : Tick) → p.owed ≡ Some tick → Falls n m s (Some p) (record { acts = telling (w.see s).now p tick; moved = 0; ending = ending_of tick.outcome })
+  unfolding rank rank_of owed_rank
+  tells_fall n m s p tick owes on = by tick.outcome refl on where
+    by : (outcome : Outcome) → tick.outcome ≡ outcome → ending_of outcome ≡ None → rank n (m + 0) (program_in w (after_beat w (record { acts = telling (w.see s).now p tick; moved = 0; ending = ending_of tick.outcome }) s)) < rank n m (Some p)
+    by (Stopped reason) e x = absurd (cc)
+    by (Ended code) e x = absurd (cc)
+    by Went e x =
+        let after : program_in w (performed w (telling (w.see s).now p tick) s) ≡ Some (told p) = h.tells s p tick ∙ ap (λ (o : Outcome). let r : Option Program = Some (concluded o (told p)) in r) e in
+        let one : owed_rank p.owed ≡ 1 = ap owed_rank owes in
+        let goal : rank n (m + 0) (Some (told p)) < rank n m (Some p) = omega (arith, one) in
+        subst (λ (q : Option Program). rank n (m + 0) q < rank n m (Some p)) (sym after) goal
 
-moves_fall : (n m : ℕ) (k : Kept) (p : Program) (outcome : Outcome) → (next_tick p).outcome ≡ outcome → p.machine.check_due ≡ false → m < n → Falls n m k (Some p) (moves_by k.now p outcome)
-moves_fall n m k p Went e due lt = retires_fall n m k p due lt (ap stays e)
-moves_fall n m k p (Stopped (met.Exception cause)) e due lt = λ x. absurd (cc)
-moves_fall n m k p (Stopped met.Ebreak) e due lt = retires_fall n m k p due lt (ap stays e)
-moves_fall n m k p (Stopped met.Source) e due lt = retires_fall n m k p due lt (ap stays e)
-moves_fall n m k p (Stopped met.Instruction) e due lt = retires_fall n m k p due lt (ap stays e)
-moves_fall n m k p (Stopped met.Goal) e due lt = retires_fall n m k p due lt (ap stays e)
-moves_fall n m k p (Ended code) e due lt = λ x. absurd (cc)
+  -- a beat after which the program is this
+  becomes_fall : (n m moved : ℕ) (s : S) (p q : Program) → rank n (m + moved) (Some q) < rank n m (Some p) → Falls n m s (Some p) (record { acts = becomes (w.see s).now q ∷ []; moved = moved; ending = None })
+  becomes_fall n m moved s p q less on = subst (λ (r : Option Program). rank n (m + moved) r < rank n m (Some p)) (sym (h.becomes (w.see s).now q s)) less
 
-ends_fall : (n m : ℕ) (k : Kept) (program : Option Program) (b : Beat) (e : Ending) → b.ending ≡ Some e → Falls n m k program b
-ends_fall n m k program b e h x = absurd (cc)
+  checks_fall : (n m : ℕ) (k : S) (p : Program) → p.machine.check_due ≡ true → Falls n m k (Some p) (record { acts = becomes (w.see k).now (entered p) ∷ []; moved = 0; ending = None })
+  unfolding rank rank_of due_rank
+  checks_fall n m k p due =
+      let two : due_rank p.machine.check_due ≡ 2 = ap due_rank due in
+      let few = owed_few (entered p).owed in
+      becomes_fall n m 0 k p (entered p) (omega (arith, two, few))
 
-goes_fall : (n m : ℕ) (k : Kept) (p : Program) → Falls n m k (Some p) (goes k.now p (ltb m n))
-goes_fall n m k p =
-    if_keeps (Falls n m k (Some p)) p.machine.check_due _ _ (λ due. checks_fall n m k p due)
-    (λ due. if_keeps (Falls n m k (Some p)) (not (ltb m n)) _ _ (λ _. ends_fall n m k (Some p) (ends ending.Spent) ending.Spent refl)
-    (λ more. if_keeps (Falls n m k (Some p)) (leb k.now.limits.last_retired p.machine.retired) _ _ (λ _. ends_fall n m k (Some p) (stops k.now p why.Limit) ending.Stopped refl)
-    (λ _. moves_fall n m k p (next_tick p).outcome refl due (let lt : m < n = grind (arith, nat_tests) in lt))))
+  retires_fall : (n m : ℕ) (k : S) (p : Program) → p.machine.check_due ≡ false → m < n → stays (next_tick p).outcome ≡ false → Falls n m k (Some p) (retires (w.see k).now p)
+  unfolding rank rank_of due_rank
+  retires_fall n m k p due lt e =
+      let none : due_rank (moved p).machine.check_due ≡ 0 = ap due_rank ((move_retires p due e).0 ∙ due) in
+      let few = owed_few (moved p).owed in
+      becomes_fall n m 1 k p (moved p) (omega (arith, none, few, lt))
 
-unless_falls : (n m : ℕ) (k : Kept) (p : Program) (mark : Option Mark) → Falls n m k (Some p) (goes_unless mark k.now p (ltb m n))
-unless_falls n m k p (Some mark) = ends_fall n m k (Some p) (stops k.now p (why_marked mark)) ending.Stopped refl
-unless_falls n m k p None = goes_fall n m k p
+  moves_fall : (n m : ℕ) (k : S) (p : Program) (outcome : Outcome) → (next_tick p).outcome ≡ outcome → p.machine.check_due ≡ false → m < n → Falls n m k (Some p) (moves_by (w.see k).now p outcome)
+  moves_fall n m k p Went e due lt = retires_fall n m k p due lt (ap stays e)
+  moves_fall n m k p (Stopped (met.Exception cause)) e due lt = λ x. absurd (cc)
+  moves_fall n m k p (Stopped met.Ebreak) e due lt = retires_fall n m k p due lt (ap stays e)
+  moves_fall n m k p (Stopped met.Source) e due lt = retires_fall n m k p due lt (ap stays e)
+  moves_fall n m k p (Stopped met.Instruction) e due lt = retires_fall n m k p due lt (ap stays e)
+  moves_fall n m k p (Stopped met.Goal) e due lt = retires_fall n m k p due lt (ap stays e)
+  moves_fall n m k p (Ended code) e due lt = λ x. absurd (cc)
 
-runs_fall : (n m : ℕ) (k : Kept) (p : Program) → Falls n m k (Some p) (runs (keepings.see k) p (ltb m n))
-runs_fall n m k p =
-    if_keeps (Falls n m k (Some p)) (not (is_runnable_by k.now.link p.run)) _ _ (λ _. ends_fall n m k (Some p) (ends ending.Idle) ending.Idle refl)
-    (λ _. if_keeps (Falls n m k (Some p)) (ltb FULL (length k.waiting)) _ _ (λ _. ends_fall n m k (Some p) (ends ending.Full) ending.Full refl)
-    (λ _. unless_falls n m k p p.mark))
+  ends_fall : (n m : ℕ) (k : S) (program : Option Program) (b : Beat) (e : Ending) → b.ending ≡ Some e → Falls n m k program b
+  ends_fall n m k program b e h x = absurd (cc)
 
-owed_falls : (n m : ℕ) (k : Kept) (p : Program) (owed : Option Tick) → p.owed ≡ owed → Falls n m k (Some p) (beat_by owed (keepings.see k) p (ltb m n))
-owed_falls n m k p (Some tick) e = tells_fall n m k p tick e
-owed_falls n m k p None e = runs_fall n m k p
+  goes_fall : (n m : ℕ) (k : S) (p : Program) → Falls n m k (Some p) (goes (w.see k).now p (ltb m n))
+  goes_fall n m k p =
+      if_keeps (Falls n m k (Some p)) p.machine.check_due _ _ (λ due. checks_fall n m k p due)
+      (λ due. if_keeps (Falls n m k (Some p)) (not (ltb m n)) _ _ (λ _. ends_fall n m k (Some p) (ends ending.Spent) ending.Spent refl)
+      (λ more. if_keeps (Falls n m k (Some p)) (leb (w.see k).now.limits.last_retired p.machine.retired) _ _ (λ _. ends_fall n m k (Some p) (stops (w.see k).now p why.Limit) ending.Stopped refl)
+      (λ _. moves_fall n m k p (next_tick p).outcome refl due (let lt : m < n = grind (arith, nat_tests) in lt))))
 
-program_falls : (n m : ℕ) (k : Kept) (program : Option Program) → Falls n m k program (beat_of program (keepings.see k) (ltb m n))
-program_falls n m k None = ends_fall n m k None (ends ending.Idle) ending.Idle refl
-program_falls n m k (Some p) = owed_falls n m k p p.owed refl
+  unless_falls : (n m : ℕ) (k : S) (p : Program) (mark : Option Mark) → Falls n m k (Some p) (goes_unless mark (w.see k).now p (ltb m n))
+  unless_falls n m k p (Some mark) = ends_fall n m k (Some p) (stops (w.see k).now p (why_marked mark)) ending.Stopped refl
+  unless_falls n m k p None = goes_fall n m k p
 
-beat_falls : (n m : ℕ) (k : Kept) → Falls n m k k.now.debuggee.program (beat (keepings.see k) (ltb m n))
-beat_falls n m k = program_falls n m k k.now.debuggee.program
+  runs_fall : (n m : ℕ) (k : S) (p : Program) → Falls n m k (Some p) (runs (w.see k) p (ltb m n))
+  runs_fall n m k p =
+      if_keeps (Falls n m k (Some p)) (not (is_runnable_by (w.see k).now.link p.run)) _ _ (λ _. ends_fall n m k (Some p) (ends ending.Idle) ending.Idle refl)
+      (λ _. if_keeps (Falls n m k (Some p)) (ltb FULL (w.see k).waits) _ _ (λ _. ends_fall n m k (Some p) (ends ending.Full) ending.Full refl)
+      (λ _. unless_falls n m k p p.mark))
 
--- ---- so each slice has ended after enough
+  owed_falls : (n m : ℕ) (k : S) (p : Program) (owed : Option Tick) → p.owed ≡ owed → Falls n m k (Some p) (beat_by owed (w.see k) p (ltb m n))
+  owed_falls n m k p (Some tick) e = tells_fall n m k p tick e
+  owed_falls n m k p None e = runs_fall n m k p
 
-abbrev Lowered : ℕ → ℕ → Kept → Slicing Kept → Type 0
-Lowered n i s d = d.ending ≡ None → rank n d.moved d.state.now.debuggee.program + i ≤ 2 * n + 3
+  program_falls : (n m : ℕ) (k : S) (program : Option Program) → Falls n m k program (beat_of program (w.see k) (ltb m n))
+  program_falls n m k None = ends_fall n m k None (ends ending.Idle) ending.Idle refl
+  program_falls n m k (Some p) = owed_falls n m k p p.owed refl
 
-next_lowers : (n i : ℕ) (s : Kept) (d : Slicing Kept) (e : Option Ending) → d.ending ≡ e → Lowered n i s d → Lowered n (suc i) s (next_by keepings n e d)
-next_lowers n i s d (Some e) is h on = absurd (let never : Some e ≡ None = sym is ∙ on in cc)
-next_lowers n i s d None is h on =
-    let less = beat_falls n d.moved d.state on in
-    let before = h is in
-    omega (arith, less, before)
+  beat_falls : (n m : ℕ) (k : S) → Falls n m k (program_in w k) (beat (w.see k) (ltb m n))
+  beat_falls n m k = program_falls n m k (program_in w k)
 
-lowered : (n i : ℕ) (s : Kept) → Lowered n i s (beats keepings n i s)
-unfolding rank
-lowered n zero s on = let a = few s.now.debuggee.program in omega (arith, a)
-lowered n (suc i) s on = next_lowers n i s (beats keepings n i s) (beats keepings n i s).ending refl (lowered n i s) on
+  -- ---- so each slice has ended after enough
 
-some_of : (e : Option Ending) → (e ≡ None → ⊥) → (x : Ending) × (e ≡ Some x)
-some_of None h = absurd (h refl)
-some_of (Some x) h = (x, refl)
+  abbrev Lowered : ℕ → ℕ → S → Slicing S → Type 0
+  Lowered n i s d = d.ending ≡ None → rank n d.moved (program_in w d.state) + i ≤ 2 * n + 3
 
-pub each_ends : (n : ℕ) (s : Kept) → (e : Ending) × ((sliced keepings n s).ending ≡ Some e)
-each_ends n s = some_of (sliced keepings n s).ending (λ on. let h = lowered n (enough n) s on in omega (arith, h))
+  next_lowers : (n i : ℕ) (s : S) (d : Slicing S) (e : Option Ending) → d.ending ≡ e → Lowered n i s d → Lowered n (suc i) s (next_by w n e d)
+  next_lowers n i s d (Some e) is h on = absurd (let never : Some e ≡ None = sym is ∙ on in cc)
+  next_lowers n i s d None is h on =
+      let less = beat_falls n d.moved d.state on in
+      let before = h is in
+      omega (arith, less, before)
 
--- ---- and stays so
+  lowered : (n i : ℕ) (s : S) → Lowered n i s (beats w n i s)
+  unfolding rank
+  lowered n zero s on = let a = few (program_in w s) in omega (arith, a)
+  lowered n (suc i) s on = next_lowers n i s (beats w n i s) (beats w n i s).ending refl (lowered n i s) on
 
-stays_ended : (n i more : ℕ) (s : Kept) (e : Ending) → (beats keepings n i s).ending ≡ Some e → beats keepings n (i + more) s ≡ beats keepings n i s
-stays_ended n i zero s e h = let none : i + zero ≡ i = omega arith in ap (λ (x : ℕ). beats keepings n x s) none
-stays_ended n i (suc more) s e h =
-    let one : i + suc more ≡ suc (i + more) = omega arith in
-    ap (λ (x : ℕ). beats keepings n x s) one
-    ∙ ap (next_beat keepings n) (stays_ended n i more s e h)
-    ∙ ap (λ (x : Option Ending). next_by keepings n x (beats keepings n i s)) h
+  some_of : (e : Option Ending) → (e ≡ None → ⊥) → (x : Ending) × (e ≡ Some x)
+  some_of None h = absurd (h refl)
+  some_of (Some x) h = (x, refl)
 
-pub is_sliced : (n i : ℕ) (s : Kept) (e : Ending) → (beats keepings n i s).ending ≡ Some e → beats keepings n i s ≡ sliced keepings n s
-is_sliced n i s e h =
-    let there = each_ends n s in
-    let both : i + enough n ≡ enough n + i = omega arith in
-    sym (stays_ended n i (enough n) s e h) ∙ ap (λ (x : ℕ). beats keepings n x s) both ∙ stays_ended n (enough n) i s there.0 there.1
+  pub each_ends : (n : ℕ) (s : S) → (e : Ending) × ((sliced w n s).ending ≡ Some e)
+  each_ends n s = some_of (sliced w n s).ending (λ on. let h = lowered n (enough n) s on in omega (arith, h))
 
-pub not_after : (n i : ℕ) (s : Kept) → enough n ≤ i → (beats keepings n i s).ending ≡ None → ⊥
-not_after n i s le on =
-    let there = each_ends n s in
-    let sum : i ≡ enough n + (i - enough n) = omega (arith, le) in
-    let same = ap (λ (x : ℕ). beats keepings n x s) sum ∙ stays_ended n (enough n) (i - enough n) s there.0 there.1 in
-    let never : Some there.0 ≡ None = sym there.1 ∙ sym (ap (λ (d : Slicing Kept). d.ending) same) ∙ on in
-    cc
+  -- ---- and stays so
+
+  stays_ended : (n i more : ℕ) (s : S) (e : Ending) → (beats w n i s).ending ≡ Some e → beats w n (i + more) s ≡ beats w n i s
+  stays_ended n i zero s e h = let none : i + zero ≡ i = omega arith in ap (λ (x : ℕ). beats w n x s) none
+  stays_ended n i (suc more) s e h =
+      let one : i + suc more ≡ suc (i + more) = omega arith in
+      ap (λ (x : ℕ). beats w n x s) one
+      ∙ ap (next_beat w n) (stays_ended n i more s e h)
+      ∙ ap (λ (x : Option Ending). next_by w n x (beats w n i s)) h
+
+  pub is_sliced : (n i : ℕ) (s : S) (e : Ending) → (beats w n i s).ending ≡ Some e → beats w n i s ≡ sliced w n s
+  is_sliced n i s e h =
+      let there = each_ends n s in
+      let both : i + enough n ≡ enough n + i = omega arith in
+      sym (stays_ended n i (enough n) s e h) ∙ ap (λ (x : ℕ). beats w n x s) both ∙ stays_ended n (enough n) i s there.0 there.1
+
+  pub not_after : (n i : ℕ) (s : S) → enough n ≤ i → (beats w n i s).ending ≡ None → ⊥
+  not_after n i s le on =
+      let there = each_ends n s in
+      let sum : i ≡ enough n + (i - enough n) = omega (arith, le) in
+      let same = ap (λ (x : ℕ). beats w n x s) sum ∙ stays_ended n (enough n) (i - enough n) s there.0 there.1 in
+      let never : Some there.0 ≡ None = sym there.1 ∙ sym (ap (λ (d : Slicing S). d.ending) same) ∙ on in
+      cc

@@ -1,8 +1,8 @@
 -- Two slices, one after the other, leave what one of all their moves leaves.
-use Rattle.std.proofs.Common.{◌≡◌, ℕ, ℤ, zero, suc, ◌+◌, ◌-◌, ◌*◌, ◌<◌, ◌≤◌, Bool, true, false, cond, leb, ltb, List, [], ◌∷◌, map, length, Option, Some, None, ◌⊎◌, inl, inr, refl, sym, ap, ◌∙◌, subst, arith}
+use Rattle.std.proofs.Common.{◌≡◌, ℕ, ℤ, zero, suc, ◌+◌, ◌<◌, ◌≤◌, Bool, true, false, cond, leb, ltb, List, [], ◌∷◌, map, length, Option, Some, None, ◌⊎◌, inl, inr, refl, sym, ap, ◌∙◌, subst, arith}
 use Rattle.std.specs.Prelude.{not, ◌&&◌}
 use Rattle.std.proofs.lemmas.Bool.Decides.{nat_tests}
-use Rattle.debuggee.specs.Programs.{Debuggee, Program, ended, entered, is_running, moved, next_tick, stays, stopped, told, why_marked}
+use Rattle.debuggee.specs.Programs.{Debuggee, Program, ended, is_running, moved, next_tick, stopped, told, why_marked}
 use Rattle.debuggee.specs.declared.run.Mark.{Mark}
 use Rattle.debuggee.specs.declared.run.Why.{Why}
 use Rattle.debuggee.specs.declared.run.Why.TheVariants as why
@@ -22,9 +22,10 @@ use Rattle.stepping.specs.declared.tick.Outcome.{Outcome}
 use Rattle.stepping.specs.declared.tick.Outcome.TheVariants.{Went, Stopped, Ended}
 use Rattle.stepping.specs.declared.tick.Reason.TheVariants as met
 use Rattle.stepping.specs.declared.tick.Tick.{Tick}
-use Rattle.session.proofs.Advancing.{move_retires}
 use Rattle.session.proofs.Reaching.{if_keeps, performed_append}
 use Rattle.session.proofs.Turning.{said_debuggee}
+use Rattle.session.proofs.Enough.{is_sliced, each_ends, Follows}
+use Rattle.session.specs.Beats.{concluded}
 
 -- ---- what is told changes no program
 
@@ -62,18 +63,13 @@ becomes_program now p acts s h = ap (λ (d : Debuggee). d.program) (same_debugge
 
 -- ---- what a tick that is told leaves
 
-abbrev pub concluded_as : Outcome → Program → Program
-concluded_as Went p = p
-concluded_as (Stopped reason) p = stopped (why.Met reason) p
-concluded_as (Ended code) p = ended (Some code) p
-
 -- the program after what concludes, where it was this
-concludes_program : (now : Now) (p : Program) (outcome : Outcome) (ids : List ℕ) (s : Session) → program_of s ≡ Some p → program_of (performed histories (concludes now p outcome ids) s) ≡ Some (concluded_as outcome p)
+concludes_program : (now : Now) (p : Program) (outcome : Outcome) (ids : List ℕ) (s : Session) → program_of s ≡ Some p → program_of (performed histories (concludes now p outcome ids) s) ≡ Some (concluded outcome p)
 concludes_program now p Went ids s e = e
 concludes_program now p (Stopped reason) ids s e = becomes_program now (stopped (why.Met reason) p) (tells now (stop_event (why.Met reason) ids ∷ [])) s (tells_only now (stop_event (why.Met reason) ids ∷ []))
 concludes_program now p (Ended code) ids s e = becomes_program now (ended (Some code) p) (tells now (exit_events code)) s (tells_only now (exit_events code))
 
-pub telling_program : (now : Now) (p : Program) (tick : Tick) (s : Session) → program_of (performed histories (telling now p tick) s) ≡ Some (concluded_as tick.outcome (told p))
+pub telling_program : (now : Now) (p : Program) (tick : Tick) (s : Session) → program_of (performed histories (telling now p tick) s) ≡ Some (concluded tick.outcome (told p))
 telling_program now p tick s =
     let t : Session = performed_on (becomes now (told p)) s in
     let acts : List Act = concludes now (told p) tick.outcome p.machine.lists.ids in
@@ -222,8 +218,8 @@ unfolding EndsStill
 tick_still s p tick e is never = by tick.outcome refl where
   by : (outcome : Outcome) → tick.outcome ≡ outcome → Still (performed histories (telling s.now p tick) s)
   by Went same = absurd (let no : ending_of tick.outcome ≡ Some e = is in let none : ending_of tick.outcome ≡ None = ap ending_of same in cc)
-  by (Stopped reason) same = stands (performed histories (telling s.now p tick) s) (stopped (why.Met reason) (told p)) (telling_program s.now p tick s ∙ ap (λ (o : Outcome). let r : Option Program = Some (concluded_as o (told p)) in r) same) refl refl
-  by (Ended code) same = stands (performed histories (telling s.now p tick) s) (ended (Some code) (told p)) (telling_program s.now p tick s ∙ ap (λ (o : Outcome). let r : Option Program = Some (concluded_as o (told p)) in r) same) refl refl
+  by (Stopped reason) same = stands (performed histories (telling s.now p tick) s) (stopped (why.Met reason) (told p)) (telling_program s.now p tick s ∙ ap (λ (o : Outcome). let r : Option Program = Some (concluded o (told p)) in r) same) refl refl
+  by (Ended code) same = stands (performed histories (telling s.now p tick) s) (ended (Some code) (told p)) (telling_program s.now p tick s ∙ ap (λ (o : Outcome). let r : Option Program = Some (concluded o (told p)) in r) same) refl refl
 
 moves_still : (s : Session) (p : Program) (outcome : Outcome) → p.owed ≡ None → EndsStill s (moves_by s.now p outcome)
 moves_still s p Went owes = goes_on_still s _ 1
@@ -318,155 +314,9 @@ at_end n (suc i) s = next_at_end n (beats histories n i s) (beats histories n i 
 
 -- ---- each slice ends
 
-owed_rank : Option Tick → ℕ
-owed_rank None = 0
-owed_rank (Some tick) = 1
-
-due_rank : Bool → ℕ
-due_rank true = 2
-due_rank false = 0
-
-rank_of : Option Program → ℕ
-rank_of None = 0
-rank_of (Some p) = owed_rank p.owed + due_rank p.machine.check_due
-
-rank : ℕ → ℕ → Option Program → ℕ
-rank n m program = 2 * (n - m) + rank_of program
-
-owed_few : (owed : Option Tick) → owed_rank owed ≤ 1
-unfolding owed_rank
-owed_few None = omega arith
-owed_few (Some tick) = omega arith
-
-due_few : (due : Bool) → due_rank due ≤ 2
-unfolding due_rank
-due_few true = omega arith
-due_few false = omega arith
-
-few : (program : Option Program) → rank_of program ≤ 3
-unfolding rank_of
-few None = omega arith
-few (Some p) = let a = owed_few p.owed in let b = due_few p.machine.check_due in omega (arith, a, b)
-
--- ---- a beat that goes on lowers it
-
-abbrev Falls : ℕ → ℕ → Session → Option Program → Beat → Type 0
-Falls n m k program b = b.ending ≡ None → rank n (m + b.moved) (after_beat histories b k).now.debuggee.program < rank n m program
-
-tells_fall : (n m : ℕ) (k : Session) (p : Program) (tick : Tick) → p.owed ≡ Some tick → Falls n m k (Some p) (record { acts = telling k.now p tick; moved = 0; ending = ending_of tick.outcome })
-unfolding rank rank_of owed_rank
-tells_fall n m k p tick owes on = by tick.outcome refl on where
-  by : (outcome : Outcome) → tick.outcome ≡ outcome → ending_of outcome ≡ None → rank n (m + 0) (after_beat histories (record { acts = telling k.now p tick; moved = 0; ending = ending_of tick.outcome }) k).now.debuggee.program < rank n m (Some p)
-  by (Stopped reason) e x = absurd (cc)
-  by (Ended code) e x = absurd (cc)
-  by Went e x =
-      let after : program_of (performed histories (telling k.now p tick) k) ≡ Some (told p) =
-      telling_program k.now p tick k ∙ ap (λ (o : Outcome). let r : Option Program = Some (concluded_as o (told p)) in r) e in
-      let one : owed_rank p.owed ≡ 1 = ap owed_rank owes in
-      let goal : rank n (m + 0) (Some (told p)) < rank n m (Some p) = omega (arith, one) in
-      subst (λ (q : Option Program). rank n (m + 0) q < rank n m (Some p)) (sym after) goal
-
-checks_fall : (n m : ℕ) (k : Session) (p : Program) → p.machine.check_due ≡ true → Falls n m k (Some p) (record { acts = becomes k.now (entered p) ∷ []; moved = 0; ending = None })
-unfolding rank rank_of due_rank
-checks_fall n m k p due on =
-    let two : due_rank p.machine.check_due ≡ 2 = ap due_rank due in
-    let few = owed_few (entered p).owed in
-    omega (arith, two, few)
-
-retires_fall : (n m : ℕ) (k : Session) (p : Program) → p.machine.check_due ≡ false → m < n → stays (next_tick p).outcome ≡ false → Falls n m k (Some p) (retires k.now p)
-unfolding rank rank_of due_rank
-retires_fall n m k p due lt e on =
-    let none : due_rank (moved p).machine.check_due ≡ 0 = ap due_rank ((move_retires p due e).0 ∙ due) in
-    let few = owed_few (moved p).owed in
-    omega (arith, none, few, lt)
-
-moves_fall : (n m : ℕ) (k : Session) (p : Program) (outcome : Outcome) → (next_tick p).outcome ≡ outcome → p.machine.check_due ≡ false → m < n → Falls n m k (Some p) (moves_by k.now p outcome)
-moves_fall n m k p Went e due lt = retires_fall n m k p due lt (ap stays e)
-moves_fall n m k p (Stopped (met.Exception cause)) e due lt = λ x. absurd (cc)
-moves_fall n m k p (Stopped met.Ebreak) e due lt = retires_fall n m k p due lt (ap stays e)
-moves_fall n m k p (Stopped met.Source) e due lt = retires_fall n m k p due lt (ap stays e)
-moves_fall n m k p (Stopped met.Instruction) e due lt = retires_fall n m k p due lt (ap stays e)
-moves_fall n m k p (Stopped met.Goal) e due lt = retires_fall n m k p due lt (ap stays e)
-moves_fall n m k p (Ended code) e due lt = λ x. absurd (cc)
-
-ends_fall : (n m : ℕ) (k : Session) (program : Option Program) (b : Beat) (e : Ending) → b.ending ≡ Some e → Falls n m k program b
-ends_fall n m k program b e h x = absurd (cc)
-
-goes_fall : (n m : ℕ) (k : Session) (p : Program) → Falls n m k (Some p) (goes k.now p (ltb m n))
-goes_fall n m k p =
-    if_keeps (Falls n m k (Some p)) p.machine.check_due _ _ (λ due. checks_fall n m k p due)
-    (λ due. if_keeps (Falls n m k (Some p)) (not (ltb m n)) _ _ (λ _. ends_fall n m k (Some p) (ends ending.Spent) ending.Spent refl)
-    (λ more. if_keeps (Falls n m k (Some p)) (leb k.now.limits.last_retired p.machine.retired) _ _ (λ _. ends_fall n m k (Some p) (stops k.now p why.Limit) ending.Stopped refl)
-    (λ _. moves_fall n m k p (next_tick p).outcome refl due (let lt : m < n = grind (arith, nat_tests) in lt))))
-
-unless_falls : (n m : ℕ) (k : Session) (p : Program) (mark : Option Mark) → Falls n m k (Some p) (goes_unless mark k.now p (ltb m n))
-unless_falls n m k p (Some mark) = ends_fall n m k (Some p) (stops k.now p (why_marked mark)) ending.Stopped refl
-unless_falls n m k p None = goes_fall n m k p
-
-runs_fall : (n m : ℕ) (k : Session) (p : Program) → Falls n m k (Some p) (runs (histories.see k) p (ltb m n))
-runs_fall n m k p =
-    if_keeps (Falls n m k (Some p)) (not (is_runnable_by k.now.link p.run)) _ _ (λ _. ends_fall n m k (Some p) (ends ending.Idle) ending.Idle refl)
-    (λ _. if_keeps (Falls n m k (Some p)) (ltb FULL (length (waiting_of k))) _ _ (λ _. ends_fall n m k (Some p) (ends ending.Full) ending.Full refl)
-    (λ _. unless_falls n m k p p.mark))
-
-owed_falls : (n m : ℕ) (k : Session) (p : Program) (owed : Option Tick) → p.owed ≡ owed → Falls n m k (Some p) (beat_by owed (histories.see k) p (ltb m n))
-owed_falls n m k p (Some tick) e = tells_fall n m k p tick e
-owed_falls n m k p None e = runs_fall n m k p
-
-program_falls : (n m : ℕ) (k : Session) (program : Option Program) → Falls n m k program (beat_of program (histories.see k) (ltb m n))
-program_falls n m k None = ends_fall n m k None (ends ending.Idle) ending.Idle refl
-program_falls n m k (Some p) = owed_falls n m k p p.owed refl
-
-beat_falls : (n m : ℕ) (k : Session) → Falls n m k k.now.debuggee.program (beat (histories.see k) (ltb m n))
-beat_falls n m k = program_falls n m k k.now.debuggee.program
-
--- ---- so each slice has ended after enough
-
-abbrev Lowered : ℕ → ℕ → Session → Slicing Session → Type 0
-Lowered n i s d = d.ending ≡ None → rank n d.moved d.state.now.debuggee.program + i ≤ 2 * n + 3
-
-next_lowers : (n i : ℕ) (s : Session) (d : Slicing Session) (e : Option Ending) → d.ending ≡ e → Lowered n i s d → Lowered n (suc i) s (next_by histories n e d)
-next_lowers n i s d (Some e) is h on = absurd (let never : Some e ≡ None = sym is ∙ on in cc)
-next_lowers n i s d None is h on =
-    let less = beat_falls n d.moved d.state on in
-    let before = h is in
-    omega (arith, less, before)
-
-lowered : (n i : ℕ) (s : Session) → Lowered n i s (beats histories n i s)
-unfolding rank
-lowered n zero s on = let a = few s.now.debuggee.program in omega (arith, a)
-lowered n (suc i) s on = next_lowers n i s (beats histories n i s) (beats histories n i s).ending refl (lowered n i s) on
-
-some_of : (e : Option Ending) → (e ≡ None → ⊥) → (x : Ending) × (e ≡ Some x)
-some_of None h = absurd (h refl)
-some_of (Some x) h = (x, refl)
-
-pub each_ends : (n : ℕ) (s : Session) → (e : Ending) × ((sliced histories n s).ending ≡ Some e)
-each_ends n s = some_of (sliced histories n s).ending (λ on. let h = lowered n (enough n) s on in omega (arith, h))
-
--- ---- and stays so
-
-stays_ended : (n i more : ℕ) (s : Session) (e : Ending) → (beats histories n i s).ending ≡ Some e → beats histories n (i + more) s ≡ beats histories n i s
-stays_ended n i zero s e h = let none : i + zero ≡ i = omega arith in ap (λ (x : ℕ). beats histories n x s) none
-stays_ended n i (suc more) s e h =
-    let one : i + suc more ≡ suc (i + more) = omega arith in
-    ap (λ (x : ℕ). beats histories n x s) one
-    ∙ ap (next_beat histories n) (stays_ended n i more s e h)
-    ∙ ap (λ (x : Option Ending). next_by histories n x (beats histories n i s)) h
-
-is_sliced : (n i : ℕ) (s : Session) (e : Ending) → (beats histories n i s).ending ≡ Some e → beats histories n i s ≡ sliced histories n s
-is_sliced n i s e h =
-    let there = each_ends n s in
-    let both : i + enough n ≡ enough n + i = omega arith in
-    sym (stays_ended n i (enough n) s e h) ∙ ap (λ (x : ℕ). beats histories n x s) both ∙ stays_ended n (enough n) i s there.0 there.1
-
-not_after : (n i : ℕ) (s : Session) → enough n ≤ i → (beats histories n i s).ending ≡ None → ⊥
-not_after n i s le on =
-    let there = each_ends n s in
-    let sum : i ≡ enough n + (i - enough n) = omega (arith, le) in
-    let same = ap (λ (x : ℕ). beats histories n x s) sum ∙ stays_ended n (enough n) (i - enough n) s there.0 there.1 in
-    let never : Some there.0 ≡ None = sym there.1 ∙ sym (ap (λ (d : Slicing Session). d.ending) same) ∙ on in
-    cc
+pub histories_follow : Follows histories
+unfolding OnlyTells
+histories_follow = record { becomes = λ now q s. becomes_program now q [] s tt; tells = λ s p tick. telling_program s.now p tick s }
 
 -- ---- two slices beside the whole
 
@@ -569,7 +419,7 @@ beats_after n j (suc i) d = let e : j + suc i ≡ suc (j + i) = omega arith in a
 pub at_once : (b : ℕ) (x : Session) (e : Ending) → beat (histories.see x) (ltb 0 b) ≡ ends e → sliced histories b x ≡ record { state = x; moved = 0; ending = Some e }
 at_once b x e is =
     let one : beats histories b 1 x ≡ record { state = x; moved = 0; ending = Some e } = ap (λ (y : Beat). with_beat histories y (from_here x)) is in
-    sym (is_sliced b 1 x e (ap (λ (d : Slicing Session). d.ending) one)) ∙ one
+    sym (is_sliced histories histories_follow b 1 x e (ap (λ (d : Slicing Session). d.ending) one)) ∙ one
 
 -- both leave the same, and the moves add up
 record Join (a b : ℕ) (s : Session) : Type 0 where
@@ -600,23 +450,23 @@ joins a b s = by (beside a b s (enough a)) where
   first = sliced histories a s
 
   there : (e : Ending) × (first.ending ≡ Some e)
-  there = each_ends a s
+  there = each_ends histories histories_follow a s
 
   by : Beside a b s (enough a) → Join a b s
   by (inr h) =
       let x = first.state in
-      let second = each_ends b x in
+      let second = each_ends histories histories_follow b x in
       let whole : beats histories (a + b) (h.at + enough b) s ≡ shifted a (sliced histories b x) =
       beats_after (a + b) h.at (enough b) (from_here s) ∙ ap (beats_on histories (a + b) (enough b)) (h.there ∙ (λ i. record { state = x; moved = h.full i; ending = None })) ∙ whole_shifted a b (enough b) x in
       let end : sliced histories (a + b) s ≡ shifted a (sliced histories b x) =
-      sym (is_sliced (a + b) (h.at + enough b) s second.0 (ap (λ (d : Slicing Session). d.ending) whole ∙ second.1)) ∙ whole in
+      sym (is_sliced histories histories_follow (a + b) (h.at + enough b) s second.0 (ap (λ (d : Slicing Session). d.ending) whole ∙ second.1)) ∙ whole in
       record {
         state = ap (λ (d : Slicing Session). d.state) (sym end);
         moved = ap (λ (m : ℕ). m + (sliced histories b x).moved) h.full ∙ ap (λ (d : Slicing Session). d.moved) (sym end);
       }
   by (inl same) = by_end (is_spent there.0) where
     whole : sliced histories (a + b) s ≡ first
-    whole = sym (is_sliced (a + b) (enough a) s there.0 (ap (λ (d : Slicing Session). d.ending) same ∙ there.1)) ∙ same
+    whole = sym (is_sliced histories histories_follow (a + b) (enough a) s there.0 (ap (λ (d : Slicing Session). d.ending) same ∙ there.1)) ∙ same
 
     by_end : (there.0 ≡ ending.Spent) ⊎ (there.0 ≡ ending.Spent → ⊥) → Join a b s
     by_end (inr never) = let x = (at_end a (enough a) s).still there.0 there.1 never (ltb 0 b) in joins_at_once a b s x.0 whole x.1

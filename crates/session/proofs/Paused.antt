@@ -43,9 +43,10 @@ use Rattle.stepping.specs.declared.tick.Outcome.TheVariants.{Went, Stopped, Ende
 use Rattle.session.proofs.ByForms.{on, on_with}
 use Rattle.session.proofs.Reaching.{if_keeps, performed_append}
 use Rattle.session.proofs.Serving.{Meets, of_answer}
-use Rattle.session.proofs.Joined.{becomes_program, concluded_as, program_of, same_debuggee, telling_program, tells_only, told_only}
+use Rattle.session.proofs.Joined.{becomes_program, program_of, same_debuggee, telling_program, tells_only, told_only}
 use Rattle.session.proofs.Turning.{said_debuggee}
 use Rattle.session.proofs.BySuccess.{BySuccess, by_success}
+use Rattle.session.specs.Beats.{concluded}
 
 -- it runs and is marked, or does not run
 Waits : Option Program → Type 0
@@ -71,21 +72,21 @@ tick_rests : (s : Session) (p : Program) (tick : Tick) (r : is_running p.run ≡
 tick_rests s p tick r m = by tick.outcome refl where
   by : (outcome : CameTo) → tick.outcome ≡ outcome → Rests s (record { acts = telling s.now p tick; moved = 0; ending = ending_of tick.outcome })
   by Went same =
-      let is : program_of (performed histories (telling s.now p tick) s) ≡ Some (told p) = telling_program s.now p tick s ∙ ap (λ (o : CameTo). let q : Option Program = Some (concluded_as o (told p)) in q) same in
+      let is : program_of (performed histories (telling s.now p tick) s) ≡ Some (told p) = telling_program s.now p tick s ∙ ap (λ (o : CameTo). let q : Option Program = Some (concluded o (told p)) in q) same in
       record {
         waits = subst Waits (sym is) (marked_one (told p) r m);
         none = refl;
         going = λ _. subst (λ (q : Option Program). MatchOption q ⊥ (λ p. (is_running p.run ≡ true) × (is_some p.mark ≡ true))) (sym is) (r, m);
       }
   by (Stopped reason) same =
-      let is : program_of (performed histories (telling s.now p tick) s) ≡ Some (stopped (why.Met reason) (told p)) = telling_program s.now p tick s ∙ ap (λ (o : CameTo). let q : Option Program = Some (concluded_as o (told p)) in q) same in
+      let is : program_of (performed histories (telling s.now p tick) s) ≡ Some (stopped (why.Met reason) (told p)) = telling_program s.now p tick s ∙ ap (λ (o : CameTo). let q : Option Program = Some (concluded o (told p)) in q) same in
       record {
         waits = subst Waits (sym is) (rests_one (stopped (why.Met reason) (told p)) refl);
         none = refl;
         going = λ e. absurd (let no : ending_of tick.outcome ≡ None = e in let some = ap ending_of same in cc);
       }
   by (Ended code) same =
-      let is : program_of (performed histories (telling s.now p tick) s) ≡ Some (ended (Some code) (told p)) = telling_program s.now p tick s ∙ ap (λ (o : CameTo). let q : Option Program = Some (concluded_as o (told p)) in q) same in
+      let is : program_of (performed histories (telling s.now p tick) s) ≡ Some (ended (Some code) (told p)) = telling_program s.now p tick s ∙ ap (λ (o : CameTo). let q : Option Program = Some (concluded o (told p)) in q) same in
       record {
         waits = subst Waits (sym is) (rests_one (ended (Some code) (told p)) refl);
         none = refl;

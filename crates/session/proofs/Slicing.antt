@@ -1,5 +1,5 @@
 -- A slice, stretch by stretch.
-use Rattle.std.proofs.Common.{◌≡◌, ℕ, ◌+◌, ◌-◌, ◌≤◌, Option, Some, None, Result, Ok, refl, sym, ap, ◌∙◌, subst, arith}
+use Rattle.std.proofs.Common.{List, ◌≡◌, ℕ, ◌+◌, ◌-◌, ◌≤◌, Option, Some, None, Result, Ok, refl, sym, ap, ◌∙◌, subst, arith, ltb}
 use Rattle.session.specs.declared.event.Applied.{Applied}
 use Rattle.session.specs.declared.event.Applied.TheVariants.{Slice as DidSlice}
 use Rattle.session.specs.declared.event.Ending.{Ending}
@@ -7,11 +7,29 @@ use Rattle.session.specs.declared.event.Ending.TheVariants.{Spent, Full, Idle, S
 use Rattle.session.specs.declared.event.Event.TheVariants.{Slice}
 use Rattle.session.specs.declared.event.EventError.{EventError}
 use Rattle.session.specs.declared.slices.Step.{Step}
-use Rattle.session.specs.Beats.{Reached, Stretches, going, unless_memory}
+use Rattle.session.specs.Beats.{Reached, Stretches, going, unless_memory, concluded}
 use Rattle.session.specs.Effects.{EndsWell, Slicing, answer, beats, beats_on, enough, from_here, ran_out_at, slice_answer, sliced}
-use Rattle.session.specs.Kept.{Kept, keepings}
+use Rattle.session.specs.Kept.{Kept, keepings, settled}
 use Rattle.session.proofs.Advancing.{beats_after}
-use Rattle.session.proofs.Enough.{is_sliced, not_after}
+use Rattle.session.proofs.Enough.{is_sliced, not_after, Follows}
+use Rattle.session.proofs.Told.{tick_tells, with_one}
+use Rattle.debuggee.specs.Programs.{told}
+use Rattle.session.specs.declared.link.Link.{Link}
+use Rattle.session.specs.declared.pending.Pending.{Pending}
+use Rattle.session.specs.Acts.{Now}
+use Rattle.session.proofs.Reaching.{if_keeps}
+
+-- ---- so many beats end a slice of what is kept
+
+settled_program : (l : Option Link) (seq : ℕ) (rest : List Pending) (now : Now) → (settled l seq rest now).debuggee.program ≡ now.debuggee.program
+settled_program None seq rest now = refl
+settled_program (Some link) seq rest now = if_keeps (λ (x : Now). x.debuggee.program ≡ now.debuggee.program) (ltb link.seq seq) _ now (λ _. refl) (λ _. refl)
+
+keepings_follow : Follows keepings
+keepings_follow = record {
+  becomes = λ now q s. refl;
+  tells = λ k p tick. ap (λ (t : Kept). t.now.debuggee.program) (tick_tells k p tick) ∙ settled_program k.now.link _ k.now.arrivals.pending (with_one (concluded tick.outcome (told p)) k).now;
+}
 
 pub begins_slice : (n : ℕ) (s : Kept) → Reached n 0 s 0 s
 begins_slice n s = record { count = 0; goes = refl; few = omega arith; within = omega arith }
@@ -52,7 +70,7 @@ EndsSo n moved s new e = EndsWell keepings s (Slice n) (DidSlice (record { moved
 whole : (n count moved : ℕ) (s new : Kept) (e : Ending) → beats keepings n count s ≡ record { state = new; moved = moved; ending = Some e }
     → (answer keepings (Slice n) s ≡ Ok (DidSlice (record { moved = moved; ending = e }))) × (new ≡ (sliced keepings n s).state)
 whole n count moved s new e h =
-    let is : sliced keepings n s ≡ record { state = new; moved = moved; ending = Some e } = sym (is_sliced n count s e (ap (λ (d : Slicing Kept). d.ending) h)) ∙ h in
+    let is : sliced keepings n s ≡ record { state = new; moved = moved; ending = Some e } = sym (is_sliced keepings keepings_follow n count s e (ap (λ (d : Slicing Kept). d.ending) h)) ∙ h in
     (ap (λ (d : Slicing Kept). let r : Result Applied EventError = Ok (DidSlice (slice_answer d)) in r) is, sym (ap (λ (d : Slicing Kept). d.state) is))
 
 by_ending : (n count moved : ℕ) (s new : Kept) (e : Ending) → beats keepings n count s ≡ record { state = new; moved = moved; ending = unless_memory (Some e) } → EndsSo n moved s new e
@@ -77,4 +95,4 @@ pub has_ended : (n i m : ℕ) (s k : Kept) → Reached n i s m k → enough n �
 has_ended n i m s k r le =
     let few = r.few in
     let more : enough n ≤ r.count = omega (arith, le, few) in
-    not_after n r.count s more (ap (λ (d : Slicing Kept). d.ending) r.goes)
+    not_after keepings keepings_follow n r.count s more (ap (λ (d : Slicing Kept). d.ending) r.goes)
