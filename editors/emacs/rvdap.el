@@ -1,5 +1,7 @@
 ;;; rvdap.el --- Debug RISC-V assembly with rvdap in Emacs, by dape  -*- lexical-binding: t -*-
 
+;; For Emacs 29.1 or later. rvdap-dap-mode.el, beside this file, is for an earlier one.
+;;
 ;; Copy this file to ~/.emacs.d/ and put this line into ~/.emacs.d/init.el:
 ;;
 ;;   (load (locate-user-emacs-file "rvdap"))
@@ -10,14 +12,28 @@
 ;;   rvdap-tcp RET         TCP: dape starts rvdap on a port that is free, and connects
 ;;   rvdap-attach RET      TCP: joins the program of an rvdap that runs, as
 ;;                         rvdap --listen 127.0.0.1:4711 --program FILE.s, with the absolute path of FILE.s
+;;
+;; The first two run `rvdap asm FILE.s' before. If the program has an error, *compilation* shows it with its line, C-x ` goes there, and
+;; nothing is launched.
 
+(require 'compile)
 (require 'dape)
+
+;; The form of an error in a program: `rvdap: FILE: line 4: Undefined'.
+(add-to-list 'compilation-error-regexp-alist-alist
+             '(rvdap "^rvdap: \\(.+\\): line \\([0-9]+\\): \\(.*\\)$" 1 2))
+(add-to-list 'compilation-error-regexp-alist 'rvdap)
+
+(defun rvdap-check-command ()
+  "The command that assembles the program in this buffer, and prints its error if it has one."
+  (concat "rvdap asm " (shell-quote-argument (buffer-file-name)) " > /dev/null"))
 
 ;; The program is named by its absolute path: dape names the sources of breakpoints so, and rvdap compares the two.
 (add-to-list 'dape-configs
              '(rvdap
                modes (asm-mode)
                ensure dape-ensure-command
+               compile rvdap-check-command
                command "rvdap"
                command-cwd dape-command-cwd
                :type "rvdap"
@@ -30,6 +46,7 @@
              '(rvdap-tcp
                modes (asm-mode)
                ensure dape-ensure-command
+               compile rvdap-check-command
                command "rvdap"
                command-args ("--listen" "127.0.0.1::autoport" "--once")
                command-cwd dape-command-cwd

@@ -1,0 +1,44 @@
+;;; rvdap-dap-mode.el --- Debug RISC-V assembly with rvdap in Emacs, by dap-mode  -*- lexical-binding: t -*-
+
+;; For Emacs before 29.1, which has no dape. dap-mode comes from MELPA, or on Debian as elpa-dap-mode.
+;;
+;; Copy this file to ~/.emacs.d/ and put this line into ~/.emacs.d/init.el:
+;;
+;;   (load (locate-user-emacs-file "rvdap-dap-mode"))
+;;
+;; Then visit a program (FILE.s), and type M-x dap-debug RET and one of these:
+;;
+;;   rvdap RET             standard streams: dap-mode starts rvdap
+;;   rvdap attach RET      TCP: joins the program of an rvdap that runs, as
+;;                         rvdap --listen 127.0.0.1:4711 --program FILE.s, with the absolute path of FILE.s
+;;
+;; The first runs `rvdap asm FILE.s' before. If the program has an error, a window shows it with its line, C-x ` goes there, and nothing
+;; is launched.
+
+(require 'compile)
+(require 'dap-mode)
+(require 'dap-ui)
+
+;; The form of an error in a program: `rvdap: FILE: line 4: Undefined'.
+(add-to-list 'compilation-error-regexp-alist-alist
+             '(rvdap "^rvdap: \\(.+\\): line \\([0-9]+\\): \\(.*\\)$" 1 2))
+(add-to-list 'compilation-error-regexp-alist 'rvdap)
+
+(dap-register-debug-provider
+ "rvdap"
+ (lambda (conf)
+   (if (plist-get conf :debugServer)
+       (dap--put-if-absent conf :host "localhost")
+     (dap--put-if-absent conf :dap-server-path '("rvdap"))
+     (dap--put-if-absent conf :dap-compilation
+                         (concat "rvdap asm " (shell-quote-argument (plist-get conf :program)) " > /dev/null")))))
+
+(dap-register-debug-template
+ "rvdap"
+ (list :type "rvdap" :request "launch" :name "rvdap" :program "${file}" :stopOnEntry t))
+
+(dap-register-debug-template
+ "rvdap attach"
+ (list :type "rvdap" :request "attach" :name "rvdap attach" :debugServer 4711))
+
+(dap-mode 1)

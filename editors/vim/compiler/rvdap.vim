@@ -1,0 +1,12 @@
+" The error of an assembly program in the quickfix list of Vim or Neovim.
+"
+" Copy this file to ~/.vim/compiler/rvdap.vim, or for Neovim to ~/.config/nvim/compiler/rvdap.vim. Then open a program (FILE.s), and type
+" :compiler rvdap (once for each file), and :make after each change: it assembles the file as it is on disk, and goes to the line of its error.
+
+if exists("current_compiler")
+  finish
+endif
+let current_compiler = "rvdap"
+
+CompilerSet makeprg=rvdap\ asm\ %:p:S
+CompilerSet errorformat=rvdap:\ %f:\ line\ %l:\ %m,%+Grvdap:\ %m,%-G%.%#
