@@ -28,6 +28,12 @@
   "The command that assembles the program in this buffer, and prints its error if it has one."
   (concat "rvdap asm " (shell-quote-argument (buffer-file-name)) " > /dev/null"))
 
+(defun rvdap-close-check (buffer)
+  "Close the window of BUFFER, where a program was assembled without an error."
+  (when (string-prefix-p "rvdap asm " (car (buffer-local-value 'compilation-arguments buffer)))
+    (quit-windows-on buffer t)))
+(add-hook 'dape-compile-hook #'rvdap-close-check)
+
 ;; The program is named by its absolute path: dape names the sources of breakpoints so, and rvdap compares the two.
 (add-to-list 'dape-configs
              '(rvdap
@@ -67,6 +73,12 @@
                :type "rvdap"
                :request "attach")
              t)
+
+(defun rvdap-breakpoint-hits (number)
+  "Set a breakpoint on this line that stops from its hit NUMBER on.
+`dape-breakpoint-hits' asks for an operator too, which rvdap does not take."
+  (interactive "nStop from the hit number: ")
+  (dape-breakpoint-hits (number-to-string number)))
 
 ;; Addresses of frames and disassembly are shown beside the source.
 (setq dape-buffer-window-arrangement 'right)

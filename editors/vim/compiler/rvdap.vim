@@ -1,7 +1,8 @@
 " The error of an assembly program in the quickfix list of Vim or Neovim.
 "
 " Copy this file to ~/.vim/compiler/rvdap.vim, or for Neovim to ~/.config/nvim/compiler/rvdap.vim. Then open a program (FILE.s), and type
-" :compiler rvdap (once for each file), and :make after each change: it assembles the file as it is on disk, and goes to the line of its error.
+" :compiler rvdap (once for each file), and :make after each change that was saved: it assembles the file, and goes to the line of its
+" error.
 
 if exists("current_compiler")
   finish
