@@ -12,8 +12,8 @@
 ;;   rvdap attach RET      TCP: joins the program of an rvdap that runs, as
 ;;                         rvdap --listen 127.0.0.1:4711 --program FILE.s, with the absolute path of FILE.s
 ;;
-;; The first runs `rvdap asm FILE.s' before. If the program has an error, a window shows it with its line, C-x ` goes there, and nothing
-;; is launched.
+;; The first runs `rvdap asm FILE.s' before. If the program has an error, *compilation* shows it with its line, C-x ` goes there, and
+;; nothing is launched.
 
 (require 'compile)
 (require 'dap-mode)
@@ -24,14 +24,19 @@
              '(rvdap "^rvdap: \\(.+\\): line \\([0-9]+\\): \\(.*\\)$" 1 2))
 (add-to-list 'compilation-error-regexp-alist 'rvdap)
 
+(defun rvdap-check (program)
+  "Assemble PROGRAM. If it has an error, show it in *compilation*, and launch nothing."
+  (unless (eq 0 (call-process "rvdap" nil nil nil "asm" program))
+    (compile (concat "rvdap asm " (shell-quote-argument program) " > /dev/null"))
+    (user-error "Not launched: *compilation* shows why")))
+
 (dap-register-debug-provider
  "rvdap"
  (lambda (conf)
    (if (plist-get conf :debugServer)
        (dap--put-if-absent conf :host "localhost")
-     (dap--put-if-absent conf :dap-server-path '("rvdap"))
-     (dap--put-if-absent conf :dap-compilation
-                         (concat "rvdap asm " (shell-quote-argument (plist-get conf :program)) " > /dev/null")))))
+     (rvdap-check (plist-get conf :program))
+     (dap--put-if-absent conf :dap-server-path '("rvdap")))))
 
 (dap-register-debug-template
  "rvdap"
