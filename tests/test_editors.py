@@ -204,7 +204,7 @@ def neovim_loads_its_configurations():
 
 def blocks(kind):
     """The blocks of one language in docs/EDITORS.md."""
-    return re.findall(r"^```%s\n(.*?)^```" % kind, text_of("docs", "EDITORS.md"), re.M | re.S)
+    return [text for name, text in re.findall(r"^```(\w*)\n(.*?)^```$", text_of("docs", "EDITORS.md"), re.M | re.S) if name == kind]
 
 
 def json_is_json():
@@ -249,33 +249,28 @@ def each_file_of_an_editor_is_in_the_document():
 
 # ---- the words that rvdap is given
 
-def commands_in(text):
-    """The words after `rvdap` of each command that is written as one line, without what is between words of the shell."""
-    for line in re.findall(r"(?:^|\"|=|; {2,}|# |-- )rvdap((?:\\? (?:--[\w-]+|asm))+)\b", text, re.M):
-        yield line.replace("\\", "").split()
+def words_in(command):
+    """The options of a command line, and what follows `rvdap` where that is a word in lower case."""
+    return re.findall(r"^rvdap ([a-z]+)\b", command) + re.findall(r"(?<![\w-])--[a-z][a-z-]*", command)
 
 
 def words_of_files():
-    """Each word that a configuration gives to rvdap, where it is an option or a command."""
+    """Each word that a file of editors/ gives to rvdap, where it is an option or a command. What is a comment is read too."""
     for path in glob.glob(os.path.join(TOP, "editors", "*", "**", "*.*"), recursive=True):
         name = os.path.relpath(path, TOP)
-        if name.startswith("editors/vscode/"):
-            continue
-        text = text_of(name)
-        for word in re.findall(r"(?<![\w-])--[a-z][a-z-]*", text):
-            yield name, word
-        for words in commands_in(text):
-            yield from ((name, word) for word in words)
+        if not name.startswith("editors/vscode/"):
+            text = text_of(name)
+            yield from ((name, word) for word in re.findall(r"(?<![\w-])--[a-z][a-z-]*", text))
+            yield from ((name, word) for word in re.findall(r"(?:[`\"=]rvdap\\? )([a-z]+)", text))
 
 
 def words_of_the_document():
-    for line in re.findall(r"`(rvdap [^`\n]*)`", text_of("docs", "EDITORS.md")) + re.findall(r"^(rvdap .*)$", "".join(blocks("")), re.M):
-        for word in re.findall(r"(?<= )(--[a-z]+|[a-z]+)(?= |$)", line)[:1] + re.findall(r"--[a-z]+", line):
-            yield "docs/EDITORS.md", word
+    commands = re.findall(r"`(rvdap [^`\n]*)`", text_of("docs", "EDITORS.md")) + re.findall(r"^(rvdap .*)$", "".join(blocks("")), re.M)
+    expect(len(commands) > 2, True, "docs/EDITORS.md has commands")
     for text in blocks("json"):
-        for command in re.findall(r'"command": (\[[^]]*\]|"rvdap[^"]*")', text):
-            words = json.loads(command)
-            yield from (("docs/EDITORS.md", word) for word in (words if isinstance(words, list) else words.split())[1:] if word.startswith("-"))
+        commands += [" ".join(json.loads(command)) for command in re.findall(r'"command": (\[[^]]*\])', text)]
+    for command in commands:
+        yield from (("docs/EDITORS.md", word) for word in words_in(command))
 
 
 def each_word_is_one_of_the_help():

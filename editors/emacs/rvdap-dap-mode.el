@@ -9,7 +9,7 @@
 ;; Then visit a program (FILE.s), and type M-x dap-debug RET and one of these:
 ;;
 ;;   rvdap RET             standard streams: dap-mode starts rvdap
-;;   rvdap attach RET      TCP: joins the program of an rvdap that runs, as
+;;   rvdap-attach RET      TCP: joins the program of an rvdap that runs, as
 ;;                         rvdap --listen 127.0.0.1:4711 --program FILE.s, with the absolute path of FILE.s
 ;;
 ;; The first runs `rvdap asm FILE.s' before. If the program has an error, *compilation* shows it with its line, C-x ` goes there, and
@@ -34,7 +34,7 @@
  "rvdap"
  (lambda (conf)
    (if (plist-get conf :debugServer)
-       (dap--put-if-absent conf :host "localhost")
+       (dap--put-if-absent conf :host "127.0.0.1")
      (rvdap-check (plist-get conf :program))
      (dap--put-if-absent conf :dap-server-path '("rvdap")))))
 
@@ -43,7 +43,7 @@
  (list :type "rvdap" :request "launch" :name "rvdap" :program "${file}" :stopOnEntry t))
 
 (dap-register-debug-template
- "rvdap attach"
- (list :type "rvdap" :request "attach" :name "rvdap attach" :debugServer 4711))
+ "rvdap-attach"
+ (list :type "rvdap" :request "attach" :name "rvdap-attach" :debugServer 4711))
 
 (dap-mode 1)
