@@ -1,5 +1,6 @@
-"""The files of editors/ and the configurations of docs/EDITORS.md: they take the lines that the built program prints of an error, they are in
-their languages, and each word that they give to rvdap is one that its help lists. Emacs, Vim and Neovim load them where they are at hand."""
+"""The files of editors/ and the configurations of docs/EDITORS.md: they take the lines that the built program prints of an error, they are
+in their languages, and each word that they give to rvdap is one that its help lists. Emacs, Vim and Neovim load them where they are at
+hand."""
 import ast
 import glob
 import json
@@ -156,8 +157,8 @@ def emacs_loads_its_files():
         words = ["emacs", "-Q", "--batch", "--eval", "(progn %s)" % STUBS]
         for name in LISP:
             words += ["-l", os.path.join(TOP, "editors", "emacs", name)]
-        ran = subprocess.run(words + ["--eval", "(progn %s)" % PRINTS], env=environment(LINE=said(path), BAD=path, GOOD=good), capture_output=True,
-                             timeout=SECONDS)
+        ran = subprocess.run(words + ["--eval", "(progn %s)" % PRINTS], env=environment(LINE=said(path), BAD=path, GOOD=good),
+                             capture_output=True, timeout=SECONDS)
     wanted = [r'((rvdap rvdap-tcp rvdap-attach) "rvdap asm /a\\ b.s > /dev/null")', '(:program "%s" :dap-server-path ("rvdap"))' % good,
               "user-error", '(2 "%s")' % path]
     expect(ran.stdout.decode().splitlines(), wanted, "what Emacs has after it loaded its files: %s" % ran.stderr.decode())
@@ -168,8 +169,9 @@ def found_by_vim(words, folder):
     with file_of("nop\nj end\n") as path:
         kept = os.path.join(folder, "found")
         shows = "call writefile([json_encode(map(getqflist(), '[bufname(v:val.bufnr), v:val.lnum, v:val.text]'))], '%s')" % kept
-        subprocess.run(words + ["--cmd", "set rtp^=%s" % os.path.join(TOP, "editors", "vim"), "-c", "compiler rvdap", "-c", "silent! make!", "-c", shows,
-                                "-c", "qall!", path], env=environment(), stdin=subprocess.DEVNULL, capture_output=True, timeout=SECONDS)
+        words = words + ["--cmd", "set rtp^=%s" % os.path.join(TOP, "editors", "vim"), "-c", "compiler rvdap", "-c", "silent! make!",
+                         "-c", shows, "-c", "qall!", path]
+        subprocess.run(words, env=environment(), stdin=subprocess.DEVNULL, capture_output=True, timeout=SECONDS)
         with open(kept, encoding="utf-8") as file:
             expect(json.load(file), [[path, 2, "Undefined"]], "the quickfix list of %s" % words[0])
 
@@ -197,7 +199,8 @@ def neovim_loads_its_configurations():
                           "lua io.stdout:write(vim.fn.json_encode({D.adapters, D.configurations}))", "-c", "qall!"],
                          stdin=subprocess.DEVNULL, capture_output=True, timeout=SECONDS)
     adapters, configurations = json.loads(ran.stdout)
-    expect(sorted({entry["type"] for entry in configurations["asm"]}), sorted(adapters), "the adapters that configurations name: %r" % ran.stderr)
+    named = {entry["type"] for entry in configurations["asm"]}
+    expect(sorted(named), sorted(adapters), "the adapters that configurations name: %r" % ran.stderr)
 
 
 # ---- what is written
@@ -286,6 +289,6 @@ def each_word_is_one_of_the_help():
 
 def checks():
     found = (emacs_takes_each_error, both_files_for_emacs_have_one_pattern, vim_takes_each_error, emacs_loads_its_files,
-             vim_and_neovim_load_their_file, neovim_loads_its_configurations, json_is_json, toml_is_toml, what_the_document_quotes_is_in_its_file,
-             each_file_of_an_editor_is_in_the_document, each_word_is_one_of_the_help)
+             vim_and_neovim_load_their_file, neovim_loads_its_configurations, json_is_json, toml_is_toml,
+             what_the_document_quotes_is_in_its_file, each_file_of_an_editor_is_in_the_document, each_word_is_one_of_the_help)
     return [(check.__name__.replace("_", " "), check) for check in found]
