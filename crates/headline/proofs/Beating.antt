@@ -22,7 +22,6 @@ use Rattle.session.specs.declared.terms.Terms.{Terms}
 use Rattle.stepping.proofs.Existing.{the_tick}
 use Rattle.stepping.specs.Ticks.{Debugged, IsTick, Moves, Settles, entry_checked, entry_tick, moved_as, settled}
 use Rattle.stepping.specs.declared.tick.Outcome.{Outcome as CameTo}
-use Rattle.stepping.specs.declared.tick.Outcome.TheVariants.{Went, Stopped as HasStopped, Ended as HasEnded}
 use Rattle.stepping.specs.declared.tick.Reason.TheVariants as met
 use Rattle.stepping.specs.declared.tick.Tick.{Tick}
 use Rattle.variables.specs.Numbers.{Numbers}
@@ -31,6 +30,7 @@ use Rattle.headline.proofs.Leading.{Leads, SameBut, exits_lead, halts_lead, tell
 use Rattle.headline.proofs.Owing.{both_true}
 use Rattle.headline.specs.Holding.{HoldsRun}
 use Rattle.session.specs.Shown.{info_of, listed_at, shown_of, state_of}
+use Rattle.session.proofs.ByMove.{by_move}
 
 -- ---- a tick leaves the breakpoints where they are
 
@@ -106,13 +106,8 @@ module _ (terms : Terms) (numbers : Numbers) (f : Facts) where
 
     moves_lead : (p : Program) (outcome : CameTo) → is_running p.run ≡ true → Agrees f (Some p) numbers terms → LeadsOn p (moves_by now p outcome)
     unfolding Leads
-    moves_lead p Went r h = retires_leads p r h
-    moves_lead p (HasStopped (met.Exception cause)) r h = halts_lead terms numbers f now p (why.Met (met.Exception cause)) [] active r h
-    moves_lead p (HasStopped met.Ebreak) r h = retires_leads p r h
-    moves_lead p (HasStopped met.Source) r h = retires_leads p r h
-    moves_lead p (HasStopped met.Instruction) r h = retires_leads p r h
-    moves_lead p (HasStopped met.Goal) r h = retires_leads p r h
-    moves_lead p (HasEnded code) r h = exits_lead terms numbers f now p code active r h
+    moves_lead p outcome r h =
+        by_move (λ _ b. LeadsOn p b) now p outcome (λ _ _. retires_leads p r h) (λ cause. halts_lead terms numbers f now p (why.Met (met.Exception cause)) [] active r h) (λ code. exits_lead terms numbers f now p code active r h)
 
     goes_lead : (p : Program) (more : Bool) → is_running p.run ≡ true → Agrees f (Some p) numbers terms → LeadsOn p (goes now p more)
     unfolding Leads

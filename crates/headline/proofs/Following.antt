@@ -23,6 +23,7 @@ use Rattle.headline.proofs.Beating.{entered_same}
 use Rattle.headline.proofs.Newly.{Printed, Same, became, became_first, exits_told, halts_told, just_told, nothing_newly, prints_printed, prints_snapshot}
 use Rattle.headline.specs.News.{IsFollowed, as_running}
 use Rattle.session.specs.Shown.{shown_of}
+use Rattle.session.proofs.ByMove.{by_move}
 
 -- ---- what is the same to see
 
@@ -150,13 +151,10 @@ retires_begin s p =
     record { told = just_told s (performed_on (becomes s.now (moved p)) s) u; printed = λ _. u; moved = λ _. refl }
 
 moves_begin : (s : Session) (p : Program) (outcome : CameTo) → program_of s ≡ Some p → Begins s (moves_by s.now p outcome)
-moves_begin s p Went is = retires_begin s p
-moves_begin s p (Stopped (met.Exception cause)) is = begins_by s _ ending.Stopped refl (stops_follow s s p (why.Met (met.Exception cause)) is (nothing_newly s)).told
-moves_begin s p (Stopped met.Ebreak) is = retires_begin s p
-moves_begin s p (Stopped met.Source) is = retires_begin s p
-moves_begin s p (Stopped met.Instruction) is = retires_begin s p
-moves_begin s p (Stopped met.Goal) is = retires_begin s p
-moves_begin s p (Ended code) is = begins_by s _ ending.Ended refl (exits_follow s s p code is (nothing_newly s)).told
+moves_begin s p outcome is =
+    by_move (λ _ b. Begins s b) s.now p outcome (λ _ _. retires_begin s p)
+    (λ cause. begins_by s _ ending.Stopped refl (stops_follow s s p (why.Met (met.Exception cause)) is (nothing_newly s)).told)
+    (λ code. begins_by s _ ending.Ended refl (exits_follow s s p code is (nothing_newly s)).told)
 
 spent : Beat
 spent = ends ending.Spent

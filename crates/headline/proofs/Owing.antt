@@ -19,6 +19,7 @@ use Rattle.stepping.specs.declared.tick.Outcome.TheVariants.{Went, Stopped as Ha
 use Rattle.stepping.specs.declared.tick.Reason.TheVariants as met
 use Rattle.stepping.specs.declared.tick.Tick.{Tick}
 use Rattle.headline.proofs.Agreeing.{OwesOf, OwesRunning}
+use Rattle.session.proofs.ByMove.{by_move}
 
 -- each program that these acts leave owes as it may
 unfoldable pub AllOwe : List Act → Type 0
@@ -68,13 +69,8 @@ telling_owes now p tick = (nothing_owed (told p) refl, prints_owe now tick.print
 
 moves_owe : (now : Now) (p : Program) (outcome : CameTo) → p.owed ≡ None → is_running p.run ≡ true → AllOwe (moves_by now p outcome).acts
 unfolding AllOwe
-moves_owe now p Went e r = (λ _. r, tt)
-moves_owe now p (HasStopped (met.Exception cause)) e r = halts_owe now p (why.Met (met.Exception cause)) [] e
-moves_owe now p (HasStopped met.Ebreak) e r = (λ _. r, tt)
-moves_owe now p (HasStopped met.Source) e r = (λ _. r, tt)
-moves_owe now p (HasStopped met.Instruction) e r = (λ _. r, tt)
-moves_owe now p (HasStopped met.Goal) e r = (λ _. r, tt)
-moves_owe now p (HasEnded code) e r = exits_owe now p code e
+moves_owe now p outcome e r =
+    by_move (λ _ b. AllOwe b.acts) now p outcome (λ _ _. (λ _. r, tt)) (λ cause. halts_owe now p (why.Met (met.Exception cause)) [] e) (λ code. exits_owe now p code e)
 
 abbrev BeatOwes : Beat → Type 0
 BeatOwes b = AllOwe b.acts

@@ -44,6 +44,7 @@ use Rattle.headline.proofs.Leaving.{commands_lead, commands_owe}
 use Rattle.headline.proofs.Truth.{Told as HasTold, beats_so, event_so, told_at_first}
 use Rattle.headline.specs.Printed.{PrintsRunning, WhatIsPrintedRuns}
 use Rattle.session.proofs.BySuccess.{BySuccess, by_success}
+use Rattle.session.proofs.ByMove.{by_move}
 
 -- ---- what an answer tells is nothing printed
 
@@ -161,13 +162,8 @@ BeatPrints b = (d : Debuggee) → AllPrint d b.acts
 
 moves_print : (now : Now) (p : Program) (outcome : CameTo) → BeatPrints (moves_by now p outcome)
 unfolding AllPrint
-moves_print now p Went = λ _. tt
-moves_print now p (HasStopped (met.Exception cause)) = λ d. halts_print now d p (why.Met (met.Exception cause)) []
-moves_print now p (HasStopped met.Ebreak) = λ _. tt
-moves_print now p (HasStopped met.Source) = λ _. tt
-moves_print now p (HasStopped met.Instruction) = λ _. tt
-moves_print now p (HasStopped met.Goal) = λ _. tt
-moves_print now p (HasEnded code) = λ d. exits_print now d p code
+moves_print now p outcome =
+    by_move (λ _ b. BeatPrints b) now p outcome (λ _ _ _. tt) (λ cause d. halts_print now d p (why.Met (met.Exception cause)) []) (λ code d. exits_print now d p code)
 
 goes_print : (now : Now) (p : Program) (more : Bool) → BeatPrints (goes now p more)
 unfolding AllPrint

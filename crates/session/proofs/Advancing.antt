@@ -8,9 +8,6 @@ use Rattle.rv32i.specs.declared.stepped.Stepped.TheVariants.{Retired, Printed, B
 use Rattle.stepping.specs.Plain.{plain_tick}
 use Rattle.stepping.specs.Ticks.{Debugged, IsTick, Moves as Ticks, Settles, entry_checked, entry_tick, moved_as, settled, tick_of}
 use Rattle.stepping.specs.declared.tick.Outcome.{Outcome}
-use Rattle.stepping.specs.declared.tick.Outcome.TheVariants.{Went, Stopped, Ended}
-use Rattle.stepping.specs.declared.tick.Reason.{Reason}
-use Rattle.stepping.specs.declared.tick.Reason.TheVariants as met
 use Rattle.stepping.specs.declared.tick.Tick.{Tick}
 use Rattle.stepping.proofs.Existing.{the_tick}
 use Rattle.debuggee.specs.Programs.{Program, Advances, GoesQuietly, moved, next_tick, owing, stays}
@@ -25,6 +22,7 @@ use Rattle.session.specs.Kept.{Kept, keepings}
 use Rattle.session.specs.Slices.{Beat, beat, is_runnable_by, moves_by, retires}
 use Rattle.session.proofs.Deciding.{free_beat}
 use Rattle.session.proofs.Told.{with_one}
+use Rattle.session.proofs.ByMove.{by_move}
 
 -- ---- what a move leaves
 
@@ -57,15 +55,8 @@ plain_goes t e = ap (λ (x : Tick). stays x.outcome) e
 -- ---- a beat that makes a move
 
 retiring : (k : Kept) (p : Program) (outcome : Outcome) → stays outcome ≡ false → moves_by k.now p outcome ≡ retires k.now p
-retiring k p Went e = refl
-retiring k p (Stopped reason) e = stopped_retiring reason e where
-  stopped_retiring : (reason : Reason) → stays (Stopped reason) ≡ false → moves_by k.now p (Stopped reason) ≡ retires k.now p
-  stopped_retiring (met.Exception cause) e = absurd (let never : true ≡ false = e in cc)
-  stopped_retiring met.Ebreak e = refl
-  stopped_retiring met.Source e = refl
-  stopped_retiring met.Instruction e = refl
-  stopped_retiring met.Goal e = refl
-retiring k p (Ended code) e = absurd (let never : true ≡ false = e in cc)
+retiring k p outcome =
+    by_move (λ o b. stays o ≡ false → b ≡ retires k.now p) k.now p outcome (λ _ _ _. refl) (λ _ e. absurd (let never : true ≡ false = e in cc)) (λ _ e. absurd (let never : true ≡ false = e in cc))
 
 -- one beat more
 one_more : (n m j : ℕ) (k t : Kept) (p : Program) → ltb (m + j) n ≡ true → IsFree p t → stays (next_tick p).outcome ≡ false → beats_on keepings n j (going k m) ≡ going t (m + j)

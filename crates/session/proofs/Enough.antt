@@ -14,10 +14,10 @@ use Rattle.session.specs.Effects.{Slicing, after_beat, beats, enough, next_beat,
 use Rattle.session.specs.Slices.{Beat, beat, beat_by, beat_of, becomes, ending_of, ends, goes, goes_unless, is_runnable_by, moves_by, retires, runs, stops, telling}
 use Rattle.stepping.specs.declared.tick.Outcome.{Outcome}
 use Rattle.stepping.specs.declared.tick.Outcome.TheVariants.{Went, Stopped, Ended}
-use Rattle.stepping.specs.declared.tick.Reason.TheVariants as met
 use Rattle.stepping.specs.declared.tick.Tick.{Tick}
 use Rattle.session.proofs.Advancing.{move_retires}
 use Rattle.session.proofs.Reaching.{if_keeps}
+use Rattle.session.proofs.ByMove.{by_move}
 
 -- ---- what is left of a slice: the moves, what is owed, and the check
 
@@ -98,13 +98,8 @@ module _ {S : Type 0} (w : World S) (h : Follows w) where
       becomes_fall n m 1 k p (moved p) (omega (arith, none, few, lt))
 
   moves_fall : (n m : ℕ) (k : S) (p : Program) (outcome : Outcome) → (next_tick p).outcome ≡ outcome → p.machine.check_due ≡ false → m < n → Falls n m k (Some p) (moves_by (w.see k).now p outcome)
-  moves_fall n m k p Went e due lt = retires_fall n m k p due lt (ap stays e)
-  moves_fall n m k p (Stopped (met.Exception cause)) e due lt = λ x. absurd (cc)
-  moves_fall n m k p (Stopped met.Ebreak) e due lt = retires_fall n m k p due lt (ap stays e)
-  moves_fall n m k p (Stopped met.Source) e due lt = retires_fall n m k p due lt (ap stays e)
-  moves_fall n m k p (Stopped met.Instruction) e due lt = retires_fall n m k p due lt (ap stays e)
-  moves_fall n m k p (Stopped met.Goal) e due lt = retires_fall n m k p due lt (ap stays e)
-  moves_fall n m k p (Ended code) e due lt = λ x. absurd (cc)
+  moves_fall n m k p outcome e due lt =
+      by_move (λ o b. (next_tick p).outcome ≡ o → Falls n m k (Some p) b) (w.see k).now p outcome (λ o goes e. retires_fall n m k p due lt (ap stays e ∙ goes)) (λ _ _ x. absurd (cc)) (λ _ _ x. absurd (cc)) e
 
   ends_fall : (n m : ℕ) (k : S) (program : Option Program) (b : Beat) (e : Ending) → b.ending ≡ Some e → Falls n m k program b
   ends_fall n m k program b e h x = absurd (cc)

@@ -26,6 +26,7 @@ use Rattle.session.proofs.Reaching.{if_keeps, performed_append}
 use Rattle.session.proofs.Turning.{said_debuggee}
 use Rattle.session.proofs.Enough.{is_sliced, each_ends, Follows}
 use Rattle.session.specs.Beats.{concluded}
+use Rattle.session.proofs.ByMove.{by_move}
 
 -- ---- what is told changes no program
 
@@ -138,13 +139,8 @@ retires_bounded : (now : Now) (p : Program) → Bounded true (retires now p)
 retires_bounded now p = record { few = omega arith; none = λ e. absurd (cc); spent = λ h. absurd (no_ending h); still = λ h. absurd (no_ending h) }
 
 moves_bounded : (now : Now) (p : Program) (outcome : Outcome) → Bounded true (moves_by now p outcome)
-moves_bounded now p Went = retires_bounded now p
-moves_bounded now p (Stopped (met.Exception cause)) = rests true _ (Some ending.Stopped) (λ h. cc)
-moves_bounded now p (Stopped met.Ebreak) = retires_bounded now p
-moves_bounded now p (Stopped met.Source) = retires_bounded now p
-moves_bounded now p (Stopped met.Instruction) = retires_bounded now p
-moves_bounded now p (Stopped met.Goal) = retires_bounded now p
-moves_bounded now p (Ended code) = rests true _ (Some ending.Ended) (λ h. cc)
+moves_bounded now p outcome =
+    by_move (λ _ b. Bounded true b) now p outcome (λ _ _. retires_bounded now p) (λ _. rests true _ (Some ending.Stopped) (λ h. cc)) (λ _. rests true _ (Some ending.Ended) (λ h. cc))
 
 goes_bounded : (now : Now) (p : Program) (more : Bool) → Bounded more (goes now p more)
 goes_bounded now p true =
@@ -222,13 +218,8 @@ tick_still s p tick e is never = by tick.outcome refl where
   by (Ended code) same = stands (performed histories (telling s.now p tick) s) (ended (Some code) (told p)) (telling_program s.now p tick s ∙ ap (λ (o : Outcome). let r : Option Program = Some (concluded o (told p)) in r) same) refl refl
 
 moves_still : (s : Session) (p : Program) (outcome : Outcome) → p.owed ≡ None → EndsStill s (moves_by s.now p outcome)
-moves_still s p Went owes = goes_on_still s _ 1
-moves_still s p (Stopped (met.Exception cause)) owes = halts_still s p (why.Met (met.Exception cause)) owes
-moves_still s p (Stopped met.Ebreak) owes = goes_on_still s _ 1
-moves_still s p (Stopped met.Source) owes = goes_on_still s _ 1
-moves_still s p (Stopped met.Instruction) owes = goes_on_still s _ 1
-moves_still s p (Stopped met.Goal) owes = goes_on_still s _ 1
-moves_still s p (Ended code) owes = exits_still s p code owes
+moves_still s p outcome owes =
+    by_move (λ _ b. EndsStill s b) s.now p outcome (λ _ _. goes_on_still s _ 1) (λ cause. halts_still s p (why.Met (met.Exception cause)) owes) (λ code. exits_still s p code owes)
 
 goes_still : (s : Session) (p : Program) (more : Bool) → p.owed ≡ None → EndsStill s (goes s.now p more)
 goes_still s p more owes =

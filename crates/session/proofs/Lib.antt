@@ -3,6 +3,7 @@ pub mod Launching
 pub mod Told
 pub mod Deciding
 pub mod Stretching
+pub mod ByMove
 pub mod Advancing
 pub mod Enough
 pub mod Slicing

@@ -12,9 +12,9 @@ use Rattle.session.specs.Kept.{Kept, keepings}
 use Rattle.session.specs.Slices.{Beat, beat, beat_by, beat_of, becomes, concludes, ending_of, ends, halts, moves_by, stops, telling}
 use Rattle.stepping.specs.declared.tick.Outcome.{Outcome}
 use Rattle.stepping.specs.declared.tick.Outcome.TheVariants.{Went, Stopped, Ended}
-use Rattle.stepping.specs.declared.tick.Reason.TheVariants as met
 use Rattle.stepping.specs.declared.tick.Tick.{Tick}
 use Rattle.session.proofs.Deciding.{free_beat}
+use Rattle.session.proofs.ByMove.{by_move}
 
 -- ---- one beat
 
@@ -88,13 +88,8 @@ concluding k p outcome = record { acts = concludes k.now p outcome []; moved = 0
 
 stays_beat : (k : Kept) (p : Program) (outcome : Outcome) → stays outcome ≡ true → moves_by k.now p outcome ≡ concluding k p outcome
 unfolding concluding
-stays_beat k p Went e = absurd (let never : false ≡ true = e in cc)
-stays_beat k p (Stopped (met.Exception cause)) e = refl
-stays_beat k p (Stopped met.Ebreak) e = absurd (let never : false ≡ true = e in cc)
-stays_beat k p (Stopped met.Source) e = absurd (let never : false ≡ true = e in cc)
-stays_beat k p (Stopped met.Instruction) e = absurd (let never : false ≡ true = e in cc)
-stays_beat k p (Stopped met.Goal) e = absurd (let never : false ≡ true = e in cc)
-stays_beat k p (Ended code) e = refl
+stays_beat k p outcome =
+    by_move (λ o b. stays o ≡ true → b ≡ concluding k p o) k.now p outcome (λ o goes e. absurd (let never : false ≡ true = sym goes ∙ e in cc)) (λ _ _. refl) (λ _ _. refl)
 
 pub meets_next : (n m : ℕ) (k new : Kept) (tick : Tick) → ltb m n ≡ true → (p : Program) × (IsFree p k × ((next_tick p ≡ tick) × (stays tick.outcome ≡ true)))
     → ((p : Program) → k.now.debuggee.program ≡ Some p → new ≡ performed keepings (concludes k.now p tick.outcome []) k) → Stretches n m k (record { moved = 0; ending = ending_of tick.outcome }) new

@@ -71,6 +71,7 @@ use Rattle.session.proofs.Asked.{AreRead, IsRead, asks_that_wait, joined_are_rea
 use Rattle.session.proofs.Serving.{of_answer}
 use Rattle.session.proofs.Orderly.{AreWords, Orderly, OrderlyIn, OrderlyOf, departed_orderly, ended_orderly, entered_orderly, exit_is_proper, first_run_orderly, hart_orderly, written_orderly, ids_are_words as named_are_words, left_orderly, listed_orderly, loaded_orderly, marked_orderly, moved_orderly, next_fits, output_is_proper, owed_fits, restarted_orderly, resumed_orderly, stop_is_proper, stopped_orderly, told_orderly, with_orderly}
 use Rattle.session.proofs.BySuccess.{BySuccess, by_success}
+use Rattle.session.proofs.ByMove.{by_move}
 
 -- numbers of references that are among those that may be issued
 abbrev pub AreGiven : Numbers → Type 0
@@ -165,13 +166,8 @@ unfolding AllQuiet
 ends_quiet e d = tt
 
 moves_quiet : (now : Now) (p : Program) (outcome : CameTo) → Orderly p → HasSignedCode outcome → QuietBeat (moves_by now p outcome)
-moves_quiet now p Went h c = retires_quiet now p h
-moves_quiet now p (Stopped (met.Exception cause)) h c = λ d. halts_quiet now d p (why.Met (met.Exception cause)) [] h tt
-moves_quiet now p (Stopped met.Ebreak) h c = retires_quiet now p h
-moves_quiet now p (Stopped met.Source) h c = retires_quiet now p h
-moves_quiet now p (Stopped met.Instruction) h c = retires_quiet now p h
-moves_quiet now p (Stopped met.Goal) h c = retires_quiet now p h
-moves_quiet now p (Ended code) h c = λ d. exits_quiet now d p code h c
+moves_quiet now p outcome h =
+    by_move (λ o b. HasSignedCode o → QuietBeat b) now p outcome (λ _ _ _. retires_quiet now p h) (λ cause _ d. halts_quiet now d p (why.Met (met.Exception cause)) [] h tt) (λ code c d. exits_quiet now d p code h c)
 
 goes_quiet : (now : Now) (p : Program) (more : Bool) → Orderly p → QuietBeat (goes now p more)
 unfolding AllQuiet
