@@ -80,7 +80,8 @@ Owes a = OwesOf a.debuggee.program
 
 listed_owes : (c : Command) (list : List Wanted) (p : Program) → p.owed ≡ None → OwesRunning (with_list c list p)
 listed_owes (SetBreakpoints arguments) list p e = nothing (with_source list p) e
-listed_owes other list p e = nothing (with_instructions list p) e
+listed_owes (SetInstructionBreakpoints arguments) list p e = nothing (with_instructions list p) e
+listed_owes other list p e = nothing p e
 
 module _ (now : Now) (terms : Terms) (e : OwesNothing now.debuggee.program) where
   same_owes : OwesOf now.debuggee.program

@@ -32,12 +32,12 @@ abbrev pub IsKnownBy : List Ask → ℕ → List ℕ → Outcome → Type 0
 IsKnownBy asks number name (Done body) = IsKnown asks number name
 IsKnownBy asks number name (Refused refusal text) = ⊤
 
--- the same of a message
+-- what a message says of a success is known
 abbrev pub IsKnownIn : List Ask → Message → Type 0
 IsKnownIn asks (IsResponse r) = IsKnownBy asks r.request_seq r.command r.outcome
 IsKnownIn asks (IsEvent e) = ⊤
 
--- and of all that was said on a connection, by the requests that came on it
+-- what all messages of a connection say is known, by the requests that came on it
 abbrev pub AllKnown : Life → Type 0
 AllKnown life = All (λ (m : Said). IsKnownIn life.heard m.message) life.said
 

@@ -21,7 +21,7 @@ use Rattle.session.specs.declared.event.Event.TheVariants.{Slice, Turn}
 abbrev pub seen_now : Session → Facts
 seen_now s = shown (snapshot_of s.now)
 
--- the same of a program that runs
+-- these facts, of a program that runs
 abbrev pub as_running : Facts → Facts
 as_running f = record f { run = Running }
 

@@ -131,7 +131,7 @@ fn end(rt: &impl Eprint, ending: Ending) -> ExitCode {
     ExitCode::from(ending.status())
 }
 
-// The same of a file.
+// The line on standard error that a file is wrong, and the status.
 fn fail_at<D: Display + Drop>(rt: &impl Eprint, file: &str, reason: D) -> ExitCode {
     let _ = eprintln!(rt; "rvdap: {file}: {reason}");
     ExitCode::FAILURE

@@ -1,5 +1,5 @@
 -- What comes of a move, in three: the instruction retires, or it traps, or it ends the program.
-use Rattle.std.proofs.Common.{◌≡◌, ℤ, false, [], Some, refl}
+use Rattle.std.proofs.Common.{◌≡◌, ℤ, false, Some, refl}
 use Rattle.debuggee.specs.Programs.{Program, stays}
 use Rattle.debuggee.specs.declared.run.Why.TheVariants as why
 use Rattle.rv32i.specs.declared.stepped.Cause.{Cause}

@@ -2,7 +2,7 @@
 --
 -- This is the one list of requests in the laws over what is answered. A further request that looks into the program, lets it go on or sets a list of
 -- breakpoints has a line in it, and none in those laws.
-use Rattle.std.proofs.Common.{◌≡◌, ◌+◌, ◌≤◌, ℕ, ℤ, Bool, true, false, List, length, Option, Some, None, Result, Ok, refl, sym, ap, ◌∙◌, subst}
+use Rattle.std.proofs.Common.{◌≡◌, ◌+◌, ◌≤◌, ℕ, Bool, true, false, List, length, Option, Some, None, Ok, refl, sym, ap, ◌∙◌, subst}
 use Rattle.std.specs.Prelude.{IsTrue, ◌&&◌, take}
 use Rattle.answers.specs.Answers.{sets_breakpoints}
 use Rattle.answers.specs.Looking.{looks_in}
@@ -143,15 +143,15 @@ pub record BySuccess (now : Now) (terms : Terms) (P : Command → Answering → 
   pub absent : (c : Command) → IsAboutProgram c → now.debuggee.program ≡ None → P c (agreeing now terms body.Empty)
   pub refused : (c : Command) → IsAboutProgram c → (refusal : Refusal) → has_text refusal ≡ false → P c (refusing now terms refusal None)
   pub sets_none : (c : Command) → SetsList c → (p : Program) (b : ResponseBody) → now.debuggee.program ≡ Some p → (answer_on p now terms c).result ≡ Ok b → (answer_on p now terms c).list ≡ None
-    → P c (agreeing now terms b)
+      → P c (agreeing now terms b)
   pub sets_list : (c : Command) → SetsList c → (p : Program) (b : ResponseBody) (list : List Wanted) → now.debuggee.program ≡ Some p → (answer_on p now terms c).result ≡ Ok b → (answer_on p now terms c).list ≡ Some list
-    → now.debuggee.last_break + length list ≤ now.limits.last_ref → P c (replaces now terms c b (record { list = list; last = now.debuggee.last_break + length list }))
+      → now.debuggee.last_break + length list ≤ now.limits.last_ref → P c (replaces now terms c b (record { list = list; last = now.debuggee.last_break + length list }))
   pub shows : (c : Command) → Looks c → (p : Program) (b : ResponseBody) → now.debuggee.program ≡ Some p → (seen_in p now terms c).result ≡ Ok b → initializes (Done b) ≡ 0
-    → has_room now.numbers (seen_in p now terms c).targets ≡ true → P c (issues now terms b (seen_in p now terms c).targets)
+      → has_room now.numbers (seen_in p now terms c).targets ≡ true → P c (issues now terms b (seen_in p now terms c).targets)
   pub sets_register : (arguments : SetVariableArguments) (p : Program) (setting : Setting) → now.debuggee.program ≡ Some p → set_variable arguments p.machine now.numbers ≡ Ok setting → initializes (Done setting.body) ≡ 0
-    → P (command.SetVariable arguments) (changing now terms (with_hart setting.hart) setting.body)
+      → P (command.SetVariable arguments) (changing now terms (with_hart setting.hart) setting.body)
   pub writes : (arguments : WriteMemoryArguments) (p : Program) (writing : Writing) → now.debuggee.program ≡ Some p → write_memory arguments p.machine.memory ≡ Ok writing → initializes (Done writing.body) ≡ 0
-    → P (command.WriteMemory arguments) (changing now terms (written writing.address (take writing.count arguments.bytes)) writing.body)
+      → P (command.WriteMemory arguments) (changing now terms (written writing.address (take writing.count arguments.bytes)) writing.body)
 
 -- ---- and then it is so of each request
 

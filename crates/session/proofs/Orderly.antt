@@ -14,7 +14,7 @@ use Rattle.debuggee.specs.declared.run.Why.{Why}
 use Rattle.debuggee.specs.declared.run.Why.TheVariants as why
 use Rattle.image.specs.declared.Image.{Image}
 use Rattle.protocol.specs.declared.command.Command.{Command}
-use Rattle.protocol.specs.declared.command.Command.TheVariants.{SetBreakpoints}
+use Rattle.protocol.specs.declared.command.Command.TheVariants.{SetBreakpoints, SetInstructionBreakpoints}
 use Rattle.stepping.specs.declared.goal.Goal.{Goal}
 use Rattle.replies.specs.Events.{IsProperEvent}
 use Rattle.replies.specs.Forms.{is_signed_word, is_word}
@@ -224,7 +224,8 @@ set_numbered (w ∷ list) h = (h.0, set_numbered list h.1)
 
 pub listed_orderly : (command : Command) (list : List Wanted) → AreWords (map (λ w. w.id) list) → (p : Program) → Orderly p → Orderly (with_list command list p)
 listed_orderly (SetBreakpoints arguments) list ids p h = record { image = h.image; lists = record { source = set_numbered list ids; instructions = h.lists.instructions; ids = tt }; owed = h.owed; range = with_source_in_range list p h.range }
-listed_orderly other list ids p h = record { image = h.image; lists = record { source = h.lists.source; instructions = set_numbered list ids; ids = tt }; owed = h.owed; range = with_instructions_in_range list p h.range }
+listed_orderly (SetInstructionBreakpoints arguments) list ids p h = record { image = h.image; lists = record { source = h.lists.source; instructions = set_numbered list ids; ids = tt }; owed = h.owed; range = with_instructions_in_range list p h.range }
+listed_orderly other list ids p h = h
 
 pub loaded_orderly : (image : Image) (path : List ℕ) (stop_on_entry : Bool) (size : ℕ) → IsNarrowImage image → ImageInRange image → first_address + size < 2 ^ 32 → Orderly (just_loaded image path stop_on_entry size)
 loaded_orderly image path stop_on_entry size narrow fits ends = record {

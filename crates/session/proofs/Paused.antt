@@ -11,7 +11,7 @@ use Rattle.debuggee.specs.declared.run.Run.{Run}
 use Rattle.debuggee.specs.declared.run.Run.TheVariants as run
 use Rattle.debuggee.specs.declared.run.Why.TheVariants as why
 use Rattle.protocol.specs.declared.command.Command.{Command}
-use Rattle.protocol.specs.declared.command.Command.TheVariants.{SetBreakpoints, SetVariable, WriteMemory}
+use Rattle.protocol.specs.declared.command.Command.TheVariants.{SetBreakpoints, SetVariable, WriteMemory, SetInstructionBreakpoints}
 use Rattle.protocol.specs.Commands.{name_of}
 use Rattle.protocol.specs.declared.disconnect.TheConstants.{NAME as DISCONNECT}
 use Rattle.replies.specs.declared.message.Message.TheVariants.{Response as IsResponse}
@@ -203,7 +203,8 @@ no_step (Some p) h still = absurd (let no : true ≡ false = sym h.0 ∙ still i
 
 listed_waits : (command : Command) (list : List Wanted) (p : Program) → is_running p.run ≡ true → is_some p.mark ≡ true → Waits (Some (with_list command list p))
 listed_waits (SetBreakpoints arguments) list p r m = marked_one (with_source list p) r m
-listed_waits other list p r m = marked_one (with_instructions list p) r m
+listed_waits (SetInstructionBreakpoints arguments) list p r m = marked_one (with_instructions list p) r m
+listed_waits other list p r m = marked_one p r m
 
 -- the answer to a request of which the program is as it asks
 abbrev WaitsTaken : Now → Command → Answering → Type 0

@@ -3,7 +3,7 @@ use Rattle.std.proofs.Common.{◌≡◌, ℕ, Bool, true, false, List, [], ◌�
 use Rattle.std.specs.Prelude.{not, ◌&&◌}
 use Rattle.protocol.specs.Refusals.{has_text}
 use Rattle.protocol.specs.declared.refusal.Refusal.{Refusal}
-use Rattle.protocol.specs.declared.refusal.Refusal.TheVariants.{RepeatedSequence, Cancelled as IsCancelled, UnknownCommand, WrongPhase, RequestGone, NoMachine, Ended, NoThread, NotStopped}
+use Rattle.protocol.specs.declared.refusal.Refusal.TheVariants.{RepeatedSequence, Cancelled as IsCancelled, WrongPhase, RequestGone, NoMachine, Ended, NoThread, NotStopped}
 use Rattle.protocol.specs.declared.request.Request.{Request as ARequest}
 use Rattle.session.specs.declared.pending.Ask.{Ask}
 use Rattle.session.specs.declared.pending.Ask.TheVariants.{Request, Bad}

@@ -10,7 +10,7 @@ use Rattle.answers.specs.declared.view.View.{View}
 use Rattle.breakpoints.specs.Stops.{Wanted}
 use Rattle.debuggee.specs.Programs.{Program, on_program, with_instructions, with_source}
 use Rattle.protocol.specs.declared.command.Command.{Command}
-use Rattle.protocol.specs.declared.command.Command.TheVariants.{SetBreakpoints}
+use Rattle.protocol.specs.declared.command.Command.TheVariants.{SetBreakpoints, SetInstructionBreakpoints}
 use Rattle.protocol.specs.declared.refusal.Refusal.{Refusal}
 use Rattle.protocol.specs.declared.refusal.Refusal.TheVariants.{ReferencesExhausted}
 use Rattle.replies.specs.declared.response.Outcome.TheVariants.{Done}
@@ -37,7 +37,8 @@ view_of terms p = record {
 -- the program with this list in place of the one of the same kind
 abbrev pub with_list : Command → List Wanted → Program → Program
 with_list (SetBreakpoints arguments) list p = with_source list p
-with_list other list p = with_instructions list p
+with_list (SetInstructionBreakpoints arguments) list p = with_instructions list p
+with_list other list p = p
 
 -- a list is replaced
 abbrev pub replaces : Now → Terms → Command → ResponseBody → Numbered → Answering
@@ -50,7 +51,7 @@ replaces now terms command body breaks = record {
   closes = false;
 }
 
--- the same, unless the numbers are used up; or no list is replaced
+-- a list is replaced, unless the numbers are used up; or none is
 abbrev pub sets : Now → Terms → Command → ResponseBody → Option (List Wanted) → Answering
 sets now terms command body None = agreeing now terms body
 sets now terms command body (Some list) = let last = now.debuggee.last_break + length list in

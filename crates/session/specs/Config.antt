@@ -46,7 +46,7 @@ LoadsOne path text size (Err NoMemory) = ⊤
 LoadsOne path text size (Err BadMemorySize) = ⊥
 LoadsOne path text size (Err BadLimit) = ⊥
 
--- the same of the program, if one is given
+-- whether the program is right that is given, if one is
 abbrev pub Loads : Option (List ℕ × List ℕ) → ℕ → Result (Option Program) ConfigError → Type 0
 Loads program size (Ok loaded) = HasImage program size × (loaded ≡ first_program program size)
 Loads program size (Err (Assembly error)) = HasError program size error

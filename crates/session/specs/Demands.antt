@@ -20,7 +20,7 @@ asks_program = record { loaded = true; alive = false; thread = None; still = fal
 abbrev pub asks_alive : Demand
 asks_alive = record { loaded = true; alive = true; thread = None; still = false }
 
--- the same, and that this is its thread
+-- that it has not ended, and that this is its thread
 abbrev pub asks_thread : ℤ → Demand
 asks_thread number = record { loaded = true; alive = true; thread = Some number; still = false }
 
@@ -28,7 +28,7 @@ asks_thread number = record { loaded = true; alive = true; thread = Some number;
 abbrev pub asks_stopped : Demand
 asks_stopped = record { loaded = true; alive = true; thread = None; still = true }
 
--- the same, and that this is its thread
+-- that it has not ended, stands still, and that this is its thread
 abbrev pub asks_still : ℤ → Demand
 asks_still number = record { loaded = true; alive = true; thread = Some number; still = true }
 

@@ -4,11 +4,6 @@ use Rattle.std.specs.Prelude.{length, drop, Option, Some, None, Result, Ok, Err,
 use Rattle.replies.specs.declared.message.Message.{Message}
 use Rattle.replies.specs.declared.message.Message.TheVariants.{Response, Event as IsEvent}
 use Rattle.replies.specs.declared.response.Outcome.{Outcome}
-use Rattle.protocol.specs.declared.command.Command.{Command}
-use Rattle.protocol.specs.declared.command.Command.TheVariants.{Launch, ConfigurationDone, SetBreakpoints}
-use Rattle.protocol.specs.declared.command.Command.TheVariants.{SetInstructionBreakpoints, StackTrace, Scopes, Variables}
-use Rattle.protocol.specs.declared.command.Command.TheVariants.{SetVariable, Evaluate, Disassemble, ReadMemory}
-use Rattle.protocol.specs.declared.command.Command.TheVariants.{WriteMemory}
 use Rattle.session.specs.declared.event.Applied.{Applied}
 use Rattle.session.specs.declared.event.Event.{Event}
 use Rattle.session.specs.declared.event.EventError.{EventError}
@@ -227,7 +222,7 @@ abbrev pub drafted : Limits → Message → Drafted → Drafted
 drafted limits message d = if nat_lt d.seq limits.last_seq
     then record { bytes = d.bytes ++ frame_of (d.seq + 1) message; seq = d.seq + 1 } else d
 
--- and events
+-- a draft after events, one after the other
 abbrev pub drafted_all : Limits → List AnEvent → Drafted → Drafted
 drafted_all limits [] d = d
 drafted_all limits (event ∷ events) d = drafted_all limits events (drafted limits (IsEvent event) d)

@@ -142,7 +142,7 @@ abbrev pub initializes : Outcome → ℕ
 initializes (Done Initialize) = 1
 initializes outcome = 0
 
--- the same of a message
+-- how often a message succeeds in `initialize`
 abbrev pub initializes_by : Message → ℕ
 initializes_by (IsResponse r) = initializes r.outcome
 initializes_by (IsEvent e) = 0

@@ -74,7 +74,7 @@ pub mod Begins
 -- ---- what follows
 -- what holds after every list of events
 pub mod Laws
--- and of references, as long as they last
+-- how long references last
 pub mod Lifetimes
 -- ---- of the layers below
 -- frames, and each fault of one

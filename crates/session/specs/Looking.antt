@@ -29,7 +29,7 @@ is_taken_in phase = is_active_in phase
 abbrev pub issues : Now → Terms → ResponseBody → List Target → Answering
 issues now terms body targets = record (agreeing now terms body) { references = Some (Issue targets) }
 
--- the same, unless the numbers are used up
+-- something is shown, unless the numbers are used up
 abbrev pub shows : Now → Terms → ResponseBody → List Target → Answering
 shows now terms body targets =
     if has_room now.numbers targets then issues now terms body targets

@@ -120,7 +120,7 @@ on_link seen link (Sent n) =
     if nat_lt seen.waits n then refused SentTooMuch else done DidSend (Take n ∷ [])
 on_link seen link DropConnection = done Dropped (leaving seen.now)
 
--- and an event without one
+-- what an event does where there is no connection
 abbrev pub with_no_link : Seen → Event → Outcome
 with_no_link seen Connect =
     if seen.now.connections == LAST_CONNECTION then refused Spent

@@ -44,7 +44,7 @@ pub record References : Type 0 where
 abbrev pub no_references : References
 no_references = record { stop = 0; issued = [] }
 
--- the same without the connections
+-- a reference, without the connection that it was issued on
 abbrev pub without_connection : Reference → Issued
 without_connection r = record { number = r.number; target = r.target; stop = r.stop }
 

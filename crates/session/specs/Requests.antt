@@ -86,7 +86,11 @@ demand_of (Disassemble arguments) = asks_stopped
 demand_of (ReadMemory arguments) = asks_stopped
 demand_of (SetVariable arguments) = asks_stopped
 demand_of (WriteMemory arguments) = asks_stopped
-demand_of other = asks_nothing
+demand_of (Initialize arguments) = asks_nothing
+demand_of (Launch arguments) = asks_nothing
+demand_of Threads = asks_nothing
+demand_of (Cancel arguments) = asks_nothing
+demand_of (Disconnect arguments) = asks_nothing
 
 -- what comes of the request where it is taken, and the program is as it asks; it is given the file that it names
 abbrev pub success_of : Now → Terms → Option (List ℕ) → Command → Answering

@@ -64,7 +64,7 @@ impl Ask {
         }
     }
 
-    /// The same, copied.
+    /// A copy of the name that the request gave.
     pub(crate) fn copy_name(&self, alloc: Global) -> Result<Text, AllocError>
         ensures { IfOk result (λ text. text ≡ spec.name_asked self.now) }
     {

@@ -87,7 +87,11 @@ pub(crate) fn demand_of(command: &Command) -> Demand
         | Command::Disassemble(_)
         | Command::ReadMemory(_)
         | Command::WriteMemory(_) => Demand::stopped(),
-        _ => Demand::nothing(),
+        Command::Initialize(_)
+        | Command::Launch(_)
+        | Command::Threads
+        | Command::Cancel(_)
+        | Command::Disconnect(_) => Demand::nothing(),
     }
 }
 

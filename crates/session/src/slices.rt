@@ -300,7 +300,7 @@ impl State {
         Ok(draft)
     }
 
-    // And what it came to.
+    // Adds the events of what a tick came to.
     fn add_outcome(&self, draft: &mut Draft, outcome: Outcome) -> Result<(), AllocError>
         ensures { OnOk result ((p : AProgram) → self.now.now.debuggee.program ≡ Some p
             → draft.new ≡ drafted_all self.now.now.limits (outcome_events outcome p.machine.lists.ids) draft.old) }
@@ -364,7 +364,7 @@ impl State {
         Ok(())
     }
 
-    // It is written, where no breakpoint is named.
+    // The events of what a tick came to that hit no breakpoint, written, where the editor is told.
     fn draft_outcome(&self, outcome: Outcome) -> Result<Draft, AllocError>
         ensures { IfOk result (λ d. d ≡ draft_told self.now.now.limits self.now.now.link (outcome_events outcome [])) }
     {

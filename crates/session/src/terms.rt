@@ -31,7 +31,7 @@ impl Terms {
         }
     }
 
-    /// The same, come so far.
+    /// What is agreed, in a phase.
     pub(crate) fn in_phase(self, phase: Phase) -> Terms
         ensures { result ≡ record self { phase = phase } }
     {

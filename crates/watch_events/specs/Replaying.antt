@@ -118,7 +118,7 @@ TellsOne (IsRequest request) old new = (past : Past) → StandsFor old past → 
 TellsOne (IsBad seq command refusal) old new = new ≡ old
 TellsOne Ignored old new = new ≡ old
 
--- the same of what a body means: it is a message, or none
+-- what a mirror is told of a body: it is a message, or none
 abbrev pub TellsBody : Result Incoming MessageError → Bool → Kept → Kept → Type 0
 TellsBody (Ok incoming) is_message old new = (is_message ≡ true) × TellsOne incoming old new
 TellsBody (Err why) is_message old new = (is_message ≡ false) × (new ≡ old)

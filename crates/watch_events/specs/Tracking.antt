@@ -72,7 +72,7 @@ abbrev pub Keeps : {E : Type 0} → Event → Tracked → Result (Unit {0}) E �
 Keeps e old (Ok done) new = (s : Session) → IsReached s → Tracks old s → Tracks new (Effect s e)
 Keeps e old (Err why) new = ⊤
 
--- the same connection is watched, and as many of its bytes
+-- one connection is watched before and after, and as many of its bytes
 abbrev pub SameWatched : Tracked → Tracked → Type 0
 SameWatched old new = (new.connection ≡ old.connection) × (new.count ≡ old.count)
 

@@ -37,7 +37,7 @@ pub(crate) fn success(
     }
 }
 
-// The same, of the program that there is.
+// What is answered by the program that there is.
 fn success_on(
     alloc: Global,
     terms: Terms,
@@ -85,6 +85,7 @@ fn sets(
     body: ResponseBody,
     list: Option<Vec<BreakSpec>>,
 ) -> Answer
+    requires sets { IsTrue (sets_breakpoints command.now) }
     requires lent { IsLendable lent }
     requires can { IfSome list (λ list. CanBeSet list.items) }
     ensures { (now : ANow) → now.debuggee.last_break ≡ lent.last_break → now.limits.last_ref ≡ lent.last_ref
@@ -96,7 +97,7 @@ fn sets(
     }
 }
 
-// The same of a list.
+// A list is replaced, unless the numbers are used up.
 fn sets_list(
     terms: Terms,
     lent: Lent,
@@ -104,6 +105,7 @@ fn sets_list(
     body: ResponseBody,
     list: Vec<BreakSpec>,
 ) -> Answer
+    requires sets { IsTrue (sets_breakpoints command.now) }
     requires lent { IsLendable lent }
     requires can { CanBeSet list.items }
     ensures { (now : ANow) → now.debuggee.last_break ≡ lent.last_break → now.limits.last_ref ≡ lent.last_ref
@@ -116,12 +118,16 @@ fn sets_list(
     replaces(terms, command, body, Numbered::new(list, last))
 }
 
-// A list is replaced.
+// The list of this request's kind is replaced.
 fn replaces(terms: Terms, command: &Command, body: ResponseBody, breaks: Numbered) -> Answer
+    requires sets { IsTrue (sets_breakpoints command.now) }
     ensures { (now : ANow) → answering_as now.debuggee result ≡ spec.replaces now terms command.now body breaks }
 {
     match command {
         Command::SetBreakpoints(_) => changing(Change::SetSource(breaks), terms, body),
-        _ => changing(Change::SetInstructions(breaks), terms, body),
+        Command::SetInstructionBreakpoints(_) => {
+            changing(Change::SetInstructions(breaks), terms, body)
+        }
+        _ => unreachable!(),
     }
 }

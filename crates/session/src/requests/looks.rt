@@ -33,7 +33,7 @@ pub(crate) fn success(
     }
 }
 
-// The same, of the program that there is.
+// What is answered by the program that there is.
 fn success_on(
     alloc: Global,
     terms: Terms,
