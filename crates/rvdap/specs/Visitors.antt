@@ -1,4 +1,4 @@
--- The editors that the program serves: one over a wire that is there, and through a door the first that comes, or all.
+-- The editors that the program serves: one over a wire that is there, or of those whose wires a door accepts the first or all.
 use Rattle.std.specs.Prelude.{◌≡◌, ℕ, List, [], ◌∷◌, Option, None}
 use Rattle.session.specs.declared.event.Event.TheVariants.{Connect}
 use Rattle.session.specs.Kept.{Kept, Stands}
@@ -6,7 +6,7 @@ use Rattle.session.specs.Sessions.{Session, Effect}
 use Rattle.transport.specs.declared.end.DriveEnd.{DriveEnd}
 use Rattle.transport.specs.Drives.{Driven}
 use Rattle.transport.specs.Rounds.{KnownFiles}
-use Rattle.transport.specs.Visits.{Served}
+use Rattle.transport.specs.Serving.{Served}
 use Rattle.wires.specs.Doors.{Doorway, IsEmpty, Opened}
 use Rattle.wires.specs.Wires.{Line, one_more}
 use Rattle.rvdap.specs.declared.ending.Ending.{Ending}
@@ -25,46 +25,46 @@ pub record IsServed (known : KnownFiles) (old new : Line) (s : Session) (kept : 
   pub driven : Driven known old new turns_granted (Effect s Connect) kept end
   pub is_ending : ending ≡ ending_of end kept.now.fault
 
--- ---- the first editor that comes, and no other
+-- ---- the first connection that is accepted, and no other
 
--- what came of waiting for it
+-- how waiting for a connection ended
 pub data First : Type 0 where
-  -- nobody will come any more
-  Nobody : First
+  -- the door accepts no connection any more
+  DoorClosed : First
   -- the call of the door failed
   DoorFailed : First
-  -- it came over a wire, which was seen as the first of these then and as the second in the end
-  Guest : Line → Line → First
+  -- a connection over a wire, which was seen as the first of these when it was accepted and as the second at its end
+  Connection : Line → Line → First
 
--- the wires that came
+-- the wires that were accepted
 abbrev pub lines_of : First → List Line
-lines_of (Guest old new) = old ∷ []
+lines_of (Connection old new) = old ∷ []
 lines_of _ = []
 
--- how many calls of the door failed, by how many did before
+-- how many calls of the door failed, after that many did before
 abbrev pub failed_at : First → ℕ → ℕ
 failed_at DoorFailed count = one_more count
 failed_at _ count = count
 
--- It is served where it came, where these wires are left to come.
+-- what is done by how waiting ended, where the door has these wires left to accept: an editor is served if its wire was accepted
 abbrev pub IsFirst : KnownFiles → First → Option (List Line) → Session → Kept → Ending → Type 0
-IsFirst known Nobody wires s kept ending = IsEmpty wires × Stands kept s × (ending ≡ Success)
+IsFirst known DoorClosed wires s kept ending = IsEmpty wires × Stands kept s × (ending ≡ Success)
 IsFirst known DoorFailed wires s kept ending = Stands kept s × (ending ≡ ReadOrWriteFault)
-IsFirst known (Guest old new) wires s kept ending = IsServed known old new s kept ending
+IsFirst known (Connection old new) wires s kept ending = IsServed known old new s kept ending
 
 pub record ServesFirst (known : KnownFiles) (old new : Doorway) (s : Session) (kept : Kept) (ending : Ending) : Type 0 where
   pub first : First
   pub opened : Opened old new (lines_of first) (failed_at first old.faults) old.idle
   pub is_first : IsFirst known first new.wires s kept ending
 
--- ---- all that come
+-- ---- all connections that are accepted
 
 pub record ServesAll (known : KnownFiles) (old new : Doorway) (s : Session) (kept : Kept) (ending : Ending) : Type 0 where
   pub end : DriveEnd
   pub served : Served known old new turns_granted s kept end
   pub is_ending : ending ≡ ending_of end None
 
--- those that are asked for
+-- the first one or all, as is asked for
 abbrev pub Serves : Visitors → KnownFiles → Doorway → Doorway → Session → Kept → Ending → Type 0
 Serves One known old new s kept ending = ServesFirst known old new s kept ending
 Serves All known old new s kept ending = ServesAll known old new s kept ending

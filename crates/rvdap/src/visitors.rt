@@ -1,4 +1,4 @@
-//! Editors that come through a door.
+//! Editors whose wires a door accepts.
 ghost use Rattle.session.specs.Kept.{OfEach};
 ghost use Rattle.rvdap.specs.Visitors as spec;
 
@@ -14,11 +14,11 @@ use wires::Door;
 pub enum Visitors {
     /// The first one.
     One,
-    /// All that come, one after the other.
+    /// All of them, one after the other.
     All,
 }
 
-/// Serves the editors that come through a door, and gives how the program ends then.
+/// Serves the first editor whose wire a door accepts, or all of them, and gives how the program ends then.
 pub(crate) fn serve_visitors<D: Door, F: Files>(
     alloc: Global,
     session: &mut Session,

@@ -87,7 +87,7 @@ impl Wired {
                     nobody: parsed(nobody)?,
                     failing: parsed(failing)?,
                 };
-                self.visited(alloc, turns, visits)
+                self.served(alloc, turns, visits)
             }
             ["whole", piece] => whole(alloc, piece),
             ["taken"] => hexadecimal(alloc, self.wires[0].taken()),
@@ -108,9 +108,9 @@ impl Wired {
         drive(alloc, &mut self.session, wire, &self.files, turns)
     }
 
-    // Serves at a door that lends both wires: how it ended, how many of the door's calls failed, and how many
-    // looks at it found nobody.
-    fn visited(&mut self, alloc: Global, turns: u64, visits: Visits) -> Result<String, Fault> {
+    // Serves the connections of a door that lends both wires: how serving ended, how many of the door's calls
+    // failed, and how many polls of it accepted no wire.
+    fn served(&mut self, alloc: Global, turns: u64, visits: Visits) -> Result<String, Fault> {
         let mut door = MemoryDoor::new(&mut self.wires, visits);
         match serve(alloc, &mut self.session, &mut door, &self.files, turns) {
             DriveEnd::NoMemory => Err(Fault::NoMemoryInCall),

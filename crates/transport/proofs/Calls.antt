@@ -28,7 +28,7 @@ stays_by (Say message result ∷ calls) a last e f d =
     let m = stays_by calls d.0 last e (ap (λ (s : Served). s.fault) p.1 ∙ f) d.2 in
     record { same = m.same ∙ p.1; none = ap (λ r. written (Say message r ∷ calls)) p.0 ∙ m.none }
 
--- ---- before one
+-- ---- before a lasting error
 
 kept : (a mid : Served) → mid.held ≡ a.held → Appends a.held mid.held []
 kept a mid e = subst (λ h. Appends a.held h []) (sym e) (Appends-nil a.held)

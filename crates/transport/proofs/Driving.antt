@@ -29,7 +29,7 @@ use Rattle.transport.proofs.Taking.{send_test, takes_sent, takes_turn, takes_rec
 
 -- ---- what moved over a wire
 
--- nothing did
+-- nothing moved
 pub still : (a : Line) → Moved a a [] [] a.faults a.idle
 still a = record { consumed = Consumes-nil a.remaining; appended = Appends-nil a.contents; faults = refl; idle = refl; polls = refl }
 
@@ -72,7 +72,7 @@ sends_over known since old new k kept n r waiting w d h ok most some m s st =
       stands = happened (λ _. applied.Sent) k (Sent n) r kept s (λ x. refl) h ok st;
     }
 
--- or the wire failed, after it took some
+-- the wire failed, after it took some bytes
 pub sends_fail : (old new : Line) (k kept : Kept) (waiting : List ℕ) → waiting ≡ k.waiting → due (see_kept k) ≡ Send → (n : ℕ) × Moved old new [] (take n waiting) (one_more old.faults) old.idle
     → ((s : Session) → Stands k s → Stands kept (Effect s DropConnection)) → (s : Session) → Stands k s → Stops Fault old new s kept
 sends_fail old new k kept waiting w d m dropped s st =
@@ -110,7 +110,7 @@ leave_is_due k waiting w none done =
 pub all_said : (line : Line) (k kept : Kept) → due (see_kept k) ≡ Leave → ((s : Session) → Stands k s → Stands kept (Effect s DropConnection)) → (s : Session) → Stands k s → Stops Closed line line s kept
 all_said line k kept d dropped s st = record { cause = AllSaid; moved = still line; is_end = refl; is_cause = λ turns made. due_there k s Leave st d; leaves = dropped s st }
 
--- ---- the time of a program
+-- ---- slices of a program
 
 -- over a wire that cannot be looked at, nothing moves before it
 pub passed_by : (line : Line) → line.polls ≡ false → Passed false line line

@@ -1,7 +1,7 @@
 pub mod Taking
 pub mod RoundLemmas
 pub mod Driving
-pub mod Visiting
+pub mod ServingLemmas
 pub mod ServerLemmas
 pub mod Sending
 pub mod Calls

@@ -65,7 +65,7 @@ above_zero (suc n) h = omega arith
 pub given_there : (known : KnownFiles) (k : Kept) (s : Session) (file : Option (List ℕ)) → Stands k s → IsGiven known (wanted_on k.now k.now.link) file → IsGiven known (wanted s) file
 given_there known k s file st g = subst (λ n. IsGiven known (wanted_on n n.link) file) st.now g
 
--- ---- the time of a program
+-- ---- slices of a program
 
 same_answer : (a b : Sliced) → (let r : Result Applied EventError = Ok (applied.Slice a) in r) ≡ Ok (applied.Slice b) → a ≡ b
 same_answer a b h = cc
@@ -98,18 +98,18 @@ few_by false n h = grind (arith, nat_tests)
 pub few_counted : (n next : ℕ) → next ≡ counted n → next ≤ 10000000
 few_counted n next e = subst (λ m. m ≤ 10000000) (sym e) (few_by (leb 10000000 n) n refl)
 
--- so many moves are granted
+-- the moves that are granted, as a number
 pub granted : 100000 ≡ moves_granted
 unfolding moves_granted
 granted = refl
 
 -- ---- a piece
 
--- it is taken
+-- a piece is taken
 pub taken : {X : Type 0} (k : Kept) (piece : List ℕ) (r : Result X EventError) (new : Kept) → Happens k (Recv piece) (answered (λ _. applied.Recv) r) new → (r ≡ Err NoMemory → ⊥) → (s : Session) → Stands k s → Took (Ok 0) piece s new
 taken k piece r new h ok s st = happened (λ _. applied.Recv) k (Recv piece) r new s (λ x. refl) h ok st
 
--- or no memory was left for it
+-- no memory was left for a piece
 pub drops : (k old new : Kept) (piece : List ℕ) (result : Result ℕ DriveEnd) → result ≡ Err OutOfMemory → k ≡ old → ((s : Session) → Stands k s → Stands new (Effect s DropConnection)) → (s : Session) → Stands old s → Took result piece s new
 drops k old new piece result e same dropped s st = subst (λ (r : Result ℕ DriveEnd). Took r piece s new) (sym e) (refl, dropped s (subst (λ k. Stands k s) (sym same) st))
 

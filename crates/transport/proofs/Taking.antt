@@ -100,7 +100,7 @@ pub takes_received : (seen : Seen) (piece : List ℕ) → due seen ≡ Receive �
 takes_received seen piece d few =
     takes_where_none_wait seen piece (receive_tests (ltb 0 seen.waits) (is_finished seen) (ltb 0 (length seen.now.arrivals.pending)) (is_runnable seen.now) d) few
 
--- also while a program runs
+-- a piece is received also while a program runs
 pub takes_running : (seen : Seen) (piece : List ℕ) → due seen ≡ Run → length piece ≤ 65536 → (seen.now.link ≡ None) ⊎ IsOk (outcome seen (Recv piece)).answer
 takes_running seen piece d few =
     takes_where_none_wait seen piece (run_tests (ltb 0 seen.waits) (is_finished seen) (ltb 0 (length seen.now.arrivals.pending)) (is_runnable seen.now) d) few

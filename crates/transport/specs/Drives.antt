@@ -51,12 +51,12 @@ DoesWhatIsDue known polls s (Slice n) = ⊥
 DoesWhatIsDue known polls s Hold = ⊥
 DoesWhatIsDue known polls s DropConnection = ⊥
 
--- whether a program that made so many moves since bytes came is held: never over a wire that can be looked at
+-- whether a program that made that many moves since bytes came is held: never over a wire that can be looked at
 abbrev pub is_held : Bool → ℕ → Bool
 is_held true made = false
 is_held false made = nat_le most_moves made
 
--- The round is one of this session over a wire, where the program made so many moves since bytes came. A wire makes a
+-- The round is one of this session over a wire, where the program made that many moves since bytes came. A wire makes a
 -- call that was interrupted again by itself.
 abbrev pub IsRound : KnownFiles → Bool → ℕ → Session → Round → Type 0
 IsRound known polls since s (Did e) = DoesWhatIsDue known polls s e × IsTaken s e
@@ -68,14 +68,14 @@ abbrev pub idle_looked : Bool → ℕ → ℕ
 idle_looked true count = one_more count
 idle_looked false count = count
 
--- and after a round
+-- how many looks found nothing after a round, by how many did before it
 abbrev pub idle_after : Bool → ℕ → Round → ℕ
 idle_after polls count (Did e) = count
 idle_after polls count (Ran holds) = idle_looked polls count
 
 -- ---- one round after the other
 
--- each is a round of the session after those before it
+-- each round is one of the session after the rounds before it
 abbrev pub AreRounds : KnownFiles → Bool → ℕ → Session → List Round → Type 0
 AreRounds known polls since s [] = Unit {0}
 AreRounds known polls since s (r ∷ rounds) =
@@ -98,16 +98,16 @@ pub data Cause : Type 0 where
   CallFailed : List ℕ → Cause
   -- no memory was left before the first round
   NoRoom : Cause
-  -- none was left to answer the request that is due, or to read the file that it wants
+  -- no memory was left to answer the request that is due, or to read the file that it wants
   NoAnswer : Cause
-  -- none was left for this piece, which had come, and is lost
+  -- no memory was left for this piece, which had come, and is lost
   PieceLost : List ℕ → Cause
-  -- none was left in the time of the program
+  -- no memory was left in a slice of the program
   TimeCut : Cause
   -- all turns were made
   TurnsMade : Cause
 
--- how it ends then
+-- how driving ends, by its cause
 abbrev pub end_of : Cause → DriveEnd
 end_of AllSaid = Closed
 end_of InputEnded = Closed
@@ -133,7 +133,7 @@ abbrev pub failed_by : Cause → ℕ → ℕ
 failed_by (CallFailed part) count = one_more count
 failed_by _ count = count
 
--- how many looks found nothing, by how many did before
+-- how many looks found nothing where driving ended, by how many did before
 abbrev pub idle_by : Bool → Cause → ℕ → ℕ
 idle_by polls TimeCut count = idle_looked polls count
 idle_by polls _ count = count
@@ -146,8 +146,8 @@ MayFail polls Answer waiting part = ⊥
 MayFail polls Run waiting part = (polls ≡ true) × (part ≡ [])
 MayFail polls Receive waiting part = part ≡ []
 
--- Driving may end for this cause, after so many rounds of at most so many; the session was this one after them, and this
--- is left to come over the wire.
+-- Driving may end for this cause, after `made` rounds of at most `turns`; the session was this one after them, and the
+-- wire has these bytes left to give.
 abbrev pub IsCause : Bool → Cause → Option (List ℕ) → ℕ → ℕ → Session → Type 0
 IsCause polls AllSaid left turns made s = due_in s ≡ Leave
 IsCause polls InputEnded left turns made s = MayCome polls (due_in s) × IsAtEnd left
@@ -158,8 +158,9 @@ IsCause polls (PieceLost piece) left turns made s = MayCome polls (due_in s) × 
 IsCause polls TimeCut left turns made s = due_in s ≡ Run
 IsCause polls TurnsMade left turns made s = made ≡ turns
 
--- What is left of the session then: the connection has ended, but where no memory was left to answer or in the time of the
--- program, which stands where its slice says, and is not held; and where all turns were made.
+-- What is left of the session where driving ended: the connection has ended, except where all turns were made, or where no
+-- memory was left before the first round, to answer, or in a slice of the program, which stands where its slice says, and is
+-- not held.
 abbrev pub Leaves : Cause → Session → Kept → Type 0
 Leaves AllSaid s new = Stands new (Effect s DropConnection)
 Leaves InputEnded s new = Stands new (Effect s DropConnection)
@@ -176,11 +177,11 @@ turns_of NoRoom made = made
 turns_of TurnsMade made = made
 turns_of _ made = made + 1
 
--- The rounds are made one after the other, in at most so many turns, and then driving ends for the cause: each does what
+-- The rounds are made one after the other, in at most that many turns, and then driving ends for the cause: each does what
 -- is due, and the files that answers were given are what reads of the files gave. The pieces that they received are what
 -- the wire gave, but for a piece that was lost at the end; the bytes that they sent are what it took, but for what a call
 -- that failed had written. The wire counts one call that failed where one ends driving, and else none; and one look that
--- found nothing for each time that a program got, where it can be looked at, and else none.
+-- found nothing for each slice that a program got, where it can be looked at, and else none.
 pub record Drove (known : KnownFiles) (old new : Line) (turns : ℕ) (s : Session) (rounds : List Round) (cause : Cause)
     : Type 0 where
   pub are_rounds : AreRounds known old.polls 0 s rounds
@@ -198,13 +199,13 @@ pub record Driven (known : KnownFiles) (old new : Line) (turns : ℕ) (s : Sessi
   pub is_end : end_of cause ≡ end
   pub leaves : Leaves cause (after_rounds s rounds) kept
 
--- ---- one turn of the loop, for private clauses alone
+-- ---- one pass of the loop, for private clauses alone
 
 -- Nothing moved before a program is given time; a wire that can be looked at found nothing.
 abbrev pub Passed : Bool → Line → Line → Type 0
 Passed polls old new = (old.polls ≡ polls) × Moved old new [] [] old.faults (idle_looked polls old.idle)
 
--- It makes one round, and then driving goes on, with another count of moves.
+-- One pass makes a round, and then driving continues, with another count of moves.
 pub record GoesOn (known : KnownFiles) (since next : ℕ) (old new : Line) (s : Session) (kept : Kept) : Type 0 where
   pub round : Round
   pub is_round : IsRound known old.polls since s round
@@ -212,7 +213,7 @@ pub record GoesOn (known : KnownFiles) (since next : ℕ) (old new : Line) (s : 
   pub moved : Moved old new (received_in round) (sent_in s round) old.faults (idle_after old.polls old.idle round)
   pub stands : Stands kept (after_round s round)
 
--- Or it ends driving, however many rounds there were.
+-- Driving ends, however many rounds there were.
 pub record Stops (end : DriveEnd) (old new : Line) (s : Session) (kept : Kept) : Type 0 where
   pub cause : Cause
   pub moved : Moved old new (lost_by cause) (written_by cause) (failed_by cause old.faults)
@@ -221,7 +222,7 @@ pub record Stops (end : DriveEnd) (old new : Line) (s : Session) (kept : Kept) :
   pub is_cause : (turns made : ℕ) → IsCause old.polls cause new.remaining turns made s
   pub leaves : Leaves cause s kept
 
--- It makes a round, or it ends driving.
+-- One pass makes a round, or it ends driving.
 abbrev pub Went : KnownFiles → ℕ → Result ℕ DriveEnd → Line → Line → Session → Kept → Type 0
 Went known since (Ok next) old new s kept = GoesOn known since next old new s kept
 Went known since (Err end) old new s kept = Stops end old new s kept
@@ -238,7 +239,7 @@ IsLeaving Fault = Unit {0}
 IsLeaving Turns = ⊥
 IsLeaving NoMemory = ⊥
 
--- It is driven where there is room, and that takes so many turns.
+-- A session is driven where there is room, and that takes `taken` turns.
 pub record DroveFor (known : KnownFiles) (old new : Line) (turns taken : ℕ) (s : Session) (kept : Kept)
     (end : DriveEnd) : Type 0 where
   pub rounds : List Round
@@ -249,7 +250,7 @@ pub record DroveFor (known : KnownFiles) (old new : Line) (turns taken : ℕ) (s
   pub began : HasBegun cause
   pub counts : turns_of cause (length rounds) ≡ taken
 
--- A session has been driven since it was this one, for so many rounds.
+-- Since a session was this one it has been driven for `made` rounds.
 pub record Driving (known : KnownFiles) (old new : Line) (made since : ℕ) (s : Session) (kept : Kept) : Type 0 where
   pub rounds : List Round
   pub are_rounds : AreRounds known old.polls 0 s rounds

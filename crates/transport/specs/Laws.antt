@@ -66,7 +66,7 @@ abbrev pub IsPartOfNext : ℕ → Option ServerError → List ℕ → Type 0
 IsPartOfNext n fault part = (part ≡ [])
     ⊎ ((fault ≡ Some Write) × ((message : Message) × IsPrefixOf part (frame_of n message)))
 
--- What calls wrote, where so many messages were written before.
+-- What calls wrote, where `n` messages were written before.
 pub record Wrote (n : ℕ) (calls : List Call) (held_before held : Option (List ℕ)) (fault : Option ServerError)
     : Type 0 where
   pub part : List ℕ

@@ -1,11 +1,11 @@
--- What serving editors over wires comes to.
+-- What is done where editors are served over wires, and how that ends.
 
 -- what is due in each round, and what the rounds do to a session
 pub mod Rounds
--- the rounds over a wire, and how driving ends; at the end of the file one turn of the loop, which private clauses cite alone
+-- the rounds over a wire, and how driving ends; at the end of the file one pass of the loop, which private clauses cite alone
 pub mod Drives
--- editors one after the other, who come through a door
-pub mod Visits
+-- editors that are served one after the other, each over a wire that a door accepts
+pub mod Serving
 -- ---- a server, for a program that answers by itself
 -- the messages of what was read, and those that were given
 pub mod Heard

@@ -24,7 +24,7 @@ use Rattle.session.specs.Slices.{is_runnable}
 
 -- ---- files
 
--- a text is at most so long, in bytes
+-- the most bytes that the text of a file may have
 abbrev pub longest_text : ℕ
 longest_text = 1048576
 
@@ -52,21 +52,21 @@ IsGiven known (Some path) file = IsAsKnown (known path) file × IsShort file
 abbrev pub wanted : Session → Option (List ℕ)
 wanted s = wanted_on s.now s.now.link
 
--- ---- the time of a program
+-- ---- slices of a program
 
 -- the moves for which a program is given time in one round
 unfoldable pub moves_granted : ℕ
 moves_granted = 100000
 
--- it is held once it made so many
+-- a program is held once it made that many moves
 abbrev pub most_moves : ℕ
 most_moves = 10000000
 
--- as many moves, counted no further than that
+-- a number of moves, counted no further than those after which a program is held
 abbrev pub counted : ℕ → ℕ
 counted n = if nat_le most_moves n then most_moves else n
 
--- how many moves it makes in its time
+-- how many moves a program makes in its slice
 abbrev pub moves_made : Session → ℕ
 moves_made s = (sliced histories moves_granted s).moved
 
@@ -98,7 +98,7 @@ due seen =
 abbrev pub due_in : Session → Due
 due_in s = due (histories.see s)
 
--- a round after which driving goes on: an event; or the program got its time, and was held then or not
+-- a round after which driving continues: an event; or the program got a slice, and was held then or not
 pub data Round : Type 0 where
   Did : Event → Round
   Ran : Bool → Round
@@ -122,7 +122,7 @@ since_event since Hold = since
 since_event since (Sent n) = since
 since_event since DropConnection = since
 
--- and after a round
+-- how many moves the program made since bytes came, after a round
 abbrev pub since_round : ℕ → Session → Round → ℕ
 since_round since s (Did e) = since_event since e
 since_round since s (Ran holds) = counted (since + moves_made s)
@@ -169,12 +169,12 @@ abbrev pub since_rounds : ℕ → Session → List Round → ℕ
 since_rounds since s [] = since
 since_rounds since s (r ∷ rounds) = since_rounds (since_round since s r) (after_round s r) rounds
 
--- the bytes that they received
+-- the bytes that rounds received
 abbrev pub received : List Round → List ℕ
 received [] = []
 received (r ∷ rounds) = received_in r ++ received rounds
 
--- the bytes that they sent
+-- the bytes that rounds sent
 abbrev pub sent : Session → List Round → List ℕ
 sent s [] = []
 sent s (r ∷ rounds) = sent_in s r ++ sent (after_round s r) rounds

@@ -18,7 +18,7 @@ use Rattle.transport.specs.declared.server.ServerError.{ServerError}
 use Rattle.transport.specs.declared.server.ServerError.TheVariants.{Frame, Message, Read, Write, TooManyReads}
 use Rattle.transport.specs.declared.server.ServerError.TheVariants.{NoMemory as NoMemoryLeft, SeqSpent}
 
--- one call makes so many reads at most
+-- the most reads that one call makes
 most_reads : MOST_READS ≡ 2097152
 most_reads = refl
 

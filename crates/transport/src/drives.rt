@@ -15,7 +15,7 @@ use std::alloc::Global;
 use std::cmp;
 use wires::{Received, Wire};
 
-/// A program is held over a wire that cannot poll once it made so many moves since bytes came.
+/// A program is held over a wire that cannot poll once it made that many moves since bytes came.
 const MOST_MOVES: u64 = 10_000_000;
 
 /// Drives the connection of a session over a wire: receives what the editor sends, and sends what waits
@@ -33,7 +33,7 @@ const MOST_MOVES: u64 = 10_000_000;
 /// - `Fault`: a call of the wire failed, which its `faults` counts.
 /// - `Turns`: all turns were made.
 /// - `NoMemory`: no memory was left. Where it was left for a piece that had come, the piece is lost, and
-///   the connection has ended; else nothing is lost, and a later call goes on.
+///   the connection has ended; else nothing is lost, and a later call continues.
 pub fn drive<W: Wire, F: Files>(
     alloc: Global,
     session: &mut Session,
@@ -90,7 +90,7 @@ pub(crate) fn drive_in<W: Wire, F: Files>(
     }
 }
 
-// Does what is due, where a program made so many moves since bytes came, and answers how many it is then;
+// Does what is due, where a program made `since` moves since bytes came, and answers how many it has made then,
 // or how driving ends.
 fn turn<W: Wire, F: Files>(
     alloc: Global,
@@ -162,7 +162,7 @@ fn answer<F: Files>(
     }
 }
 
-// Looks for a piece, and gives the program time where none has come.
+// Looks for a piece, and gives the program a slice where none has come.
 fn look<W: Wire>(
     session: &mut Session,
     wire: &mut W,
@@ -186,7 +186,7 @@ fn look<W: Wire>(
     }
 }
 
-// Gives the program time for so many moves, over a wire that was looked at before, if it can be.
+// Gives the program a slice of `moves` moves, over a wire that was looked at before, if it can be.
 fn run(session: &mut Session, moves: u32, since: u64, polls: bool) -> Result<u64, DriveEnd>
     requires moves { moves ≡ spec.moves_granted }
     requires since { since ≤ 10000000 }
@@ -202,7 +202,7 @@ fn run(session: &mut Session, moves: u32, since: u64, polls: bool) -> Result<u64
     }
 }
 
-// Holds the program if it has made so many moves that it is to be held, and answers how many it made.
+// Holds the program if it has made enough moves to be held, and answers how many it made.
 fn hold_after(session: &mut Session, since: u64, moved: u32, polls: bool) -> u64
     requires { since ≤ 10000000 }
     ensures counts { result ≡ spec.counted (since + moved) }

@@ -3,7 +3,7 @@
 /// How driving or serving ends.
 #[derive(Clone, Copy, Debug, PartialEq, Eq)]
 pub enum DriveEnd {
-    /// The input ended, or all was said on the connection; or nobody will come any more.
+    /// The input ended, or all was said on the connection; or the door accepts no further connection.
     Closed,
     /// A call of the wire, or of the door, failed.
     Fault,

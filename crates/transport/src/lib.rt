@@ -1,4 +1,4 @@
-//! A session over a wire, and over the wires that come through a door; a server over a reader and a writer.
+//! A session over a wire, and over the wires that a door accepts; a server over a reader and a writer.
 #![tactic(auto)]
 
 pub mod drives;
@@ -10,10 +10,10 @@ mod outbox;
 mod room;
 mod rounds;
 pub mod server;
-pub mod visits;
+pub mod serving;
 
 pub use drives::drive;
 pub use end::DriveEnd;
 pub use files::{FileFault, Files, LONGEST_TEXT, file_at};
 pub use server::{Server, ServerError};
-pub use visits::serve;
+pub use serving::serve;

@@ -11,7 +11,7 @@ pub(crate) fn room_of(alloc: Global) -> Result<Vec<u8>, AllocError>
     zeros(alloc, MOST_PIECE)
 }
 
-// So many bytes. Their number is not looked at, which keeps the proof from writing them out.
+// `count` bytes of 0. Their number is not looked at, which keeps the proof from writing them out.
 fn zeros(alloc: Global, count: usize) -> Result<Vec<u8>, AllocError>
     ensures { IfOk result (λ bytes. vec_len bytes ≡ count) }
 {

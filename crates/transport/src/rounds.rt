@@ -12,7 +12,7 @@ use crate::files::{Files, file_at};
 use session::{Bytes, EventError, Session, Turned};
 use std::alloc::{AllocError, Global};
 
-/// The moves for which a program is given time in one round.
+/// The moves of the slice that a program is given in one round.
 pub(crate) const MOVES_GRANTED: u32 = 100_000;
 
 /// The file that the next answer wants, if it wants one and it can be read.

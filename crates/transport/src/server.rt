@@ -33,10 +33,10 @@ pub enum ServerError {
     /// A write failed.
     #[error("write fault")]
     Write,
-    /// One call made 2,097,152 reads, and none made a request whole. A later call goes on.
+    /// One call made 2,097,152 reads, and none made a request whole. A later call continues.
     #[error("too many reads")]
     TooManyReads,
-    /// No memory was left. A later call goes on.
+    /// No memory was left. A later call continues.
     #[error("no memory")]
     NoMemory,
     /// All numbers for messages are used.

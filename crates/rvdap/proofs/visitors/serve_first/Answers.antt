@@ -1,9 +1,9 @@
-use Rattle.rvdap.specs.Visitors.{Guest}
+use Rattle.rvdap.specs.Visitors.{Connection}
 use Rattle.rvdap.proofs.visitors.serve_first.Goals as goal
 
 pub returns-in-Ok-Some : goal.returns-in-Ok-Some
 returns-in-Ok-Some g c s st = record {
-  first = Guest _ _;
+  first = Connection _ _;
   opened = rw c.in-Ok-Some.field-0-is at c.in-Ok-Some.ensures;
   is_first = c.serve_one.ensures s st;
 }

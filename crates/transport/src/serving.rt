@@ -1,9 +1,9 @@
-//! Sessions over wires that come through a door.
+//! A session is served over each wire that a door accepts, one after the other.
 ghost use Rattle.std.specs.Prelude.{◌≡◌, ◌<◌, ◌≤◌, ◌∷◌, [], length, true, IfOk, ℕ};
 ghost use Rattle.session.specs.Kept.{OfEach};
 ghost use Rattle.session.specs.Slices.{is_runnable};
 ghost use Rattle.transport.specs.Rounds.{KnownFiles, moves_granted};
-ghost use Rattle.transport.specs.Visits.{Hosted, Served};
+ghost use Rattle.transport.specs.Serving.{IteratedOrEnded, Served};
 ghost use Rattle.wires.specs.Doors.{Doorway, Opened};
 ghost use Rattle.wires.specs.Wires.{one_more};
 
@@ -16,16 +16,16 @@ use session::{Ending, Session};
 use std::alloc::Global;
 use wires::{Came, Door, Wire};
 
-/// Serves the editors that come through a door, one after the other, each over its wire as `drive` does. While
-/// none is connected, a program that runs is given slices of 100,000 moves as long as none has come, and where
-/// none runs the next editor is waited for.
+/// Serves the editors whose wires a door accepts, one after the other, each over its wire as `drive` does. While
+/// none is connected, a program that runs is given a slice of 100,000 moves after each poll of the door that
+/// accepts no wire, and where no program runs the next wire is waited for.
 ///
-/// A call of a wire that fails ends its connection alone. An editor that comes takes a turn, as do each turn of
-/// its connection and each slice without one; at most `turns` are taken. Where serving ends while an editor is
-/// connected, its connection ends too.
+/// A call of a wire that fails ends its connection alone. A turn is taken by each connection that is accepted,
+/// by each turn of a connection, and by each slice while no editor is connected; at most `turns` are taken.
+/// Where serving ends while an editor is connected, its connection ends too.
 ///
-/// - `Closed`: nobody will come any more, or an editor that came could not be connected, since 4,294,967,295
-///   were (or one was when this was called).
+/// - `Closed`: the door accepts no further connection, or the session refused to connect an editor, since
+///   4,294,967,295 were connected before (or one was when this was called).
 /// - `Fault`: a call of the door failed, which its `faults` counts.
 /// - `Turns`: all turns were taken.
 /// - `NoMemory`: no memory was left.
@@ -44,7 +44,7 @@ pub fn serve<D: Door, F: Files>(
     };
     let mut taken = 0;
     'serving: while taken < turns {
-        match visit(alloc, session, door, files, &mut room, turns - taken) {
+        match accept(alloc, session, door, files, &mut room, turns - taken) {
             Ok(count) => taken += count,
             Err(end) => return end,
         }
@@ -52,9 +52,10 @@ pub fn serve<D: Door, F: Files>(
     DriveEnd::Turns
 }
 
-// Asks the door while no editor is connected and so many turns are left. It answers how many it took, or how
-// serving ends.
-fn visit<D: Door, F: Files>(
+// Accepts the next connection and serves it, where no editor is connected: the door is polled while a program
+// runs, and waited for where none does. At most `left` turns are taken. It answers how many were, or how serving
+// ends.
+fn accept<D: Door, F: Files>(
     alloc: Global,
     session: &mut Session,
     door: &mut D,
@@ -65,22 +66,22 @@ fn visit<D: Door, F: Files>(
     requires room { 0 < length room.old }
     requires piece { length room.old ≤ 65536 }
     requires left { 0 < left }
-    ensures hosted { OfEach session.old (λ s. Hosted (F.known files.now) left result (D.doorway door.old) (D.doorway door.new) s
-        session.new) }
+    ensures outcome { OfEach session.old (λ s. IteratedOrEnded (F.known files.now) left result (D.doorway door.old)
+        (D.doorway door.new) s session.new) }
     ensures some { IfOk result (λ count. (1 ≤ count) × (count ≤ left)) }
 {
     if session.runnable() {
-        return knock(alloc, session, door, files, room, left);
+        return poll_accept(alloc, session, door, files, room, left);
     }
     match door.accept_wait() {
-        Ok(Some(mut wire)) => host(alloc, session, &mut wire, files, room, left),
+        Ok(Some(mut wire)) => serve_connection(alloc, session, &mut wire, files, room, left),
         Ok(None) => Err(DriveEnd::Closed),
         Err(_) => Err(DriveEnd::Fault),
     }
 }
 
-// Looks for an editor, and gives the program time where none has come.
-fn knock<D: Door, F: Files>(
+// Polls the door, and serves the connection that was waiting; where none was, the program is given a slice.
+fn poll_accept<D: Door, F: Files>(
     alloc: Global,
     session: &mut Session,
     door: &mut D,
@@ -92,24 +93,24 @@ fn knock<D: Door, F: Files>(
     requires piece { length room.old ≤ 65536 }
     requires left { 0 < left }
     requires runnable { is_runnable session.old.now ≡ true }
-    ensures hosted { OfEach session.old (λ s. Hosted (F.known files.now) left result (D.doorway door.old) (D.doorway door.new) s
-        session.new) }
+    ensures outcome { OfEach session.old (λ s. IteratedOrEnded (F.known files.now) left result (D.doorway door.old)
+        (D.doorway door.new) s session.new) }
     ensures some { IfOk result (λ count. (1 ≤ count) × (count ≤ left)) }
 {
     match door.accept_now() {
-        Ok(Came::Wire(mut wire)) => host(alloc, session, &mut wire, files, room, left),
-        Ok(Came::Nothing) => alone(session, MOVES_GRANTED),
+        Ok(Came::Wire(mut wire)) => serve_connection(alloc, session, &mut wire, files, room, left),
+        Ok(Came::Nothing) => run_unattended(session, MOVES_GRANTED),
         Ok(Came::End) => Err(DriveEnd::Closed),
         Err(_) => Err(DriveEnd::Fault),
     }
 }
 
-// Gives the program time for so many moves.
-fn alone(session: &mut Session, moves: u32) -> Result<u64, DriveEnd>
+// Gives a slice of `moves` moves to a program that runs while no editor is connected.
+fn run_unattended(session: &mut Session, moves: u32) -> Result<u64, DriveEnd>
     requires moves { moves ≡ moves_granted }
     requires runnable { is_runnable session.old.now ≡ true }
-    ensures hosted { (known : KnownFiles) (left : ℕ) (old new : Doorway) → Opened old new [] old.faults (one_more old.idle)
-        → OfEach session.old (λ s. Hosted known left result old new s session.new) }
+    ensures outcome { (known : KnownFiles) (left : ℕ) (old new : Doorway) → Opened old new [] old.faults (one_more old.idle)
+        → OfEach session.old (λ s. IteratedOrEnded known left result old new s session.new) }
     ensures one { IfOk result (λ count. count ≡ 1) }
 {
     match session.slice(moves).ending {
@@ -118,8 +119,8 @@ fn alone(session: &mut Session, moves: u32) -> Result<u64, DriveEnd>
     }
 }
 
-// Connects an editor that came over a wire, and drives its connection.
-fn host<W: Wire, F: Files>(
+// Connects an editor over an accepted wire, and drives its connection.
+fn serve_connection<W: Wire, F: Files>(
     alloc: Global,
     session: &mut Session,
     wire: &mut W,
@@ -130,8 +131,8 @@ fn host<W: Wire, F: Files>(
     requires room { 0 < length room.old }
     requires piece { length room.old ≤ 65536 }
     requires left { 0 < left }
-    ensures hosted { (old new : Doorway) → Opened old new (W.line wire.old ∷ []) old.faults old.idle → OfEach session.old
-        (λ s. Hosted (F.known files.now) left result old new s session.new) }
+    ensures outcome { (old new : Doorway) → Opened old new (W.line wire.old ∷ []) old.faults old.idle → OfEach session.old
+        (λ s. IteratedOrEnded (F.known files.now) left result old new s session.new) }
     ensures some { IfOk result (λ count. (1 ≤ count) × (count ≤ left)) }
 {
     let Ok(_number) = session.connect() else {

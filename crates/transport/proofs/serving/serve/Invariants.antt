@@ -1,14 +1,14 @@
 use Rattle.std.proofs.Common.{◌≡◌, ◌≤◌, ◌-◌, vec_len}
 use Rattle.session.specs.Kept.{OfEach}
-use Rattle.transport.specs.Visits.{Serving}
-use Rattle.transport.proofs.visits.serve.Given as goal
+use Rattle.transport.specs.Serving.{ServedSoFar}
+use Rattle.transport.proofs.serving.serve.Given as goal
 
 -- there is room to receive into, no more turns were taken than there are, and the session has been served since the start
 abbrev pub invariant-serving : goal.invariant-serving
 invariant-serving g l = record {
   room : vec_len l.room ≡ 65536;
   few : l.taken ≤ l.fn.turns;
-  serving : OfEach l.fn.session (λ s. Serving (g.F.Files.known l.fn.files) (g.D.Door.doorway l.fn.door) (g.D.Door.doorway l.door) l.fn.turns l.taken s l.session);
+  serving : OfEach l.fn.session (λ s. ServedSoFar (g.F.Files.known l.fn.files) (g.D.Door.doorway l.fn.door) (g.D.Door.doorway l.door) l.fn.turns l.taken s l.session);
 }
 
 abbrev pub decreases-serving : goal.decreases-serving

@@ -1,0 +1,225 @@
+-- How editors are served one after the other, each over a wire of its own that a door accepts.
+--
+-- While no editor is connected, the door is asked for the next wire: it is polled while a program runs, and waited for
+-- where none runs. An editor whose wire was accepted is connected, and its connection is driven over that wire (`Drives`)
+-- until it ends. Where a poll accepts no wire, the program runs unattended: it is given a slice of 100,000 moves. A
+-- failed call of a wire ends its connection alone; a failed call of the door ends serving.
+--
+-- A turn is one of these: a connection that is accepted, a slice of an unattended program, a round of a connection, and
+-- the end of a connection. Where turns or memory end serving while an editor is connected, its connection ends too.
+use Rattle.std.specs.Prelude.{◌≡◌, ℕ, ◌+◌, ◌-◌, ◌≤◌, true, List, [], ◌∷◌, ◌++◌, length, Option, Result, Ok, Err, IsOk, IsErr}
+use Rattle.session.specs.declared.event.Event.TheVariants.{Connect, Slice, DropConnection}
+use Rattle.session.specs.Effects.{BreaksOff}
+use Rattle.session.specs.Kept.{Kept, Stands}
+use Rattle.session.specs.Sessions.{Session, Effect, Answer as answer_of, histories}
+use Rattle.session.specs.Slices.{is_runnable}
+use Rattle.wires.specs.Doors.{Doorway, IsEmpty, Opened}
+use Rattle.wires.specs.Wires.{Line, one_more}
+use Rattle.transport.specs.declared.end.DriveEnd.{DriveEnd}
+use Rattle.transport.specs.declared.end.DriveEnd.TheVariants.{Closed, Fault, Turns, NoMemory}
+use Rattle.transport.specs.Rounds.{KnownFiles, moves_granted, Round, after_rounds, RunsOut}
+use Rattle.transport.specs.Drives.{Cause, AllSaid, InputEnded, CallFailed, NoAnswer, PieceLost, TimeCut, TurnsMade}
+use Rattle.transport.specs.Drives.{end_of, turns_of, Drove}
+
+-- ---- one iteration
+
+-- what happens from one time at which no editor is connected to the next
+pub data Iteration : Type 0 where
+  -- no connection was waiting, and the program that runs was given a slice
+  Unattended : Iteration
+  -- a connection over a wire, which was seen as the first of these when it was accepted and as the second at its end; these
+  -- rounds were made, and it ended for a cause
+  Connection : Line → Line → List Round → Cause → Iteration
+
+-- The connection ended for a cause after which serving continues: the editor has left, or its wire failed.
+abbrev pub HasLeft : Cause → Type 0
+HasLeft AllSaid = Unit {0}
+HasLeft InputEnded = Unit {0}
+HasLeft (CallFailed part) = Unit {0}
+HasLeft _ = ⊥
+
+-- The connection ended for a cause that ends serving too: turns or memory.
+abbrev pub IsCut : Cause → Type 0
+IsCut NoAnswer = Unit {0}
+IsCut (PieceLost piece) = Unit {0}
+IsCut TimeCut = Unit {0}
+IsCut TurnsMade = Unit {0}
+IsCut _ = ⊥
+
+-- An editor is connected, and its connection is driven for at most that many turns.
+pub record IsConnection (known : KnownFiles) (turns : ℕ) (s : Session) (old new : Line) (rounds : List Round)
+    (cause : Cause) : Type 0 where
+  pub connects : IsOk (answer_of s Connect)
+  pub drove : Drove known old new turns (Effect s Connect) rounds cause
+
+-- The session may have this iteration, where that many turns are left.
+abbrev pub IsIteration : KnownFiles → ℕ → Session → Iteration → Type 0
+IsIteration known turns s Unattended = is_runnable s.now ≡ true
+IsIteration known turns s (Connection old new rounds cause) =
+    IsConnection known (turns - 1) s old new rounds cause × HasLeft cause
+
+-- how many turns an iteration took
+abbrev pub turns_in : Iteration → ℕ
+turns_in Unattended = 1
+turns_in (Connection old new rounds cause) = turns_of cause (length rounds) + 1
+
+-- the session after an iteration
+abbrev pub after_iteration : Session → Iteration → Session
+after_iteration s Unattended = Effect s (Slice moves_granted)
+after_iteration s (Connection old new rounds cause) = Effect (after_rounds (Effect s Connect) rounds) DropConnection
+
+-- the wires that were accepted in an iteration
+abbrev pub lines_in : Iteration → List Line
+lines_in Unattended = []
+lines_in (Connection old new rounds cause) = old ∷ []
+
+-- how many polls of the door accepted no wire, after that many did before
+abbrev pub idle_in : ℕ → Iteration → ℕ
+idle_in count Unattended = one_more count
+idle_in count (Connection old new rounds cause) = count
+
+-- ---- one iteration after the other
+
+-- The session may have these iterations, where that many turns are left.
+abbrev pub AreIterations : KnownFiles → ℕ → Session → List Iteration → Type 0
+AreIterations known turns s [] = Unit {0}
+AreIterations known turns s (x ∷ iterations) =
+    IsIteration known turns s x × AreIterations known (turns - turns_in x) (after_iteration s x) iterations
+
+-- how many turns iterations took
+abbrev pub turns_taken : List Iteration → ℕ
+turns_taken [] = 0
+turns_taken (x ∷ iterations) = turns_in x + turns_taken iterations
+
+-- the session after iterations
+abbrev pub after_iterations : Session → List Iteration → Session
+after_iterations s [] = s
+after_iterations s (x ∷ iterations) = after_iterations (after_iteration s x) iterations
+
+-- the wires that were accepted in iterations
+abbrev pub lines_of : List Iteration → List Line
+lines_of [] = []
+lines_of (x ∷ iterations) = lines_in x ++ lines_of iterations
+
+-- how many polls of the door accepted no wire, after that many did before
+abbrev pub idle_after_iterations : ℕ → List Iteration → ℕ
+idle_after_iterations count [] = count
+idle_after_iterations count (x ∷ iterations) = idle_after_iterations (idle_in count x) iterations
+
+-- ---- the end
+
+-- why serving ends
+pub data Why : Type 0 where
+  -- the door accepts no further connection
+  DoorClosed : Why
+  -- the session refused to connect the editor over this accepted wire
+  Refused : Line → Why
+  -- a call of the door failed
+  DoorFailed : Why
+  -- all turns were taken
+  AllMade : Why
+  -- no memory was left before the first turn
+  NoRoomYet : Why
+  -- no memory was left in a slice of an unattended program
+  UnattendedCut : Why
+  -- turns or memory ended a connection over a wire, which was seen as the first of these when it was accepted and as the
+  -- second at its end, after these rounds
+  ConnectionCut : Line → Line → List Round → Cause → Why
+
+-- how serving ends, by why it does
+abbrev pub end_by : Why → DriveEnd
+end_by DoorClosed = Closed
+end_by (Refused line) = Closed
+end_by DoorFailed = Fault
+end_by AllMade = Turns
+end_by NoRoomYet = NoMemory
+end_by UnattendedCut = NoMemory
+end_by (ConnectionCut old new rounds cause) = end_of cause
+
+-- the wires that were accepted after the last iteration
+abbrev pub lines_by : Why → List Line
+lines_by (Refused line) = line ∷ []
+lines_by (ConnectionCut old new rounds cause) = old ∷ []
+lines_by _ = []
+
+-- how many calls of the door failed, after that many did before
+abbrev pub failed_at : Why → ℕ → ℕ
+failed_at DoorFailed count = one_more count
+failed_at _ count = count
+
+-- how many polls of the door accepted no wire, after that many did before, where serving ended
+abbrev pub idle_at : Why → ℕ → ℕ
+idle_at UnattendedCut count = one_more count
+idle_at _ count = count
+
+-- Serving may end for this reason, where the door has these wires left to accept, that many turns are left, that many were
+-- taken, and no editor is connected to the session.
+abbrev pub IsWhy : KnownFiles → Why → Option (List Line) → ℕ → ℕ → Session → Type 0
+IsWhy known DoorClosed wires left taken s = IsEmpty wires
+IsWhy known (Refused line) wires left taken s = IsErr (answer_of s Connect)
+IsWhy known DoorFailed wires left taken s = Unit {0}
+IsWhy known AllMade wires left taken s = left ≡ 0
+IsWhy known NoRoomYet wires left taken s = taken ≡ 0
+IsWhy known UnattendedCut wires left taken s = is_runnable s.now ≡ true
+IsWhy known (ConnectionCut old new rounds cause) wires left taken s =
+    IsConnection known (left - 1) s old new rounds cause × IsCut cause
+
+-- what is left of a session whose connection was cut, by what it was after the rounds
+abbrev pub LeavesCut : Cause → Session → Kept → Type 0
+LeavesCut TimeCut s new = (moved : ℕ) × BreaksOff histories moves_granted moved s (λ t. Stands new (Effect t DropConnection))
+LeavesCut _ s new = Stands new (Effect s DropConnection)
+
+-- what is left of a session where serving ends
+abbrev pub LeavesBy : Why → Session → Kept → Type 0
+LeavesBy UnattendedCut s new = RunsOut s new
+LeavesBy (ConnectionCut first last rounds cause) s new = LeavesCut cause (after_rounds (Effect s Connect) rounds) new
+LeavesBy _ s new = Stands new s
+
+-- There are iterations, one after the other, and after them serving ends. The accepted wires are those that the door gave.
+-- The door counts one failed call where serving ends as a fault, else none, and one poll that accepted no wire for each slice
+-- of an unattended program.
+pub record Served (known : KnownFiles) (old new : Doorway) (turns : ℕ) (s : Session) (kept : Kept) (end : DriveEnd)
+    : Type 0 where
+  pub iterations : List Iteration
+  pub why : Why
+  pub are_iterations : AreIterations known turns s iterations
+  pub few : turns_taken iterations ≤ turns
+  pub opened : Opened old new (lines_of iterations ++ lines_by why) (failed_at why old.faults)
+      (idle_at why (idle_after_iterations old.idle iterations))
+  pub is_end : end_by why ≡ end
+  pub is_why : IsWhy known why new.wires (turns - turns_taken iterations) (turns_taken iterations)
+      (after_iterations s iterations)
+  pub leaves : LeavesBy why (after_iterations s iterations) kept
+
+-- ---- one pass of the loop, for private clauses alone
+
+-- One iteration took that many turns, where that many were left.
+pub record Iterated (known : KnownFiles) (left count : ℕ) (old new : Doorway) (s : Session) (kept : Kept) : Type 0 where
+  pub iteration : Iteration
+  pub is_iteration : IsIteration known left s iteration
+  pub counts : turns_in iteration ≡ count
+  pub opened : Opened old new (lines_in iteration) old.faults (idle_in old.idle iteration)
+  pub stands : Stands kept (after_iteration s iteration)
+
+-- Serving ends, however many turns were taken.
+pub record Ended (known : KnownFiles) (left : ℕ) (end : DriveEnd) (old new : Doorway) (s : Session) (kept : Kept)
+    : Type 0 where
+  pub why : Why
+  pub opened : Opened old new (lines_by why) (failed_at why old.faults) (idle_at why old.idle)
+  pub is_end : end_by why ≡ end
+  pub is_why : (taken : ℕ) → IsWhy known why new.wires left taken s
+  pub leaves : LeavesBy why s kept
+
+-- what one pass of the loop does, by its result
+abbrev pub IteratedOrEnded : KnownFiles → ℕ → Result ℕ DriveEnd → Doorway → Doorway → Session → Kept → Type 0
+IteratedOrEnded known left (Ok count) old new s kept = Iterated known left count old new s kept
+IteratedOrEnded known left (Err end) old new s kept = Ended known left end old new s kept
+
+-- Since a session was this one it has been served for that many turns, and serving has not ended.
+pub record ServedSoFar (known : KnownFiles) (old new : Doorway) (turns taken : ℕ) (s : Session) (kept : Kept)
+    : Type 0 where
+  pub iterations : List Iteration
+  pub are_iterations : AreIterations known turns s iterations
+  pub count : turns_taken iterations ≡ taken
+  pub opened : Opened old new (lines_of iterations) old.faults (idle_after_iterations old.idle iterations)
+  pub stands : Stands kept (after_iterations s iterations)
