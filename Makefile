@@ -13,7 +13,7 @@ PROGRAM_BY = $(if $(shell command -v rt 2> /dev/null),build,built)
 
 # Debugs an example: plays a session into the program as an editor would, and prints what each request gives.
 run: python $(PROGRAM_BY)
-	@examples/play --explained examples/sorting $(PROGRAM)
+	@examples/play --explained examples/sorting.session $(PROGRAM)
 
 # Proves the program and builds it: $(PROGRAM), where neither the gate nor an interrupted one takes it away.
 build: toolchain python

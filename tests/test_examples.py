@@ -37,9 +37,9 @@ def expected_frames(function, line):
 
 def played():
     """The requests and the messages of the session, in order."""
-    ran = subprocess.run([os.path.join(TOP, "examples", "play"), os.path.join(TOP, "examples", "nesting"), PROGRAM],
+    ran = subprocess.run([os.path.join(TOP, "examples", "play"), os.path.join(TOP, "examples", "nesting.session"), PROGRAM],
                          cwd=TOP, capture_output=True, text=True, timeout=60)
-    expect((ran.stderr, ran.returncode), ("", 0), "examples/play examples/nesting")
+    expect((ran.stderr, ran.returncode), ("", 0), "examples/play examples/nesting.session")
     return [json.loads(line) for line in ran.stdout.splitlines()]
 
 

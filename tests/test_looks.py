@@ -197,8 +197,8 @@ def each_message_is_valid_by_the_published_schema():
 
 
 def the_example_of_sorting_is_told_as_it_runs():
-    """What examples/play prints of examples/sorting: its requests, each with what is told of it."""
-    path = os.path.join(TOP, "examples", "sorting")
+    """What examples/play prints of examples/sorting.session: its requests, each with what is told of it."""
+    path = os.path.join(TOP, "examples", "sorting.session")
     played = subprocess.run([os.path.join(TOP, "examples", "play"), path, PROGRAM], capture_output=True, timeout=20, cwd=TOP)
     session = Piped("examples/sort.s").starts(ENTRY, breakpoints=[(at(36, "[sp] == 2"), is_set(1, 0x1007c, 36))], stopOnEntry=True)
     session.asks("continue").then(hit(1)).trace([session.at(1, 0x1007c, "sort+32", 36), *(session.at(k, 0x100a0, "sort+68", 44) for k in (2, 3)),

@@ -206,7 +206,7 @@ def unpack(data, root, has_folders=True):
 
 def expect_debugs(root, documents, program):
     """Debugs an example of the package with its program, by its player of sessions."""
-    player = [sys.executable, os.path.join(root, documents, "examples", "play"), "--explained", "examples/sorting"]
+    player = [sys.executable, os.path.join(root, documents, "examples", "play"), "--explained", "examples/sorting.session"]
     said = said_by(*player, os.path.join(root, program), cwd=os.path.join(root, documents))
     expect_session(said, "a session with the program of the package")
 

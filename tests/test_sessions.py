@@ -56,9 +56,9 @@ def each_answer_comes_before_more_is_read():
 
 
 def the_example_session_is_the_first_session():
-    lines = open(os.path.join(TOP, "examples", "first-session"), "rb").read().splitlines()
-    expect(b"".join(frame(line) for line in lines), SESSION, "examples/first-session")
-    played = subprocess.run([os.path.join(TOP, "examples", "play"), os.path.join(TOP, "examples", "first-session"), PROGRAM],
+    lines = open(os.path.join(TOP, "examples", "first.session"), "rb").read().splitlines()
+    expect(b"".join(frame(line) for line in lines), SESSION, "examples/first.session")
+    played = subprocess.run([os.path.join(TOP, "examples", "play"), os.path.join(TOP, "examples", "first.session"), PROGRAM],
                             capture_output=True, timeout=20)
     answers = [CAPABILITIES % (1, 1), THREADS % (2, 2), DISCONNECTED % (3, 3)]
     wanted = b"".join(line + b"\n" + answer.encode() + b"\n" for line, answer in zip(lines, answers))
@@ -66,7 +66,7 @@ def the_example_session_is_the_first_session():
 
 
 def the_example_of_a_late_cancel_is_answered_that_the_request_is_gone():
-    path = os.path.join(TOP, "examples", "late-cancel")
+    path = os.path.join(TOP, "examples", "late-cancel.session")
     played = subprocess.run([os.path.join(TOP, "examples", "play"), path, PROGRAM], capture_output=True, timeout=20)
     answers = [CAPABILITIES % (1, 1), THREADS % (2, 2), REFUSED % ("requestGone", 20, "cancel", "requestGone", 3, 3), CANCELLED % (4, 4), DISCONNECTED % (5, 5)]
     lines = open(path, "rb").read().splitlines()
@@ -93,7 +93,7 @@ def the_example_of_steps_debugs_a_program():
          '{"event":"terminated","seq":15,"type":"event"}'],
         [done("disconnect", 9, 16)],
     ]
-    path = os.path.join(TOP, "examples", "steps")
+    path = os.path.join(TOP, "examples", "steps.session")
     played = subprocess.run([os.path.join(TOP, "examples", "play"), path, PROGRAM], capture_output=True, timeout=20, cwd=TOP)
     lines = open(path, "rb").read().decode().splitlines()
     wanted = "".join("\n".join([line] + told) + "\n" for line, told in zip(lines, answers, strict=True))
@@ -101,7 +101,7 @@ def the_example_of_steps_debugs_a_program():
 
 
 def the_examples_are_valid_by_the_published_schema():
-    for name in ("first-session", "late-cancel", "steps", "sorting"):
+    for name in ("first.session", "late-cancel.session", "steps.session", "sorting.session"):
         with tempfile.NamedTemporaryFile() as transcript:
             subprocess.run([os.path.join(TOP, "examples", "play"), os.path.join(TOP, "examples", name), PROGRAM],
                            stdout=transcript, check=True, timeout=20, cwd=TOP)

@@ -282,8 +282,8 @@ def ends_well_without_memory(lines, step):
 
 def the_example_shows_what_the_document_says():
     with open(os.path.join(TOP, "docs", "PROTOCOL.md"), encoding="utf-8") as file:
-        shown = re.search(r"```\n\$ rvdap watch examples/watched\n(.*?)```\n", file.read(), re.S)[1]
-    ran = subprocess.run([PROGRAM, "watch", "examples/watched"], cwd=TOP, capture_output=True, timeout=60)
+        shown = re.search(r"```\n\$ rvdap watch examples/sorting.watch\n(.*?)```\n", file.read(), re.S)[1]
+    ran = subprocess.run([PROGRAM, "watch", "examples/sorting.watch"], cwd=TOP, capture_output=True, timeout=60)
     expect((ran.stdout.decode(), ran.stderr, ran.returncode), (shown, b"", 0), "what is printed of the example")
 
 
