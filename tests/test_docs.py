@@ -20,7 +20,8 @@ def text_of(*path):
 
 def documents():
     """The documents by name, without their blocks of code."""
-    names = [os.path.relpath(path, TOP) for folder in ("", "docs", "bench") for path in sorted(glob.glob(os.path.join(TOP, folder, "*.md")))]
+    paths = [path for folder in ("", "docs", "bench") for path in sorted(glob.glob(os.path.join(TOP, folder, "*.md")))]
+    names = [os.path.relpath(path, TOP) for path in paths]
     return {name: re.sub(r"^```.*?^```$", "", text_of(name), flags=re.M | re.S) for name in names}
 
 
@@ -52,7 +53,7 @@ def places_of(span):
     """Where a span that is a path may lie, as patterns of names, or nothing where it is none."""
     if "/" not in span or not re.fullmatch(r"[\w.*{},/-]+", span):
         return []
-    pattern = re.sub(r"\b(play_)?(NAME|Name|CRATE)\b", "*", span)
+    pattern = re.sub(r"\b(test_)?(NAME|Name|CRATE)\b", "*", span)
     first, second = pattern.split("/")[:2]
     if first in FOLDERS:
         return [pattern]
@@ -83,12 +84,89 @@ def paths_that_are_named_are_there():
                 expect(found, True, "%s: the path %s" % (name, span))
 
 
-def each_crate_stands_in_the_map_and_in_the_ledger():
-    crates = re.findall(r"^(\w+):", text_of("crates.txt"), re.M)
-    expect(sorted(crates), sorted(os.listdir(os.path.join(TOP, "crates"))), "crates.txt")
-    for name in ("docs/ARCHITECTURE.md", "docs/DEFINITIONS.md"):
-        spans = set(SPAN.findall(text_of(name)))
-        expect([crate for crate in crates if crate not in spans], [], "%s: crates that are not named" % name)
+def groups_of_crates():
+    """The headings of crates.txt, each with its crates, each of these with the crates that it stands on."""
+    groups = []
+    for line in text_of("crates.txt").splitlines():
+        crate, colon, others = line.partition(":")
+        if line.startswith("# ") and not line.endswith("."):
+            groups.append((line[2:], {}))
+        elif colon and not line.startswith("#"):
+            groups[-1][1][crate] = others.split()
+    return groups
+
+
+def section_of(name, title):
+    return text_of(name).partition("\n## %s\n" % title)[2].partition("\n## ")[0]
+
+
+def all_crates():
+    return [crate for _, crates in groups_of_crates() for crate in crates]
+
+
+def crates_txt_has_each_crate():
+    expect(len(groups_of_crates()), 9, "crates.txt: its headings")
+    expect(sorted(all_crates()), sorted(os.listdir(os.path.join(TOP, "crates"))), "crates.txt")
+
+
+def the_map_has_the_crates_in_their_order():
+    found = []
+    table = section_of("docs/ARCHITECTURE.md", "Crates").partition("\n| Folder")[0]
+    for title, crate in re.findall(r"^\| (?:\*\*(.+?)\*\*|`(\w+)`) \|", table, re.M):
+        if title:
+            found.append((title, []))
+        else:
+            found[-1][1].append(crate)
+    expect(found, [(title, list(crates)) for title, crates in groups_of_crates()], "ARCHITECTURE: the crates")
+
+
+def the_ledger_has_the_crates_in_their_order():
+    """Its index, where players and benches have one line, and its sections, where they share the last one."""
+    ledger = text_of("docs/DEFINITIONS.md")
+    lines = re.findall(r"^\| ([a-z ,]+) \| (\[.*) \|$", ledger.partition("\n## ")[0], re.M)
+    index = [(title, re.findall(r"\[`(\w+)`\]", cell)) for title, cell in lines]
+    groups = [(title, list(crates)) for title, crates in groups_of_crates()]
+    expect(index, groups[:7] + [("tests, benches", [])], "DEFINITIONS: the index")
+    shared = SPAN.findall(section_of("docs/DEFINITIONS.md", "Players and benches").partition("\n\n")[0])
+    sections_in_order = re.findall(r"^## `(\w+)`$", ledger, re.M) + [span for span in dict.fromkeys(shared) if span in all_crates()]
+    expect(sections_in_order, all_crates(), "DEFINITIONS: the sections, and the crates of the last one")
+
+
+def the_picture_has_each_crate_above_those_it_stands_on():
+    """The picture of the layers: each crate under its heading, and on a line above those that it stands on, but for those with a star."""
+    picture = text_of("docs/ARCHITECTURE.md").split("```")[1]
+    found, line_of, starred = [], {}, set()
+    for number, line in enumerate(picture.splitlines()):
+        title, names = line[:23].strip(), line[23:].split()
+        if title:
+            found.append((title, []))
+        for name in names:
+            line_of[name.strip("*")] = number
+            found[-1][1].append(name.strip("*"))
+        starred.update(name.strip("*") for name in names if name.endswith("*"))
+    groups = groups_of_crates()[:7]
+    expect({title: sorted(names) for title, names in found}, {title: sorted(crates) for title, crates in groups}, "the picture: its crates")
+    stands_on = {crate: others for _, crates in groups for crate, others in crates.items()}
+    wrong = [(crate, other) for crate, others in stands_on.items() for other in others
+             if other in line_of and other not in starred and line_of[other] <= line_of[crate]]
+    expect(wrong, [], "the picture: crates that stand on one that is not on a lower line")
+    lowest = [(crate, other) for crate in sorted(starred) for other in stands_on[crate] if other in line_of]
+    expect(lowest, [], "the picture: crates with a star that stand on others")
+
+
+def one_name(path):
+    """The name of a file of definitions or of code, so that those of one rule are equal."""
+    words = re.sub(r"(?<!^)([A-Z])", r"_\1", path.split("/")[-1].removesuffix(".rt")).lower()
+    return words.rstrip("_").removesuffix("s")
+
+
+def each_rule_of_the_map_has_names_that_differ():
+    rows = re.findall(r"^\| (.+) \| (`.+`) \| (`.+`) \|$", section_of("docs/ARCHITECTURE.md", "Rooms of a rule"), re.M)
+    expect(len(rows) > 40, True, "rules have rows")
+    names = {rule: [{one_name(span) for span in SPAN.findall(cell)} for cell in cells] for rule, *cells in rows}
+    expect([rule for rule, (definition, code) in names.items() if definition == code], [], "ARCHITECTURE: rules that need no row")
+    crates = [SPAN.findall(definition)[0].split("/")[0] for _, definition, _ in rows]
+    expect(crates, sorted(crates, key=all_crates().index), "ARCHITECTURE: the rules are in the order of the crates")
 
 
 def sections():
@@ -144,8 +222,8 @@ def each_law_stands_in_the_ledger():
 
 def is_defined(crate, file, name):
     path = os.path.join(TOP, "crates", crate, "specs", file + ".antt")
-    return os.path.exists(path) and re.search(r"^ *(?:(?:abbrev|record|data|unfoldable) )*pub (?:(?:abbrev|record|data|unfoldable) )*%s\b" % name,
-                                              text_of(path), re.M) is not None
+    kinds = r"(?:(?:abbrev|record|data|unfoldable) )*"
+    return os.path.exists(path) and re.search(r"^ *%spub %s%s\b" % (kinds, kinds, name), text_of(path), re.M) is not None
 
 
 def expect_defined(crate, file, name):
@@ -170,15 +248,15 @@ def rows_of_requests(name):
     return re.search(r"^\| Request .*\n\|.*\n((?:\|.*\n)+)", text_of(name), re.M)[1].splitlines()
 
 
-def served_requests():
-    """The names of the requests that the session serves."""
-    modules = re.findall(r"protocol::(\w+)::NAME", text_of("crates/session/src/requests.rt"))
+def known_requests():
+    """The names of the requests that the protocol's reader knows."""
+    modules = re.findall(r"^ +Command::\w+(?:\(_\))? => (\w+)::NAME,$", text_of("crates/protocol/src/command.rt"), re.M)
     return {re.search(r'NAME: &str = "(\w+)"', text_of("crates/protocol/src/%s.rt" % module))[1] for module in modules}
 
 
 def each_request_has_a_row():
-    requests = served_requests()
-    expect(len(requests) > 10, True, "requests are served")
+    requests = known_requests()
+    expect(len(requests) > 10, True, "requests are known")
     for name in ("docs/DEFINITIONS.md", "docs/PROTOCOL.md"):
         named = {span for row in rows_of_requests(name) if row.startswith("| `") for span in SPAN.findall(row.split("|")[1])}
         expect(sorted(named), sorted(requests), "%s: the requests" % name)
@@ -210,7 +288,11 @@ def checks():
     return [(check.__name__.replace("_", " "), check) for check in (
         links_lead_to_what_is_there,
         paths_that_are_named_are_there,
-        each_crate_stands_in_the_map_and_in_the_ledger,
+        crates_txt_has_each_crate,
+        the_map_has_the_crates_in_their_order,
+        the_ledger_has_the_crates_in_their_order,
+        the_picture_has_each_crate_above_those_it_stands_on,
+        each_rule_of_the_map_has_names_that_differ,
         each_clause_stands_in_the_ledger,
         each_law_stands_in_the_ledger,
         each_definition_of_the_ledger_is_in_its_file,
