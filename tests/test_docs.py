@@ -248,6 +248,40 @@ def rows_of_requests(name):
     return re.search(r"^\| Request .*\n\|.*\n((?:\|.*\n)+)", text_of(name), re.M)[1].splitlines()
 
 
+# Files that name a request for a reason of its own: a law or a proof of that request alone, what it does when it comes, or an example.
+OF_ONE_REQUEST = {
+    "answers/proofs/Frames.antt", "answers/proofs/Looks.antt", "answers/proofs/Settable.antt", "answers/proofs/Setting.antt",
+    "headline/specs/Known.antt", "protocol/specs/Laws.antt", "protocol/specs/Reading.antt", "range_laws/specs/Requests.antt",
+    "replies/specs/Messages.antt", "session/proofs/Runs.antt", "session/specs/Arrivals.antt", "session/src/pending.rt",
+    "test_transport/src/polling.rt",
+}
+
+
+def files_that_name_requests():
+    """The files of crates that name a command, or the body of its success, but for the rooms of that request."""
+    commands = re.findall(r"^ +Command::(\w+)(?:\(_\))? => (\w+)::NAME,$", text_of("crates/protocol/src/command.rt"), re.M)
+    found = set()
+    for path in [path for part in PARTS for path in glob.glob(os.path.join(TOP, "crates", "*", part, "**", "*.*"), recursive=True)]:
+        path = os.path.relpath(path, os.path.join(TOP, "crates"))
+        text = re.sub(r"(//|--).*", "", text_of("crates", path))
+        imported = " ".join(re.findall(r"\.(?:Command|ResponseBody)\.TheVariants\.\{(.*?)\}", text))
+        named = set(re.findall(r"\b(?:Command::|ResponseBody::|command\.|body\.)(\w+)", text)) | set(re.findall(r"\w+", imported))
+        rooms = {part.rstrip("_") for part in re.split(r"[/.]", path)}
+        if any(name in named and not {name, module.rstrip("_")} & rooms for name, module in commands):
+            found.add(path)
+    return found
+
+
+def what_a_request_needs_lists_each_file_that_names_one():
+    listed = set()
+    for item in re.split(r"^\d+\. ", section_of("docs/ARCHITECTURE.md", "To add a request"), flags=re.M)[1:]:
+        crates = [span for span in SPAN.findall(item) if span in all_crates()][:2 if item.startswith("Players") else 1]
+        listed.update(crate + "/" + span for crate in crates for span in SPAN.findall(item) if span.split("/")[0] in PARTS)
+    named = files_that_name_requests()
+    expect(len(named) > 30, True, "files name requests")
+    expect(sorted(named - listed - OF_ONE_REQUEST), [], "ARCHITECTURE: files that name a request, and are not listed")
+
+
 def known_requests():
     """The names of the requests that the protocol's reader knows."""
     modules = re.findall(r"^ +Command::\w+(?:\(_\))? => (\w+)::NAME,$", text_of("crates/protocol/src/command.rt"), re.M)
@@ -296,6 +330,7 @@ def checks():
         each_clause_stands_in_the_ledger,
         each_law_stands_in_the_ledger,
         each_definition_of_the_ledger_is_in_its_file,
+        what_a_request_needs_lists_each_file_that_names_one,
         each_request_has_a_row,
         each_definition_of_a_request_is_in_its_file,
         each_row_that_is_named_is_there,
