@@ -3,7 +3,8 @@ use Rattle.std.proofs.Common.{◌≡◌, ℕ, ◌+◌, ◌-◌, ◌≤◌, Bool,
 use Rattle.replies.specs.declared.message.Message.{Message}
 use Rattle.std.specs.Prelude.{OnOk}
 use Rattle.std.specs.declared.alloc.AllocError.{AllocError}
-use Rattle.session.proofs.Joined.{Still, at_end, at_once, each_ends, slices_join}
+use Rattle.session.proofs.Enough.{each_ends}
+use Rattle.session.proofs.Joined.{Still, at_end, at_once, histories_follow, slices_join}
 use Rattle.session.specs.Acts.{Now}
 use Rattle.session.specs.Effects.{EndsWell, Slicing, ended_as, enough, ran_out_at, slice_answer, sliced}
 use Rattle.session.specs.Kept.{Happens, Kept, Stands, answered}
@@ -144,7 +145,7 @@ RestsBy ending.NoMemory s = Still s
 rests_by : (n : ℕ) (s : Session) (e : Ending) → ended_as (sliced histories n s).ending ≡ e → RestsBy e (Effect s (Slice n))
 rests_by n s e is = by e (there.1 ∙ ap (λ (x : Ending). Some x) (sym (ap ended_as there.1) ∙ is)) where
   there : (x : Ending) × ((sliced histories n s).ending ≡ Some x)
-  there = each_ends n s
+  there = each_ends histories histories_follow n s
 
   by : (e : Ending) → (sliced histories n s).ending ≡ Some e → RestsBy e (Effect s (Slice n))
   by ending.Spent is = ((at_end n (enough n) s).spent is).1
