@@ -46,13 +46,13 @@ const AFTER_HELP_OF_ASM: &str = "\
     \n  OutOfRange          a number is too large or too small for its place\
     \nPass 2, each line at its address:\
     \n  TwiceDefined        an earlier label has this name: rename one of them\
-    \n  OutOfRange          an instruction is not at a multiple of 4: put `.align 2`\
-    \n                      after the data before it\
+    \n  OutOfRange          an instruction or _start is not at a multiple of 4: put\
+    \n                      `.align 2` after the data before it\
     \n  TooLarge            memory (1 MiB) ends before this line: look at `.space`\
     \nPass 3, each line with its labels:\
     \n  Undefined           no line defines this label: look at its spelling\
-    \n  OutOfRange          a branch or a jump does not reach its target: look at how\
-    \n                      far it is\
+    \n  OutOfRange          a branch or a jump does not reach its target, or that is\
+    \n                      an odd address: look at how far it is\
     \n\
     \n`cannot read` in place of an error: FILE is not there, is not a file, or is too\
     \nlong. docs/MACHINE.md has the language, and examples of each error.";

@@ -1,9 +1,9 @@
 -- How the program ends: its status, and its line on standard error.
-pub mod Endings
+pub mod ExitReasons
 -- what it begins with
 pub mod Beginnings
 -- the editors that it serves
-pub mod Visitors
+pub mod Editors
 -- ---- of `transport`
 -- the rounds in which an editor is served
 pub use Rattle.transport.specs.Drives

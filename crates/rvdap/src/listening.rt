@@ -1,8 +1,8 @@
 //! Editors that connect over TCP.
 
 use crate::disk::Disk;
-use crate::ending::Ending;
-use crate::visitors::{Visitors, serve_visitors};
+use crate::editors::{Editors, serve_accepted};
+use crate::exit_reason::ExitReason;
 use connections::TcpDoor;
 use session::Session;
 use std::io;
@@ -14,23 +14,23 @@ pub(crate) fn listen(
     rt: &HostRuntime,
     session: &mut Session,
     address: &str,
-    visitors: Visitors,
-) -> Ending {
+    editors: Editors,
+) -> ExitReason {
     let mut door = match open(rt, address) {
         Ok(door) => door,
         Err(error) => return closed(&error),
     };
     let _ = eprintln!(rt; "listening on {address}");
-    serve_visitors(rt.alloc(), session, &mut door, &Disk::new(rt), visitors)
+    serve_accepted(rt.alloc(), session, &mut door, &Disk::new(rt), editors)
 }
 
 fn open(rt: &HostRuntime, address: &str) -> io::Result<TcpDoor> {
     TcpDoor::new(TcpListener::bind(rt, address)?)
 }
 
-fn closed(error: &io::Error) -> Ending {
+fn closed(error: &io::Error) -> ExitReason {
     match error.kind() {
-        io::ErrorKind::OutOfMemory => Ending::NoMemory,
-        _ => Ending::ReadOrWriteFault,
+        io::ErrorKind::OutOfMemory => ExitReason::NoMemory,
+        _ => ExitReason::ReadOrWriteFault,
     }
 }

@@ -5,11 +5,11 @@
 mod arguments;
 mod asm;
 mod disk;
-mod ending;
+mod editors;
+mod exit_reason;
 mod listening;
 mod memory;
 mod serving;
-mod visitors;
 mod watch;
 
 ghost use Rattle.options.specs.Memory.{IsOffered};
@@ -18,7 +18,8 @@ use arguments::{Unasked, options_of};
 use asm::{AsmFault, list_file};
 use connections::StreamWire;
 use disk::Disk;
-use ending::Ending;
+use editors::Editors;
+use exit_reason::ExitReason;
 use listening::listen;
 use listing::ListFault;
 use memory::MemorySize;
@@ -29,7 +30,6 @@ use session::{Bytes, Session};
 use std::fmt::Display;
 use std::process::ExitCode;
 use transport::{FileFault, Files};
-use visitors::Visitors;
 use watch::{WatchFault, play_file};
 use watch_command::ScriptFault;
 
@@ -39,7 +39,7 @@ fn main(rt: HostRuntime) -> ExitCode {
     match options_of(&rt) {
         Ok(options) => run(&rt, &options),
         Err(Unasked::Printed(status)) => ExitCode::from(status),
-        Err(Unasked::NoMemory) => end(&rt, Ending::NoMemory),
+        Err(Unasked::NoMemory) => end(&rt, ExitReason::NoMemory),
     }
 }
 
@@ -62,7 +62,7 @@ fn serve(rt: &HostRuntime, options: &Options) -> ExitCode
         Some(file) => match program_in(rt, file.as_str()) {
             Ok(program) => serve_with(rt, options, Some(program), file.as_str()),
             Err(FileFault::Unreadable) => fail_at(rt, file.as_str(), "cannot read"),
-            Err(FileFault::NoMemory) => end(rt, Ending::NoMemory),
+            Err(FileFault::NoMemory) => end(rt, ExitReason::NoMemory),
         },
     }
 }
@@ -85,19 +85,19 @@ fn serve_with(
     match new_session(rt.alloc(), MemorySize::of(options.memory), program) {
         Ok(mut session) => end(rt, serve_editors(rt, options, &mut session)),
         Err(NoSession::Assembly(error)) => fail_at(rt, file, error),
-        Err(NoSession::NoMemory) => end(rt, Ending::NoMemory),
+        Err(NoSession::NoMemory) => end(rt, ExitReason::NoMemory),
     }
 }
 
-fn serve_editors(rt: &HostRuntime, options: &Options, session: &mut Session) -> Ending {
+fn serve_editors(rt: &HostRuntime, options: &Options, session: &mut Session) -> ExitReason {
     match &options.listen {
         None => serve_streams(rt, session),
-        Some(address) if options.once => listen(rt, session, address.as_str(), Visitors::One),
-        Some(address) => listen(rt, session, address.as_str(), Visitors::All),
+        Some(address) if options.once => listen(rt, session, address.as_str(), Editors::One),
+        Some(address) => listen(rt, session, address.as_str(), Editors::All),
     }
 }
 
-fn serve_streams(rt: &HostRuntime, session: &mut Session) -> Ending {
+fn serve_streams(rt: &HostRuntime, session: &mut Session) -> ExitReason {
     let mut wire = StreamWire::new(rt.stdin(), rt.stdout());
     serve_one(rt.alloc(), session, &mut wire, &Disk::new(rt))
 }
@@ -107,8 +107,8 @@ fn list(rt: &HostRuntime, file: &str) -> ExitCode {
         Ok(()) => ExitCode::SUCCESS,
         Err(AsmFault::Unreadable) => fail_at(rt, file, "cannot read"),
         Err(AsmFault::Unlisted(ListFault::Assembly(error))) => fail_at(rt, file, error),
-        Err(AsmFault::Unlisted(ListFault::Write)) => end(rt, Ending::ReadOrWriteFault),
-        Err(AsmFault::Unlisted(ListFault::NoMemory)) => end(rt, Ending::NoMemory),
+        Err(AsmFault::Unlisted(ListFault::Write)) => end(rt, ExitReason::ReadOrWriteFault),
+        Err(AsmFault::Unlisted(ListFault::NoMemory)) => end(rt, ExitReason::NoMemory),
     }
 }
 
@@ -116,19 +116,19 @@ fn show(rt: &HostRuntime, script: &str) -> ExitCode {
     match play_file(rt, script) {
         Ok(()) => ExitCode::SUCCESS,
         Err(WatchFault::Unreadable) => fail_at(rt, script, "cannot read"),
-        Err(WatchFault::Unplayed(ScriptFault::Write)) => end(rt, Ending::ReadOrWriteFault),
-        Err(WatchFault::Unplayed(ScriptFault::NoMemory)) => end(rt, Ending::NoMemory),
+        Err(WatchFault::Unplayed(ScriptFault::Write)) => end(rt, ExitReason::ReadOrWriteFault),
+        Err(WatchFault::Unplayed(ScriptFault::NoMemory)) => end(rt, ExitReason::NoMemory),
         Err(WatchFault::Unplayed(fault)) => fail_at(rt, script, fault),
     }
 }
 
 // The line on standard error, if there is one, and the status. Where the line can't be written, the
 // status still says it.
-fn end(rt: &impl Eprint, ending: Ending) -> ExitCode {
-    if let Some(reason) = ending.reason() {
+fn end(rt: &impl Eprint, why: ExitReason) -> ExitCode {
+    if let Some(reason) = why.reason() {
         let _ = eprintln!(rt; "rvdap: {reason}");
     }
-    ExitCode::from(ending.status())
+    ExitCode::from(why.status())
 }
 
 // The line on standard error that a file is wrong, and the status.

@@ -1,9 +1,9 @@
 //! Editors over wires.
 ghost use Rattle.session.specs.Kept.{OfEach};
 ghost use Rattle.rvdap.specs.Beginnings.{Makes};
-ghost use Rattle.rvdap.specs.Visitors.{IsServed};
+ghost use Rattle.rvdap.specs.Editors.{IsServed};
 
-use crate::ending::Ending;
+use crate::exit_reason::ExitReason;
 use crate::memory::MemorySize;
 use assembler::AsmError;
 use protocol::Text;
@@ -50,10 +50,10 @@ pub(crate) fn serve_one<W: Wire, F: Files>(
     session: &mut Session,
     wire: &mut W,
     files: &F,
-) -> Ending
+) -> ExitReason
     ensures { OfEach session.old (λ s. IsServed (F.known files.now) (W.line wire.old) (W.line wire.new) s session.new result) }
 {
     let _ = session.connect();
     let end = drive(alloc, session, wire, files, TURNS);
-    Ending::of(end, session.link_fault())
+    ExitReason::of(end, session.link_fault())
 }

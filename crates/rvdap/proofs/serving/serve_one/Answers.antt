@@ -1,7 +1,7 @@
 use Rattle.std.proofs.Common.{ap, ◌∙◌}
 use Rattle.session.specs.declared.event.Event.TheVariants.{Connect}
 use Rattle.session.specs.Sessions.{Effect}
-use Rattle.rvdap.specs.Endings.{ending_of}
+use Rattle.rvdap.specs.ExitReasons.{exit_reason_of}
 use Rattle.rvdap.proofs.Connecting.{connected}
 use Rattle.rvdap.proofs.serving.serve_one.Goals as goal
 
@@ -9,5 +9,5 @@ pub returns : goal.returns
 returns g c s st = record {
   end = c.drive-end.result;
   driven = c.drive-end.ensures (Effect s Connect) (connected c.args.session.now c.connect.new.self c.connect.result c.connect.ensures.takes_none c.connect.ensures.stands s st);
-  is_ending = c.of.ensures ∙ ap (ending_of c.drive-end.result) c.link_fault.ensures.now;
+  is_ending = c.of.ensures ∙ ap (exit_reason_of c.drive-end.result) c.link_fault.ensures.now;
 }

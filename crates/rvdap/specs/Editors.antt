@@ -9,21 +9,21 @@ use Rattle.transport.specs.Rounds.{KnownFiles}
 use Rattle.transport.specs.Serving.{Served}
 use Rattle.wires.specs.Doors.{Doorway, IsEmpty, Opened}
 use Rattle.wires.specs.Wires.{Line, one_more}
-use Rattle.rvdap.specs.declared.ending.Ending.{Ending}
-use Rattle.rvdap.specs.declared.ending.Ending.TheVariants.{Success, ReadOrWriteFault}
-use Rattle.rvdap.specs.declared.visitors.Visitors.{Visitors}
-use Rattle.rvdap.specs.declared.visitors.Visitors.TheVariants.{One, All}
-use Rattle.rvdap.specs.Endings.{ending_of}
+use Rattle.rvdap.specs.declared.exit_reason.ExitReason.{ExitReason}
+use Rattle.rvdap.specs.declared.exit_reason.ExitReason.TheVariants.{Success, ReadOrWriteFault}
+use Rattle.rvdap.specs.declared.editors.Editors.{Editors}
+use Rattle.rvdap.specs.declared.editors.Editors.TheVariants.{One, All}
+use Rattle.rvdap.specs.ExitReasons.{exit_reason_of}
 
 -- how many turns the program grants
 abbrev pub turns_granted : ℕ
 turns_granted = 18446744073709551615
 
 -- An editor is connected, and driven over its wire; the program ends as that does, and by what closed the connection.
-pub record IsServed (known : KnownFiles) (old new : Line) (s : Session) (kept : Kept) (ending : Ending) : Type 0 where
+pub record IsServed (known : KnownFiles) (old new : Line) (s : Session) (kept : Kept) (ending : ExitReason) : Type 0 where
   pub end : DriveEnd
   pub driven : Driven known old new turns_granted (Effect s Connect) kept end
-  pub is_ending : ending ≡ ending_of end kept.now.fault
+  pub is_ending : ending ≡ exit_reason_of end kept.now.fault
 
 -- ---- the first connection that is accepted, and no other
 
@@ -47,24 +47,24 @@ failed_at DoorFailed count = one_more count
 failed_at _ count = count
 
 -- what is done by how waiting ended, where the door has these wires left to accept: an editor is served if its wire was accepted
-abbrev pub IsFirst : KnownFiles → First → Option (List Line) → Session → Kept → Ending → Type 0
+abbrev pub IsFirst : KnownFiles → First → Option (List Line) → Session → Kept → ExitReason → Type 0
 IsFirst known DoorClosed wires s kept ending = IsEmpty wires × Stands kept s × (ending ≡ Success)
 IsFirst known DoorFailed wires s kept ending = Stands kept s × (ending ≡ ReadOrWriteFault)
 IsFirst known (Connection old new) wires s kept ending = IsServed known old new s kept ending
 
-pub record ServesFirst (known : KnownFiles) (old new : Doorway) (s : Session) (kept : Kept) (ending : Ending) : Type 0 where
+pub record ServesFirst (known : KnownFiles) (old new : Doorway) (s : Session) (kept : Kept) (ending : ExitReason) : Type 0 where
   pub first : First
   pub opened : Opened old new (lines_of first) (failed_at first old.faults) old.idle
   pub is_first : IsFirst known first new.wires s kept ending
 
 -- ---- all connections that are accepted
 
-pub record ServesAll (known : KnownFiles) (old new : Doorway) (s : Session) (kept : Kept) (ending : Ending) : Type 0 where
+pub record ServesAll (known : KnownFiles) (old new : Doorway) (s : Session) (kept : Kept) (ending : ExitReason) : Type 0 where
   pub end : DriveEnd
   pub served : Served known old new turns_granted s kept end
-  pub is_ending : ending ≡ ending_of end None
+  pub is_ending : ending ≡ exit_reason_of end None
 
 -- the first one or all, as is asked for
-abbrev pub Serves : Visitors → KnownFiles → Doorway → Doorway → Session → Kept → Ending → Type 0
+abbrev pub Serves : Editors → KnownFiles → Doorway → Doorway → Session → Kept → ExitReason → Type 0
 Serves One known old new s kept ending = ServesFirst known old new s kept ending
 Serves All known old new s kept ending = ServesAll known old new s kept ending

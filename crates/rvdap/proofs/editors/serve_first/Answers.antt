@@ -1,5 +1,5 @@
-use Rattle.rvdap.specs.Visitors.{Connection}
-use Rattle.rvdap.proofs.visitors.serve_first.Goals as goal
+use Rattle.rvdap.specs.Editors.{Connection}
+use Rattle.rvdap.proofs.editors.serve_first.Goals as goal
 
 pub returns-in-Ok-Some : goal.returns-in-Ok-Some
 returns-in-Ok-Some g c s st = record {

@@ -1,13 +1,13 @@
 //! How the program ends: its status, and its line on standard error.
 ghost use Rattle.std.specs.Prelude.{◌≡◌, option_map};
-ghost use Rattle.rvdap.specs.Endings as spec;
+ghost use Rattle.rvdap.specs.ExitReasons as spec;
 
 use session::LinkFault;
 use transport::DriveEnd;
 
 /// How the program ends.
 #[derive(Clone, Copy, Debug, PartialEq, Eq)]
-pub enum Ending {
+pub enum ExitReason {
     /// All was said, or the input ended; or a listing was written.
     Success,
     /// What came is no message of the protocol.
@@ -18,18 +18,18 @@ pub enum Ending {
     NoMemory,
 }
 
-impl Ending {
-    /// The ending for how driving or serving ended, and what closed the connection.
-    pub(crate) fn of(end: DriveEnd, fault: Option<LinkFault>) -> Ending
-        ensures { result ≡ spec.ending_of end fault }
+impl ExitReason {
+    /// The reason, for how driving or serving ended and what closed the connection.
+    pub(crate) fn of(end: DriveEnd, fault: Option<LinkFault>) -> ExitReason
+        ensures { result ≡ spec.exit_reason_of end fault }
     {
         match end {
             DriveEnd::Closed => match fault {
-                Some(_) => Ending::BadMessage,
-                None => Ending::Success,
+                Some(_) => ExitReason::BadMessage,
+                None => ExitReason::Success,
             },
-            DriveEnd::Fault | DriveEnd::Turns => Ending::ReadOrWriteFault,
-            DriveEnd::NoMemory => Ending::NoMemory,
+            DriveEnd::Fault | DriveEnd::Turns => ExitReason::ReadOrWriteFault,
+            DriveEnd::NoMemory => ExitReason::NoMemory,
         }
     }
 
@@ -38,8 +38,8 @@ impl Ending {
         ensures { result ≡ spec.status_of self }
     {
         match self {
-            Ending::Success => 0,
-            Ending::BadMessage | Ending::ReadOrWriteFault | Ending::NoMemory => 1,
+            ExitReason::Success => 0,
+            ExitReason::BadMessage | ExitReason::ReadOrWriteFault | ExitReason::NoMemory => 1,
         }
     }
 
@@ -48,10 +48,10 @@ impl Ending {
         ensures { option_map (λ text. text.now) result ≡ spec.reason_of self }
     {
         match self {
-            Ending::Success => None,
-            Ending::BadMessage => Some("bad message"),
-            Ending::ReadOrWriteFault => Some("read or write fault"),
-            Ending::NoMemory => Some("no memory"),
+            ExitReason::Success => None,
+            ExitReason::BadMessage => Some("bad message"),
+            ExitReason::ReadOrWriteFault => Some("read or write fault"),
+            ExitReason::NoMemory => Some("no memory"),
         }
     }
 }
