@@ -1,5 +1,5 @@
 -- All events are done, and what is watched then.
-use Rattle.std.proofs.Common.{◌≡◌, ℕ, zero, suc, leb, ◌+◌, ◌<◌, ◌≤◌, Bool, true, false, List, [], ◌∷◌, ◌++◌, map, length, take, get_or, Option, Some, None, option_map, Result, Ok, refl, sym, ap, ◌∙◌, subst, arith}
+use Rattle.std.proofs.Common.{Err, ◌≡◌, ℕ, zero, suc, leb, ◌+◌, ◌<◌, ◌≤◌, Bool, true, false, List, [], ◌∷◌, ◌++◌, map, length, take, get_or, Option, Some, None, option_map, Result, Ok, refl, sym, ap, ◌∙◌, subst, arith}
 use Rattle.std.specs.Prelude.{◌&&◌}
 use Rattle.std.proofs.lemmas.Bool.{and_parts}
 use Rattle.std.proofs.lemmas.Bool.Decides.{nat_tests}
@@ -29,8 +29,11 @@ use Rattle.headline.proofs.Truth.{headline}
 use Rattle.headline.specs.Headline.{WasSo, known_after, last_seen, remembered, told_within}
 use Rattle.headline.specs.Holding.{Holds}
 use Rattle.headline.specs.Mirrors.{inputs, requests_in}
-use Rattle.watch_events.specs.Replaying.{Begun, HoldsOf, IsMade, IsTold, IsWatched, queued_for, requests_of}
+use Rattle.watch_events.specs.Replaying.{Begun, HoldsOf, IsMade, IsTold, IsWatched, queued_for, requests_of, Shows, Watches}
 use Rattle.watch_events.specs.Tracking.{Keeps, SameWatched, Tracked, Tracks, is_made, untouched}
+use Rattle.watch_events.specs.declared.watching.WatchError.{WatchError}
+use Rattle.watch_events.specs.declared.watching.WatchError.TheVariants as watch
+use Rattle.watch_events.specs.declared.watching.Watched.{Watched}
 
 -- ---- events after events
 
@@ -199,3 +202,14 @@ is_too_long c limits events connection count t h made long = record {
 pub is_queued : (c : Config) (limits : Limits) (events : List Event) (connection count : ℕ) (t : Tracked) → AllTracked c limits events connection count t → is_made t ≡ true
     → Begun c limits (λ from. IsMade (After from events) connection × (length t.queued ≡ queued_for connection (After from events)))
 is_queued c limits events connection count t h made = record { right = h.0.right; image = h.0.image; so = made_of (the_beginning c limits h.0.right h.0.image) events connection t h.0.so h.1 made }
+
+-- what is shown of the connection that was watched is what is to be watched of the events
+pub shows_watched : (c : Config) (limits : Limits) (events : List Event) (connection count : ℕ) (t : Tracked) (result : Result Watched WatchError) → AllTracked c limits events connection count t → Shows t count result
+    → Watches c limits events connection count result
+shows_watched c limits events connection count t (Ok watched) h shows =
+    subst (λ (seen : Option (Option Captured)). Begun c limits (λ from. IsWatched (After from events) connection count (record { mirror = watched.mirror; snapshot = seen }))) (sym shows.1.1.1)
+    (is_watched c limits events connection count t watched.mirror h shows.0 shows.1.0 shows.1.1.0)
+shows_watched c limits events connection count t (Err watch.NoSuchConnection) h shows = not_made c limits events connection count t h shows
+shows_watched c limits events connection count t (Err watch.CutTooLong) h shows = is_too_long c limits events connection count t h shows.0 shows.1
+shows_watched c limits events connection count t (Err watch.NoMemory) h shows = h.0.right
+shows_watched c limits events connection count t (Err (watch.Config error)) h shows = absurd shows

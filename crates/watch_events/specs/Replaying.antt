@@ -3,7 +3,7 @@
 -- A mirror is told all requests that were accepted on it, and is fed the first bytes that were queued for it, so many of them. It then
 -- knows what the headline says, and that was so when the last message was queued that lies wholly in these bytes. What there was to see
 -- then stands beside it; where no message is whole, there is neither.
-use Rattle.std.specs.Prelude.{◌≡◌, ℕ, Bool, true, false, ◌<◌, ◌≤◌, List, [], ◌∷◌, ◌++◌, map, length, Option, Some, None, option_map, Result, Ok, Err}
+use Rattle.std.specs.Prelude.{◌≡◌, ℕ, Bool, true, false, ◌<◌, ◌≤◌, List, [], ◌∷◌, ◌++◌, map, length, Option, Some, None, option_map, Result, Ok, Err, take, ⊤}
 use Rattle.facts.specs.Facts.{Facts, nothing_known}
 use Rattle.framing.specs.Reading.{reading_of}
 use Rattle.mirror.specs.Kept.{Kept, facts_of}
@@ -27,7 +27,7 @@ use Rattle.session.specs.declared.limits.Limits.{Limits}
 use Rattle.headline.specs.Headline.{known_after, last_seen, remembered, told_within}
 use Rattle.headline.specs.Holding.{Holds}
 use Rattle.headline.specs.Mirrors.{requests_in}
-use Rattle.watch_events.specs.Tracking.{Tracked, Tracks}
+use Rattle.watch_events.specs.Tracking.{Tracked, Tracks, is_made}
 use Rattle.watch_events.specs.declared.watching.WatchError.{WatchError}
 use Rattle.watch_events.specs.declared.watching.WatchError.TheVariants as watch
 use Rattle.watch_events.specs.declared.watching.Watched.{Watched}
@@ -127,3 +127,12 @@ TellsBody (Err why) is_message old new = (is_message ≡ false) × (new ≡ old)
 pub record IsTold (accepted got : List ℕ) (mirror : Kept) : Type 0 where
   pub stands : StandsFor mirror (after (map Sent (requests_of accepted) ++ Fed got ∷ []))
   pub readable : stream_fault got ≡ None
+
+-- what is shown of the connection that was watched, or why nothing is
+abbrev pub Shows : Tracked → ℕ → Result Watched WatchError → Type 0
+Shows t count (Ok watched) = (is_made t ≡ true) × ((count ≤ length t.queued)
+    × (IsTold t.accepted (take count t.queued) watched.mirror × (watched.snapshot ≡ t.snapshot)))
+Shows t count (Err watch.NoSuchConnection) = is_made t ≡ false
+Shows t count (Err watch.CutTooLong) = (is_made t ≡ true) × (length t.queued < count)
+Shows t count (Err watch.NoMemory) = ⊤
+Shows t count (Err (watch.Config error)) = ⊥

@@ -3,7 +3,7 @@ ghost use Rattle.std.specs.Prelude.{◌≡◌, IfOk, OnOk};
 ghost use Rattle.framing.specs.Reading.{reading_of};
 ghost use Rattle.protocol.specs.Reading.{incoming_of};
 ghost use Rattle.watch_events.specs.Replaying as spec;
-ghost use Rattle.watch_events.specs.Replaying.{IsTold, Queues, Runs, TellsAll, TellsBody, TellsOne, Watches};
+ghost use Rattle.watch_events.specs.Replaying.{IsTold, Queues, Runs, Shows, TellsAll, TellsBody, TellsOne, Watches};
 
 use crate::track::Track;
 use framing::{FrameError, Unframer};
@@ -60,6 +60,13 @@ pub fn watch(
     ensures { Watches config limits events.now connection count result }
 {
     let track = replayed(alloc, config, limits, events, connection, count)?;
+    shown(alloc, track, count)
+}
+
+// What an editor knows by the first bytes of the connection that was watched, `count` of them.
+fn shown(alloc: Global, track: Track, count: usize) -> Result<Watched, WatchError>
+    ensures { Shows track count result }
+{
     if !track.is_made() {
         return Err(WatchError::NoSuchConnection);
     }
