@@ -265,8 +265,8 @@ def files_that_name_requests():
         path = os.path.relpath(path, os.path.join(TOP, "crates"))
         text = re.sub(r"(//|--).*", "", text_of("crates", path))
         imported = " ".join(re.findall(r"\.(?:Command|ResponseBody)\.TheVariants\.\{(.*?)\}", text))
-        named = set(re.findall(r"\b(?:Command::|ResponseBody::|command\.|body\.)(\w+)", text)) | set(re.findall(r"\w+", imported))
-        rooms = {part.rstrip("_") for part in re.split(r"[/.]", path)}
+        named = set(re.findall(r"\b(?:Command::|ResponseBody::|command\.|body\.|kind\.)(\w+)", text)) | set(re.findall(r"\w+", imported))
+        rooms = {part.removeprefix("Lawful").rstrip("_") for part in re.split(r"[/.]", path)}
         if any(name in named and not {name, module.rstrip("_")} & rooms for name, module in commands):
             found.add(path)
     return found
@@ -298,7 +298,7 @@ def each_request_has_a_row():
 
 def each_definition_of_a_request_is_in_its_file():
     for row in rows_of_requests("docs/DEFINITIONS.md"):
-        for crate, cell in zip(("protocol", "session", "replies"), row.split("|")[2:]):
+        for crate, cell in zip(("protocol", "handlers", "replies"), row.split("|")[2:]):
             for file, name in re.findall(r"`(\w+)\.(\w+)`", cell):
                 expect_defined(crate, file, name)
 

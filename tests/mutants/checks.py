@@ -8,6 +8,8 @@ KIT = os.path.dirname(os.path.dirname(os.path.realpath(shutil.which("rt") or "rt
 PARTS = ("src", "specs", "proofs")
 VERDICT = re.compile(r"fn (\S+): (.*)")
 OPEN = re.compile(r"note: src/\S+:\d+:\d+: it is not proved .*\(`(\S+)`\)")
+# What `search` broke off has no note of its own.
+UNPROVED = re.compile(r"`search` did not prove ((?:`[^`]+`(?:, | and )?)+)")
 WAITS = re.compile(r"note: `search` has not tried the goals of `(\S+)`, which wait for a callee's proof")
 ERROR = re.compile(r"(?:\./)?((?:src|specs|proofs)/\S+?):(\d+):\d+: error(?:\[\S+\])?: (?:`([^`]*)`: )?(.*)")
 # What is said of an answer for a goal that is gone; and of one that names something else that is, or rests on a refused one.
@@ -84,7 +86,8 @@ class Report:
             if verdict:
                 name = plain(verdict[1][len(crate) + 2:])
                 self.verdicts[name] = verdict[2]
-                self.open.setdefault(name, []).extend(goals)
+                unproved = UNPROVED.search(verdict[2])
+                self.open.setdefault(name, []).extend(goals or re.findall("`([^`]+)`", unproved[1] if unproved else ""))
                 goals = []
             elif goal:
                 goals.append(goal[1])

@@ -12,7 +12,8 @@ use Rattle.answers.specs.Disassemble.{entries_from, entry}
 use Rattle.answers.specs.Laws.{BytesAreRead, EntriesHaveTheirPlaces, IsRead, TextsAreDisassemblies}
 use Rattle.protocol.specs.declared.refusal.Refusal.TheVariants.{OutsideMemory, TooMuch}
 use Rattle.answers.specs.ReadMemory.{bytes_from, can_begin, read, start_at, start_by}
-use Rattle.answers.specs.References.{offset_by, reference_of}
+use Rattle.numerals.specs.MemoryReferences.{offset_by}
+use Rattle.numerals.specs.Words.{word_of}
 use Rattle.answers.specs.Texts.{text_at, text_at-is}
 use Rattle.answers.proofs.MemoryBytes.{begins_inside, byte_there}
 use Rattle.answers.proofs.Proper.{offset_small}
@@ -110,4 +111,4 @@ by_reference memory arguments (Some reference) body few e =
     ] in go e
 
 pub bytes_are_read : BytesAreRead
-bytes_are_read memory arguments body few e = by_reference memory arguments (reference_of arguments.memory_reference) body few e
+bytes_are_read memory arguments body few e = by_reference memory arguments (word_of arguments.memory_reference) body few e

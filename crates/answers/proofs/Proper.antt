@@ -14,10 +14,11 @@ use Rattle.replies.specs.SetInstructionBreakpoints.{instruction_breakpoint}
 use Rattle.replies.specs.declared.response.ResponseBody.{ResponseBody}
 use Rattle.answers.specs.Breakpoints.{Answer, entries_of, followed_by, list_of, next_after}
 use Rattle.answers.specs.Laws.{AnswersAreProper, IsNarrow, NumbersFit}
-use Rattle.answers.specs.References.{address_in, address_of, offset_by, reference_of}
+use Rattle.numerals.specs.MemoryReferences.{address_in, address_of, offset_by}
+use Rattle.numerals.specs.Words.{word_of}
 use Rattle.answers.specs.SetBreakpoints as source
 use Rattle.answers.specs.SetInstructionBreakpoints as instruction
-use Rattle.answers.specs.Terms.{Terms, terms_of}
+use Rattle.answers.specs.Conditions.{Conditions, conditions_of}
 use Rattle.answers.specs.declared.problem.Problem.{Problem}
 use Rattle.answers.specs.declared.problem.Problem.TheVariants.{UnknownSource}
 use Rattle.answers.specs.declared.view.View.{View}
@@ -58,14 +59,14 @@ bound p (row ∷ rows) found lines places e =
     here : (made found : ℕ × ℕ) → made.0 < 4294967296 → made.1 < 4294967296 → Some made ≡ Some found → (found.1 < 4294967296) × (found.0 < 4294967296)
     here made found a b f = let same : made ≡ found = cc in (subst (λ (x : ℕ × ℕ). x.1 < 4294967296) same b, subst (λ (x : ℕ × ℕ). x.0 < 4294967296) same a)
 
-found_there : (terms : Result Terms Problem) (found : Option (ℕ × ℕ)) (place : source.Place) → source.placed terms found ≡ Ok place → found ≡ Some (place.line, place.address)
+found_there : (conditions : Result Conditions Problem) (found : Option (ℕ × ℕ)) (place : source.Place) → source.placed conditions found ≡ Ok place → found ≡ Some (place.line, place.address)
 found_there (Err problem) found place e = cc
-found_there (Ok terms) None place e = cc
-found_there (Ok terms) (Some found) place e = ap (λ (x : source.Place). Some (x.line, x.address)) (one_value (Ok (record { line = found.0; address = found.1; terms = terms })) (record { line = found.0; address = found.1; terms = terms }) place refl e)
+found_there (Ok conditions) None place e = cc
+found_there (Ok conditions) (Some found) place e = ap (λ (x : source.Place). Some (x.line, x.address)) (one_value (Ok (record { line = found.0; address = found.1; conditions = conditions })) (record { line = found.0; address = found.1; conditions = conditions }) place refl e)
 
 source_narrow : (own : Bool) (table : Table) (base : ℕ) → IsNarrow table → (one : SourceBreakpoint) (place : source.Place) → source.judged own table base one ≡ Ok place → (place.address < 4294967296) × (place.line < 4294967296)
 source_narrow true table base narrow one place e =
-    bound _ table.rows (place.line, place.address) narrow.lines narrow.places (found_there (terms_of one.condition one.hit_condition) (bind table (source.line_in_image base one.line)) place e)
+    bound _ table.rows (place.line, place.address) narrow.lines narrow.places (found_there (conditions_of one.condition one.hit_condition) (bind table (source.line_in_image base one.line)) place e)
 source_narrow false table base narrow one place e = cc
 
 -- ---- entries of instructions
@@ -107,15 +108,15 @@ kept_small size (Some m) n e =
     let go : P (instruction.is_instructions size m) = elim (instruction.is_instructions size m) as P [ true ↦ λ f. f | false ↦ λ f. cc ] in
     go e
 
-instruction_there : (terms : Result Terms Problem) (found : Option ℕ) (place : instruction.Place) → instruction.placed terms found ≡ Ok place → found ≡ Some place.address
+instruction_there : (conditions : Result Conditions Problem) (found : Option ℕ) (place : instruction.Place) → instruction.placed conditions found ≡ Ok place → found ≡ Some place.address
 instruction_there (Err problem) found place e = cc
-instruction_there (Ok terms) None place e = cc
-instruction_there (Ok terms) (Some found) place e = ap (λ (x : instruction.Place). Some x.address) (one_value (Ok (record { address = found; terms = terms })) (record { address = found; terms = terms }) place refl e)
+instruction_there (Ok conditions) None place e = cc
+instruction_there (Ok conditions) (Some found) place e = ap (λ (x : instruction.Place). Some x.address) (one_value (Ok (record { address = found; conditions = conditions })) (record { address = found; conditions = conditions }) place refl e)
 
 instruction_narrow : (size : ℕ) (one : InstructionBreakpoint) (place : instruction.Place) → instruction.judged size one ≡ Ok place → place.address < 4294967296
 instruction_narrow size one place e =
-    let there = instruction_there (terms_of one.condition one.hit_condition) (instruction.asked_address size one) place e in
-    offset_small one.offset (reference_of one.instruction_reference) place.address (kept_small size (address_in one.instruction_reference one.offset) place.address there)
+    let there = instruction_there (conditions_of one.condition one.hit_condition) (instruction.asked_address size one) place e in
+    offset_small one.offset (word_of one.instruction_reference) place.address (kept_small size (address_in one.instruction_reference one.offset) place.address there)
 
 -- ---- answers
 

@@ -19,7 +19,8 @@ use Rattle.replies.specs.declared.response.Outcome.TheVariants.{Done}
 use Rattle.answers.specs.Disassemble.{disassembled, entries_from, entry, entry_by, start_by as places_by, word_in, wrapped}
 use Rattle.answers.specs.Laws.{BytesAreProper, EntriesAreProper}
 use Rattle.answers.specs.ReadMemory.{bytes_from, can_begin, read, start_at, start_by}
-use Rattle.answers.specs.References.{address_of, offset_by, reference_of}
+use Rattle.numerals.specs.MemoryReferences.{address_of, offset_by}
+use Rattle.numerals.specs.Words.{word_of}
 use Rattle.answers.proofs.Proper.{offset_small}
 
 pub first_of : (x y : Bool) → (x && y) ≡ true → x ≡ true
@@ -80,7 +81,7 @@ read_proper memory count (Ok address) h small =
     )
 
 pub bytes_are_proper : BytesAreProper
-bytes_are_proper memory arguments h = read_proper memory arguments.count (start_by memory arguments (reference_of arguments.memory_reference)) h (by_reference memory arguments (reference_of arguments.memory_reference))
+bytes_are_proper memory arguments h = read_proper memory arguments.count (start_by memory arguments (word_of arguments.memory_reference)) h (by_reference memory arguments (word_of arguments.memory_reference))
 
 -- ---- entries
 
@@ -128,4 +129,4 @@ disassembled_proper memory count (Err refusal) h = tt
 disassembled_proper memory count (Ok place) h = (refl, both (list_all instruction.is_in (entries_from memory place count)) true (entries_proper memory place count h) refl)
 
 pub entries_are_proper : EntriesAreProper
-entries_are_proper memory arguments h = disassembled_proper memory arguments.instruction_count (places_by arguments (reference_of arguments.memory_reference)) h
+entries_are_proper memory arguments h = disassembled_proper memory arguments.instruction_count (places_by arguments (word_of arguments.memory_reference)) h

@@ -31,7 +31,7 @@ use Rattle.stepping.specs.Ticks.{Debugged}
 use Rattle.variables.specs.Numbers.{Numbers}
 use Rattle.variables.specs.Registers.{counter, name_answer, numbers as register_numbers, register, registers}
 use Rattle.variables.specs.Stack.{has_word, stack_words, word}
-use Rattle.variables.specs.Values.{if_signed, magnitude_by, negated, value_of}
+use Rattle.variables.specs.Values.{if_signed, negated, value_of}
 use Rattle.variables.specs.declared.target.Target.{Target}
 use Rattle.variables.specs.declared.target.Target.TheVariants.{Frame, Registers, Stack}
 use Rattle.answers.specs.Evaluate.{evaluate, if_valued, unless_refused, valued}
@@ -39,7 +39,8 @@ use Rattle.answers.specs.Expressions.{expression_of}
 use Rattle.answers.specs.Laws.{HoldsWords, SettingsAreProper, SettingsKeepWords, WritingsAreProper, WritingsFit}
 use Rattle.answers.specs.Parts.{part}
 use Rattle.answers.specs.ReadMemory.{can_begin, start_at}
-use Rattle.answers.specs.References.{offset_by, reference_of}
+use Rattle.numerals.specs.MemoryReferences.{offset_by}
+use Rattle.numerals.specs.Words.{word_by, word_of}
 use Rattle.answers.specs.SetVariable.{set_in, setting_of, with_register}
 use Rattle.answers.specs.Targets.{frame_refusal, target_of}
 use Rattle.answers.specs.Variables.{asked_of, body_by, of_kind, variables, variables_in}
@@ -155,9 +156,9 @@ negated_small (Some m) n e = by (leb m 2147483648) e where
     none : None ≡ Some n → ⊥
     none f = cc
 
-magnitude_small : (text : List ℕ) (found : Option (List ℕ)) (n : ℕ) → magnitude_by text found ≡ Some n → n < 4294967296
-magnitude_small text None n e = if_numeral 10 text n e
-magnitude_small text (Some digits) n e = by (leb (length digits) 8) e where
+word_small : (text : List ℕ) (found : Option (List ℕ)) (n : ℕ) → word_by text found ≡ Some n → n < 4294967296
+word_small text None n e = if_numeral 10 text n e
+word_small text (Some digits) n e = by (leb (length digits) 8) e where
   by : (b : Bool) → cond b (result_ok (numeral 16 digits)) None ≡ Some n → n < 4294967296
   by true f = if_numeral 16 digits n f
   by false f = absurd (none f) where
@@ -169,9 +170,9 @@ value_small [] n e = absurd (none e) where
   none : None ≡ Some n → ⊥
   none e = cc
 value_small (sign ∷ digits) n e = by (eqb sign 45) e where
-  by : (b : Bool) → cond b (negated digits) (magnitude_by (sign ∷ digits) (prefixed (sign ∷ digits))) ≡ Some n → n < 4294967296
+  by : (b : Bool) → cond b (negated digits) (word_by (sign ∷ digits) (prefixed (sign ∷ digits))) ≡ Some n → n < 4294967296
   by true f = negated_small (result_ok (numeral 10 digits)) n f
-  by false f = magnitude_small (sign ∷ digits) (prefixed (sign ∷ digits)) n f
+  by false f = word_small (sign ∷ digits) (prefixed (sign ∷ digits)) n f
 
 set_proper : (hart : Hart) (named : Result ℕ Refusal) (found : Option ℕ) → ((n : ℕ) → found ≡ Some n → n < 4294967296) → IfOk (setting_of hart named found) (λ setting. IsOutcomeOf (codes "setVariable") (Done setting.body))
 set_proper hart (Err refusal) found h = tt
@@ -272,13 +273,13 @@ begins memory arguments (Some reference) = by (ltb 65536 (length arguments.bytes
   by false is = start_in memory (length arguments.bytes) (offset_by arguments.offset (Some reference)) (grind (arith, nat_tests))
 
 pub writings_are_proper : WritingsAreProper
-writings_are_proper arguments memory = by (start_by memory arguments (reference_of arguments.memory_reference)) (begins memory arguments (reference_of arguments.memory_reference)) where
+writings_are_proper arguments memory = by (start_by memory arguments (word_of arguments.memory_reference)) (begins memory arguments (word_of arguments.memory_reference)) where
   by : (found : Result ℕ Refusal) → CanWrite memory (length arguments.bytes) found → IfOk (written memory arguments found) (λ writing. IsOutcomeOf (codes "writeMemory") (Done writing.body))
   by (Err refusal) h = tt
   by (Ok address) h = written_in memory arguments.allow_partial (length arguments.bytes) address h.0
 
 pub writings_fit : WritingsFit
-writings_fit arguments memory = by (start_by memory arguments (reference_of arguments.memory_reference)) (begins memory arguments (reference_of arguments.memory_reference)) where
+writings_fit arguments memory = by (start_by memory arguments (word_of arguments.memory_reference)) (begins memory arguments (word_of arguments.memory_reference)) where
   by : (found : Result ℕ Refusal) → CanWrite memory (length arguments.bytes) found → IfOk (written memory arguments found) (λ writing. (writing.count ≤ length arguments.bytes) × (fault_at memory 1 writing.address writing.count ≡ None))
   by (Err refusal) h = tt
   by (Ok address) h = written_fits memory arguments.allow_partial (length arguments.bytes) address h.1

@@ -23,7 +23,7 @@ use Rattle.answers.specs.Breakpoints.{Answer, entries_of, followed_by, list_of, 
 use Rattle.answers.specs.SetBreakpoints as source
 use Rattle.answers.specs.SetInstructionBreakpoints as instruction
 use Rattle.answers.specs.Spaces.{said}
-use Rattle.answers.specs.Terms.{Terms, both, condition_of, hit_of, if_positive, terms_of}
+use Rattle.answers.specs.Conditions.{Conditions, both, condition_of, hit_of, if_positive, conditions_of}
 use Rattle.answers.specs.declared.breaks.BreakAnswer.{BreakAnswer}
 use Rattle.answers.specs.declared.problem.Problem.{Problem}
 use Rattle.answers.specs.declared.view.View.{View}
@@ -53,33 +53,33 @@ hit_positive : (text : Option (List ℕ)) (n : ℕ) → hit_of text ≡ Ok n →
 hit_positive None n e = let one : 1 ≡ n = cc in omega (arith, one)
 hit_positive (Some text) n e = positive (numeral 10 text) n e
 
-both_hit : (condition : Result (Option Tree) Problem) (hit : Result ℕ Problem) (terms : Terms) → both condition hit ≡ Ok terms → hit ≡ Ok terms.hit
-both_hit (Err problem) hit terms e = cc
-both_hit (Ok condition) (Err problem) terms e = cc
-both_hit (Ok condition) (Ok hit) terms e = ap (λ (x : Terms). Ok x.hit) (one_value (Ok (record { condition = condition; hit = hit })) (record { condition = condition; hit = hit }) terms refl e)
+both_hit : (condition : Result (Option Tree) Problem) (hit : Result ℕ Problem) (conditions : Conditions) → both condition hit ≡ Ok conditions → hit ≡ Ok conditions.hit
+both_hit (Err problem) hit conditions e = cc
+both_hit (Ok condition) (Err problem) conditions e = cc
+both_hit (Ok condition) (Ok hit) conditions e = ap (λ (x : Conditions). Ok x.hit) (one_value (Ok (record { condition = condition; hit = hit })) (record { condition = condition; hit = hit }) conditions refl e)
 
-terms_positive : (condition hits : Option (List ℕ)) (terms : Terms) → terms_of condition hits ≡ Ok terms → 1 ≤ terms.hit
-terms_positive condition hits terms e =
-    hit_positive (said hits) terms.hit (both_hit (condition_of (said condition)) (hit_of (said hits)) terms e)
+terms_positive : (condition hits : Option (List ℕ)) (conditions : Conditions) → conditions_of condition hits ≡ Ok conditions → 1 ≤ conditions.hit
+terms_positive condition hits conditions e =
+    hit_positive (said hits) conditions.hit (both_hit (condition_of (said condition)) (hit_of (said hits)) conditions e)
 
-source_placed : (terms : Result Terms Problem) (found : Option (ℕ × ℕ)) (place : source.Place) → source.placed terms found ≡ Ok place → terms ≡ Ok place.terms
+source_placed : (conditions : Result Conditions Problem) (found : Option (ℕ × ℕ)) (place : source.Place) → source.placed conditions found ≡ Ok place → conditions ≡ Ok place.conditions
 source_placed (Err problem) found place e = cc
-source_placed (Ok terms) None place e = cc
-source_placed (Ok terms) (Some found) place e = ap (λ (x : source.Place). Ok x.terms) (one_value (Ok (record { line = found.0; address = found.1; terms = terms })) (record { line = found.0; address = found.1; terms = terms }) place refl e)
+source_placed (Ok conditions) None place e = cc
+source_placed (Ok conditions) (Some found) place e = ap (λ (x : source.Place). Ok x.conditions) (one_value (Ok (record { line = found.0; address = found.1; conditions = conditions })) (record { line = found.0; address = found.1; conditions = conditions }) place refl e)
 
-instruction_placed : (terms : Result Terms Problem) (found : Option ℕ) (place : instruction.Place) → instruction.placed terms found ≡ Ok place → terms ≡ Ok place.terms
+instruction_placed : (conditions : Result Conditions Problem) (found : Option ℕ) (place : instruction.Place) → instruction.placed conditions found ≡ Ok place → conditions ≡ Ok place.conditions
 instruction_placed (Err problem) found place e = cc
-instruction_placed (Ok terms) None place e = cc
-instruction_placed (Ok terms) (Some found) place e = ap (λ (x : instruction.Place). Ok x.terms) (one_value (Ok (record { address = found; terms = terms })) (record { address = found; terms = terms }) place refl e)
+instruction_placed (Ok conditions) None place e = cc
+instruction_placed (Ok conditions) (Some found) place e = ap (λ (x : instruction.Place). Ok x.conditions) (one_value (Ok (record { address = found; conditions = conditions })) (record { address = found; conditions = conditions }) place refl e)
 
-source_positive : (own : Bool) (table : Table) (base : ℕ) (asked : SourceBreakpoint) (place : source.Place) → source.judged own table base asked ≡ Ok place → 1 ≤ place.terms.hit
+source_positive : (own : Bool) (table : Table) (base : ℕ) (asked : SourceBreakpoint) (place : source.Place) → source.judged own table base asked ≡ Ok place → 1 ≤ place.conditions.hit
 source_positive true table base asked place e =
-    terms_positive asked.condition asked.hit_condition place.terms (source_placed (terms_of asked.condition asked.hit_condition) (bind table (source.line_in_image base asked.line)) place e)
+    terms_positive asked.condition asked.hit_condition place.conditions (source_placed (conditions_of asked.condition asked.hit_condition) (bind table (source.line_in_image base asked.line)) place e)
 source_positive false table base asked place e = cc
 
-instruction_positive : (size : ℕ) (asked : InstructionBreakpoint) (place : instruction.Place) → instruction.judged size asked ≡ Ok place → 1 ≤ place.terms.hit
+instruction_positive : (size : ℕ) (asked : InstructionBreakpoint) (place : instruction.Place) → instruction.judged size asked ≡ Ok place → 1 ≤ place.conditions.hit
 instruction_positive size asked place e =
-    terms_positive asked.condition asked.hit_condition place.terms (instruction_placed (terms_of asked.condition asked.hit_condition) (instruction.asked_address size asked) place e)
+    terms_positive asked.condition asked.hit_condition place.conditions (instruction_placed (conditions_of asked.condition asked.hit_condition) (instruction.asked_address size asked) place e)
 
 -- ---- lists
 

@@ -16,7 +16,8 @@ use Rattle.replies.specs.declared.disassemble.Instruction.{Instruction}
 use Rattle.replies.specs.declared.disassemble.Instruction.TheVariants.{Valid, Invalid}
 use Rattle.replies.specs.declared.response.ResponseBody.{ResponseBody}
 use Rattle.replies.specs.declared.response.ResponseBody.TheVariants.{Disassemble}
-use Rattle.answers.specs.References.{address_of, reference_of}
+use Rattle.numerals.specs.MemoryReferences.{address_of}
+use Rattle.numerals.specs.Words.{word_of}
 use Rattle.answers.specs.Texts.{text_at}
 
 -- ---- where it begins
@@ -33,7 +34,7 @@ start_by arguments (Some reference) =
 
 -- the place of the first instruction, or the refusal
 abbrev pub start : DisassembleArguments → Result ℤ Refusal
-start arguments = start_by arguments (reference_of arguments.memory_reference)
+start arguments = start_by arguments (word_of arguments.memory_reference)
 
 -- ---- what is at a place
 

@@ -11,7 +11,8 @@ use Rattle.protocol.specs.declared.refusal.Refusal.{Refusal}
 use Rattle.protocol.specs.declared.refusal.Refusal.TheVariants.{BadMemoryReference, OutsideMemory, TooMuch}
 use Rattle.replies.specs.declared.response.ResponseBody.{ResponseBody}
 use Rattle.replies.specs.declared.response.ResponseBody.TheVariants.{ReadMemory}
-use Rattle.answers.specs.References.{offset_by, reference_of}
+use Rattle.numerals.specs.MemoryReferences.{offset_by}
+use Rattle.numerals.specs.Words.{word_of}
 
 -- ---- where reading begins
 
@@ -31,7 +32,7 @@ start_by memory arguments (Some reference) =
 
 -- the address of the first byte, or the refusal
 abbrev pub start : List ℕ → ReadMemoryArguments → Result ℕ Refusal
-start memory arguments = start_by memory arguments (reference_of arguments.memory_reference)
+start memory arguments = start_by memory arguments (word_of arguments.memory_reference)
 
 -- ---- what is read
 

@@ -15,7 +15,7 @@ use Rattle.replies.specs.declared.set_breakpoints.SourceBreakpoint as replied
 use Rattle.replies.specs.declared.set_breakpoints.SourceBreakpoint.TheVariants.{Verified, Unverified}
 use Rattle.breakpoints.specs.Stops.{Wanted}
 use Rattle.answers.specs.Breakpoints.{Answer, entries_of, list_of, message_of}
-use Rattle.answers.specs.Terms.{Terms, terms_of}
+use Rattle.answers.specs.Conditions.{Conditions, conditions_of}
 use Rattle.answers.specs.declared.problem.Problem.{Problem}
 use Rattle.answers.specs.declared.problem.Problem.TheVariants.{UnknownSource, NoCode}
 use Rattle.answers.specs.declared.view.View.{View}
@@ -28,21 +28,21 @@ line_in_image base line = min (line + (1 - base)) 4294967295
 abbrev pub line_in_editor : ℕ → ℕ → ℕ
 line_in_editor base line = line - (1 - base)
 
--- a breakpoint that can be set: the line in the image, its first address, and its terms
+-- a breakpoint that can be set: the line in the image, its first address, and its conditions
 pub record Place : Type 0 where
   pub line : ℕ
   pub address : ℕ
-  pub terms : Terms
+  pub conditions : Conditions
 
-abbrev pub placed : Result Terms Problem → Option (ℕ × ℕ) → Result Place Problem
+abbrev pub placed : Result Conditions Problem → Option (ℕ × ℕ) → Result Place Problem
 placed (Err problem) found = Err problem
-placed (Ok terms) None = Err NoCode
-placed (Ok terms) (Some found) = Ok (record { line = found.0; address = found.1; terms = terms })
+placed (Ok conditions) None = Err NoCode
+placed (Ok conditions) (Some found) = Ok (record { line = found.0; address = found.1; conditions = conditions })
 
 -- whether a breakpoint can be set, and where; `own`: the source is the program's
 abbrev pub judged : Bool → Table → ℕ → SourceBreakpoint → Result Place Problem
 judged own table base asked =
-    if own then placed (terms_of asked.condition asked.hit_condition) (bind table (line_in_image base asked.line))
+    if own then placed (conditions_of asked.condition asked.hit_condition) (bind table (line_in_image base asked.line))
     else Err UnknownSource
 
 -- what is said of it; `id` is its number where it is set
@@ -58,7 +58,7 @@ entry base id asked (Err problem) = unverified asked.line problem
 
 abbrev pub wanted : ℕ → Place → Wanted
 wanted id place =
-    record { id = id; address = place.address; condition = place.terms.condition; hit = place.terms.hit }
+    record { id = id; address = place.address; condition = place.conditions.condition; hit = place.conditions.hit }
 
 -- whether a source is the program's
 abbrev pub is_own : List ℕ → Option (List ℕ) → Bool

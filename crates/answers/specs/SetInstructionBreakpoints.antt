@@ -13,15 +13,15 @@ use Rattle.replies.specs.declared.set_instruction_breakpoints.InstructionBreakpo
 use Rattle.replies.specs.declared.set_instruction_breakpoints.InstructionBreakpoint.TheVariants.{Verified, Unverified}
 use Rattle.breakpoints.specs.Stops.{Wanted}
 use Rattle.answers.specs.Breakpoints.{Answer, entries_of, list_of, message_of}
-use Rattle.answers.specs.References.{address_in}
-use Rattle.answers.specs.Terms.{Terms, terms_of}
+use Rattle.numerals.specs.MemoryReferences.{address_in}
+use Rattle.answers.specs.Conditions.{Conditions, conditions_of}
 use Rattle.answers.specs.declared.problem.Problem.{Problem}
 use Rattle.answers.specs.declared.problem.Problem.TheVariants.{BadAddress}
 
--- a breakpoint that can be set: its address and its terms
+-- a breakpoint that can be set: its address and its conditions
 pub record Place : Type 0 where
   pub address : ℕ
-  pub terms : Terms
+  pub conditions : Conditions
 
 -- whether an address can be an instruction's, in a memory of so many bytes
 abbrev pub is_instructions : ℕ → ℕ → Bool
@@ -32,10 +32,10 @@ abbrev pub if_instructions : ℕ → Option ℕ → Option ℕ
 if_instructions size None = None
 if_instructions size (Some address) = if is_instructions size address then Some address else None
 
-abbrev pub placed : Result Terms Problem → Option ℕ → Result Place Problem
+abbrev pub placed : Result Conditions Problem → Option ℕ → Result Place Problem
 placed (Err problem) found = Err problem
-placed (Ok terms) None = Err BadAddress
-placed (Ok terms) (Some address) = Ok (record { address = address; terms = terms })
+placed (Ok conditions) None = Err BadAddress
+placed (Ok conditions) (Some address) = Ok (record { address = address; conditions = conditions })
 
 -- the address that is asked for, if an instruction can be there
 abbrev pub asked_address : ℕ → InstructionBreakpoint → Option ℕ
@@ -43,7 +43,7 @@ asked_address size asked = if_instructions size (address_in asked.instruction_re
 
 -- whether a breakpoint can be set, and where
 abbrev pub judged : ℕ → InstructionBreakpoint → Result Place Problem
-judged size asked = placed (terms_of asked.condition asked.hit_condition) (asked_address size asked)
+judged size asked = placed (conditions_of asked.condition asked.hit_condition) (asked_address size asked)
 
 -- what is said of it; `id` is its number where it is set
 abbrev pub verified : ℕ → Place → replied.InstructionBreakpoint
@@ -58,7 +58,7 @@ entry id asked (Err problem) = unverified problem
 
 abbrev pub wanted : ℕ → Place → Wanted
 wanted id place =
-    record { id = id; address = place.address; condition = place.terms.condition; hit = place.terms.hit }
+    record { id = id; address = place.address; condition = place.conditions.condition; hit = place.conditions.hit }
 
 -- the answer, with a memory of so many bytes
 abbrev pub set_instruction_breakpoints : ℕ → ℕ → given.SetInstructionBreakpointsArguments → Answer

@@ -9,14 +9,14 @@ use Rattle.expressions.specs.declared.node.Node.{Node}
 use Rattle.breakpoints.specs.Stops.{Wanted, wanted_by}
 use Rattle.answers.specs.Breakpoints.{followed_by, next_after}
 use Rattle.answers.specs.StackTrace.{frame}
-use Rattle.answers.specs.Terms.{Terms}
+use Rattle.answers.specs.Conditions.{Conditions}
 use Rattle.answers.specs.SetBreakpoints as source
 use Rattle.answers.specs.SetInstructionBreakpoints as instruction
 use Rattle.answers.specs.declared.draft.Draft.{Draft}
 use Rattle.answers.specs.declared.problem.Problem.{Problem}
 use Rattle.answers.specs.declared.set_breakpoints.Place as source_place
 use Rattle.answers.specs.declared.set_instruction_breakpoints.Place as instruction_place
-use Rattle.answers.specs.declared.terms.Terms as made
+use Rattle.answers.specs.declared.conditions.Conditions as made
 use Rattle.answers.specs.declared.view.View.{View}
 
 -- a condition
@@ -24,24 +24,24 @@ abbrev pub condition_by : Result (Option Node) Problem → Result (Option Tree) 
 condition_by (Ok condition) = Ok (option_map tree_of condition)
 condition_by (Err problem) = Err problem
 
--- terms
-abbrev pub terms_in : made.Terms → Terms
-terms_in terms = record { condition = option_map tree_of terms.condition; hit = terms.hit }
+-- conditions
+abbrev pub conditions_in : made.Conditions → Conditions
+conditions_in conditions = record { condition = option_map tree_of conditions.condition; hit = conditions.hit }
 
-abbrev pub terms_by : Result made.Terms Problem → Result Terms Problem
-terms_by (Ok terms) = Ok (terms_in terms)
-terms_by (Err problem) = Err problem
+abbrev pub conditions_by : Result made.Conditions Problem → Result Conditions Problem
+conditions_by (Ok conditions) = Ok (conditions_in conditions)
+conditions_by (Err problem) = Err problem
 
 -- where a breakpoint can be set
 abbrev pub source_place_in : source_place.Place → source.Place
-source_place_in place = record { line = place.line; address = place.address; terms = terms_in place.terms }
+source_place_in place = record { line = place.line; address = place.address; conditions = conditions_in place.conditions }
 
 abbrev pub source_place_by : Result source_place.Place Problem → Result source.Place Problem
 source_place_by (Ok place) = Ok (source_place_in place)
 source_place_by (Err problem) = Err problem
 
 abbrev pub instruction_place_in : instruction_place.Place → instruction.Place
-instruction_place_in place = record { address = place.address; terms = terms_in place.terms }
+instruction_place_in place = record { address = place.address; conditions = conditions_in place.conditions }
 
 abbrev pub instruction_place_by : Result instruction_place.Place Problem → Result instruction.Place Problem
 instruction_place_by (Ok place) = Ok (instruction_place_in place)

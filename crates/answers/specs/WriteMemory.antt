@@ -10,7 +10,8 @@ use Rattle.protocol.specs.declared.refusal.Refusal.TheVariants.{BadMemoryReferen
 use Rattle.protocol.specs.declared.write_memory.WriteMemoryArguments.{WriteMemoryArguments}
 use Rattle.replies.specs.declared.response.ResponseBody.TheVariants.{WriteMemory}
 use Rattle.answers.specs.ReadMemory.{bytes_from, start_at}
-use Rattle.answers.specs.References.{offset_by, reference_of}
+use Rattle.numerals.specs.MemoryReferences.{offset_by}
+use Rattle.numerals.specs.Words.{word_of}
 use Rattle.answers.specs.declared.write_memory.Writing.{Writing}
 
 -- ---- where writing begins
@@ -23,7 +24,7 @@ start_by memory arguments (Some reference) =
 
 -- the address of the first byte, or the refusal
 abbrev pub start : List ℕ → WriteMemoryArguments → Result ℕ Refusal
-start memory arguments = start_by memory arguments (reference_of arguments.memory_reference)
+start memory arguments = start_by memory arguments (word_of arguments.memory_reference)
 
 -- ---- what is written
 

@@ -2,10 +2,10 @@
 
 ghost use Rattle.std.specs.Prelude.{◌≡◌, ◌≤◌, ◌≤ℤ◌, ◌^◌, pos, neg_ℤ, IfOk, IsOk, OnErr};
 ghost use Rattle.answers.specs.Disassemble as spec;
-ghost use Rattle.answers.specs.References.{address_of};
+ghost use Rattle.numerals.specs.MemoryReferences.{address_of};
 
-use crate::reference::reference_in;
 use image::Memory;
+use numerals::word;
 use protocol::{DisassembleArguments, Entries, Refusal, Text};
 use replies::{Disassemble, Instruction, ResponseBody};
 use rv32i::text_of_word;
@@ -31,7 +31,7 @@ pub fn answer(
     ensures answer { IfOk result (λ answer. answer ≡ spec.disassemble memory.now arguments.now) }
     ensures granted { OnErr result (IsOk (spec.disassemble memory.now arguments.now)) }
 {
-    match reference_in(arguments.memory_reference.as_str().as_bytes()) {
+    match word(arguments.memory_reference.as_str().as_bytes()) {
         None => Ok(Err(Refusal::BadMemoryReference)),
         Some(reference) => {
             if arguments.instruction_count > MOST {

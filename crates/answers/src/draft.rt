@@ -2,7 +2,7 @@
 
 ghost use Rattle.std.specs.Prelude.{◌≡◌, ◌+◌, ◌<◌, ◌^◌, ◌∷◌, ◌++◌, [], IfOk, OnOk};
 
-use crate::terms::Terms;
+use crate::conditions::Conditions;
 use breakpoints::BreakSpec;
 use std::alloc::{AllocError, Global};
 
@@ -26,18 +26,18 @@ impl Draft {
     }
 
     /// Adds a breakpoint at an address, and answers its number. It fails where no memory is left.
-    pub(crate) fn add(&mut self, address: u32, terms: Terms) -> Result<u32, AllocError>
+    pub(crate) fn add(&mut self, address: u32, conditions: Conditions) -> Result<u32, AllocError>
         requires { self.old.next_id + 1 < 2 ^ 32 }
         ensures id { IfOk result (λ id. id ≡ self.old.next_id) }
         ensures next { OnOk result (self.new.next_id ≡ self.old.next_id + 1) }
-        ensures list { OnOk result (self.new.list.items ≡ self.old.list.items ++ record { id = self.old.next_id; address = address; condition = terms.condition; hit = terms.hit } ∷ []) }
+        ensures list { OnOk result (self.new.list.items ≡ self.old.list.items ++ record { id = self.old.next_id; address = address; condition = conditions.condition; hit = conditions.hit } ∷ []) }
     {
         let id = self.next_id;
         self.list.push(BreakSpec {
             id,
             address,
-            condition: terms.condition,
-            hit: terms.hit,
+            condition: conditions.condition,
+            hit: conditions.hit,
         })?;
         self.next_id = id + 1;
         Ok(id)

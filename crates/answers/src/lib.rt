@@ -5,6 +5,7 @@
 #![tactic(auto)]
 
 mod breaks;
+mod conditions;
 pub mod disassemble;
 mod draft;
 mod evaluate;
@@ -13,7 +14,6 @@ mod looking;
 mod parts;
 mod problem;
 pub mod read_memory;
-mod reference;
 mod scopes;
 mod set_breakpoints;
 mod set_instruction_breakpoints;
@@ -22,7 +22,6 @@ mod shown;
 mod spaces;
 pub mod stack_trace;
 mod targets;
-mod terms;
 mod variables_;
 mod view;
 pub mod write_memory;

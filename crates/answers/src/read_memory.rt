@@ -3,8 +3,8 @@
 ghost use Rattle.std.specs.Prelude.{◌≡◌, ◌≤◌, IfOk, IsOk, IsTrue, OnErr};
 ghost use Rattle.answers.specs.ReadMemory as spec;
 
-use crate::reference::{offset_by, reference_in};
 use image::{Bytes, Memory};
+use numerals::{offset_by, word};
 use protocol::{ReadMemoryArguments, Refusal};
 use replies::{ReadMemory, ResponseBody};
 use std::alloc::{AllocError, Global};
@@ -42,7 +42,7 @@ fn start(arguments: &ReadMemoryArguments, memory: &Memory) -> Result<u32, Refusa
     start_by(
         arguments,
         memory,
-        reference_in(arguments.memory_reference.as_str().as_bytes()),
+        word(arguments.memory_reference.as_str().as_bytes()),
     )
 }
 

@@ -4,12 +4,12 @@ ghost use Rattle.std.specs.Prelude.{◌≡◌, ◌+◌, ◌<◌, ◌≤◌, ◌^
 ghost use Rattle.answers.specs.Answers.{answer_by};
 ghost use Rattle.answers.specs.Breakpoints.{entries_of, list_of};
 ghost use Rattle.answers.specs.SetBreakpoints as spec;
-ghost use Rattle.answers.specs.Steps.{list_in, source_place_by, source_place_in, Takes, terms_in};
+ghost use Rattle.answers.specs.Steps.{list_in, source_place_by, source_place_in, Takes, conditions_in};
 
 use crate::breaks::{BreakAnswer, MOST};
+use crate::conditions::{Conditions, conditions_of};
 use crate::draft::Draft;
 use crate::problem::Problem;
-use crate::terms::{Terms, terms_of};
 use crate::view::View;
 use image::LineTable;
 use protocol::{Entries, Refusal, SetBreakpointsArguments, SourceBreakpoint, Text};
@@ -23,7 +23,7 @@ struct Place {
     line: u32,
     /// The address of its first instruction.
     address: u32,
-    terms: Terms,
+    conditions: Conditions,
 }
 
 /// The answer, with this number for the first breakpoint that is set. More than 1,024 breakpoints are refused as too many, and where the
@@ -134,7 +134,7 @@ fn set(draft: &mut Draft, base: u32, place: Place) -> Result<replies::SourceBrea
     ensures entry { IfOk result (λ entry. entry ≡ spec.verified base draft.old.next_id (source_place_in place)) }
     ensures takes { OnOk result (Takes spec.wanted (Ok (source_place_in place)) draft.old draft.new) }
 {
-    let id = draft.add(place.address, place.terms)?;
+    let id = draft.add(place.address, place.conditions)?;
     Ok(replies::SourceBreakpoint::Verified {
         id,
         instruction_reference: place.address,
@@ -169,21 +169,21 @@ fn judged(
     if !own {
         return Ok(Err(Problem::UnknownSource));
     }
-    match terms_of(alloc, &asked.condition, &asked.hit_condition)? {
+    match conditions_of(alloc, &asked.condition, &asked.hit_condition)? {
         Err(problem) => Ok(Err(problem)),
-        Ok(terms) => Ok(placed(terms, lines.bind(line_in_image(base, asked.line)))),
+        Ok(conditions) => Ok(placed(conditions, lines.bind(line_in_image(base, asked.line)))),
     }
 }
 
-fn placed(terms: Terms, found: Option<(u32, u32)>) -> Result<Place, Problem>
-    ensures { source_place_by result ≡ spec.placed (Ok (terms_in terms)) found }
+fn placed(conditions: Conditions, found: Option<(u32, u32)>) -> Result<Place, Problem>
+    ensures { source_place_by result ≡ spec.placed (Ok (conditions_in conditions)) found }
 {
     match found {
         None => Err(Problem::NoCode),
         Some((line, address)) => Ok(Place {
             line,
             address,
-            terms,
+            conditions,
         }),
     }
 }

@@ -4,14 +4,14 @@ ghost use Rattle.std.specs.Prelude.{◌≡◌, ◌+◌, ◌<◌, ◌≤◌, ◌^
 ghost use Rattle.answers.specs.Answers.{answer_by};
 ghost use Rattle.answers.specs.Breakpoints.{entries_of, list_of};
 ghost use Rattle.answers.specs.SetInstructionBreakpoints as spec;
-ghost use Rattle.answers.specs.Steps.{instruction_place_by, instruction_place_in, list_in, Takes, terms_in};
+ghost use Rattle.answers.specs.Steps.{instruction_place_by, instruction_place_in, list_in, Takes, conditions_in};
 
 use crate::breaks::{BreakAnswer, MOST};
+use crate::conditions::{Conditions, conditions_of};
 use crate::draft::Draft;
 use crate::problem::Problem;
-use crate::reference::address_in;
-use crate::terms::{Terms, terms_of};
 use image::FIRST_ADDRESS;
+use numerals::address_in;
 use protocol::{Entries, InstructionBreakpoint, Refusal, SetInstructionBreakpointsArguments};
 use replies::{ResponseBody, SetInstructionBreakpoints};
 use std::alloc::{AllocError, Global};
@@ -21,7 +21,7 @@ use std::alloc::{AllocError, Global};
 struct Place {
     /// The address of the instruction.
     address: u32,
-    terms: Terms,
+    conditions: Conditions,
 }
 
 /// The answer, with a memory of so many bytes and this number for the first breakpoint that is set. More than 1,024 breakpoints are
@@ -94,7 +94,7 @@ fn set(draft: &mut Draft, place: Place) -> Result<replies::InstructionBreakpoint
     ensures entry { IfOk result (λ entry. entry ≡ spec.verified draft.old.next_id (instruction_place_in place)) }
     ensures takes { OnOk result (Takes spec.wanted (Ok (instruction_place_in place)) draft.old draft.new) }
 {
-    let id = draft.add(place.address, place.terms)?;
+    let id = draft.add(place.address, place.conditions)?;
     Ok(replies::InstructionBreakpoint::Verified {
         id,
         instruction_reference: place.address,
@@ -117,18 +117,21 @@ fn judged(
 ) -> Result<Result<Place, Problem>, AllocError>
     ensures { IfOk result (λ found. instruction_place_by found ≡ spec.judged size asked.now) }
 {
-    match terms_of(alloc, &asked.condition, &asked.hit_condition)? {
+    match conditions_of(alloc, &asked.condition, &asked.hit_condition)? {
         Err(problem) => Ok(Err(problem)),
-        Ok(terms) => Ok(placed(terms, instruction_at(size, asked))),
+        Ok(conditions) => Ok(placed(conditions, instruction_at(size, asked))),
     }
 }
 
-fn placed(terms: Terms, found: Option<u32>) -> Result<Place, Problem>
-    ensures { instruction_place_by result ≡ spec.placed (Ok (terms_in terms)) found }
+fn placed(conditions: Conditions, found: Option<u32>) -> Result<Place, Problem>
+    ensures { instruction_place_by result ≡ spec.placed (Ok (conditions_in conditions)) found }
 {
     match found {
         None => Err(Problem::BadAddress),
-        Some(address) => Ok(Place { address, terms }),
+        Some(address) => Ok(Place {
+            address,
+            conditions,
+        }),
     }
 }
 

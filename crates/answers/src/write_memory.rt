@@ -6,8 +6,8 @@ ghost use Rattle.answers.specs.WriteMemory as spec;
 ghost use Rattle.image.specs.Memory.{fault_at};
 
 use crate::read_memory::{MOST, start_at};
-use crate::reference::{offset_by, reference_in};
 use image::Memory;
+use numerals::{offset_by, word};
 use protocol::{Refusal, WriteMemoryArguments};
 use replies::{ResponseBody, WriteMemory};
 
@@ -50,7 +50,7 @@ fn start(arguments: &WriteMemoryArguments, memory: &Memory) -> Result<u32, Refus
     start_by(
         arguments,
         memory,
-        reference_in(arguments.memory_reference.as_str().as_bytes()),
+        word(arguments.memory_reference.as_str().as_bytes()),
     )
 }
 

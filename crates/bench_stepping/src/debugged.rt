@@ -5,7 +5,7 @@ ghost use Rattle.stepping.specs.Loading.{CanBeLoaded};
 
 use image::Image;
 use std::alloc::{AllocError, Global};
-use stepping::{Ending, Goal, Outcome, Reason, Runner};
+use stepping::{Goal, Outcome, Reason, RunEnd, Runner};
 
 /// How many bytes of memory there are.
 pub(crate) const SIZE: u32 = 0x0010_0000;
@@ -73,11 +73,11 @@ pub(crate) fn run(runner: &mut Runner, goal: Goal) -> Option<i32> {
     None
 }
 
-fn next_of(ending: Ending) -> Next {
+fn next_of(ending: RunEnd) -> Next {
     match ending {
-        Ending::Spent => Next::On,
-        Ending::NoMemory => Next::End(None),
-        Ending::Ticked(tick) => match tick.outcome {
+        RunEnd::Spent => Next::On,
+        RunEnd::NoMemory => Next::End(None),
+        RunEnd::Ticked(tick) => match tick.outcome {
             Outcome::Went => Next::On,
             Outcome::Stopped(Reason::Goal) => Next::Step,
             Outcome::Stopped(_) => Next::End(None),

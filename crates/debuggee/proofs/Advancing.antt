@@ -8,8 +8,8 @@ use Rattle.rv32i.specs.declared.stepped.Stepped.TheVariants.{Retired, Printed, B
 use Rattle.stepping.specs.Plain.{plain_tick}
 use Rattle.stepping.specs.Runs.{Goes, IsRun, EndsRun}
 use Rattle.stepping.specs.Ticks.{Debugged, IsTick, Moves, Settles, entry_checked, entry_tick, hit_at_pc, moved_as, outcome_of, meets_goal, settled, stayed, tick_of}
-use Rattle.stepping.specs.declared.tick.Ending.{Ending}
-use Rattle.stepping.specs.declared.tick.Ending.TheVariants as ending
+use Rattle.stepping.specs.declared.tick.RunEnd.{RunEnd}
+use Rattle.stepping.specs.declared.tick.RunEnd.TheVariants as ending
 use Rattle.stepping.specs.declared.tick.Outcome.{Outcome}
 use Rattle.stepping.specs.declared.tick.Outcome.TheVariants.{Went, Stopped, Ended}
 use Rattle.stepping.specs.declared.tick.Ran.{Ran}
@@ -155,19 +155,19 @@ goes_quietly (suc n) p middle none g = (with_machine p g.0, (goes_quietly n p g.
 
 pub run_spends : (most : ℕ) (p : Program) (ran : Ran) (after : Debugged) → p.owed ≡ None → ran.ending ≡ ending.Spent → IsRun most p.machine ran after → GoesQuietly most p (with_machine p after)
 run_spends most p ran after none e h =
-    let ends : EndsRun most ran.went ending.Spent h.middle after = subst (λ (x : Ending). EndsRun most ran.went x h.middle after) e h.ends in
+    let ends : EndsRun most ran.went ending.Spent h.middle after = subst (λ (x : RunEnd). EndsRun most ran.went x h.middle after) e h.ends in
     subst (λ (n : ℕ). GoesQuietly n p (with_machine p after)) ends.0
     (subst (λ (d : Debugged). GoesQuietly ran.went p (with_machine p d)) (sym ends.1) (goes_quietly ran.went p h.middle none h.goes))
 
 pub spent_names_none : (most : ℕ) (before : Debugged) (ran : Ran) (after : Debugged) → before.lists.ids ≡ [] → ran.ending ≡ ending.Spent → IsRun most before ran after → after.lists.ids ≡ []
 spent_names_none most before ran after none e h =
-    let ends : EndsRun most ran.went ending.Spent h.middle after = subst (λ (x : Ending). EndsRun most ran.went x h.middle after) e h.ends in
+    let ends : EndsRun most ran.went ending.Spent h.middle after = subst (λ (x : RunEnd). EndsRun most ran.went x h.middle after) e h.ends in
     ap (λ (d : Debugged). d.lists.ids) ends.1 ∙ none_named_after ran.went before h.middle none h.goes
 
 pub run_meets : (most : ℕ) (p : Program) (ran : Ran) (tick : Tick) (after : Debugged) → p.owed ≡ None → p.machine.lists.ids ≡ [] → p.machine.check_due ≡ false → ran.ending ≡ ending.Ticked tick → stays tick.outcome ≡ true → IsRun most p.machine ran after
     → Advances most p (Meets ran.went tick) (with_machine p after) × (after.lists.ids ≡ [])
 run_meets most p ran tick after none ids due e s h =
-    let ends : EndsRun most ran.went (ending.Ticked tick) h.middle after = subst (λ (x : Ending). EndsRun most ran.went x h.middle after) e h.ends in
+    let ends : EndsRun most ran.went (ending.Ticked tick) h.middle after = subst (λ (x : RunEnd). EndsRun most ran.went x h.middle after) e h.ends in
     let named = none_named_after ran.went p.machine h.middle ids h.goes in
     let same : after ≡ h.middle = stays_there h.middle after tick (still_not_due ran.went p.machine h.middle due h.goes) named ends.1.1 s in
     let one = the_one h.middle after tick ends.1.1 in (
@@ -193,7 +193,7 @@ owes_it tick h = owes_by tick.printed tick.outcome h
 pub run_owes : (most : ℕ) (p : Program) (ran : Ran) (tick : Tick) (after : Debugged) → p.owed ≡ None → ran.ending ≡ ending.Ticked tick → stays tick.outcome ≡ false → IsRun most p.machine ran after
     → Advances most p (Owes (ran.went + 1)) (record p { machine = after; owed = Some tick })
 run_owes most p ran tick after none e s h =
-    let ends : EndsRun most ran.went (ending.Ticked tick) h.middle after = subst (λ (x : Ending). EndsRun most ran.went x h.middle after) e h.ends in
+    let ends : EndsRun most ran.went (ending.Ticked tick) h.middle after = subst (λ (x : RunEnd). EndsRun most ran.went x h.middle after) e h.ends in
     let one = the_one h.middle after tick ends.1.1 in
     let q : Program = with_machine p h.middle in
     let next : tick ≡ next_tick q = one.0 in

@@ -9,8 +9,8 @@ use Rattle.rv32i.specs.declared.stepped.Stepped.TheVariants.{Retired, Printed, B
 use Rattle.stepping.specs.Plain.{plain_tick}
 use Rattle.stepping.specs.Runs.{EndsRun, Goes, IsRun}
 use Rattle.stepping.specs.Ticks.{Debugged, IsTick, Moves, Settles, entry_checked, entry_tick, moved_as, settled}
-use Rattle.stepping.specs.declared.tick.Ending.{Ending}
-use Rattle.stepping.specs.declared.tick.Ending.TheVariants.{Spent, Ticked, NoMemory}
+use Rattle.stepping.specs.declared.tick.RunEnd.{RunEnd}
+use Rattle.stepping.specs.declared.tick.RunEnd.TheVariants.{Spent, Ticked, NoMemory}
 use Rattle.stepping.specs.declared.tick.Ran.{Ran}
 use Rattle.stepping.specs.declared.tick.Tick.{Tick}
 use Rattle.stepping.proofs.Loading.{one_is_loaded, one_is_reloaded}
@@ -46,7 +46,7 @@ goes_size (suc n) before after g = tick_size g.0 after (Ok plain_tick) g.1.1 ∙
 
 pub run_size : (most : ℕ) (before : Debugged) (ran : Ran) (after : Debugged) → IsRun most before ran after → after.size ≡ before.size
 run_size most before ran after h = by ran.ending h.ends ∙ goes_size ran.went before h.middle h.goes where
-  by : (e : Ending) → EndsRun most ran.went e h.middle after → after.size ≡ h.middle.size
+  by : (e : RunEnd) → EndsRun most ran.went e h.middle after → after.size ≡ h.middle.size
   by Spent e = ap (λ (d : Debugged). d.size) e.1
   by (Ticked tick) e = tick_size h.middle after (Ok tick) e.1.1
   by NoMemory e = tick_size h.middle after _ e.1

@@ -12,7 +12,7 @@ use protocol::Text;
 use rv32i::Hart;
 use std::alloc::{AllocError, Global};
 use std::marker::Model;
-use stepping::{Ending, Goal, Outcome, Reason, Runner, Tick};
+use stepping::{Goal, Outcome, Reason, RunEnd, Runner, Tick};
 
 /// A program that was loaded. A contract sees its image and path, whether it was launched to stop at its entry, its run
 /// and mark, its machine, and what it owes: what its last move, or the check at its entry, came to and nobody was told.
@@ -167,8 +167,8 @@ impl Program {
     {
         let ran = self.runner.run(most);
         match ran.ending {
-            Ending::Spent => Advanced::Spent,
-            Ending::Ticked(tick) => {
+            RunEnd::Spent => Advanced::Spent,
+            RunEnd::Ticked(tick) => {
                 if stays(tick.outcome) {
                     Advanced::Meets(ran.went, tick)
                 } else {
@@ -176,7 +176,7 @@ impl Program {
                     Advanced::Owes(ran.went + 1)
                 }
             }
-            Ending::NoMemory => unreachable!(),
+            RunEnd::NoMemory => unreachable!(),
         }
     }
 

@@ -10,9 +10,9 @@ use Rattle.mirror.specs.Folding.{in_state}
 use Rattle.facts.specs.declared.frame.FrameInfo.{FrameInfo}
 use Rattle.facts.specs.declared.run.RunState.{RunState}
 use Rattle.facts.specs.declared.run.RunState.TheVariants.{Unknown, Running, Stopped, Ended}
-use Rattle.session.specs.declared.phase.Phase.{Phase}
-use Rattle.session.specs.declared.phase.Phase.TheVariants.{Fresh, Initialized, Configuring, Active, Left}
-use Rattle.session.specs.declared.terms.Terms.{Terms}
+use Rattle.handlers.specs.declared.phase.Phase.{Phase}
+use Rattle.handlers.specs.declared.phase.Phase.TheVariants.{Fresh, Initialized, Configuring, Active, Left}
+use Rattle.handlers.specs.declared.terms.Terms.{Terms}
 use Rattle.variables.specs.Numbers.{Numbers, number_in}
 use Rattle.variables.specs.declared.target.Target.TheVariants.{Frame}
 use Rattle.headline.specs.Holding.{Holds, HoldsAt, HoldsRun}
@@ -95,7 +95,8 @@ nothing_holds so = record {
 }
 
 -- with nothing known of how it stands, what is known holds where the run and the breakpoints do
-pub holds_moving : (f so now : Facts) → KnowsNoStand f → Holds f so → HoldsRun f.run now.run → ((path : List ℕ) → so.source path ≡ now.source path) → so.instructions ≡ now.instructions → Holds f now
+pub holds_moving : (f so now : Facts) → KnowsNoStand f → Holds f so → HoldsRun f.run now.run
+    → ((path : List ℕ) → so.source path ≡ now.source path) → so.instructions ≡ now.instructions → Holds f now
 holds_moving f so now none h run source instructions = record {
   run = run;
   source = λ path. subst (λ (l : _). HoldsAt (slice_get (f.source path)) (slice_get l)) (source path) (h.source path);
@@ -106,7 +107,8 @@ holds_moving f so now none h run source instructions = record {
 }
 
 -- the machine is now known to be in a state, and its breakpoints stay
-pub holds_in : (run : RunState) (f so now : Facts) → Holds f so → HoldsRun run now.run → ((path : List ℕ) → so.source path ≡ now.source path) → so.instructions ≡ now.instructions → Holds (in_state run f) now
+pub holds_in : (run : RunState) (f so now : Facts) → Holds f so → HoldsRun run now.run
+    → ((path : List ℕ) → so.source path ≡ now.source path) → so.instructions ≡ now.instructions → Holds (in_state run f) now
 holds_in run f so now h is source instructions = record {
   run = is;
   source = λ path. subst (λ (l : _). HoldsAt (slice_get (f.source path)) (slice_get l)) (source path) (h.source path);
@@ -132,15 +134,22 @@ marked_run mark p = by p.run where
   by (a_run.Ended code) = refl
 
 -- where nothing is known, what is known fits
-pub nothing_agrees : (program : Option Program) (numbers : Numbers) (terms : Terms) → SuitsPhase terms.phase terms.launched nothing_known → Agrees nothing_known program numbers terms
+pub nothing_agrees : (program : Option Program) (numbers : Numbers) (terms : Terms) → SuitsPhase terms.phase terms.launched nothing_known
+    → Agrees nothing_known program numbers terms
 nothing_agrees program numbers terms suits =
-    record { holds = nothing_holds (shown_by program numbers); moving = moves program; numbered = none_numbered numbers nothing_known no_stand; phase = suits } where
+    record {
+      holds = nothing_holds (shown_by program numbers);
+      moving = moves program;
+      numbered = none_numbered numbers nothing_known no_stand;
+      phase = suits;
+    } where
       moves : (program : Option Program) → MovesUnknown program nothing_known
       moves None = tt
       moves (Some p) = λ _. no_stand
 
 -- a mark changes nothing that is to be seen
-pub marked_agrees : (mark : Mark) (f : Facts) (program : Option Program) (numbers : Numbers) (terms : Terms) → Agrees f program numbers terms → Agrees f (on_program (marked mark) program) numbers terms
+pub marked_agrees : (mark : Mark) (f : Facts) (program : Option Program) (numbers : Numbers) (terms : Terms)
+    → Agrees f program numbers terms → Agrees f (on_program (marked mark) program) numbers terms
 marked_agrees mark f None numbers terms h = h
 marked_agrees mark f (Some p) numbers terms h = record {
   holds = subst (Holds f) (sym (marked_shown mark p numbers)) h.holds;

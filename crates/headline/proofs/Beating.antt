@@ -15,10 +15,11 @@ use Rattle.rv32i.specs.declared.stepped.Stepped.{Stepped}
 use Rattle.rv32i.specs.declared.stepped.Stepped.TheVariants as stepped
 use Rattle.session.proofs.Reaching.{if_keeps}
 use Rattle.session.specs.Acts.{Now, Seen}
-use Rattle.session.specs.Phases.{is_active, is_active_in, is_configuring}
+use Rattle.handlers.specs.Phases.{is_active_in}
+use Rattle.session.specs.Phases.{is_active, is_configuring}
 use Rattle.session.specs.Slices.{Beat, beat_by, beat_of, ends, goes, goes_unless, is_runnable_by, moves_by, runs}
 use Rattle.session.specs.declared.state.TheConstants.{FULL}
-use Rattle.session.specs.declared.terms.Terms.{Terms}
+use Rattle.handlers.specs.declared.terms.Terms.{Terms}
 use Rattle.stepping.proofs.Existing.{the_tick}
 use Rattle.stepping.specs.Ticks.{Debugged, IsTick, Moves, Settles, entry_checked, entry_tick, moved_as, settled}
 use Rattle.stepping.specs.declared.tick.Outcome.{Outcome as CameTo}
@@ -39,15 +40,19 @@ pub record SameBreaks (a b : Lists) : Type 0 where
   pub instructions : map info_of a.instructions ≡ map info_of b.instructions
 
 counted_info : (pc : ℕ) (hart : Hart) (memory : List ℕ) (b : Placed) → info_of b ≡ info_of (counted pc hart memory b)
-counted_info pc hart memory b = if_keeps (λ (x : Placed). info_of b ≡ info_of x) (is_hit pc hart memory b) (with_hit b) b (λ _. refl) (λ _. refl)
+counted_info pc hart memory b =
+    if_keeps (λ (x : Placed). info_of b ≡ info_of x) (is_hit pc hart memory b) (with_hit b) b (λ _. refl) (λ _. refl)
 
-all_counted : (pc : ℕ) (hart : Hart) (memory : List ℕ) (list : List Placed) → map info_of list ≡ map info_of (map (counted pc hart memory) list)
+all_counted : (pc : ℕ) (hart : Hart) (memory : List ℕ) (list : List Placed)
+    → map info_of list ≡ map info_of (map (counted pc hart memory) list)
 all_counted pc hart memory [] = refl
 all_counted pc hart memory (b ∷ list) =
-    ap (λ (x : BreakInfo). x ∷ map info_of list) (counted_info pc hart memory b) ∙ ap (λ (l : List BreakInfo). info_of (counted pc hart memory b) ∷ l) (all_counted pc hart memory list)
+    ap (λ (x : BreakInfo). x ∷ map info_of list) (counted_info pc hart memory b) ∙ ap
+    (λ (l : List BreakInfo). info_of (counted pc hart memory b) ∷ l) (all_counted pc hart memory list)
 
 checked_same : (pc : ℕ) (hart : Hart) (memory : List ℕ) (lists : Lists) → SameBreaks lists (checked pc hart memory lists)
-checked_same pc hart memory lists = record { source = all_counted pc hart memory lists.source; instructions = all_counted pc hart memory lists.instructions }
+checked_same pc hart memory lists =
+    record { source = all_counted pc hart memory lists.source; instructions = all_counted pc hart memory lists.instructions }
 
 settled_same : (s : Stepped) (instr : Option Instr) (pc : ℕ) (d : Debugged) → SameBreaks d.lists (settled s instr pc d).lists
 settled_same stepped.Retired instr pc d = checked_same d.hart.pc d.hart d.memory d.lists
@@ -56,18 +61,24 @@ settled_same stepped.Break instr pc d = checked_same d.hart.pc d.hart d.memory d
 settled_same (stepped.Exit code) instr pc d = record { source = refl; instructions = refl }
 settled_same (stepped.Trap cause) instr pc d = record { source = refl; instructions = refl }
 
-answer_same : (s : Result Stepped AllocError) (before after : Debugged) (instr : Option Instr) (answer : Result Tick AllocError) → Settles before instr s answer after → SameBreaks before.lists after.lists
+answer_same : (s : Result Stepped AllocError) (before after : Debugged) (instr : Option Instr) (answer : Result Tick AllocError)
+    → Settles before instr s answer after → SameBreaks before.lists after.lists
 answer_same (Ok s) before after instr answer e =
     subst (λ (d : Debugged). SameBreaks before.lists d.lists) (sym e.1) (settled_same s instr before.hart.pc (moved_as before after))
-answer_same (Err error) before after instr answer e = subst (λ (d : Debugged). SameBreaks before.lists d.lists) (sym e.1) (record { source = refl; instructions = refl })
+answer_same (Err error) before after instr answer e =
+    subst (λ (d : Debugged). SameBreaks before.lists d.lists) (sym e.1) (record { source = refl; instructions = refl })
 
 tick_same : (before after : Debugged) (answer : Result Tick AllocError) → IsTick before answer after → SameBreaks before.lists after.lists
 tick_same before after answer is = go before.check_due is where
-  go : (due : Bool) → MatchBool due ((answer ≡ Ok (entry_tick before)) × (after ≡ entry_checked before)) (Moves before answer after) → SameBreaks before.lists after.lists
-  go true e = subst (λ (d : Debugged). SameBreaks before.lists d.lists) (sym e.1) (checked_same before.hart.pc before.hart before.memory before.lists)
+  go : (due : Bool) → MatchBool due ((answer ≡ Ok (entry_tick before)) × (after ≡ entry_checked before)) (Moves before answer after)
+      → SameBreaks before.lists after.lists
+  go true e =
+      subst (λ (d : Debugged). SameBreaks before.lists d.lists) (sym e.1)
+      (checked_same before.hart.pc before.hart before.memory before.lists)
   go false m = answer_same m.stepped before after m.instr answer m.settles
 
-breaks_same : (p : Program) (d : Debugged) → SameBreaks p.machine.lists d.lists → (owed : Option Tick) → SameBut p (record p { machine = d; owed = owed })
+breaks_same : (p : Program) (d : Debugged) → SameBreaks p.machine.lists d.lists → (owed : Option Tick)
+    → SameBut p (record p { machine = d; owed = owed })
 breaks_same p d same owed = record {
   source = λ numbers path. ap (λ (l : List BreakInfo). listed_at p.path l path) same.source;
   instructions = λ numbers. same.instructions;
@@ -77,17 +88,22 @@ moved_same : (p : Program) → SameBut p (moved p)
 moved_same p = let t = the_tick p.machine in breaks_same p t.after (tick_same p.machine t.after (Ok t.tick) t.is) (moved p).owed
 
 pub entered_same : (p : Program) → SameBut p (entered p)
-entered_same p = breaks_same p (entry_checked p.machine) (checked_same p.machine.hart.pc p.machine.hart p.machine.memory p.machine.lists) (entered p).owed
+entered_same p =
+    breaks_same p (entry_checked p.machine) (checked_same p.machine.hart.pc p.machine.hart p.machine.memory p.machine.lists)
+    (entered p).owed
 
 -- ---- beats
 
 module _ (terms : Terms) (numbers : Numbers) (f : Facts) where
   -- a program that runs goes on, and nothing is told
-  goes_agrees : (p q : Program) → is_running p.run ≡ true → SameBut p q → q.run ≡ p.run → Agrees f (Some p) numbers terms → Agrees f (Some q) numbers terms
+  goes_agrees : (p q : Program) → is_running p.run ≡ true → SameBut p q → q.run ≡ p.run → Agrees f (Some p) numbers terms
+      → Agrees f (Some q) numbers terms
   goes_agrees p q runs same run h =
       let none = h.moving runs in
       record {
-        holds = holds_moving f (shown_of p numbers) (shown_of q numbers) none h.holds (subst (λ (r : Run). HoldsRun f.run (state_of r)) (sym run) h.holds.run) (same.source numbers) (same.instructions numbers);
+        holds =
+            holds_moving f (shown_of p numbers) (shown_of q numbers) none h.holds
+            (subst (λ (r : Run). HoldsRun f.run (state_of r)) (sym run) h.holds.run) (same.source numbers) (same.instructions numbers);
         moving = λ _. none;
         numbered = h.numbered;
         phase = h.phase;
@@ -104,31 +120,40 @@ module _ (terms : Terms) (numbers : Numbers) (f : Facts) where
     retires_leads : (p : Program) → is_running p.run ≡ true → Agrees f (Some p) numbers terms → Agrees f (Some (moved p)) numbers terms
     retires_leads p r h = goes_agrees p (moved p) r (moved_same p) refl h
 
-    moves_lead : (p : Program) (outcome : CameTo) → is_running p.run ≡ true → Agrees f (Some p) numbers terms → LeadsOn p (moves_by now p outcome)
+    moves_lead : (p : Program) (outcome : CameTo) → is_running p.run ≡ true → Agrees f (Some p) numbers terms
+        → LeadsOn p (moves_by now p outcome)
     unfolding Leads
     moves_lead p outcome r h =
-        by_move (λ _ b. LeadsOn p b) now p outcome (λ _ _. retires_leads p r h) (λ cause. halts_lead terms numbers f now p (why.Met (met.Exception cause)) [] active r h) (λ code. exits_lead terms numbers f now p code active r h)
+        by_move (λ _ b. LeadsOn p b) now p outcome (λ _ _. retires_leads p r h)
+        (λ cause. halts_lead terms numbers f now p (why.Met (met.Exception cause)) [] active r h)
+        (λ code. exits_lead terms numbers f now p code active r h)
 
     goes_lead : (p : Program) (more : Bool) → is_running p.run ≡ true → Agrees f (Some p) numbers terms → LeadsOn p (goes now p more)
     unfolding Leads
     goes_lead p more r h =
         if_keeps (LeadsOn p) p.machine.check_due _ _ (λ _. goes_agrees p (entered p) r (entered_same p) refl h)
         (λ _. if_keeps (LeadsOn p) (not more) _ _ (λ _. h)
-        (λ _. if_keeps (LeadsOn p) (leb now.limits.last_retired p.machine.retired) _ _ (λ _. halts_lead terms numbers f now p why.Limit [] active r h) (λ _. moves_lead p (next_tick p).outcome r h)))
+        (λ _. if_keeps (LeadsOn p) (leb now.limits.last_retired p.machine.retired) _ _
+        (λ _. halts_lead terms numbers f now p why.Limit [] active r h) (λ _. moves_lead p (next_tick p).outcome r h)))
 
-    unless_lead : (mark : Option Mark) (p : Program) (more : Bool) → is_running p.run ≡ true → Agrees f (Some p) numbers terms → LeadsOn p (goes_unless mark now p more)
+    unless_lead : (mark : Option Mark) (p : Program) (more : Bool) → is_running p.run ≡ true → Agrees f (Some p) numbers terms
+        → LeadsOn p (goes_unless mark now p more)
     unfolding Leads
     unless_lead (Some mark) p more r h = halts_lead terms numbers f now p (why_marked mark) [] active r h
     unless_lead None p more r h = goes_lead p more r h
 
-  pub owed_lead : (owed : Option Tick) (seen : Seen) (p : Program) (more : Bool) → is_active_in terms.phase ≡ is_active seen.now.link → p.owed ≡ owed → OwesRunning p → Agrees f (Some p) numbers terms → LeadsOn p (beat_by owed seen p more)
+  pub owed_lead : (owed : Option Tick) (seen : Seen) (p : Program) (more : Bool) → is_active_in terms.phase ≡ is_active seen.now.link
+      → p.owed ≡ owed → OwesRunning p → Agrees f (Some p) numbers terms → LeadsOn p (beat_by owed seen p more)
   unfolding Leads
-  owed_lead (Some tick) seen p more active e owes h = telling_leads terms numbers f seen.now p tick active (owes (λ none. never tick (sym none ∙ e))) h
+  owed_lead (Some tick) seen p more active e owes h =
+      telling_leads terms numbers f seen.now p tick active (owes (λ none. never tick (sym none ∙ e))) h
   owed_lead None seen p more active e owes h =
       if_keeps (LeadsOn p) (not (is_runnable_by seen.now.link p.run)) _ _ (λ _. h)
-      (λ r. if_keeps (LeadsOn p) (ltb FULL seen.waits) _ _ (λ _. h) (λ _. unless_lead seen.now active p.mark p more (both_true (is_running p.run) (not (is_configuring seen.now.link)) r) h))
+      (λ r. if_keeps (LeadsOn p) (ltb FULL seen.waits) _ _ (λ _. h)
+      (λ _. unless_lead seen.now active p.mark p more (both_true (is_running p.run) (not (is_configuring seen.now.link)) r) h))
 
-  pub program_leads : (program : Option Program) (seen : Seen) (more : Bool) → is_active_in terms.phase ≡ is_active seen.now.link → OwesOf program → Agrees f program numbers terms → Leads terms numbers f program (beat_of program seen more).acts
+  pub program_leads : (program : Option Program) (seen : Seen) (more : Bool) → is_active_in terms.phase ≡ is_active seen.now.link
+      → OwesOf program → Agrees f program numbers terms → Leads terms numbers f program (beat_of program seen more).acts
   unfolding Leads
   program_leads None seen more active owes h = h
   program_leads (Some p) seen more active owes h = owed_lead p.owed seen p more active refl owes h

@@ -6,7 +6,8 @@ use Rattle.std.proofs.lemmas.Bool.Decides.{nat_tests}
 use Rattle.std.proofs.lemmas.List.{length-take}
 use Rattle.answers.proofs.ProperValues.{writings_fit}
 use Rattle.answers.specs.ReadMemory.{can_begin, start_at}
-use Rattle.answers.specs.References.{offset_by, reference_of}
+use Rattle.numerals.specs.MemoryReferences.{address_in, offset_by}
+use Rattle.numerals.specs.Words.{word_of}
 use Rattle.answers.specs.SetVariable.{set_in, setting_of, with_register}
 use Rattle.answers.specs.WriteMemory.{fitting, start_by, write_memory, written as written_by, written_at, writing_of}
 use Rattle.answers.specs.declared.set_variable.Setting.{Setting}
@@ -18,7 +19,7 @@ use Rattle.image.specs.declared.fault.MemFault.{MemFault}
 use Rattle.image.specs.declared.fault.MemFault.TheVariants.{Misaligned, Outside}
 use Rattle.facts.specs.Facts.{Facts}
 use Rattle.mirror.specs.Folding.{over, succeeded, valued}
-use Rattle.mirror.specs.Requests.{named, place_of, register_of}
+use Rattle.mirror.specs.Requests.{named, register_of}
 use Rattle.mirror.specs.declared.asked.Asked.TheVariants as asks
 use Rattle.protocol.specs.declared.refusal.Refusal.{Refusal}
 use Rattle.protocol.specs.declared.refusal.Refusal.TheVariants.{NotWritable, OutsideMemory, TooMuch}
@@ -28,8 +29,8 @@ use Rattle.range_laws.specs.Machines.{AreRegisters}
 use Rattle.rv32i.specs.Names.{name_of}
 use Rattle.rv32i.specs.declared.hart.Hart.{Hart}
 use Rattle.session.proofs.Reaching.{if_keeps}
-use Rattle.session.specs.Phases.{is_active_in}
-use Rattle.session.specs.declared.terms.Terms.{Terms}
+use Rattle.handlers.specs.Phases.{is_active_in}
+use Rattle.handlers.specs.declared.terms.Terms.{Terms}
 use Rattle.variables.specs.Numbers.{Numbers}
 use Rattle.variables.specs.Registers.{name_answer, number_of, unless_zero}
 use Rattle.variables.specs.Values.{value_of}
@@ -57,18 +58,22 @@ set_other (x ∷ l) (suc i) v zero e = refl
 set_other (x ∷ l) (suc i) v (suc k) e = set_other l i v k (let other : eqb i k ≡ false = grind (arith, nat_tests, e) in other)
 
 -- what is known of the registers, with one more value, is so where that is set
-valued_so : (r value : ℕ) (old was so : ℕ → Option ℕ) → so r ≡ Some value → ((k : ℕ) → eqb r k ≡ false → so k ≡ was k) → HoldsAt old was → HoldsAt (valued (Some r) value old) so
+valued_so : (r value : ℕ) (old was so : ℕ → Option ℕ) → so r ≡ Some value → ((k : ℕ) → eqb r k ≡ false → so k ≡ was k) → HoldsAt old was
+    → HoldsAt (valued (Some r) value old) so
 valued_so r value old was so is others h = λ place x e. by place x (eqb r place) refl e where
   by : (place x : ℕ) (b : Bool) → eqb r place ≡ b → cond b (Some value) (old place) ≡ Some x → so place ≡ Some x
   by place x true same e = subst (λ (k : ℕ). so k ≡ Some value) (same_number r place same) is ∙ e
   by place x false other e = others place other ∙ h place x e
 
-register_set : (hart : Hart) (n value : ℕ) → length hart.x ≡ 32 → ltb (suc n) 32 ≡ true → register_at (with_register hart (suc n) value) (suc n) ≡ Some value
+register_set : (hart : Hart) (n value : ℕ) → length hart.x ≡ 32 → ltb (suc n) 32 ≡ true
+    → register_at (with_register hart (suc n) value) (suc n) ≡ Some value
 register_set hart n value long less =
     value_at (with_register hart (suc n) value) (suc n) less
-    ∙ ap (λ (v : ℕ). Some v) (set_same hart.x (suc n) value (let small : suc n < 32 = grind (arith, nat_tests, less) in omega (arith, long, small)))
+    ∙ ap (λ (v : ℕ). Some v)
+    (set_same hart.x (suc n) value (let small : suc n < 32 = grind (arith, nat_tests, less) in omega (arith, long, small)))
 
-register_kept : (hart : Hart) (n value k : ℕ) → eqb (suc n) k ≡ false → register_at (with_register hart (suc n) value) k ≡ register_at hart k
+register_kept : (hart : Hart) (n value k : ℕ) → eqb (suc n) k ≡ false
+    → register_at (with_register hart (suc n) value) k ≡ register_at hart k
 register_kept hart n value k other =
     ap (λ (v : ℕ). cond (eqb k 32) (Some hart.pc) (cond (ltb k 32) (Some v) None)) (set_other hart.x (suc n) value k other)
 
@@ -77,7 +82,8 @@ register_kept hart n value k other =
 in_range : (from n : ℕ) (test : ℕ → Bool) (r : ℕ) → find test (range_with_len from n) ≡ Some r → r < from + n
 in_range from zero test r e = never r e
 in_range from (suc n) test r e = by (test from) (in_range (from + 1) n test r) e where
-  by : (b : Bool) → (find test (range_with_len (from + 1) n) ≡ Some r → r < from + 1 + n) → cond b (Some from) (find test (range_with_len (from + 1) n)) ≡ Some r → r < from + suc n
+  by : (b : Bool) → (find test (range_with_len (from + 1) n) ≡ Some r → r < from + 1 + n)
+      → cond b (Some from) (find test (range_with_len (from + 1) n)) ≡ Some r → r < from + suc n
   by true rest e = let same : from ≡ r = cc in omega (arith, same)
   by false rest e = let less = rest e in omega (arith, less)
 
@@ -118,7 +124,8 @@ which name r e = by (bytes_eq name (codes "pc")) refl e where
 
 -- ---- `setVariable`
 
-module _ (f : Facts) (p : Program) (numbers : Numbers) (terms : Terms) (active : is_active_in terms.phase ≡ true) (still : is_running p.run ≡ false) (h : Agrees f (Some p) numbers terms) where
+module _ (f : Facts) (p : Program) (numbers : Numbers) (terms : Terms) (active : is_active_in terms.phase ≡ true)
+    (still : is_running p.run ≡ false) (h : Agrees f (Some p) numbers terms) where
   set_agrees : (name : List ℕ) (r value : ℕ) → AreRegisters p.machine.hart.x → IsRegister name r
       → Agrees (record f { register = valued (register_of name) value f.register }) (Some (with_hart (with_register p.machine.hart r value) p)) numbers terms
   set_agrees name zero value registers is = absurd (let no : true ≡ false = is.some in cc)
@@ -131,8 +138,10 @@ module _ (f : Facts) (p : Program) (numbers : Numbers) (terms : Terms) (active :
           source = h.holds.source;
           instructions = h.holds.instructions;
           frame = h.holds.frame;
-          register = subst (λ (x : Option ℕ). HoldsAt (valued x value f.register) (register_at (with_register hart (suc n) value))) (sym is.named)
-              (valued_so (suc n) value f.register (register_at hart) (register_at (with_register hart (suc n) value)) (register_set hart n value registers.count is.less) (register_kept hart n value) h.holds.register);
+          register =
+              subst (λ (x : Option ℕ). HoldsAt (valued x value f.register) (register_at (with_register hart (suc n) value))) (sym is.named)
+              (valued_so (suc n) value f.register (register_at hart) (register_at (with_register hart (suc n) value))
+              (register_set hart n value registers.count is.less) (register_kept hart n value) h.holds.register);
           byte = h.holds.byte;
         };
         moving = λ runs. still_moving p still runs;
@@ -141,16 +150,21 @@ module _ (f : Facts) (p : Program) (numbers : Numbers) (terms : Terms) (active :
       }
 
   abbrev SetSo : SetVariableArguments → Result Setting Refusal → Type 0
-  SetSo arguments result = IfOk result (λ setting. Agrees (succeeded setting.body (asks.SetVariable arguments.name) f) (Some (with_hart setting.hart p)) numbers terms)
+  SetSo arguments result =
+      IfOk result (λ setting. Agrees (succeeded setting.body (asks.SetVariable arguments.name) f)
+      (Some (with_hart setting.hart p)) numbers terms)
 
-  of_setting : (arguments : SetVariableArguments) → AreRegisters p.machine.hart.x → (named : Result ℕ Refusal) → name_answer arguments.name ≡ named → (value : Option ℕ) → SetSo arguments (setting_of p.machine.hart named value)
+  of_setting : (arguments : SetVariableArguments) → AreRegisters p.machine.hart.x → (named : Result ℕ Refusal)
+      → name_answer arguments.name ≡ named → (value : Option ℕ) → SetSo arguments (setting_of p.machine.hart named value)
   of_setting arguments registers (Err refusal) e value = tt
   of_setting arguments registers (Ok r) e None = tt
   of_setting arguments registers (Ok r) e (Some value) = set_agrees arguments.name r value registers (which arguments.name r e)
 
-  pub setting_so : (arguments : SetVariableArguments) → AreRegisters p.machine.hart.x → (found : Result Target Refusal) → SetSo arguments (set_in arguments p.machine found)
+  pub setting_so : (arguments : SetVariableArguments) → AreRegisters p.machine.hart.x → (found : Result Target Refusal)
+      → SetSo arguments (set_in arguments p.machine found)
   setting_so arguments registers (Ok (target.Frame index)) = tt
-  setting_so arguments registers (Ok target.Registers) = of_setting arguments registers (name_answer arguments.name) refl (value_of arguments.value)
+  setting_so arguments registers (Ok target.Registers) =
+      of_setting arguments registers (name_answer arguments.name) refl (value_of arguments.value)
   setting_so arguments registers (Ok target.Stack) = tt
   setting_so arguments registers (Err refusal) = tt
 
@@ -172,9 +186,11 @@ is_high : (m n : ℕ) → ltb m n ≡ true → m < n
 is_high m n e = grind (arith, nat_tests, e)
 
 -- a place at which nothing is written, where what is written ends at an address
-outside : (first count place : ℕ) → count ≤ 4294967296 - first → (leb first place && ltb place (first + count) && ltb place (2 ^ 32)) ≡ false → IsOutside first count place
+outside : (first count place : ℕ) → count ≤ 4294967296 - first
+    → (leb first place && ltb place (first + count) && ltb place (2 ^ 32)) ≡ false → IsOutside first count place
 outside first count place fits e = by (leb first place) (ltb place (first + count)) (ltb place (2 ^ 32)) refl refl refl e where
-  by : (a b c : Bool) → leb first place ≡ a → ltb place (first + count) ≡ b → ltb place (2 ^ 32) ≡ c → (a && b && c) ≡ false → IsOutside first count place
+  by : (a b c : Bool) → leb first place ≡ a → ltb place (first + count) ≡ b → ltb place (2 ^ 32) ≡ c → (a && b && c) ≡ false
+      → IsOutside first count place
   by false b c x y z e = inl (low first place x)
   by true false c x y z e = inr (high place (first + count) y)
   by true true true x y z e = absurd (let no : true ≡ false = e in cc)
@@ -189,22 +205,27 @@ get_less [] j x e = never x e
 get_less (y ∷ l) zero x e = omega arith
 get_less (y ∷ l) (suc j) x e = let less = get_less l j x e in omega (arith, less)
 
-written_hold : (memory : List ℕ) (address : ℕ) (bytes : List ℕ) (old : ℕ → Option ℕ) → length bytes ≤ 4294967296 - address → has_bytes memory address (length bytes) ≡ true → HoldsAt old (byte_at memory)
+written_hold : (memory : List ℕ) (address : ℕ) (bytes : List ℕ) (old : ℕ → Option ℕ) → length bytes ≤ 4294967296 - address
+    → has_bytes memory address (length bytes) ≡ true → HoldsAt old (byte_at memory)
     → HoldsAt (over address bytes old) (byte_at (with_bytes memory address bytes))
 unfolding over
-written_hold memory address bytes old fits has h = λ place x e. by place x (leb address place && ltb place (address + length bytes) && ltb place (2 ^ 32)) refl e where
-  new : ℕ → Option ℕ
-  new place = byte_at (with_bytes memory address bytes) place
+written_hold memory address bytes old fits has h =
+    λ place x e. by place x (leb address place && ltb place (address + length bytes) && ltb place (2 ^ 32)) refl e where
+      new : ℕ → Option ℕ
+      new place = byte_at (with_bytes memory address bytes) place
 
-  kept : (place x : ℕ) → old place ≡ Some x → IsOutside address (length bytes) place → byte_at (with_bytes memory address bytes) place ≡ Some x
-  kept place x e (inl below) = keeps_below memory address place bytes has below ∙ h place x e
-  kept place x e (inr above) = keeps_above memory address place bytes has above ∙ h place x e
+      kept : (place x : ℕ) → old place ≡ Some x → IsOutside address (length bytes) place
+          → byte_at (with_bytes memory address bytes) place ≡ Some x
+      kept place x e (inl below) = keeps_below memory address place bytes has below ∙ h place x e
+      kept place x e (inr above) = keeps_above memory address place bytes has above ∙ h place x e
 
-  by : (place x : ℕ) (b : Bool) → (leb address place && ltb place (address + length bytes) && ltb place (2 ^ 32)) ≡ b → cond b (slice_get bytes (place - address)) (old place) ≡ Some x → byte_at (with_bytes memory address bytes) place ≡ Some x
-  by place x true so e =
-      subst (λ (k : ℕ). byte_at (with_bytes memory address bytes) k ≡ Some x) (not_below address place (first_test (leb address place) (ltb place (address + length bytes)) (ltb place (2 ^ 32)) so))
-      (writes_bytes memory address (place - address) bytes has (get_less bytes (place - address) x e) ∙ e)
-  by place x false so e = kept place x e (outside address (length bytes) place fits so)
+      by : (place x : ℕ) (b : Bool) → (leb address place && ltb place (address + length bytes) && ltb place (2 ^ 32)) ≡ b
+          → cond b (slice_get bytes (place - address)) (old place) ≡ Some x → byte_at (with_bytes memory address bytes) place ≡ Some x
+      by place x true so e =
+          subst (λ (k : ℕ). byte_at (with_bytes memory address bytes) k ≡ Some x)
+          (not_below address place (first_test (leb address place) (ltb place (address + length bytes)) (ltb place (2 ^ 32)) so))
+          (writes_bytes memory address (place - address) bytes has (get_less bytes (place - address) x e) ∙ e)
+      by place x false so e = kept place x e (outside address (length bytes) place fits so)
 
 no_fault : (memory : List ℕ) (address count : ℕ) → fault_at memory 1 address count ≡ None → has_bytes memory address count ≡ true
 no_fault memory address count e = by (not (eqb (address % 1) 0)) (has_bytes memory address count) e where
@@ -213,8 +234,10 @@ no_fault memory address count e = by (not (eqb (address % 1) 0)) (has_bytes memo
   by false true e = refl
   by false false e = absurd (cc)
 
-module _ (f : Facts) (p : Program) (numbers : Numbers) (terms : Terms) (active : is_active_in terms.phase ≡ true) (still : is_running p.run ≡ false) (h : Agrees f (Some p) numbers terms) where
-  write_agrees : (address : ℕ) (bytes : List ℕ) → length bytes ≤ 4294967296 - address → fault_at p.machine.memory 1 address (length bytes) ≡ None
+module _ (f : Facts) (p : Program) (numbers : Numbers) (terms : Terms) (active : is_active_in terms.phase ≡ true)
+    (still : is_running p.run ≡ false) (h : Agrees f (Some p) numbers terms) where
+  write_agrees : (address : ℕ) (bytes : List ℕ) → length bytes ≤ 4294967296 - address
+      → fault_at p.machine.memory 1 address (length bytes) ≡ None
       → Agrees (record f { byte = over address bytes f.byte }) (Some (written address bytes p)) numbers terms
   write_agrees address bytes fits none =
       let memory = p.machine.memory in
@@ -226,7 +249,9 @@ module _ (f : Facts) (p : Program) (numbers : Numbers) (terms : Terms) (active :
           instructions = h.holds.instructions;
           frame = h.holds.frame;
           register = h.holds.register;
-          byte = subst (λ (fault : Option MemFault). HoldsAt (over address bytes f.byte) (byte_at (memory_after fault (with_bytes memory address bytes) memory))) (sym none)
+          byte =
+              subst (λ (fault : Option MemFault). HoldsAt (over address bytes f.byte)
+              (byte_at (memory_after fault (with_bytes memory address bytes) memory))) (sym none)
               (written_hold memory address bytes f.byte fits (no_fault memory address (length bytes) none) h.holds.byte);
         };
         moving = λ runs. still_moving p still runs;
@@ -235,48 +260,62 @@ module _ (f : Facts) (p : Program) (numbers : Numbers) (terms : Terms) (active :
       }
 
   abbrev WriteSo : List ℕ → Option ℕ → Result Writing Refusal → Type 0
-  WriteSo bytes place result = IfOk result (λ writing. Agrees (succeeded writing.body (asks.WriteMemory place bytes) f) (Some (written writing.address (take writing.count bytes) p)) numbers terms)
+  WriteSo bytes place result =
+      IfOk result (λ writing. Agrees (succeeded writing.body (asks.WriteMemory place bytes) f)
+      (Some (written writing.address (take writing.count bytes) p)) numbers terms)
 
   abbrev Fits : List ℕ → Result Writing Refusal → Type 0
-  Fits bytes result = IfOk result (λ writing. (writing.count ≤ length bytes) × (fault_at p.machine.memory 1 writing.address writing.count ≡ None))
+  Fits bytes result =
+      IfOk result (λ writing. (writing.count ≤ length bytes) × (fault_at p.machine.memory 1 writing.address writing.count ≡ None))
 
   taken : (bytes : List ℕ) (count : ℕ) → count ≤ length bytes → length (take count bytes) ≡ count
   taken bytes count few = let e = length-take count bytes in omega (arith, e, few)
 
-  writes_so : (bytes : List ℕ) (address count : ℕ) → count ≤ 4294967296 - address → Fits bytes (Ok (writing_of address count)) → WriteSo bytes (Some address) (Ok (writing_of address count))
+  writes_so : (bytes : List ℕ) (address count : ℕ) → count ≤ 4294967296 - address → Fits bytes (Ok (writing_of address count))
+      → WriteSo bytes (Some address) (Ok (writing_of address count))
   writes_so bytes address count room fits =
       let long = taken bytes count fits.0 in
-      write_agrees address (take count bytes) (subst (λ (n : ℕ). n ≤ 4294967296 - address) (sym long) room) (subst (λ (n : ℕ). fault_at p.machine.memory 1 address n ≡ None) (sym long) fits.1)
+      write_agrees address (take count bytes) (subst (λ (n : ℕ). n ≤ 4294967296 - address) (sym long) room)
+      (subst (λ (n : ℕ). fault_at p.machine.memory 1 address n ≡ None) (sym long) fits.1)
 
   fits_address : (count address : ℕ) → fitting p.machine.memory count address ≤ 4294967296 - address
-  fits_address count address = let e = length-take (min count (4294967296 - address)) (drop (address - 65536) p.machine.memory) in omega (arith, e)
+  fits_address count address =
+      let e = length-take (min count (4294967296 - address)) (drop (address - 65536) p.machine.memory) in omega (arith, e)
 
-  written_so : (bytes : List ℕ) (partial : Bool) (address : ℕ) → Fits bytes (written_at p.machine.memory partial (length bytes) address) → WriteSo bytes (Some address) (written_at p.machine.memory partial (length bytes) address)
+  written_so : (bytes : List ℕ) (partial : Bool) (address : ℕ) → Fits bytes (written_at p.machine.memory partial (length bytes) address)
+      → WriteSo bytes (Some address) (written_at p.machine.memory partial (length bytes) address)
   written_so bytes partial address fits = by (eqb (fitting p.machine.memory (length bytes) address) (length bytes)) refl partial fits where
     by : (all : Bool) → eqb (fitting p.machine.memory (length bytes) address) (length bytes) ≡ all → (partial : Bool)
         → Fits bytes (cond all (Ok (writing_of address (length bytes))) (cond partial (Ok (writing_of address (fitting p.machine.memory (length bytes) address))) (Err OutsideMemory)))
         → WriteSo bytes (Some address) (cond all (Ok (writing_of address (length bytes))) (cond partial (Ok (writing_of address (fitting p.machine.memory (length bytes) address))) (Err OutsideMemory)))
-    by true same partial fits = writes_so bytes address (length bytes) (subst (λ (n : ℕ). n ≤ 4294967296 - address) (same_number (fitting p.machine.memory (length bytes) address) (length bytes) same) (fits_address (length bytes) address)) fits
-    by false same true fits = writes_so bytes address (fitting p.machine.memory (length bytes) address) (fits_address (length bytes) address) fits
+    by true same partial fits =
+        writes_so bytes address (length bytes)
+        (subst (λ (n : ℕ). n ≤ 4294967296 - address) (same_number (fitting p.machine.memory (length bytes) address) (length bytes) same)
+        (fits_address (length bytes) address)) fits
+    by false same true fits =
+        writes_so bytes address (fitting p.machine.memory (length bytes) address) (fits_address (length bytes) address) fits
     by false same false fits = tt
 
   abbrev Writes : WriteMemoryArguments → Option ℕ → Result ℕ Refusal → Type 0
-  Writes arguments place start = Fits arguments.bytes (written_by p.machine.memory arguments start) → WriteSo arguments.bytes place (written_by p.machine.memory arguments start)
+  Writes arguments place start =
+      Fits arguments.bytes (written_by p.machine.memory arguments start) → WriteSo arguments.bytes place
+      (written_by p.machine.memory arguments start)
 
-  starts_so : (arguments : WriteMemoryArguments) (place : Option ℕ) → Writes arguments place (start_at p.machine.memory (length arguments.bytes) place)
+  starts_so : (arguments : WriteMemoryArguments) (place : Option ℕ)
+      → Writes arguments place (start_at p.machine.memory (length arguments.bytes) place)
   starts_so arguments None = λ fits. tt
   starts_so arguments (Some address) =
-      if_keeps (Writes arguments (Some address)) (can_begin p.machine.memory (length arguments.bytes) address) (Ok address) (Err OutsideMemory) (λ _ fits. written_so arguments.bytes arguments.allow_partial address fits) (λ _ fits. tt)
+      if_keeps (Writes arguments (Some address)) (can_begin p.machine.memory (length arguments.bytes) address) (Ok address)
+      (Err OutsideMemory) (λ _ fits. written_so arguments.bytes arguments.allow_partial address fits) (λ _ fits. tt)
 
-  by_reference : (arguments : WriteMemoryArguments) (reference : Option ℕ) → Writes arguments (offset_by arguments.offset reference) (start_by p.machine.memory arguments reference)
+  by_reference : (arguments : WriteMemoryArguments) (reference : Option ℕ)
+      → Writes arguments (offset_by arguments.offset reference) (start_by p.machine.memory arguments reference)
   by_reference arguments None = λ fits. tt
   by_reference arguments (Some reference) =
-      if_keeps (Writes arguments (offset_by arguments.offset (Some reference))) (ltb 65536 (length arguments.bytes)) (Err TooMuch) _ (λ _ fits. tt) (λ _. starts_so arguments (offset_by arguments.offset (Some reference)))
+      if_keeps (Writes arguments (offset_by arguments.offset (Some reference))) (ltb 65536 (length arguments.bytes)) (Err TooMuch) _
+      (λ _ fits. tt) (λ _. starts_so arguments (offset_by arguments.offset (Some reference)))
 
-  same_place : (text : List ℕ) (offset : _) → offset_by offset (reference_of text) ≡ place_of text offset
-  same_place text offset = refl
-
-  pub writing_so : (arguments : WriteMemoryArguments) → WriteSo arguments.bytes (place_of arguments.memory_reference arguments.offset) (write_memory arguments p.machine.memory)
+  pub writing_so : (arguments : WriteMemoryArguments)
+      → WriteSo arguments.bytes (address_in arguments.memory_reference arguments.offset) (write_memory arguments p.machine.memory)
   writing_so arguments =
-      subst (λ (place : Option ℕ). WriteSo arguments.bytes place (write_memory arguments p.machine.memory)) (same_place arguments.memory_reference arguments.offset)
-      (by_reference arguments (reference_of arguments.memory_reference) (writings_fit arguments p.machine.memory))
+      by_reference arguments (word_of arguments.memory_reference) (writings_fit arguments p.machine.memory)

@@ -11,12 +11,13 @@ use Rattle.session.proofs.Orderly.{OrderlyIn}
 use Rattle.session.proofs.Serving.{Meets}
 use Rattle.session.proofs.Turning.{BoundsIn}
 use Rattle.range_laws.specs.Requests.{GivesBytes}
-use Rattle.session.specs.Acts.{Answering, Now, Tell}
-use Rattle.session.specs.Demands.{run_of}
+use Rattle.handlers.specs.Given.{Answering}
+use Rattle.session.specs.Acts.{Now, Tell, given_of}
+use Rattle.handlers.specs.Demands.{run_of}
 use Rattle.session.specs.References.{referred}
-use Rattle.session.specs.Requests.{demand_of, is_taken_in, success_of}
-use Rattle.session.specs.Successes.{refusing}
-use Rattle.session.specs.declared.terms.Terms.{Terms}
+use Rattle.handlers.specs.Requests.{demand_of, is_taken_in, success_of}
+use Rattle.handlers.specs.Successes.{refusing}
+use Rattle.handlers.specs.declared.terms.Terms.{Terms}
 use Rattle.headline.proofs.Agreeing.{Agrees, OwesOf}
 use Rattle.headline.proofs.Leading.{Leads}
 use Rattle.headline.proofs.Remembering.{refused_tells}
@@ -31,10 +32,12 @@ AnswerLeads now f asked a =
     Holds g (shown_by a.debuggee.program numbers) × Leads a.terms numbers g a.debuggee.program (map Tell a.events)
 
 -- a refusal tells nothing
-pub refusal_leads : (now : Now) (terms : Terms) (f : Facts) (asked : Option Asked) (refusal : Refusal) (text : Option (List ℕ)) → Agrees f now.debuggee.program now.numbers terms → AnswerLeads now f asked (refusing now terms refusal text)
+pub refusal_leads : (now : Now) (terms : Terms) (f : Facts) (asked : Option Asked) (refusal : Refusal) (text : Option (List ℕ))
+    → Agrees f now.debuggee.program now.numbers terms → AnswerLeads now f asked (refusing (given_of now) terms refusal text)
 unfolding Leads
 refusal_leads now terms f asked refusal text h =
-    subst (λ (g : Facts). Holds g (shown_by now.debuggee.program now.numbers) × Agrees g now.debuggee.program now.numbers terms) (sym (refused_tells asked refusal text f)) (h.holds, h)
+    subst (λ (g : Facts). Holds g (shown_by now.debuggee.program now.numbers) × Agrees g now.debuggee.program now.numbers terms)
+    (sym (refused_tells asked refusal text f)) (h.holds, h)
 
 -- nothing is owed
 abbrev pub OwesNothing : Option Program → Type 0
@@ -52,8 +55,12 @@ pub record Comes (now : Now) (terms : Terms) (command : Command) : Type 0 where
 
 -- of each command
 abbrev pub CommandsLead : Type 0
-CommandsLead = (now : Now) (terms : Terms) (file : Option (List ℕ)) (command : Command) (f : Facts) → Comes now terms command → Agrees f now.debuggee.program now.numbers terms
-    → AnswerLeads now f (Some (asked_of command)) (success_of now terms file command)
+CommandsLead =
+    (now : Now) (terms : Terms) (file : Option (List ℕ)) (command : Command) (f : Facts) → Comes now terms command
+    → Agrees f now.debuggee.program now.numbers terms
+    → AnswerLeads now f (Some (asked_of command)) (success_of (given_of now) terms file command)
 
 abbrev pub CommandsOwe : Type 0
-CommandsOwe = (now : Now) (terms : Terms) (file : Option (List ℕ)) (command : Command) → OwesNothing now.debuggee.program → OwesOf (success_of now terms file command).debuggee.program
+CommandsOwe =
+    (now : Now) (terms : Terms) (file : Option (List ℕ)) (command : Command) → OwesNothing now.debuggee.program → OwesOf
+    (success_of (given_of now) terms file command).debuggee.program

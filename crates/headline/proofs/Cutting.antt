@@ -15,7 +15,8 @@ abbrev pub AllHold : (ℕ → Option Asked) → Facts → List Said → Type 0
 AllHold asked f [] = ⊤
 AllHold asked f (m ∷ said) = Holds (folded asked f m.message) (shown m.snapshot) × AllHold asked (folded asked f m.message) said
 
-pub within_was_so : (asked : ℕ → Option Asked) (f : Facts) (said : List Said) (count : ℕ) (before : Option Snapshot) → WasSo f before → AllHold asked f said
+pub within_was_so : (asked : ℕ → Option Asked) (f : Facts) (said : List Said) (count : ℕ) (before : Option Snapshot) → WasSo f before
+    → AllHold asked f said
     → WasSo (known_after asked f (told_within count said)) (last_seen before (told_within count said))
 within_was_so asked f [] count before so h = so
 within_was_so asked f (m ∷ said) count before so h =
@@ -24,11 +25,13 @@ within_was_so asked f (m ∷ said) count before so h =
     (λ _. so)
 
 -- a message more
-pub known_more : (asked : ℕ → Option Asked) (f : Facts) (said : List Said) (m : Said) → known_after asked f (said ++ m ∷ []) ≡ folded asked (known_after asked f said) m.message
+pub known_more : (asked : ℕ → Option Asked) (f : Facts) (said : List Said) (m : Said)
+    → known_after asked f (said ++ m ∷ []) ≡ folded asked (known_after asked f said) m.message
 known_more asked f [] m = refl
 known_more asked f (x ∷ said) m = known_more asked (folded asked f x.message) said m
 
-pub all_hold_more : (asked : ℕ → Option Asked) (f : Facts) (said : List Said) (m : Said) → AllHold asked f said → Holds (folded asked (known_after asked f said) m.message) (shown m.snapshot)
+pub all_hold_more : (asked : ℕ → Option Asked) (f : Facts) (said : List Said) (m : Said) → AllHold asked f said
+    → Holds (folded asked (known_after asked f said) m.message) (shown m.snapshot)
     → AllHold asked f (said ++ m ∷ [])
 all_hold_more asked f [] m h so = (so, tt)
 all_hold_more asked f (x ∷ said) m h so = (h.0, all_hold_more asked (folded asked f x.message) said m h.1 so)

@@ -10,14 +10,15 @@ use Rattle.facts.specs.declared.run.RunState.{RunState}
 use Rattle.facts.specs.declared.run.RunState.TheVariants.{Unknown, Running, Stopped, Ended}
 use Rattle.replies.specs.declared.event.Event.TheVariants as event
 use Rattle.session.proofs.Serving.{Meets}
-use Rattle.session.specs.Acts.{Now, Tell}
-use Rattle.session.specs.ConfigurationDone.{begins, joins, run_events}
-use Rattle.session.specs.Demands.{asks_alive, has_ended, has_none, run_of}
-use Rattle.session.specs.Phases.{is_configuring_in, is_debugging_in}
-use Rattle.session.specs.Terminate as terminate
-use Rattle.session.specs.declared.phase.Phase.{Phase}
-use Rattle.session.specs.declared.phase.Phase.TheVariants.{Fresh, Initialized, Configuring, Active, Left}
-use Rattle.session.specs.declared.terms.Terms.{Terms}
+use Rattle.session.specs.Acts.{Now, Tell, given_of}
+use Rattle.handlers.specs.ConfigurationDone.{begins, joins, run_events}
+use Rattle.handlers.specs.Demands.{has_ended, has_none, run_of}
+use Rattle.handlers.specs.Terminate.{demand}
+use Rattle.handlers.specs.Phases.{is_configuring_in, is_debugging_in}
+use Rattle.handlers.specs.Terminate as terminate
+use Rattle.handlers.specs.declared.phase.Phase.{Phase}
+use Rattle.handlers.specs.declared.phase.Phase.TheVariants.{Fresh, Initialized, Configuring, Active, Left}
+use Rattle.handlers.specs.declared.terms.Terms.{Terms}
 use Rattle.variables.specs.Numbers.{Numbers}
 use Rattle.headline.proofs.Agreeing.{Agrees, SuitsPhase, WhileConfiguring, holds_in, no_stand_in, none_numbered}
 use Rattle.headline.proofs.Commands.{AnswerLeads}
@@ -26,7 +27,8 @@ use Rattle.headline.proofs.Resuming.{alone, no_program, with_event}
 use Rattle.headline.specs.Holding.{Holds, HoldsRun}
 use Rattle.session.specs.Shown.{shown_by, shown_of, state_of}
 
-while_configuring : (phase : Phase) (launched : Bool) (f : Facts) → is_configuring_in phase ≡ true → SuitsPhase phase launched f → WhileConfiguring launched f
+while_configuring : (phase : Phase) (launched : Bool) (f : Facts) → is_configuring_in phase ≡ true → SuitsPhase phase launched f
+    → WhileConfiguring launched f
 while_configuring Fresh launched f e h = absurd (let no : false ≡ true = e in cc)
 while_configuring Initialized launched f e h = absurd (let no : false ≡ true = e in cc)
 while_configuring Configuring launched f e h = h
@@ -38,7 +40,8 @@ module _ (now : Now) (terms : Terms) (f : Facts) (w : WhileConfiguring terms.lau
   active = record terms { phase = Active }
 
   in_agrees : (run : RunState) (p q : Program) → Agrees f (Some p) now.numbers terms → state_of q.run ≡ run → HoldsRun run (state_of q.run)
-      → ((path : List ℕ) → (shown_of p now.numbers).source path ≡ (shown_of q now.numbers).source path) → (shown_of p now.numbers).instructions ≡ (shown_of q now.numbers).instructions → Agrees (in_state run f) (Some q) now.numbers active
+      → ((path : List ℕ) → (shown_of p now.numbers).source path ≡ (shown_of q now.numbers).source path)
+      → (shown_of p now.numbers).instructions ≡ (shown_of q now.numbers).instructions → Agrees (in_state run f) (Some q) now.numbers active
   in_agrees run p q h e is source instructions = record {
     holds = holds_in run f (shown_of p now.numbers) (shown_of q now.numbers) h.holds is source instructions;
     moving = λ _. no_stand_in run f;
@@ -46,30 +49,44 @@ module _ (now : Now) (terms : Terms) (f : Facts) (w : WhileConfiguring terms.lau
     phase = w.launched;
   }
 
-  begins_leads : (program : Option Program) → has_none (run_of program) ≡ false → Agrees f program now.numbers terms → Agrees (in_state Running f) (on_program first_run program) now.numbers active
+  begins_leads : (program : Option Program) → has_none (run_of program) ≡ false → Agrees f program now.numbers terms
+      → Agrees (in_state Running f) (on_program first_run program) now.numbers active
   begins_leads None there h = no_program there
   begins_leads (Some p) there h = in_agrees Running p (first_run p) h refl refl (λ _. refl) refl
 
-  joins_lead : (program : Option Program) → has_none (run_of program) ≡ false → Agrees f program now.numbers terms → Holds f (shown_by program now.numbers) × Leads active now.numbers f program (map Tell (run_events (run_of program)))
+  joins_lead : (program : Option Program) → has_none (run_of program) ≡ false → Agrees f program now.numbers terms
+      → Holds f (shown_by program now.numbers) × Leads active now.numbers f program (map Tell (run_events (run_of program)))
   joins_lead None there h = no_program there
   joins_lead (Some p) there h = by p.run refl where
-    by : (r : Run) → p.run ≡ r → Holds f (shown_by (Some p) now.numbers) × Leads active now.numbers f (Some p) (map Tell (run_events (Some r)))
-    by a_run.Running e = with_event f (in_state Running f) event.Continued (Some p) now.numbers active refl h.holds (in_agrees Running p p h (ap state_of e) (ap state_of e) (λ _. refl) refl)
-    by (a_run.Stopped why) e = with_event f (in_state Stopped f) _ (Some p) now.numbers active refl h.holds (in_agrees Stopped p p h (ap state_of e) (ap state_of e) (λ _. refl) refl)
-    by (a_run.Ended code) e = alone f (Some p) now.numbers active (record { holds = h.holds; moving = λ _. w.stand; numbered = h.numbered; phase = w.launched })
+    by : (r : Run) → p.run ≡ r
+        → Holds f (shown_by (Some p) now.numbers) × Leads active now.numbers f (Some p) (map Tell (run_events (Some r)))
+    by a_run.Running e =
+        with_event f (in_state Running f) event.Continued (Some p) now.numbers active refl h.holds
+        (in_agrees Running p p h (ap state_of e) (ap state_of e) (λ _. refl) refl)
+    by (a_run.Stopped why) e =
+        with_event f (in_state Stopped f) _ (Some p) now.numbers active refl h.holds
+        (in_agrees Stopped p p h (ap state_of e) (ap state_of e) (λ _. refl) refl)
+    by (a_run.Ended code) e =
+        alone f (Some p) now.numbers active (record { holds = h.holds; moving = λ _. w.stand; numbered = h.numbered; phase = w.launched })
 
-pub done_leads : (now : Now) (terms : Terms) (f : Facts) → is_configuring_in terms.phase ≡ true → has_none (run_of now.debuggee.program) ≡ false → Agrees f now.debuggee.program now.numbers terms
-    → AnswerLeads now f (Some asks.ConfigurationDone) (cond terms.launched (begins now (record terms { phase = Active })) (joins now (record terms { phase = Active })))
+pub done_leads : (now : Now) (terms : Terms) (f : Facts) → is_configuring_in terms.phase ≡ true
+    → has_none (run_of now.debuggee.program) ≡ false → Agrees f now.debuggee.program now.numbers terms
+    → AnswerLeads now f (Some asks.ConfigurationDone) (cond terms.launched (begins (given_of now) (record terms { phase = Active })) (joins (given_of now) (record terms { phase = Active })))
 done_leads now terms f taken there h = by terms.launched w.launched where
   w : WhileConfiguring terms.launched f
   w = while_configuring terms.phase terms.launched f taken h.phase
 
-  by : (launched : Bool) → f.launched ≡ launched → AnswerLeads now f (Some asks.ConfigurationDone) (cond launched (begins now (record terms { phase = Active })) (joins now (record terms { phase = Active })))
+  by : (launched : Bool) → f.launched ≡ launched
+      → AnswerLeads now f (Some asks.ConfigurationDone) (cond launched (begins (given_of now) (record terms { phase = Active })) (joins (given_of now) (record terms { phase = Active })))
   by true e =
-      subst (λ (b : Bool). let g : Facts = cond b (in_state Running f) f in Holds g (shown_by (on_program first_run now.debuggee.program) now.numbers) × Leads (record terms { phase = Active }) now.numbers g (on_program first_run now.debuggee.program) []) (sym e)
-      (alone (in_state Running f) (on_program first_run now.debuggee.program) now.numbers (record terms { phase = Active }) (begins_leads now terms f w now.debuggee.program there h))
+      subst (λ (b : Bool). let g : Facts = cond b (in_state Running f) f in Holds g
+      (shown_by (on_program first_run now.debuggee.program) now.numbers) × Leads (record terms { phase = Active }) now.numbers g
+      (on_program first_run now.debuggee.program) []) (sym e)
+      (alone (in_state Running f) (on_program first_run now.debuggee.program) now.numbers (record terms { phase = Active })
+      (begins_leads now terms f w now.debuggee.program there h))
   by false e =
-      subst (λ (b : Bool). let g : Facts = cond b (in_state Running f) f in Holds g (shown_by now.debuggee.program now.numbers) × Leads (record terms { phase = Active }) now.numbers g now.debuggee.program (map Tell (run_events (run_of now.debuggee.program)))) (sym e)
+      subst (λ (b : Bool). let g : Facts = cond b (in_state Running f) f in Holds g (shown_by now.debuggee.program now.numbers) × Leads
+      (record terms { phase = Active }) now.numbers g now.debuggee.program (map Tell (run_events (run_of now.debuggee.program)))) (sym e)
       (joins_lead now terms f w now.debuggee.program there h)
 
 -- ---- `terminate`
@@ -85,28 +102,43 @@ ends_now (Ended (Some code)) a_run.Running h e = absurd (let no : Running ≡ En
 ends_now (Ended (Some code)) (a_run.Stopped why) h e = absurd (let no : Stopped ≡ Ended (Some code) = h in cc)
 ends_now (Ended (Some code)) (a_run.Ended other) h e = no_program e
 
-suits_end : (phase : Phase) (launched : Bool) (f : Facts) → is_debugging_in phase ≡ true → SuitsPhase phase launched f → SuitsPhase phase launched (record f { run = Ended None })
+suits_end : (phase : Phase) (launched : Bool) (f : Facts) → is_debugging_in phase ≡ true → SuitsPhase phase launched f
+    → SuitsPhase phase launched (record f { run = Ended None })
 suits_end Fresh launched f e h = absurd (let no : false ≡ true = e in cc)
 suits_end Initialized launched f e h = absurd (let no : false ≡ true = e in cc)
-suits_end Configuring launched f e h = record { launched = h.launched; quiet = tt; stand = record { frame = h.stand.frame; register = h.stand.register; byte = h.stand.byte } }
+suits_end Configuring launched f e h =
+    record { launched = h.launched; quiet = tt; stand = record { frame = h.stand.frame; register = h.stand.register; byte = h.stand.byte } }
 suits_end Active launched f e h = h
 suits_end Left launched f e h = absurd (let no : false ≡ true = e in cc)
 
-ended_agrees : (f : Facts) (p : Program) (numbers : Numbers) (terms : Terms) → is_debugging_in terms.phase ≡ true → Agrees f (Some p) numbers terms → Agrees (record f { run = Ended None }) (Some (ended None p)) numbers terms
+ended_agrees : (f : Facts) (p : Program) (numbers : Numbers) (terms : Terms) → is_debugging_in terms.phase ≡ true
+    → Agrees f (Some p) numbers terms → Agrees (record f { run = Ended None }) (Some (ended None p)) numbers terms
 ended_agrees f p numbers terms taken h = record {
-  holds = record { run = tt; source = h.holds.source; instructions = h.holds.instructions; frame = h.holds.frame; register = h.holds.register; byte = h.holds.byte };
+  holds =
+      record {
+        run = tt;
+        source = h.holds.source;
+        instructions = h.holds.instructions;
+        frame = h.holds.frame;
+        register = h.holds.register;
+        byte = h.holds.byte;
+      };
   moving = λ runs. absurd (let no : false ≡ true = runs in cc);
   numbered = h.numbered;
   phase = suits_end terms.phase terms.launched f taken h.phase;
 }
 
-pub terminate_leads : (now : Now) (terms : Terms) (f : Facts) → is_debugging_in terms.phase ≡ true → Meets (run_of now.debuggee.program) asks_alive → Agrees f now.debuggee.program now.numbers terms
-    → AnswerLeads now f (Some asks.Terminate) (terminate.success now terms)
+pub terminate_leads : (now : Now) (terms : Terms) (f : Facts) → is_debugging_in terms.phase ≡ true
+    → Meets (run_of now.debuggee.program) demand → Agrees f now.debuggee.program now.numbers terms
+    → AnswerLeads now f (Some asks.Terminate) (terminate.success (given_of now) terms)
 terminate_leads now terms f taken meets h = by now.debuggee.program meets.loaded meets.alive h where
-  by : (program : Option Program) → has_none (run_of program) ≡ false → has_ended (run_of program) ≡ false → Agrees f program now.numbers terms
+  by : (program : Option Program) → has_none (run_of program) ≡ false → has_ended (run_of program) ≡ false
+      → Agrees f program now.numbers terms
       → (let g : Facts = record f { run = ended_as f.run } in Holds g (shown_by (on_program (ended None) program) now.numbers) × Leads terms now.numbers g (on_program (ended None) program) (map Tell (event.Terminated ∷ [])))
   by None there alive h = no_program there
   by (Some p) there alive h =
       let a = ended_agrees f p now.numbers terms taken h in
-      subst (λ (run : RunState). let g : Facts = record f { run = run } in Holds g (shown_by (Some (ended None p)) now.numbers) × Leads terms now.numbers g (Some (ended None p)) (map Tell (event.Terminated ∷ []))) (sym (ends_now f.run p.run h.holds.run alive))
-      (with_event (record f { run = Ended None }) (record f { run = Ended None }) event.Terminated (Some (ended None p)) now.numbers terms refl a.holds a)
+      subst (λ (run : RunState). let g : Facts = record f { run = run } in Holds g (shown_by (Some (ended None p)) now.numbers)
+      × Leads terms now.numbers g (Some (ended None p)) (map Tell (event.Terminated ∷ []))) (sym (ends_now f.run p.run h.holds.run alive))
+      (with_event (record f { run = Ended None }) (record f { run = Ended None }) event.Terminated
+      (Some (ended None p)) now.numbers terms refl a.holds a)

@@ -10,7 +10,8 @@ use Rattle.replies.specs.declared.message.Message.{Message}
 use Rattle.replies.specs.declared.message.Message.TheVariants.{Response as IsResponse, Event as IsEvent}
 use Rattle.session.proofs.ByForms.{on, on_with, saying}
 use Rattle.session.proofs.Reaching.{if_keeps, performed_append}
-use Rattle.session.specs.Acts.{Act, Answering, Become, Tell, refers}
+use Rattle.handlers.specs.Given.{Answering}
+use Rattle.session.specs.Acts.{Act, Become, Tell, refers}
 use Rattle.session.specs.Arrivals.{number_of}
 use Rattle.session.specs.Effects.{performed}
 use Rattle.session.specs.Outcomes.{answering, closing}
@@ -60,14 +61,16 @@ pub record Faithful (s : Session) : Type 0 where
 abbrev IsSo : Session → Message → Type 0
 IsSo s m = Holds (folded (remembered s.life.heard) (known s.life) m) (shown (snapshot_of s.now))
 
-saying_was : (l : Link) (m : Message) (rest : List Pending) (s : Session) → IsSo s m → Was (on (Some l) s) → Was (saying l m rest (on (Some l) s))
+saying_was : (l : Link) (m : Message) (rest : List Pending) (s : Session) → IsSo s m → Was (on (Some l) s)
+    → Was (saying l m rest (on (Some l) s))
 saying_was l m rest s so h = record {
   before = h.before;
   present = all_hold_more (remembered s.life.heard) nothing_known s.life.said (said_next s.now l m) h.present so;
   owes = h.owes;
 }
 
-knows_more : (s : Session) (l : Link) (m : Message) → known (with_said s.life (said_next s.now l m)) ≡ folded (remembered s.life.heard) (known s.life) m
+knows_more : (s : Session) (l : Link) (m : Message)
+    → known (with_said s.life (said_next s.now l m)) ≡ folded (remembered s.life.heard) (known s.life) m
 knows_more s l m = known_more (remembered s.life.heard) nothing_known s.life.said (said_next s.now l m)
 
 -- ---- quiet acts
@@ -79,18 +82,22 @@ LeadsIf (Some l) s acts = l.seq < s.now.limits.last_seq → Leads l.terms s.now.
 too_many : (n m : ℕ) → ltb n m ≡ false → n < m → ⊥
 too_many n m e less = absurd (grind (arith, nat_tests, e, less))
 
-ends_so : (l : Option Link) (s : Session) → LeadsIf l s [] → AgreesOn l s.now.limits.last_seq s.now.debuggee.program s.now.numbers (known s.life)
+ends_so : (l : Option Link) (s : Session) → LeadsIf l s []
+    → AgreesOn l s.now.limits.last_seq s.now.debuggee.program s.now.numbers (known s.life)
 unfolding Leads
 ends_so None s lead = tt
 ends_so (Some l) s lead = lead
 
-pub quiet_faithful : (acts : List Act) (l : Option Link) (s : Session) → AllOwe acts → LeadsIf l s acts → Was (on l s) → Faithful (performed histories acts (on l s))
+pub quiet_faithful : (acts : List Act) (l : Option Link) (s : Session) → AllOwe acts → LeadsIf l s acts → Was (on l s)
+    → Faithful (performed histories acts (on l s))
 unfolding AllOwe Leads
 quiet_faithful [] l s o lead h = record { was = h; agrees = ends_so l s lead }
 quiet_faithful (Become d ∷ acts) None s o lead h =
-    quiet_faithful acts None (record s { now = record s.now { debuggee = d } }) o.1 tt (record { before = h.before; present = h.present; owes = o.0 })
+    quiet_faithful acts None (record s { now = record s.now { debuggee = d } }) o.1 tt
+    (record { before = h.before; present = h.present; owes = o.0 })
 quiet_faithful (Become d ∷ acts) (Some l) s o lead h =
-    quiet_faithful acts (Some l) (record s { now = record s.now { debuggee = d } }) o.1 lead (record { before = h.before; present = h.present; owes = o.0 })
+    quiet_faithful acts (Some l) (record s { now = record s.now { debuggee = d } }) o.1 lead
+    (record { before = h.before; present = h.present; owes = o.0 })
 quiet_faithful (Tell e ∷ acts) None s o lead h = quiet_faithful acts None s o tt h
 quiet_faithful (Tell e ∷ acts) (Some l) s o lead h =
     let t = saying l (IsEvent e) s.now.arrivals.pending (on (Some l) s) in
@@ -112,7 +119,8 @@ all_tell_owe (e ∷ es) = all_tell_owe es
 
 hung_faithful : (l : Option Link) (s : Session) → Faithful (on l s) → Faithful (hung_on l (on l s))
 hung_faithful None s h = h
-hung_faithful (Some l) s h = record { was = record { before = h.was.before; present = h.was.present; owes = h.was.owes }; agrees = h.agrees }
+hung_faithful (Some l) s h =
+    record { was = record { before = h.was.before; present = h.was.present; owes = h.was.owes }; agrees = h.agrees }
 
 closing_faithful : (closes : Bool) (s : Session) → Faithful s → Faithful (performed histories (closing closes) s)
 closing_faithful true s h = hung_faithful s.now.link s h
@@ -122,20 +130,26 @@ pub answering_faithful : (l : Link) (p : Pending) (rest : List Pending) (s : Ses
     → (l.seq < s.now.limits.last_seq → AnswerLeads s.now (known s.life) (remembered s.life.heard (number_of p.ask)) a)
     → Was (on_with (Some l) (p ∷ rest) s) → Faithful (performed histories (answering a) (on_with (Some l) (p ∷ rest) s))
 answering_faithful l p rest s a owes lead h =
-    let t : Session = record s { now = refers (record s.now { debuggee = a.debuggee }) a.references; references = past_referred s.now.connections a.references s.references } in
+    let t : Session = record s {
+      now = refers (record s.now { debuggee = a.debuggee }) a.references;
+      references = past_referred s.now.connections a.references s.references;
+    } in
     let k : Link = record l { terms = a.terms } in
     let u = on_with (Some k) (p ∷ rest) t in
     let m : Message = IsResponse (response_to p.ask a.outcome) in
     let v = saying k m rest u in
     let was : Was u = record { before = h.before; present = h.present; owes = owes } in
     subst Faithful (sym (performed_append (map Tell a.events) (closing a.closes) (replied_on (p ∷ rest) a.outcome u)))
-    (if_keeps (λ (x : Session). Faithful (performed histories (closing a.closes) (performed histories (map Tell a.events) x))) (ltb l.seq s.now.limits.last_seq) v u
+    (if_keeps (λ (x : Session). Faithful (performed histories (closing a.closes) (performed histories (map Tell a.events) x)))
+    (ltb l.seq s.now.limits.last_seq) v u
     (λ few.
     let so = lead (ltb-true l.seq s.now.limits.last_seq few) in
     closing_faithful a.closes (performed histories (map Tell a.events) v)
     (quiet_faithful (map Tell a.events) v.now.link v (all_tell_owe a.events)
-    (λ _. subst (λ (g : Facts). Leads a.terms (referred a.references s.now.numbers) g a.debuggee.program (map Tell a.events)) (sym (knows_more u k m)) so.1)
+    (λ _. subst (λ (g : Facts). Leads a.terms (referred a.references s.now.numbers) g a.debuggee.program (map Tell a.events))
+    (sym (knows_more u k m)) so.1)
     (saying_was k m rest u so.0 was)))
     (λ many.
     closing_faithful a.closes (performed histories (map Tell a.events) u)
-    (quiet_faithful (map Tell a.events) (Some k) u (all_tell_owe a.events) (λ less. absurd (too_many l.seq s.now.limits.last_seq many less)) was)))
+    (quiet_faithful (map Tell a.events) (Some k) u (all_tell_owe a.events)
+    (λ less. absurd (too_many l.seq s.now.limits.last_seq many less)) was)))

@@ -11,8 +11,8 @@ use Rattle.session.specs.Acts.{Act, Now}
 use Rattle.session.specs.Effects.{after_beat, performed}
 use Rattle.session.specs.Sessions.{Session, Snapshot, histories, performed_on}
 use Rattle.session.specs.Slices.{Beat, beat, beat_by, beat_of, becomes, concludes, ending_of, ends, exits, goes, goes_unless, is_runnable_by, moves_by, prints, retires, stops, telling}
-use Rattle.session.specs.declared.event.Ending.{Ending}
-use Rattle.session.specs.declared.event.Ending.TheVariants as ending
+use Rattle.session.specs.declared.event.SliceEnd.{SliceEnd}
+use Rattle.session.specs.declared.event.SliceEnd.TheVariants as ending
 use Rattle.session.specs.declared.state.TheConstants.{FULL}
 use Rattle.stepping.specs.declared.tick.Outcome.{Outcome as CameTo}
 use Rattle.stepping.specs.declared.tick.Outcome.TheVariants.{Went, Stopped, Ended}
@@ -50,17 +50,28 @@ pub record Follows (s t : Session) (b : Beat) : Type 0 where
   pub told : IsFollowed s (after_beat histories b t)
   pub printed : b.ending ≡ None → Printed s (after_beat histories b t)
 
-ends_follow : (s t : Session) (e : Ending) → Printed s t → Follows s t (ends e)
+ends_follow : (s t : Session) (e : SliceEnd) → Printed s t → Follows s t (ends e)
 ends_follow s t e h = record { told = just_told s t h; printed = λ _. h }
 
-some_ending : {A : Type 0} (e : Ending) → Some e ≡ None → A
+some_ending : {A : Type 0} (e : SliceEnd) → Some e ≡ None → A
 some_ending e is = absurd (cc)
 
 stops_follow : (s t : Session) (p : Program) (reason : _) → program_of t ≡ Some p → Printed s t → Follows s t (stops t.now p reason)
-stops_follow s t p reason is h = record { told = halts_told t.now p reason [] s t (same_as (program_of t) (Some p) (Some p) is (itself (Some p))) h; printed = λ e. some_ending ending.Stopped e }
+stops_follow s t p reason is h =
+    record {
+      told = halts_told t.now p reason [] s t (same_as (program_of t) (Some p) (Some p) is (itself (Some p))) h;
+      printed =
+          λ e. some_ending ending.Stopped e;
+    }
 
-exits_follow : (s t : Session) (p : Program) (code : ℤ) → program_of t ≡ Some p → Printed s t → Follows s t (record { acts = exits t.now p code; moved = 0; ending = Some ending.Ended })
-exits_follow s t p code is h = record { told = exits_told t.now p code s t (same_as (program_of t) (Some p) (Some p) is (itself (Some p))) h; printed = λ e. some_ending ending.Ended e }
+exits_follow : (s t : Session) (p : Program) (code : ℤ) → program_of t ≡ Some p → Printed s t
+    → Follows s t (record { acts = exits t.now p code; moved = 0; ending = Some ending.Ended })
+exits_follow s t p code is h =
+    record {
+      told = exits_told t.now p code s t (same_as (program_of t) (Some p) (Some p) is (itself (Some p))) h;
+      printed =
+          λ e. some_ending ending.Ended e;
+    }
 
 -- what is owed is told
 module _ (s t : Session) (p : Program) (tick : Tick) (is : program_of t ≡ Some p) (run : is_running p.run ≡ true) (h : Printed s t) where
@@ -72,7 +83,8 @@ module _ (s t : Session) (p : Program) (tick : Tick) (is : program_of t ≡ Some
 
   printed_first : Printed s first
   unfolding first
-  printed_first = became (record t.now.debuggee { program = Some (told p) }) s t (same_as (program_of t) (Some p) (Some (told p)) is (told_same p)) h
+  printed_first =
+      became (record t.now.debuggee { program = Some (told p) }) s t (same_as (program_of t) (Some p) (Some (told p)) is (told_same p)) h
 
   printed_second : Printed s second
   unfolding first second
@@ -82,7 +94,8 @@ module _ (s t : Session) (p : Program) (tick : Tick) (is : program_of t ≡ Some
   unfolding first second
   program_second = ap (λ (x : Snapshot). x.debuggee.program) (prints_snapshot t.now tick.printed first)
 
-  concluded : (outcome : CameTo) → tick.outcome ≡ outcome → Follows s t (record { acts = telling t.now p tick; moved = 0; ending = ending_of tick.outcome })
+  concluded : (outcome : CameTo) → tick.outcome ≡ outcome
+      → Follows s t (record { acts = telling t.now p tick; moved = 0; ending = ending_of tick.outcome })
   unfolding first second
   concluded outcome e =
       let acts : List Act = concludes t.now (told p) tick.outcome p.machine.lists.ids in
@@ -93,15 +106,22 @@ module _ (s t : Session) (p : Program) (tick : Tick) (is : program_of t ≡ Some
         printed = λ none. subst (Printed s) (sym parts) (goes_so outcome e none);
       }
     where
-      ends_so : (outcome : CameTo) → tick.outcome ≡ outcome → Same (program_of second) (Some (told p)) → IsFollowed s (performed histories (concludes t.now (told p) tick.outcome p.machine.lists.ids) second)
-      ends_so outcome e same = subst (λ (o : CameTo). IsFollowed s (performed histories (concludes t.now (told p) o p.machine.lists.ids) second)) (sym e) (by outcome same) where
-        by : (o : CameTo) → Same (program_of second) (Some (told p)) → IsFollowed s (performed histories (concludes t.now (told p) o p.machine.lists.ids) second)
-        by Went same = just_told s second printed_second
-        by (Stopped reason) same = halts_told t.now (told p) (why.Met reason) p.machine.lists.ids s second same printed_second
-        by (Ended code) same = exits_told t.now (told p) code s second same printed_second
+      ends_so : (outcome : CameTo) → tick.outcome ≡ outcome → Same (program_of second) (Some (told p))
+          → IsFollowed s (performed histories (concludes t.now (told p) tick.outcome p.machine.lists.ids) second)
+      ends_so outcome e same =
+          subst (λ (o : CameTo). IsFollowed s (performed histories (concludes t.now (told p) o p.machine.lists.ids) second)) (sym e)
+          (by outcome same) where
+            by : (o : CameTo) → Same (program_of second) (Some (told p))
+                → IsFollowed s (performed histories (concludes t.now (told p) o p.machine.lists.ids) second)
+            by Went same = just_told s second printed_second
+            by (Stopped reason) same = halts_told t.now (told p) (why.Met reason) p.machine.lists.ids s second same printed_second
+            by (Ended code) same = exits_told t.now (told p) code s second same printed_second
 
-      goes_so : (outcome : CameTo) → tick.outcome ≡ outcome → ending_of tick.outcome ≡ None → Printed s (performed histories (concludes t.now (told p) tick.outcome p.machine.lists.ids) second)
-      goes_so Went e none = subst (λ (o : CameTo). Printed s (performed histories (concludes t.now (told p) o p.machine.lists.ids) second)) (sym e) printed_second
+      goes_so : (outcome : CameTo) → tick.outcome ≡ outcome → ending_of tick.outcome ≡ None
+          → Printed s (performed histories (concludes t.now (told p) tick.outcome p.machine.lists.ids) second)
+      goes_so Went e none =
+          subst (λ (o : CameTo). Printed s (performed histories (concludes t.now (told p) o p.machine.lists.ids) second))
+          (sym e) printed_second
       goes_so (Stopped reason) e none = some_ending ending.Stopped (sym (ap ending_of e) ∙ none)
       goes_so (Ended code) e none = some_ending ending.Ended (sym (ap ending_of e) ∙ none)
 
@@ -113,21 +133,25 @@ module _ (s t : Session) (p : Program) (tick : Tick) (is : program_of t ≡ Some
 still_goes : (s t : Session) (p : Program) → program_of t ≡ Some p → Printed s t → Follows s t (goes t.now p false)
 still_goes s t p is h =
     if_keeps (Follows s t) p.machine.check_due _ _
-    (λ _. let u = became (record t.now.debuggee { program = Some (entered p) }) s t (same_as (program_of t) (Some p) (Some (entered p)) is (checked_same p)) h in
+    (λ _. let u = became (record t.now.debuggee { program = Some (entered p) }) s t
+    (same_as (program_of t) (Some p) (Some (entered p)) is (checked_same p)) h in
     record { told = just_told s (performed_on (becomes t.now (entered p)) t) u; printed = λ _. u })
     (λ _. ends_follow s t ending.Spent h)
 
-still_unless : (mark : Option Mark) (s t : Session) (p : Program) → program_of t ≡ Some p → Printed s t → Follows s t (goes_unless mark t.now p false)
+still_unless : (mark : Option Mark) (s t : Session) (p : Program) → program_of t ≡ Some p → Printed s t
+    → Follows s t (goes_unless mark t.now p false)
 still_unless (Some mark) s t p is h = stops_follow s t p (why_marked mark) is h
 still_unless None s t p is h = still_goes s t p is h
 
-owed_follows : (owed : Option Tick) (s t : Session) (p : Program) → p.owed ≡ owed → OwesRunning p → program_of t ≡ Some p → Printed s t → Follows s t (beat_by owed (histories.see t) p false)
+owed_follows : (owed : Option Tick) (s t : Session) (p : Program) → p.owed ≡ owed → OwesRunning p → program_of t ≡ Some p → Printed s t
+    → Follows s t (beat_by owed (histories.see t) p false)
 owed_follows (Some tick) s t p e owes is h = tells_follow s t p tick is (owes (λ none. never tick (sym none ∙ e))) h
 owed_follows None s t p e owes is h =
     if_keeps (Follows s t) (not (is_runnable_by t.now.link p.run)) _ _ (λ _. ends_follow s t ending.Idle h)
     (λ _. if_keeps (Follows s t) (ltb FULL _) _ _ (λ _. ends_follow s t ending.Full h) (λ _. still_unless p.mark s t p is h))
 
-still_program : (program : Option Program) (s t : Session) → program_of t ≡ program → OwesOf program → Printed s t → Follows s t (beat_of program (histories.see t) false)
+still_program : (program : Option Program) (s t : Session) → program_of t ≡ program → OwesOf program → Printed s t
+    → Follows s t (beat_of program (histories.see t) false)
 still_program None s t is owes h = ends_follow s t ending.Idle h
 still_program (Some p) s t is owes h = owed_follows p.owed s t p refl owes is h
 
@@ -142,7 +166,7 @@ pub record Begins (s : Session) (b : Beat) : Type 0 where
   pub printed : b.ending ≡ None → Printed s (after_beat histories b s)
   pub moved : b.ending ≡ None → b.moved ≡ 1
 
-begins_by : (s : Session) (b : Beat) (e : Ending) → b.ending ≡ Some e → IsFollowed s (after_beat histories b s) → Begins s b
+begins_by : (s : Session) (b : Beat) (e : SliceEnd) → b.ending ≡ Some e → IsFollowed s (after_beat histories b s) → Begins s b
 begins_by s b e is h = record { told = h; printed = λ none. some_ending e (sym is ∙ none); moved = λ none. some_ending e (sym is ∙ none) }
 
 retires_begin : (s : Session) (p : Program) → Begins s (retires s.now p)
@@ -162,7 +186,8 @@ spent = ends ending.Spent
 -- where the check at the entry is due, a slice without moves is not spent
 not_due : (now : Now) (p : Program) → p.machine.check_due ≡ true → goes now p false ≡ ends ending.Spent → ⊥
 not_due now p due e =
-    let going : goes now p false ≡ record { acts = becomes now (entered p) ∷ []; moved = 0; ending = None } = ap (λ (b : Bool). cond b (record { acts = becomes now (entered p) ∷ []; moved = 0; ending = None }) (ends ending.Spent)) due in
+    let going : goes now p false ≡ record { acts = becomes now (entered p) ∷ []; moved = 0; ending = None } = ap
+    (λ (b : Bool). cond b (record { acts = becomes now (entered p) ∷ []; moved = 0; ending = None }) (ends ending.Spent)) due in
     let no : None ≡ Some ending.Spent = ap (λ (b : Beat). b.ending) (sym going ∙ e) in
     cc
 
@@ -173,11 +198,12 @@ goes_begin s p is rest =
     (λ _. begins_by s _ ending.Stopped refl (stops_follow s s p why.Limit is (nothing_newly s)).told)
     (λ _. moves_begin s p (next_tick p).outcome is))
 
-unless_begins : (mark : Option Mark) (s : Session) (p : Program) → program_of s ≡ Some p → goes_unless mark s.now p false ≡ ends ending.Spent → Begins s (goes_unless mark s.now p true)
+unless_begins : (mark : Option Mark) (s : Session) (p : Program) → program_of s ≡ Some p
+    → goes_unless mark s.now p false ≡ ends ending.Spent → Begins s (goes_unless mark s.now p true)
 unless_begins (Some mark) s p is rest = begins_by s _ ending.Stopped refl (stops_follow s s p (why_marked mark) is (nothing_newly s)).told
 unless_begins None s p is rest = goes_begin s p is rest
 
-ends_begin : (s : Session) (e : Ending) → Begins s (ends e)
+ends_begin : (s : Session) (e : SliceEnd) → Begins s (ends e)
 ends_begin s e = begins_by s (ends e) e refl (just_told s s (nothing_newly s))
 
 never_spent : (outcome : CameTo) → ending_of outcome ≡ Some ending.Spent → ⊥
@@ -185,19 +211,23 @@ never_spent Went e = cc
 never_spent (Stopped reason) e = cc
 never_spent (Ended code) e = cc
 
-owed_begins : (owed : Option Tick) (s : Session) (p : Program) → program_of s ≡ Some p → beat_by owed (histories.see s) p false ≡ ends ending.Spent → Begins s (beat_by owed (histories.see s) p true)
+owed_begins : (owed : Option Tick) (s : Session) (p : Program) → program_of s ≡ Some p
+    → beat_by owed (histories.see s) p false ≡ ends ending.Spent → Begins s (beat_by owed (histories.see s) p true)
 owed_begins (Some tick) s p is rest = absurd (never_spent tick.outcome (ap (λ (b : Beat). b.ending) rest))
 owed_begins None s p is rest = by_run (not (is_runnable_by s.now.link p.run)) (ltb FULL _) rest where
-  by_full : (full : Bool) → cond full (ends ending.Full) (goes_unless p.mark s.now p false) ≡ ends ending.Spent → Begins s (cond full (ends ending.Full) (goes_unless p.mark s.now p true))
+  by_full : (full : Bool) → cond full (ends ending.Full) (goes_unless p.mark s.now p false) ≡ ends ending.Spent
+      → Begins s (cond full (ends ending.Full) (goes_unless p.mark s.now p true))
   by_full true rest = ends_begin s ending.Full
   by_full false rest = unless_begins p.mark s p is rest
 
-  by_run : (idle full : Bool) → cond idle (ends ending.Idle) (cond full (ends ending.Full) (goes_unless p.mark s.now p false)) ≡ ends ending.Spent
+  by_run : (idle full : Bool)
+      → cond idle (ends ending.Idle) (cond full (ends ending.Full) (goes_unless p.mark s.now p false)) ≡ ends ending.Spent
       → Begins s (cond idle (ends ending.Idle) (cond full (ends ending.Full) (goes_unless p.mark s.now p true)))
   by_run true full rest = ends_begin s ending.Idle
   by_run false full rest = by_full full rest
 
-program_begins : (program : Option Program) (s : Session) → program_of s ≡ program → beat_of program (histories.see s) false ≡ ends ending.Spent → Begins s (beat_of program (histories.see s) true)
+program_begins : (program : Option Program) (s : Session) → program_of s ≡ program
+    → beat_of program (histories.see s) false ≡ ends ending.Spent → Begins s (beat_of program (histories.see s) true)
 program_begins None s is rest = ends_begin s ending.Idle
 program_begins (Some p) s is rest = owed_begins p.owed s p is rest
 

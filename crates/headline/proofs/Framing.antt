@@ -12,8 +12,8 @@ use Rattle.facts.specs.Facts.{Facts}
 use Rattle.mirror.specs.Folding.{frame_of, over}
 use Rattle.facts.specs.declared.frame.FrameInfo.{FrameInfo}
 use Rattle.protocol.specs.declared.stack_trace.StackTraceArguments.{StackTraceArguments}
-use Rattle.session.specs.Phases.{is_active_in}
-use Rattle.session.specs.declared.terms.Terms.{Terms}
+use Rattle.handlers.specs.Phases.{is_active_in}
+use Rattle.handlers.specs.declared.terms.Terms.{Terms}
 use Rattle.variables.specs.Numbers.{Numbers, has, number_from, number_in, with_all, with_one, with_targets}
 use Rattle.variables.specs.References.{is_same}
 use Rattle.variables.specs.declared.target.Target.{Target}
@@ -49,7 +49,8 @@ get_drop {A = A} l zero j = let e : j ≡ 0 + j = omega arith in ap (slice_get l
 get_drop {A = A} [] (suc n) j = refl
 get_drop {A = A} (x ∷ l) (suc n) j = get_drop {A = A} l n j ∙ (let e : suc (n + j) ≡ suc n + j = omega arith in ap (slice_get (x ∷ l)) e)
 
-get_part : (start : ℕ) (count : Option ℕ) (l : List ℕ) (j x : ℕ) → slice_get (part start count l) j ≡ Some x → slice_get l (start + j) ≡ Some x
+get_part : (start : ℕ) (count : Option ℕ) (l : List ℕ) (j x : ℕ) → slice_get (part start count l) j ≡ Some x
+    → slice_get l (start + j) ≡ Some x
 get_part start None l j x e = sym (get_drop l start j) ∙ e
 get_part start (Some count) l j x e = by (eqb count 0) e where
   by : (b : Bool) → slice_get (cond b (drop start l) (take count (drop start l))) j ≡ Some x → slice_get l (start + j) ≡ Some x
@@ -82,7 +83,8 @@ known_number : (first : ℕ) (t : Target) (known : List Target) → list_any (λ
 unfolding HasNumber
 known_number first t [] e = absurd (let no : false ≡ true = e in cc)
 known_number first t (k ∷ known) e = by (is_same k t) (known_number (first + 1) t known) e where
-  by : (b : Bool) → (list_any (λ k. is_same k t) known ≡ true → HasNumber (first + 1) t known) → (b || list_any (λ k. is_same k t) known) ≡ true
+  by : (b : Bool) → (list_any (λ k. is_same k t) known ≡ true → HasNumber (first + 1) t known)
+      → (b || list_any (λ k. is_same k t) known) ≡ true
       → (n : ℕ) × (cond b (Some first) (number_from (first + 1) t known) ≡ Some n)
   by true rest e = (first, refl)
   by false rest e = rest e
@@ -91,12 +93,15 @@ pushed_number : (first : ℕ) (t : Target) (known : List Target) → HasNumber f
 unfolding HasNumber
 pushed_number first t [] = (first, ap (λ b. let none : Option ℕ = None in cond b (Some first) none) (same_itself t))
 pushed_number first t (k ∷ known) = by (is_same k t) (pushed_number (first + 1) t known) where
-  by : (b : Bool) → HasNumber (first + 1) t (known ++ t ∷ []) → (n : ℕ) × (cond b (Some first) (number_from (first + 1) t (known ++ t ∷ [])) ≡ Some n)
+  by : (b : Bool) → HasNumber (first + 1) t (known ++ t ∷ [])
+      → (n : ℕ) × (cond b (Some first) (number_from (first + 1) t (known ++ t ∷ [])) ≡ Some n)
   by true rest = (first, refl)
   by false rest = rest
 
 one_number : (first : ℕ) (t : Target) (known : List Target) → HasNumber first t (with_one known t)
-one_number first t known = if_keeps (HasNumber first t) (has t known) known (known ++ t ∷ []) (λ e. known_number first t known e) (λ _. pushed_number first t known)
+one_number first t known =
+    if_keeps (HasNumber first t) (has t known) known (known ++ t ∷ []) (λ e. known_number first t known e)
+    (λ _. pushed_number first t known)
 
 all_number : (first : ℕ) (t : Target) (known ts : List Target) (j : ℕ) → slice_get ts j ≡ Some t → HasNumber first t (with_all known ts)
 unfolding HasNumber
@@ -107,7 +112,8 @@ all_number first t known (x ∷ ts) zero e =
     (one.0, number_all first t (with_one known x) ts one.0 one.1)
 all_number first t known (x ∷ ts) (suc j) e = all_number first t (with_one known x) ts j e
 
-given_number : (numbers : Numbers) (ts : List Target) (t : Target) (j : ℕ) → slice_get ts j ≡ Some t → number_in (with_targets numbers ts) t ≡ Some (number_for (with_targets numbers ts) t)
+given_number : (numbers : Numbers) (ts : List Target) (t : Target) (j : ℕ) → slice_get ts j ≡ Some t
+    → number_in (with_targets numbers ts) t ≡ Some (number_for (with_targets numbers ts) t)
 unfolding HasNumber
 given_number numbers ts t j e =
     let n = all_number numbers.first t numbers.targets ts j e in
@@ -132,7 +138,8 @@ module _ (arguments : StackTraceArguments) (p : Program) (numbers : Numbers) (vi
     so : frame_at p.image.lines given index (slice_get all index) ≡ Some x
     numbered : number_in given (Frame index) ≡ Some x.id
 
-  is_frame : (j index : ℕ) → slice_get some j ≡ Some index → index < length all → IsFrame index (frame_in p.image.lines given index (slice_index all index))
+  is_frame : (j index : ℕ) → slice_get some j ≡ Some index → index < length all
+      → IsFrame index (frame_in p.image.lines given index (slice_index all index))
   is_frame j index there less = record {
     so = ap (frame_at p.image.lines given index) (index_there all index less);
     numbered = given_number numbers (frames_given arguments p.machine) (Frame index) j (map_get (λ index. Frame index) some j index there);
@@ -142,12 +149,14 @@ module _ (arguments : StackTraceArguments) (p : Program) (numbers : Numbers) (vi
   told_frame j x e =
       let c = get_map frame_of (map (frame_told p.image.lines view given all) some) j x e in
       let d = get_map (frame_told p.image.lines view given all) some j c.from c.there in
-      let r = get_range 0 (length all) (arguments.start_frame + j) d.from (get_part arguments.start_frame arguments.levels (range_with_len 0 (length all)) j d.from d.there) in
+      let r = get_range 0 (length all) (arguments.start_frame + j) d.from
+      (get_part arguments.start_frame arguments.levels (range_with_len 0 (length all)) j d.from d.there) in
       let is : d.from ≡ arguments.start_frame + j = let f = r.0 in omega (arith, f) in
       subst (λ (index : ℕ). IsFrame index x) is
       (subst (IsFrame d.from) (ap frame_of d.is ∙ c.is) (is_frame j d.from d.there (subst (λ (i : ℕ). i < length all) (sym is) r.1)))
 
-  pub frames_agree : (f : Facts) (terms : Terms) → is_active_in terms.phase ≡ true → is_running p.run ≡ false → Agrees f (Some p) numbers terms
+  pub frames_agree : (f : Facts) (terms : Terms) → is_active_in terms.phase ≡ true → is_running p.run ≡ false
+      → Agrees f (Some p) numbers terms
       → Agrees (record f { frame = over arguments.start_frame told f.frame }) (Some p) given terms
   frames_agree f terms active still h =
       let i = issued_agrees f p numbers (frames_given arguments p.machine) terms h in
@@ -157,11 +166,15 @@ module _ (arguments : StackTraceArguments) (p : Program) (numbers : Numbers) (vi
           run = i.holds.run;
           source = i.holds.source;
           instructions = i.holds.instructions;
-          frame = over_all (λ index x. (shown_of p given).frame index ≡ Some x) arguments.start_frame told f.frame (λ j x e. (told_frame j x e).so) i.holds.frame;
+          frame =
+              over_all (λ index x. (shown_of p given).frame index ≡ Some x) arguments.start_frame told f.frame
+              (λ j x e. (told_frame j x e).so) i.holds.frame;
           register = i.holds.register;
           byte = i.holds.byte;
         };
         moving = λ runs. still_moving p still runs;
-        numbered = over_all (λ index x. number_in given (Frame index) ≡ Some x.id) arguments.start_frame told f.frame (λ j x e. (told_frame j x e).numbered) i.numbered;
+        numbered =
+            over_all (λ index x. number_in given (Frame index) ≡ Some x.id) arguments.start_frame told f.frame
+            (λ j x e. (told_frame j x e).numbered) i.numbered;
         phase = suits_as terms.phase terms.launched f g active refl i.phase;
       }

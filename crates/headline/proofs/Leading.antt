@@ -11,13 +11,14 @@ use Rattle.mirror.specs.Folding.{happened, in_state}
 use Rattle.facts.specs.declared.run.RunState.{RunState}
 use Rattle.facts.specs.declared.run.RunState.TheVariants.{Unknown, Running, Stopped, Ended}
 use Rattle.replies.specs.declared.event.Event.{Event as Told}
-use Rattle.session.specs.declared.phase.Phase.{Phase}
-use Rattle.session.specs.declared.phase.Phase.TheVariants.{Fresh, Initialized, Configuring, Active, Left}
-use Rattle.session.specs.declared.terms.Terms.{Terms}
+use Rattle.handlers.specs.declared.phase.Phase.{Phase}
+use Rattle.handlers.specs.declared.phase.Phase.TheVariants.{Fresh, Initialized, Configuring, Active, Left}
+use Rattle.handlers.specs.declared.terms.Terms.{Terms}
 use Rattle.session.specs.Acts.{Act, Become, Now, Tell}
-use Rattle.session.specs.Phases.{is_active, is_active_in}
+use Rattle.handlers.specs.Phases.{is_active_in}
+use Rattle.session.specs.Phases.{is_active}
 use Rattle.session.specs.Slices.{concludes, exits, halts, prints, telling}
-use Rattle.session.specs.Telling.{exit_events, output_event, stop_event}
+use Rattle.handlers.specs.Telling.{exit_events, output_event, stop_event}
 use Rattle.stepping.specs.declared.tick.Outcome.{Outcome as CameTo}
 use Rattle.stepping.specs.declared.tick.Outcome.TheVariants.{Went, Stopped as HasStopped, Ended as HasEnded}
 use Rattle.stepping.specs.declared.tick.Tick.{Tick}
@@ -30,7 +31,8 @@ use Rattle.session.specs.Shown.{shown_by, shown_of, state_of}
 unfoldable pub Leads : Terms → Numbers → Facts → Option Program → List Act → Type 0
 Leads terms numbers f program [] = Agrees f program numbers terms
 Leads terms numbers f program (Become d ∷ acts) = Leads terms numbers f d.program acts
-Leads terms numbers f program (Tell event ∷ acts) = Holds (happened event f) (shown_by program numbers) × Leads terms numbers (happened event f) program acts
+Leads terms numbers f program (Tell event ∷ acts) =
+    Holds (happened event f) (shown_by program numbers) × Leads terms numbers (happened event f) program acts
 Leads terms numbers f program (act ∷ acts) = ⊥
 
 -- what is told is so, and leaves what is known then
@@ -42,7 +44,8 @@ abbrev pub after_told : Facts → List Told → Facts
 after_told f [] = f
 after_told f (e ∷ es) = after_told (happened e f) es
 
-told_lead : (terms : Terms) (numbers : Numbers) (f : Facts) (program : Option Program) (events : List Told) (acts : List Act) → AllTold numbers f program events → Leads terms numbers (after_told f events) program acts
+told_lead : (terms : Terms) (numbers : Numbers) (f : Facts) (program : Option Program) (events : List Told) (acts : List Act)
+    → AllTold numbers f program events → Leads terms numbers (after_told f events) program acts
     → Leads terms numbers f program (map Tell events ++ acts)
 unfolding Leads AllTold
 told_lead terms numbers f program [] acts h rest = rest
@@ -72,16 +75,23 @@ running_state (a_run.Stopped why) e = absurd (let no : false ≡ true = e in cc)
 running_state (a_run.Ended code) e = absurd (let no : false ≡ true = e in cc)
 
 -- nobody is told: what is known fits still
-silent : (f : Facts) (p q : Program) (numbers : Numbers) (terms : Terms) → (phase : Phase) → SuitsPhase phase terms.launched f → (phase ≡ Active → ⊥) → is_running p.run ≡ true → SameBut p q
+silent : (f : Facts) (p q : Program) (numbers : Numbers) (terms : Terms) → (phase : Phase) → SuitsPhase phase terms.launched f
+    → (phase ≡ Active → ⊥) → is_running p.run ≡ true → SameBut p q
     → Holds f (shown_of p numbers) → Holds f (shown_of q numbers)
-silent f p q numbers terms Fresh suits other runs same h = subst (λ (g : Facts). Holds g (shown_of q numbers)) (sym suits) (nothing_holds (shown_of q numbers))
-silent f p q numbers terms Initialized suits other runs same h = subst (λ (g : Facts). Holds g (shown_of q numbers)) (sym suits) (nothing_holds (shown_of q numbers))
+silent f p q numbers terms Fresh suits other runs same h =
+    subst (λ (g : Facts). Holds g (shown_of q numbers)) (sym suits) (nothing_holds (shown_of q numbers))
+silent f p q numbers terms Initialized suits other runs same h =
+    subst (λ (g : Facts). Holds g (shown_of q numbers)) (sym suits) (nothing_holds (shown_of q numbers))
 silent f p q numbers terms Configuring suits other runs same h =
-    holds_moving f (shown_of p numbers) (shown_of q numbers) suits.stand h (quiet_holds f.run (state_of p.run) (state_of q.run) suits.quiet h.run (running_state p.run runs)) (same.source numbers) (same.instructions numbers)
+    holds_moving f (shown_of p numbers) (shown_of q numbers) suits.stand h
+    (quiet_holds f.run (state_of p.run) (state_of q.run) suits.quiet h.run (running_state p.run runs)) (same.source numbers)
+    (same.instructions numbers)
 silent f p q numbers terms Active suits other runs same h = absurd (other refl)
-silent f p q numbers terms Left suits other runs same h = subst (λ (g : Facts). Holds g (shown_of q numbers)) (sym suits) (nothing_holds (shown_of q numbers))
+silent f p q numbers terms Left suits other runs same h =
+    subst (λ (g : Facts). Holds g (shown_of q numbers)) (sym suits) (nothing_holds (shown_of q numbers))
 
-silent_agrees : (f : Facts) (p q : Program) (numbers : Numbers) (terms : Terms) → (terms.phase ≡ Active → ⊥) → is_running p.run ≡ true → SameBut p q → Agrees f (Some p) numbers terms → Agrees f (Some q) numbers terms
+silent_agrees : (f : Facts) (p q : Program) (numbers : Numbers) (terms : Terms) → (terms.phase ≡ Active → ⊥) → is_running p.run ≡ true
+    → SameBut p q → Agrees f (Some p) numbers terms → Agrees f (Some q) numbers terms
 silent_agrees f p q numbers terms other runs same h = record {
   holds = silent f p q numbers terms terms.phase h.phase other runs same h.holds;
   moving = λ _. h.moving runs;
@@ -93,7 +103,8 @@ silent_agrees f p q numbers terms other runs same h = record {
 no_other : (phase : Phase) → is_active_in phase ≡ false → phase ≡ Active → ⊥
 no_other phase none is = absurd (let no : true ≡ false = sym (ap is_active_in is) ∙ none in cc)
 
-pub suits_as : (phase : Phase) (launched : Bool) (f g : Facts) → is_active_in phase ≡ true → g.launched ≡ f.launched → SuitsPhase phase launched f → SuitsPhase phase launched g
+pub suits_as : (phase : Phase) (launched : Bool) (f g : Facts) → is_active_in phase ≡ true → g.launched ≡ f.launched
+    → SuitsPhase phase launched f → SuitsPhase phase launched g
 suits_as Fresh launched f g e same h = absurd (let no : false ≡ true = e in cc)
 suits_as Initialized launched f g e same h = absurd (let no : false ≡ true = e in cc)
 suits_as Configuring launched f g e same h = absurd (let no : false ≡ true = e in cc)
@@ -101,7 +112,8 @@ suits_as Active launched f g e same h = same ∙ h
 suits_as Left launched f g e same h = absurd (let no : false ≡ true = e in cc)
 
 module _ (terms : Terms) (numbers : Numbers) (f : Facts) where
-  stops_lead : (p : Program) (why : Why) (ids : List ℕ) (told : Bool) → is_active_in terms.phase ≡ told → is_running p.run ≡ true → Agrees f (Some p) numbers terms
+  stops_lead : (p : Program) (why : Why) (ids : List ℕ) (told : Bool) → is_active_in terms.phase ≡ told → is_running p.run ≡ true
+      → Agrees f (Some p) numbers terms
       → Leads terms numbers f (Some (stopped why p)) (cond told (map Tell (stop_event why ids ∷ [])) [])
   unfolding Leads
   stops_lead p why ids true e runs h =
@@ -115,14 +127,18 @@ module _ (terms : Terms) (numbers : Numbers) (f : Facts) where
           phase = suits_as terms.phase terms.launched f (in_state Stopped f) e refl h.phase;
         },
       )
-  stops_lead p why ids false e runs h = silent_agrees f p (stopped why p) numbers terms (no_other terms.phase e) runs (record { source = λ _ _. refl; instructions = λ _. refl }) h
+  stops_lead p why ids false e runs h =
+      silent_agrees f p (stopped why p) numbers terms (no_other terms.phase e) runs
+      (record { source = λ _ _. refl; instructions = λ _. refl }) h
 
-  pub halts_lead : (now : Now) (p : Program) (why : Why) (ids : List ℕ) → is_active_in terms.phase ≡ is_active now.link → is_running p.run ≡ true → Agrees f (Some p) numbers terms
+  pub halts_lead : (now : Now) (p : Program) (why : Why) (ids : List ℕ) → is_active_in terms.phase ≡ is_active now.link
+      → is_running p.run ≡ true → Agrees f (Some p) numbers terms
       → Leads terms numbers f now.debuggee.program (halts now p why ids)
   unfolding Leads
   halts_lead now p why ids e runs h = stops_lead p why ids (is_active now.link) e runs h
 
-  ends_lead : (p : Program) (code : ℤ) (told : Bool) → is_active_in terms.phase ≡ told → is_running p.run ≡ true → Agrees f (Some p) numbers terms
+  ends_lead : (p : Program) (code : ℤ) (told : Bool) → is_active_in terms.phase ≡ told → is_running p.run ≡ true
+      → Agrees f (Some p) numbers terms
       → Leads terms numbers f (Some (ended (Some code) p)) (cond told (map Tell (exit_events code)) [])
   unfolding Leads
   ends_lead p code true e runs h =
@@ -147,21 +163,26 @@ module _ (terms : Terms) (numbers : Numbers) (f : Facts) where
           },
         ),
       )
-  ends_lead p code false e runs h = silent_agrees f p (ended (Some code) p) numbers terms (no_other terms.phase e) runs (record { source = λ _ _. refl; instructions = λ _. refl }) h
+  ends_lead p code false e runs h =
+      silent_agrees f p (ended (Some code) p) numbers terms (no_other terms.phase e) runs
+      (record { source = λ _ _. refl; instructions = λ _. refl }) h
 
-  pub exits_lead : (now : Now) (p : Program) (code : ℤ) → is_active_in terms.phase ≡ is_active now.link → is_running p.run ≡ true → Agrees f (Some p) numbers terms
+  pub exits_lead : (now : Now) (p : Program) (code : ℤ) → is_active_in terms.phase ≡ is_active now.link → is_running p.run ≡ true
+      → Agrees f (Some p) numbers terms
       → Leads terms numbers f now.debuggee.program (exits now p code)
   unfolding Leads
   exits_lead now p code e runs h = ends_lead p code (is_active now.link) e runs h
 
-  concludes_lead : (now : Now) (p : Program) (outcome : CameTo) (ids : List ℕ) → is_active_in terms.phase ≡ is_active now.link → is_running p.run ≡ true → Agrees f (Some p) numbers terms
+  concludes_lead : (now : Now) (p : Program) (outcome : CameTo) (ids : List ℕ) → is_active_in terms.phase ≡ is_active now.link
+      → is_running p.run ≡ true → Agrees f (Some p) numbers terms
       → Leads terms numbers f (Some p) (concludes now p outcome ids)
   unfolding Leads
   concludes_lead now p Went ids e runs h = h
   concludes_lead now p (HasStopped reason) ids e runs h = stops_lead p (why.Met reason) ids (is_active now.link) e runs h
   concludes_lead now p (HasEnded code) ids e runs h = ends_lead p code (is_active now.link) e runs h
 
-  prints_lead : (now : Now) (printed : Option ℤ) (program : Option Program) (acts : List Act) → Holds f (shown_by program numbers) → Leads terms numbers f program acts → Leads terms numbers f program (prints now printed ++ acts)
+  prints_lead : (now : Now) (printed : Option ℤ) (program : Option Program) (acts : List Act) → Holds f (shown_by program numbers)
+      → Leads terms numbers f program acts → Leads terms numbers f program (prints now printed ++ acts)
   unfolding Leads
   prints_lead now None program acts h rest = rest
   prints_lead now (Some number) program acts h rest = by (is_active now.link) where
@@ -173,9 +194,11 @@ module _ (terms : Terms) (numbers : Numbers) (f : Facts) where
   pub told_agrees : (p : Program) → Agrees f (Some p) numbers terms → Agrees f (Some (told p)) numbers terms
   told_agrees p h = record { holds = h.holds; moving = h.moving; numbered = h.numbered; phase = h.phase }
 
-  pub telling_leads : (now : Now) (p : Program) (tick : Tick) → is_active_in terms.phase ≡ is_active now.link → is_running p.run ≡ true → Agrees f (Some p) numbers terms
+  pub telling_leads : (now : Now) (p : Program) (tick : Tick) → is_active_in terms.phase ≡ is_active now.link → is_running p.run ≡ true
+      → Agrees f (Some p) numbers terms
       → Leads terms numbers f now.debuggee.program (telling now p tick)
   unfolding Leads
   telling_leads now p tick e runs h =
       let t = told_agrees p h in
-      prints_lead now tick.printed (Some (told p)) (concludes now (told p) tick.outcome p.machine.lists.ids) t.holds (concludes_lead now (told p) tick.outcome p.machine.lists.ids e runs t)
+      prints_lead now tick.printed (Some (told p)) (concludes now (told p) tick.outcome p.machine.lists.ids) t.holds
+      (concludes_lead now (told p) tick.outcome p.machine.lists.ids e runs t)

@@ -57,7 +57,8 @@ told_then (Some first) true asked r rest e = refl
 told_then None false asked r rest e = refl
 told_then (Some first) false asked r rest e = refl
 
-remembered_by : (asks : List Ask) (known : ℕ → Option Asked) (number : ℕ) → asked_after known (requests_in asks) number ≡ or_else (known number) (remembered asks number)
+remembered_by : (asks : List Ask) (known : ℕ → Option Asked) (number : ℕ)
+    → asked_after known (requests_in asks) number ≡ or_else (known number) (remembered asks number)
 remembered_by [] known number = by (known number) where
   by : (o : Option Asked) → o ≡ or_else o None
   by None = refl
@@ -117,7 +118,8 @@ all_short (m ∷ said) few =
 abbrev pub Good : Said → Type 0
 Good m = IsNumber m.seq × IsProper m.message
 
-all_good : (last : ℕ) (said : List Said) → last ≤ 2147483647 → All (IsIn last) said → All (λ (m : Said). IsProper m.message) said → All Good said
+all_good : (last : ℕ) (said : List Said) → last ≤ 2147483647 → All (IsIn last) said → All (λ (m : Said). IsProper m.message) said
+    → All Good said
 all_good last [] few numbers proper = All-nil Good
 all_good last (m ∷ said) few numbers proper =
     let number = All-head (IsIn last) m said numbers in
@@ -130,7 +132,8 @@ pub told_hold : (P : Said → Type 0) (said : List Said) (count : ℕ) → All P
 told_hold P [] count h = h
 told_hold P (m ∷ said) count h =
     if_keeps (λ (l : List Said). All P l) (leb (length (frame_said m)) count) _ _
-    (λ _. All-cons P m (told_within (count - length (frame_said m)) said) (All-head P m said h) (told_hold P said (count - length (frame_said m)) (All-tail P m said h)))
+    (λ _. All-cons P m (told_within (count - length (frame_said m)) said) (All-head P m said h)
+    (told_hold P said (count - length (frame_said m)) (All-tail P m said h)))
     (λ _. All-nil P)
 
 no_error : (m : Option MessageError) (f : Option FrameError) → first_fault m f ≡ None → m ≡ None
@@ -139,7 +142,8 @@ no_error (Some x) f e = absurd (apart e) where
   apart : (let o : Option MirrorError = first_fault (Some x) f in o) ≡ None → ⊥
   apart e = cc
 
-known_by : (asked : ℕ → Option Asked) (f : Facts) (said : List Said) → fold (folded asked) f (map (λ (m : Said). m.message) said) ≡ known_after asked f said
+known_by : (asked : ℕ → Option Asked) (f : Facts) (said : List Said)
+    → fold (folded asked) f (map (λ (m : Said). m.message) said) ≡ known_after asked f said
 known_by asked f [] = refl
 known_by asked f (m ∷ said) = known_by asked (folded asked f m.message) said
 
@@ -152,13 +156,17 @@ module _ (life : Life) (count : ℕ) (few : length (bytes_of life) ≤ 429496729
 
   bodies_told : (reading_of 4294967295 prefix).bodies ≡ map text_said told
   unfolding prefix told Short
-  bodies_told = bodies_within 4294967295 narrow text_said frame_said is_frame life.said count (all_short life.said few) ∙ ap (map text_said) (same_within life.said count)
+  bodies_told =
+      bodies_within 4294967295 narrow text_said frame_said is_frame life.said count (all_short life.said few) ∙ ap (map text_said)
+      (same_within life.said count)
 
   messages_told : stream_fault prefix ≡ None → messages_of (map text_said told) ≡ map (λ (m : Said). m.message) told
   unfolding text_said told
   messages_told none =
-      let error : error_of (reading_of 4294967295 prefix).bodies ≡ None = no_error (error_of (reading_of 4294967295 prefix).bodies) (fault_of (reading_of 4294967295 prefix).tail) none in
-      all_read (λ (m : Said). m.seq) (λ (m : Said). m.message) told (told_hold Good life.said count good) (ap error_of (sym bodies_told) ∙ error)
+      let error : error_of (reading_of 4294967295 prefix).bodies ≡ None = no_error (error_of (reading_of 4294967295 prefix).bodies)
+      (fault_of (reading_of 4294967295 prefix).tail) none in
+      all_read (λ (m : Said). m.seq) (λ (m : Said). m.message) told (told_hold Good life.said count good)
+      (ap error_of (sym bodies_told) ∙ error)
 
   facts_told : stream_fault prefix ≡ None → (after (inputs life count)).facts ≡ known_after (remembered life.heard) nothing_known told
   unfolding prefix
@@ -169,13 +177,15 @@ module _ (life : Life) (count : ℕ) (few : length (bytes_of life) ≤ 429496729
       ap (λ (p : Past). p.facts) (inputs_make_pasts (map Sent rs) (Fed prefix))
       ∙ ap (λ (p : Past). (with_piece p prefix).facts) is
       ∙ messages_make_facts (asked_after unknown rs) nothing_known prefix
-      ∙ ap (λ (asked : ℕ → Option Asked). fold (folded asked) nothing_known (messages_of (reading_of 4294967295 prefix).bodies)) (told_all life.heard)
+      ∙ ap (λ (asked : ℕ → Option Asked). fold (folded asked) nothing_known (messages_of (reading_of 4294967295 prefix).bodies))
+      (told_all life.heard)
       ∙ ap (λ (l : List (List ℕ)). fold (folded (remembered life.heard)) nothing_known (messages_of l)) bodies_told
       ∙ ap (fold (folded (remembered life.heard)) nothing_known) (messages_told none)
       ∙ known_by (remembered life.heard) nothing_known told
 
 -- the messages in the first bytes of some frames
-pub messages_within : (said : List Said) (count : ℕ) → length (flat_map frame_said said) ≤ 4294967295 → All Good said → stream_fault (take count (flat_map frame_said said)) ≡ None
+pub messages_within : (said : List Said) (count : ℕ) → length (flat_map frame_said said) ≤ 4294967295 → All Good said
+    → stream_fault (take count (flat_map frame_said said)) ≡ None
     → messages_of (reading_of 4294967295 (take count (flat_map frame_said said))).bodies ≡ map (λ (m : Said). m.message) (told_within count said)
 unfolding prefix told
 messages_within said count few good none =

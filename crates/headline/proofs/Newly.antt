@@ -22,7 +22,7 @@ use Rattle.session.specs.Effects.{performed}
 use Rattle.session.specs.Phases.{is_active}
 use Rattle.session.specs.Sessions.{Life, Said, Session, histories, performed_on, said_next, said_on, snapshot_of}
 use Rattle.session.specs.Slices.{becomes, exits, halts, prints, tells}
-use Rattle.session.specs.Telling.{exit_events, output_event, stop_event}
+use Rattle.handlers.specs.Telling.{exit_events, output_event, stop_event}
 use Rattle.session.specs.declared.link.Link.{Link}
 use Rattle.session.specs.declared.pending.Pending.{Pending}
 use Rattle.variables.specs.Numbers.{Numbers}
@@ -62,8 +62,10 @@ nothing_newly s = record {
 abbrev Sayable : Session → Message → Type 0
 Sayable t m = seen_now t ≡ seen_at (says_output m) (seen_now t)
 
-with_one : (s t : Session) (news : List Said) (l : Link) (m : Message) (rest : List Pending) → Sayable (on (Some l) t) m → Newly s (on (Some l) t) news
-    → (new : Session) → new.life ≡ record t.life { said = t.life.said ++ said_next t.now l m ∷ [] } → new.before ≡ t.before → new.now.connections ≡ t.now.connections → is_some new.now.link ≡ true → snapshot_of new.now ≡ snapshot_of t.now
+with_one : (s t : Session) (news : List Said) (l : Link) (m : Message) (rest : List Pending) → Sayable (on (Some l) t) m
+    → Newly s (on (Some l) t) news
+    → (new : Session) → new.life ≡ record t.life { said = t.life.said ++ said_next t.now l m ∷ [] } → new.before ≡ t.before
+    → new.now.connections ≡ t.now.connections → is_some new.now.link ≡ true → snapshot_of new.now ≡ snapshot_of t.now
     → Newly s new (news ++ said_next t.now l m ∷ [])
 with_one s t news l m rest so h new life before connections linked same = record {
   life = life
@@ -73,18 +75,22 @@ with_one s t news l m rest so h new life before connections linked same = record
   connections = connections ∙ h.connections;
   linked = linked ∙ h.linked;
   silent = λ none. absurd (let no : true ≡ false = h.linked ∙ none in cc);
-  fits = subst (λ (f : Facts). All (λ (x : Said). shown x.snapshot ≡ seen_at (says_output x.message) f) (news ++ said_next t.now l m ∷ [])) (ap shown (sym same))
+  fits =
+      subst (λ (f : Facts). All (λ (x : Said). shown x.snapshot ≡ seen_at (says_output x.message) f) (news ++ said_next t.now l m ∷ []))
+      (ap shown (sym same))
       (All-push (Fits t) news (said_next t.now l m) h.fits so);
 }
 
-pub said_told : (s t : Session) (l : Option Link) (m : Message) (rest : List Pending) → Sayable (on l t) m → IsFollowed s (on l t) → IsFollowed s (said_on l m rest (on l t))
+pub said_told : (s t : Session) (l : Option Link) (m : Message) (rest : List Pending) → Sayable (on l t) m → IsFollowed s (on l t)
+    → IsFollowed s (said_on l m rest (on l t))
 said_told s t None m rest so h = h
 said_told s t (Some l) m rest so h =
     if_keeps (IsFollowed s) (ltb l.seq t.now.limits.last_seq) _ _
     (λ _. record { news = h.news ++ said_next t.now l m ∷ []; newly = with_one s t h.news l m rest so h.newly _ refl refl refl refl refl })
     (λ _. h)
 
-pub said_printed : (s t : Session) (l : Option Link) (m : Message) (rest : List Pending) → says_output m ≡ true → Sayable (on l t) m → Printed s (on l t) → Printed s (said_on l m rest (on l t))
+pub said_printed : (s t : Session) (l : Option Link) (m : Message) (rest : List Pending) → says_output m ≡ true → Sayable (on l t) m
+    → Printed s (on l t) → Printed s (said_on l m rest (on l t))
 said_printed s t None m rest e so h = h
 said_printed s t (Some l) m rest e so h =
     if_keeps (Printed s) (ltb l.seq t.now.limits.last_seq) _ _
@@ -95,9 +101,11 @@ said_printed s t (Some l) m rest e so h =
     })
     (λ _. h)
 
-pub said_snapshot : (l : Option Link) (m : Message) (rest : List Pending) (t : Session) → snapshot_of (said_on l m rest (on l t)).now ≡ snapshot_of t.now
+pub said_snapshot : (l : Option Link) (m : Message) (rest : List Pending) (t : Session)
+    → snapshot_of (said_on l m rest (on l t)).now ≡ snapshot_of t.now
 said_snapshot None m rest t = refl
-said_snapshot (Some l) m rest t = if_keeps (λ (x : Session). snapshot_of x.now ≡ snapshot_of t.now) (ltb l.seq t.now.limits.last_seq) _ _ (λ _. refl) (λ _. refl)
+said_snapshot (Some l) m rest t =
+    if_keeps (λ (x : Session). snapshot_of x.now ≡ snapshot_of t.now) (ltb l.seq t.now.limits.last_seq) _ _ (λ _. refl) (λ _. refl)
 
 -- ---- events are told
 
@@ -107,21 +115,28 @@ Plain e = says_output (IsEvent e) ≡ false
 plain_sayable : (t : Session) (e : Event) → Plain e → Sayable t (IsEvent e)
 plain_sayable t e plain = ap (λ (b : Bool). seen_at b (seen_now t)) (sym plain)
 
-pub plain_told : (events : List Event) (s t : Session) → All Plain events → IsFollowed s t → IsFollowed s (performed histories (map Tell events) t)
+pub plain_told : (events : List Event) (s t : Session) → All Plain events → IsFollowed s t
+    → IsFollowed s (performed histories (map Tell events) t)
 plain_told [] s t plain h = h
 plain_told (e ∷ es) s t plain h =
     plain_told es s (performed_on (Tell e) t) (All-tail Plain e es plain)
     (said_told s t t.now.link (IsEvent e) t.now.arrivals.pending (plain_sayable t e (All-head Plain e es plain)) h)
 
-pub tells_plain : (now : Now) (events : List Event) (s t : Session) → All Plain events → IsFollowed s t → IsFollowed s (performed histories (tells now events) t)
-tells_plain now events s t plain h = if_keeps (λ (acts : List Act). IsFollowed s (performed histories acts t)) (is_active now.link) _ [] (λ _. plain_told events s t plain h) (λ _. h)
+pub tells_plain : (now : Now) (events : List Event) (s t : Session) → All Plain events → IsFollowed s t
+    → IsFollowed s (performed histories (tells now events) t)
+tells_plain now events s t plain h =
+    if_keeps (λ (acts : List Act). IsFollowed s (performed histories acts t)) (is_active now.link) _ [] (λ _. plain_told events s t plain h)
+    (λ _. h)
 
 told_snapshot : (events : List Event) (t : Session) → snapshot_of (performed histories (map Tell events) t).now ≡ snapshot_of t.now
 told_snapshot [] t = refl
 told_snapshot (e ∷ es) t = told_snapshot es (performed_on (Tell e) t) ∙ said_snapshot t.now.link (IsEvent e) t.now.arrivals.pending t
 
-pub tells_snapshot : (now : Now) (events : List Event) (t : Session) → snapshot_of (performed histories (tells now events) t).now ≡ snapshot_of t.now
-tells_snapshot now events t = if_keeps (λ (acts : List Act). snapshot_of (performed histories acts t).now ≡ snapshot_of t.now) (is_active now.link) _ [] (λ _. told_snapshot events t) (λ _. refl)
+pub tells_snapshot : (now : Now) (events : List Event) (t : Session)
+    → snapshot_of (performed histories (tells now events) t).now ≡ snapshot_of t.now
+tells_snapshot now events t =
+    if_keeps (λ (acts : List Act). snapshot_of (performed histories acts t).now ≡ snapshot_of t.now) (is_active now.link) _ []
+    (λ _. told_snapshot events t) (λ _. refl)
 
 -- a program that runs is seen to
 running_state : (run : Run) → is_running run ≡ true → state_of run ≡ Running
@@ -133,15 +148,18 @@ seen_running : (p : Program) (numbers : Numbers) → is_running p.run ≡ true �
 seen_running p numbers e = let is = running_state p.run e in λ i. record (shown_of p numbers) { run = is i }
 
 -- what was printed is told while it runs
-pub prints_printed : (now : Now) (p : Program) (printed : Option ℤ) (s t : Session) → t.now.debuggee.program ≡ Some p → is_running p.run ≡ true → Printed s t → Printed s (performed histories (prints now printed) t)
+pub prints_printed : (now : Now) (p : Program) (printed : Option ℤ) (s t : Session) → t.now.debuggee.program ≡ Some p
+    → is_running p.run ≡ true → Printed s t → Printed s (performed histories (prints now printed) t)
 prints_printed now p None s t is runs h = h
 prints_printed now p (Some number) s t is runs h =
     if_keeps (λ (acts : List Act). Printed s (performed histories acts t)) (is_active now.link) _ []
     (λ _. said_printed s t t.now.link (IsEvent (output_event number)) t.now.arrivals.pending refl
-    (subst (λ (x : Option Program). shown_by x t.now.numbers ≡ as_running (shown_by x t.now.numbers)) (sym is) (seen_running p t.now.numbers runs)) h)
+    (subst (λ (x : Option Program). shown_by x t.now.numbers ≡ as_running (shown_by x t.now.numbers)) (sym is)
+    (seen_running p t.now.numbers runs)) h)
     (λ _. h)
 
-pub prints_snapshot : (now : Now) (printed : Option ℤ) (t : Session) → snapshot_of (performed histories (prints now printed) t).now ≡ snapshot_of t.now
+pub prints_snapshot : (now : Now) (printed : Option ℤ) (t : Session)
+    → snapshot_of (performed histories (prints now printed) t).now ≡ snapshot_of t.now
 prints_snapshot now None t = refl
 prints_snapshot now (Some number) t = tells_snapshot now (output_event number ∷ []) t
 
@@ -152,14 +170,16 @@ abbrev pub Same : Option Program → Option Program → Type 0
 Same a b = (numbers : Numbers) → as_running (shown_by a numbers) ≡ as_running (shown_by b numbers)
 
 all_same : (f g : Facts) → as_running f ≡ as_running g → (news : List Said) → All (λ (m : Said). says_output m.message ≡ true) news
-    → All (λ (m : Said). shown m.snapshot ≡ seen_at (says_output m.message) f) news → All (λ (m : Said). shown m.snapshot ≡ seen_at (says_output m.message) g) news
+    → All (λ (m : Said). shown m.snapshot ≡ seen_at (says_output m.message) f) news
+    → All (λ (m : Said). shown m.snapshot ≡ seen_at (says_output m.message) g) news
 all_same f g same [] output h = All-nil (λ (m : Said). shown m.snapshot ≡ seen_at (says_output m.message) g)
 all_same f g same (m ∷ news) output h =
     let is = All-head (λ (m : Said). says_output m.message ≡ true) m news output in
     All-cons (λ (m : Said). shown m.snapshot ≡ seen_at (says_output m.message) g) m news
     (All-head (λ (m : Said). shown m.snapshot ≡ seen_at (says_output m.message) f) m news h
     ∙ ap (λ (b : Bool). seen_at b f) is ∙ same ∙ ap (λ (b : Bool). seen_at b g) (sym is))
-    (all_same f g same news (All-tail (λ (m : Said). says_output m.message ≡ true) m news output) (All-tail (λ (m : Said). shown m.snapshot ≡ seen_at (says_output m.message) f) m news h))
+    (all_same f g same news (All-tail (λ (m : Said). says_output m.message ≡ true) m news output)
+    (All-tail (λ (m : Said). shown m.snapshot ≡ seen_at (says_output m.message) f) m news h))
 
 pub became : (d : Debuggee) (s t : Session) → Same t.now.debuggee.program d.program → Printed s t → Printed s (performed_on (Become d) t)
 became d s t same h = record {
@@ -180,20 +200,33 @@ pub became_first : (d : Debuggee) (s : Session) → Printed s (performed_on (Bec
 became_first d s =
     record {
       news = [];
-      newly = record { life = same_life s; before = refl; connections = refl; linked = refl; silent = λ _. refl; fits = All-nil (Fits (performed_on (Become d) s)) };
+      newly =
+          record {
+            life = same_life s;
+            before = refl;
+            connections = refl;
+            linked = refl;
+            silent = λ _. refl;
+            fits = All-nil
+                (Fits (performed_on (Become d) s));
+          };
       output = All-nil (λ (m : Said). says_output m.message ≡ true);
     }
 
 -- ---- what beats do
 
-pub halts_told : (now : Now) (p : Program) (reason : Why) (ids : List ℕ) (s t : Session) → Same t.now.debuggee.program (Some p) → Printed s t → IsFollowed s (performed histories (halts now p reason ids) t)
+pub halts_told : (now : Now) (p : Program) (reason : Why) (ids : List ℕ) (s t : Session) → Same t.now.debuggee.program (Some p)
+    → Printed s t → IsFollowed s (performed histories (halts now p reason ids) t)
 halts_told now p reason ids s t same h =
     let u = performed_on (becomes now (stopped reason p)) t in
     tells_plain now (stop_event reason ids ∷ []) s u (All-cons Plain (stop_event reason ids) [] refl (All-nil Plain))
     (just_told s u (became (record now.debuggee { program = Some (stopped reason p) }) s t same h))
 
-pub exits_told : (now : Now) (p : Program) (code : ℤ) (s t : Session) → Same t.now.debuggee.program (Some p) → Printed s t → IsFollowed s (performed histories (exits now p code) t)
+pub exits_told : (now : Now) (p : Program) (code : ℤ) (s t : Session) → Same t.now.debuggee.program (Some p) → Printed s t
+    → IsFollowed s (performed histories (exits now p code) t)
 exits_told now p code s t same h =
     let u = performed_on (becomes now (ended (Some code) p)) t in
-    tells_plain now (exit_events code) s u (All-cons Plain (event.Exited (record { exit_code = code })) (event.Terminated ∷ []) refl (All-cons Plain event.Terminated [] refl (All-nil Plain)))
+    tells_plain now (exit_events code) s u
+    (All-cons Plain (event.Exited (record { exit_code = code })) (event.Terminated ∷ []) refl
+    (All-cons Plain event.Terminated [] refl (All-nil Plain)))
     (just_told s u (became (record now.debuggee { program = Some (ended (Some code) p) }) s t same h))

@@ -25,7 +25,8 @@ record Numbered (last : ℕ) (s : Session) : Type 0 where
 module _ (last : ℕ) where
   others : KeptByOthers (Numbered last)
   others = record {
-    opens = λ s h. record { limit = h.limit; before = All-push (AllIn last) s.before s.life h.before h.present; present = All-nil (IsIn last) };
+    opens =
+        λ s h. record { limit = h.limit; before = All-push (AllIn last) s.before s.life h.before h.present; present = All-nil (IsIn last) };
     closes = λ s h. record { limit = h.limit; before = h.before; present = h.present };
     accepts = λ l piece s e h. record { limit = h.limit; before = h.before; present = h.present };
     agrees = λ l terms s h. record { limit = h.limit; before = h.before; present = h.present };
@@ -34,7 +35,8 @@ module _ (last : ℕ) where
     tells = λ l event s few h. record {
       limit = h.limit;
       before = h.before;
-      present = All-push (IsIn last) s.life.said (said_next s.now l _) h.present (omega arith, (let is = h.limit in omega (arith, is, few)));
+      present =
+          All-push (IsIn last) s.life.said (said_next s.now l _) h.present (omega arith, (let is = h.limit in omega (arith, is, few)));
     };
     hangs = λ l s h. record { limit = h.limit; before = h.before; present = h.present };
     takes = λ n s h. record { limit = h.limit; before = h.before; present = h.present };
@@ -62,5 +64,6 @@ pub in_range : (from : Beginning) (events : List Event) (c : ℕ) → InRange fr
 in_range from events c =
     let last = from.limits.last_seq in
     let s = After from events in
-    let h : Numbered last s = reached_by_acts (Numbered last) (by_forms (Numbered last) (others last) (answers last)) from (record { limit = refl; before = All-nil (AllIn last); present = All-nil (IsIn last) }) events in
+    let h : Numbered last s = reached_by_acts (Numbered last) (by_forms (Numbered last) (others last) (answers last)) from
+    (record { limit = refl; before = All-nil (AllIn last); present = All-nil (IsIn last) }) events in
     record { few = few_messages from.limits from.numbers; all = each_life (AllIn last) s (All-nil (IsIn last)) h.before h.present c }

@@ -12,7 +12,7 @@ use Rattle.session.proofs.Reaching.{if_keeps}
 use Rattle.session.specs.Acts.{Act, Become, Now, Seen, Tell}
 use Rattle.session.specs.Phases.{is_active, is_configuring}
 use Rattle.session.specs.Slices.{Beat, beat_by, beat_of, concludes, exits, goes, goes_unless, halts, is_runnable_by, moves_by, prints, telling}
-use Rattle.session.specs.Telling.{exit_events, output_event, stop_event}
+use Rattle.handlers.specs.Telling.{exit_events, output_event, stop_event}
 use Rattle.session.specs.declared.state.TheConstants.{FULL}
 use Rattle.stepping.specs.declared.tick.Outcome.{Outcome as CameTo}
 use Rattle.stepping.specs.declared.tick.Outcome.TheVariants.{Went, Stopped as HasStopped, Ended as HasEnded}
@@ -65,12 +65,14 @@ prints_owe now (Some number) acts h = tells_owe (is_active now.link) (output_eve
 
 pub telling_owes : (now : Now) (p : Program) (tick : Tick) → AllOwe (telling now p tick)
 unfolding AllOwe
-telling_owes now p tick = (nothing_owed (told p) refl, prints_owe now tick.printed _ (concludes_owe now (told p) tick.outcome p.machine.lists.ids refl))
+telling_owes now p tick =
+    (nothing_owed (told p) refl, prints_owe now tick.printed _ (concludes_owe now (told p) tick.outcome p.machine.lists.ids refl))
 
 moves_owe : (now : Now) (p : Program) (outcome : CameTo) → p.owed ≡ None → is_running p.run ≡ true → AllOwe (moves_by now p outcome).acts
 unfolding AllOwe
 moves_owe now p outcome e r =
-    by_move (λ _ b. AllOwe b.acts) now p outcome (λ _ _. (λ _. r, tt)) (λ cause. halts_owe now p (why.Met (met.Exception cause)) [] e) (λ code. exits_owe now p code e)
+    by_move (λ _ b. AllOwe b.acts) now p outcome (λ _ _. (λ _. r, tt)) (λ cause. halts_owe now p (why.Met (met.Exception cause)) [] e)
+    (λ code. exits_owe now p code e)
 
 abbrev BeatOwes : Beat → Type 0
 BeatOwes b = AllOwe b.acts
@@ -80,9 +82,11 @@ unfolding AllOwe
 goes_owe now p more e r =
     if_keeps BeatOwes p.machine.check_due _ _ (λ _. (λ _. r, tt))
     (λ _. if_keeps BeatOwes (not more) _ _ (λ _. tt)
-    (λ _. if_keeps BeatOwes (leb now.limits.last_retired p.machine.retired) _ _ (λ _. halts_owe now p why.Limit [] e) (λ _. moves_owe now p (next_tick p).outcome e r)))
+    (λ _. if_keeps BeatOwes (leb now.limits.last_retired p.machine.retired) _ _ (λ _. halts_owe now p why.Limit [] e)
+    (λ _. moves_owe now p (next_tick p).outcome e r)))
 
-unless_owes : (mark : Option Mark) (now : Now) (p : Program) (more : Bool) → p.owed ≡ None → is_running p.run ≡ true → BeatOwes (goes_unless mark now p more)
+unless_owes : (mark : Option Mark) (now : Now) (p : Program) (more : Bool) → p.owed ≡ None → is_running p.run ≡ true
+    → BeatOwes (goes_unless mark now p more)
 unless_owes (Some mark) now p more e r = halts_owe now p (why_marked mark) [] e
 unless_owes None now p more e r = goes_owe now p more e r
 
@@ -95,7 +99,8 @@ unfolding AllOwe
 owed_owes (Some tick) seen p more e = telling_owes seen.now p tick
 owed_owes None seen p more e =
     if_keeps BeatOwes (not (is_runnable_by seen.now.link p.run)) _ _ (λ _. tt)
-    (λ r. if_keeps BeatOwes (ltb FULL seen.waits) _ _ (λ _. tt) (λ _. unless_owes p.mark seen.now p more e (both_true (is_running p.run) (not (is_configuring seen.now.link)) r)))
+    (λ r. if_keeps BeatOwes (ltb FULL seen.waits) _ _ (λ _. tt)
+    (λ _. unless_owes p.mark seen.now p more e (both_true (is_running p.run) (not (is_configuring seen.now.link)) r)))
 
 pub beat_owes : (program : Option Program) (seen : Seen) (more : Bool) → BeatOwes (beat_of program seen more)
 unfolding AllOwe
@@ -114,6 +119,7 @@ marked_owes mark p h = by p.run refl where
 pub left_owes : (p : Program) → OwesRunning (left p)
 left_owes p = nothing_owed (left p) refl
 
-pub owes_after : (f : Program → Program) → ((p : Program) → OwesRunning p → OwesRunning (f p)) → (program : Option Program) → OwesOf program → OwesOf (on_program f program)
+pub owes_after : (f : Program → Program) → ((p : Program) → OwesRunning p → OwesRunning (f p)) → (program : Option Program) → OwesOf program
+    → OwesOf (on_program f program)
 owes_after f keeps None h = tt
 owes_after f keeps (Some p) h = keeps p h

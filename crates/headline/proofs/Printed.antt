@@ -16,9 +16,10 @@ use Rattle.session.proofs.ByForms.{accepting, on, on_with}
 use Rattle.session.proofs.Reaching.{each_life, if_keeps, performed_append, reached}
 use Rattle.session.proofs.Serving.{of_answer}
 use Rattle.session.proofs.Turning.{said_debuggee}
-use Rattle.session.specs.Acts.{Act, Answering, Become, Now, Seen, Tell, refers}
-use Rattle.session.specs.ConfigurationDone.{run_events}
-use Rattle.session.specs.Demands.{run_of}
+use Rattle.handlers.specs.Given.{Answering}
+use Rattle.session.specs.Acts.{Act, Become, Now, Seen, Tell, refers, given_of}
+use Rattle.handlers.specs.ConfigurationDone.{run_events}
+use Rattle.handlers.specs.Demands.{run_of}
 use Rattle.session.specs.Effects.{beats, enough, next_by, performed}
 use Rattle.session.specs.Laws.{RunsAs}
 use Rattle.session.specs.Outcomes.{Outcome, answering, answers_next, closing, next_turn, outcome_at, turn_by, turn_of}
@@ -27,14 +28,14 @@ use Rattle.session.specs.References.{past_referred}
 use Rattle.session.specs.Refusals.{answer_to, response_to}
 use Rattle.session.specs.Sessions.{After, Beginning, Effect, Life, Said, Session, histories, hung_on, performed_on, said_next, said_on, waiting_of}
 use Rattle.session.specs.Slices.{Beat, beat, beat_by, beat_of, concludes, exits, goes, goes_unless, halts, is_runnable_by, moves_by, prints, telling, tells}
-use Rattle.session.specs.Telling.{exit_events, output_event, stop_event}
-use Rattle.session.specs.declared.event.Ending.{Ending}
+use Rattle.handlers.specs.Telling.{exit_events, output_event, stop_event}
+use Rattle.session.specs.declared.event.SliceEnd.{SliceEnd}
 use Rattle.session.specs.declared.event.Event.{Event}
 use Rattle.session.specs.declared.event.Event.TheVariants.{Connect, Recv, Turn, Slice, Hold, Sent, DropConnection}
 use Rattle.session.specs.declared.link.Link.{Link}
 use Rattle.session.specs.declared.pending.Pending.{Pending}
 use Rattle.session.specs.declared.state.TheConstants.{FULL, LAST_CONNECTION, MOST_PENDING, MOST_PIECE}
-use Rattle.session.specs.declared.terms.Terms.{Terms}
+use Rattle.handlers.specs.declared.terms.Terms.{Terms}
 use Rattle.stepping.specs.declared.tick.Outcome.{Outcome as CameTo}
 use Rattle.stepping.specs.declared.tick.Outcome.TheVariants.{Went, Stopped as HasStopped, Ended as HasEnded}
 use Rattle.stepping.specs.declared.tick.Reason.TheVariants as met
@@ -69,7 +70,7 @@ run_silent (Some a_run.Running) = (tt, tt)
 run_silent (Some (a_run.Stopped why)) = (tt, tt)
 run_silent (Some (a_run.Ended code)) = tt
 
-successes_silent : (now : Now) (terms : Terms) → BySuccess now terms (λ c a. Silent a)
+successes_silent : (now : Now) (terms : Terms) → BySuccess (given_of now) terms (λ c a. Silent a)
 successes_silent now terms = record {
   initialized = λ _. tt;
   unreadable = λ _. tt;
@@ -95,7 +96,7 @@ successes_silent now terms = record {
 
 answer_silent : (now : Now) (terms : Terms) (file : Option (List ℕ)) (p : Pending) → Silent (answer_to now terms file p)
 answer_silent now terms file p = of_answer (λ ask (a : Answering). Silent a) now terms file p.ask p.fate (λ _ _. tt)
-    (λ r _ _. by_success now terms (λ c a. Silent a) (successes_silent now terms) file r.command)
+    (λ r _ _. by_success (given_of now) terms (λ c a. Silent a) (successes_silent now terms) file r.command)
 
 -- ---- acts that make or tell something of the program
 
@@ -126,10 +127,13 @@ tells_print now d events h = if_keeps (AllPrint d) (is_active now.link) _ [] (λ
 abbrev Goes : Debuggee → Type 0
 Goes d = RunsAs (λ run. is_running run ≡ true) d
 
-prints_print : (now : Now) (d : Debuggee) (printed : Option ℤ) (acts : List Act) → Goes d → AllPrint d acts → AllPrint d (prints now printed ++ acts)
+prints_print : (now : Now) (d : Debuggee) (printed : Option ℤ) (acts : List Act) → Goes d → AllPrint d acts
+    → AllPrint d (prints now printed ++ acts)
 unfolding AllPrint
 prints_print now d None acts runs h = h
-prints_print now d (Some number) acts runs h = if_keeps (λ (x : List Act). AllPrint d (x ++ acts)) (is_active now.link) (map Tell (output_event number ∷ [])) [] (λ _. (runs, h)) (λ _. h)
+prints_print now d (Some number) acts runs h =
+    if_keeps (λ (x : List Act). AllPrint d (x ++ acts)) (is_active now.link) (map Tell (output_event number ∷ [])) [] (λ _. (runs, h))
+    (λ _. h)
 
 -- the program that is debugged, if it is this
 abbrev debugging : Now → Program → Debuggee
@@ -163,20 +167,23 @@ BeatPrints b = (d : Debuggee) → AllPrint d b.acts
 moves_print : (now : Now) (p : Program) (outcome : CameTo) → BeatPrints (moves_by now p outcome)
 unfolding AllPrint
 moves_print now p outcome =
-    by_move (λ _ b. BeatPrints b) now p outcome (λ _ _ _. tt) (λ cause d. halts_print now d p (why.Met (met.Exception cause)) []) (λ code d. exits_print now d p code)
+    by_move (λ _ b. BeatPrints b) now p outcome (λ _ _ _. tt) (λ cause d. halts_print now d p (why.Met (met.Exception cause)) [])
+    (λ code d. exits_print now d p code)
 
 goes_print : (now : Now) (p : Program) (more : Bool) → BeatPrints (goes now p more)
 unfolding AllPrint
 goes_print now p more =
     if_keeps BeatPrints p.machine.check_due _ _ (λ _ _. tt)
     (λ _. if_keeps BeatPrints (not more) _ _ (λ _ _. tt)
-    (λ _. if_keeps BeatPrints (leb now.limits.last_retired p.machine.retired) _ _ (λ _ d. halts_print now d p why.Limit []) (λ _. moves_print now p (next_tick p).outcome)))
+    (λ _. if_keeps BeatPrints (leb now.limits.last_retired p.machine.retired) _ _ (λ _ d. halts_print now d p why.Limit [])
+    (λ _. moves_print now p (next_tick p).outcome)))
 
 unless_prints : (mark : Option Mark) (now : Now) (p : Program) (more : Bool) → BeatPrints (goes_unless mark now p more)
 unless_prints (Some mark) now p more = λ d. halts_print now d p (why_marked mark) []
 unless_prints None now p more = goes_print now p more
 
-owed_prints : (owed : Option Tick) (seen : Seen) (p : Program) (more : Bool) → p.owed ≡ owed → OwesRunning p → BeatPrints (beat_by owed seen p more)
+owed_prints : (owed : Option Tick) (seen : Seen) (p : Program) (more : Bool) → p.owed ≡ owed → OwesRunning p
+    → BeatPrints (beat_by owed seen p more)
 unfolding AllPrint
 owed_prints (Some tick) seen p more e owes = λ d. telling_prints seen.now d p tick (owes (λ none. never tick (sym none ∙ e)))
 owed_prints None seen p more e owes =
@@ -200,7 +207,8 @@ record Printed (s : Session) : Type 0 where
   before : All AllSaid s.before
   present : AllSaid s.life
 
-says : (l : Option Link) (m : Message) (rest : List Pending) (s : Session) → PrintsRunning m s.now.debuggee → Printed (on l s) → Printed (said_on l m rest (on l s))
+says : (l : Option Link) (m : Message) (rest : List Pending) (s : Session) → PrintsRunning m s.now.debuggee → Printed (on l s)
+    → Printed (said_on l m rest (on l s))
 says None m rest s so h = h
 says (Some l) m rest s so h =
     if_keeps Printed (ltb l.seq s.now.limits.last_seq) _ _
@@ -212,7 +220,8 @@ unfolding AllPrint
 acts_print [] s q h = h
 acts_print (Become d ∷ acts) s q h = acts_print acts (performed_on (Become d) s) q (record { before = h.before; present = h.present })
 acts_print (Tell e ∷ acts) s q h =
-    acts_print acts (performed_on (Tell e) s) (subst (λ (d : Debuggee). AllPrint d acts) (sym (said_debuggee s.now.link (IsEvent e) s.now.arrivals.pending s)) q.1)
+    acts_print acts (performed_on (Tell e) s)
+    (subst (λ (d : Debuggee). AllPrint d acts) (sym (said_debuggee s.now.link (IsEvent e) s.now.arrivals.pending s)) q.1)
     (says s.now.link (IsEvent e) s.now.arrivals.pending s q.0 h)
 acts_print (act ∷ acts) s q h = absurd q
 
@@ -224,10 +233,15 @@ closes_after : (closes : Bool) (s : Session) → Printed s → Printed (performe
 closes_after true s h = hangs s.now.link s h
 closes_after false s h = h
 
-answering_prints : (l : Link) (p : Pending) (rest : List Pending) (s : Session) (a : Answering) → Silent a → Printed (on_with (Some l) (p ∷ rest) s) → Printed (performed histories (answering a) (on_with (Some l) (p ∷ rest) s))
+answering_prints : (l : Link) (p : Pending) (rest : List Pending) (s : Session) (a : Answering) → Silent a
+    → Printed (on_with (Some l) (p ∷ rest) s) → Printed (performed histories (answering a) (on_with (Some l) (p ∷ rest) s))
 answering_prints l p rest s a silent h =
     let m : Message = IsResponse (response_to p.ask a.outcome) in
-    let t : Session = on_with (Some (record l { terms = a.terms })) (p ∷ rest) (record s { now = refers (record s.now { debuggee = a.debuggee }) a.references; references = past_referred s.now.connections a.references s.references }) in
+    let t : Session = on_with (Some (record l { terms = a.terms })) (p ∷ rest)
+    (record s {
+      now = refers (record s.now { debuggee = a.debuggee }) a.references;
+      references = past_referred s.now.connections a.references s.references;
+    }) in
     let replied : Session = said_on t.now.link m rest t in
     let after : Printed replied = says t.now.link m rest t tt (record { before = h.before; present = h.present }) in
     subst Printed (sym (performed_append (map Tell a.events) (closing a.closes) replied))
@@ -236,33 +250,43 @@ answering_prints l p rest s a silent h =
 
 -- ---- events
 
-turn_prints : (l : Link) (file : Option (List ℕ)) (pending : List Pending) (s : Session) → let t = on_with (Some l) pending s in Printed t → Printed (performed histories (next_turn t.now l.terms file pending).acts t)
+turn_prints : (l : Link) (file : Option (List ℕ)) (pending : List Pending) (s : Session) → let t =
+    on_with (Some l) pending s in Printed t → Printed (performed histories (next_turn t.now l.terms file pending).acts t)
 turn_prints l file [] s h = h
 turn_prints l file (p ∷ rest) s h =
     let t = on_with (Some l) (p ∷ rest) s in
     answering_prints l p rest s (answer_to t.now l.terms file p) (answer_silent t.now l.terms file p) h
 
-answers_print : (l : Link) (file : Option (List ℕ)) (s : Session) → Printed (on (Some l) s) → Printed (performed histories (answers_next (histories.see (on (Some l) s)) l file).acts (on (Some l) s))
+answers_print : (l : Link) (file : Option (List ℕ)) (s : Session) → Printed (on (Some l) s)
+    → Printed (performed histories (answers_next (histories.see (on (Some l) s)) l file).acts (on (Some l) s))
 answers_print l file s h =
-    if_keeps (λ (o : Outcome). Printed (performed histories o.acts (on (Some l) s))) (ltb FULL (length (waiting_of (on (Some l) s)))) _ _ (λ _. h) (λ _. turn_prints l file s.now.arrivals.pending s h)
+    if_keeps (λ (o : Outcome). Printed (performed histories o.acts (on (Some l) s))) (ltb FULL (length (waiting_of (on (Some l) s)))) _ _
+    (λ _. h) (λ _. turn_prints l file s.now.arrivals.pending s h)
 
-owed_turn_prints : (owed : Option Tick) (l : Link) (file : Option (List ℕ)) (p : Program) (s : Session) → p.owed ≡ owed → OwesRunning p → Printed (on (Some l) s) → Printed (performed histories (turn_by owed (histories.see (on (Some l) s)) l p file).acts (on (Some l) s))
+owed_turn_prints : (owed : Option Tick) (l : Link) (file : Option (List ℕ)) (p : Program) (s : Session) → p.owed ≡ owed → OwesRunning p
+    → Printed (on (Some l) s) → Printed (performed histories (turn_by owed (histories.see (on (Some l) s)) l p file).acts (on (Some l) s))
 owed_turn_prints None l file p s e owes h = answers_print l file s h
 owed_turn_prints (Some tick) l file p s e owes h =
-    acts_print (telling (on (Some l) s).now p tick) (on (Some l) s) (telling_prints (on (Some l) s).now s.now.debuggee p tick (owes (λ none. never tick (sym none ∙ e)))) h
+    acts_print (telling (on (Some l) s).now p tick) (on (Some l) s)
+    (telling_prints (on (Some l) s).now s.now.debuggee p tick (owes (λ none. never tick (sym none ∙ e)))) h
 
-program_prints : (program : Option Program) (l : Link) (file : Option (List ℕ)) (s : Session) → OwesOf program → Printed (on (Some l) s) → Printed (performed histories (turn_of program (histories.see (on (Some l) s)) l file).acts (on (Some l) s))
+program_prints : (program : Option Program) (l : Link) (file : Option (List ℕ)) (s : Session) → OwesOf program → Printed (on (Some l) s)
+    → Printed (performed histories (turn_of program (histories.see (on (Some l) s)) l file).acts (on (Some l) s))
 program_prints None l file s owes h = answers_print l file s h
 program_prints (Some p) l file s owes h = owed_turn_prints p.owed l file p s refl owes h
 
-piece_prints : (l : Link) (piece : List ℕ) (s : Session) → Printed (on (Some l) s) → Printed (performed histories (outcome_at (histories.see (on (Some l) s)) (Some l) (Recv piece)).acts (on (Some l) s))
+piece_prints : (l : Link) (piece : List ℕ) (s : Session) → Printed (on (Some l) s)
+    → Printed (performed histories (outcome_at (histories.see (on (Some l) s)) (Some l) (Recv piece)).acts (on (Some l) s))
 piece_prints l piece s h =
     if_keeps (λ (o : Outcome). Printed (performed histories o.acts (on (Some l) s))) l.is_closing _ _ (λ _. h)
     (λ _. if_keeps (λ (o : Outcome). Printed (performed histories o.acts (on (Some l) s))) (ltb MOST_PIECE (length piece)) _ _ (λ _. h)
-    (λ _. if_keeps (λ (o : Outcome). Printed (performed histories o.acts (on (Some l) s))) (leb MOST_PENDING (length s.now.arrivals.pending)) _ _ (λ _. h)
-    (λ _. if_keeps Printed l.is_closing _ (accepting l piece (on (Some l) s)) (λ _. h) (λ _. record { before = h.before; present = h.present }))))
+    (λ _. if_keeps (λ (o : Outcome). Printed (performed histories o.acts (on (Some l) s)))
+    (leb MOST_PENDING (length s.now.arrivals.pending)) _ _ (λ _. h)
+    (λ _. if_keeps Printed l.is_closing _ (accepting l piece (on (Some l) s)) (λ _. h)
+    (λ _. record { before = h.before; present = h.present }))))
 
-outcome_prints : (l : Option Link) (e : Event) (s : Session) → OwesOf s.now.debuggee.program → Printed (on l s) → Printed (performed histories (outcome_at (histories.see (on l s)) l e).acts (on l s))
+outcome_prints : (l : Option Link) (e : Event) (s : Session) → OwesOf s.now.debuggee.program → Printed (on l s)
+    → Printed (performed histories (outcome_at (histories.see (on l s)) l e).acts (on l s))
 outcome_prints None Connect s owes h =
     if_keeps (λ (o : Outcome). Printed (performed histories o.acts (on None s))) (eqb s.now.connections LAST_CONNECTION) _ _ (λ _. h)
     (λ _. record { before = All-push AllSaid s.before s.life h.before h.present; present = All-nil IsSaid })
@@ -278,7 +302,8 @@ outcome_prints (Some l) (Turn file) s owes h = program_prints s.now.debuggee.pro
 outcome_prints (Some l) (Slice n) s owes h = h
 outcome_prints (Some l) Hold s owes h = record { before = h.before; present = h.present }
 outcome_prints (Some l) (Sent n) s owes h =
-    if_keeps (λ (o : Outcome). Printed (performed histories o.acts (on (Some l) s))) (ltb (length (waiting_of (on (Some l) s))) n) _ _ (λ _. h) (λ _. record { before = h.before; present = h.present })
+    if_keeps (λ (o : Outcome). Printed (performed histories o.acts (on (Some l) s))) (ltb (length (waiting_of (on (Some l) s))) n) _ _
+    (λ _. h) (λ _. record { before = h.before; present = h.present })
 outcome_prints (Some l) DropConnection s owes h = record { before = h.before; present = h.present }
 
 -- ---- with what is so of a session beside it
@@ -289,12 +314,14 @@ So s = HasTold commands_lead commands_owe s × Printed s
 beats_print : (n i : ℕ) (s : Session) → So s → Printed (beats histories n i s).state
 beats_print n zero s h = h.1
 beats_print n (suc i) s h = by (beats histories n i s).ending (beats_print n i s h) where
-  by : (e : Option Ending) → Printed (beats histories n i s).state → Printed (next_by histories n e (beats histories n i s)).state
+  by : (e : Option SliceEnd) → Printed (beats histories n i s).state → Printed (next_by histories n e (beats histories n i s)).state
   by (Some e) x = x
   by None x =
       let t = (beats histories n i s).state in
       let more = ltb (beats histories n i s).moved n in
-      acts_print (beat (histories.see t) more).acts t (beat_prints t.now.debuggee.program (histories.see t) more (beats_so commands_lead commands_owe n i s h.0).1.was.owes t.now.debuggee) x
+      acts_print (beat (histories.see t) more).acts t
+      (beat_prints t.now.debuggee.program (histories.see t) more
+      (beats_so commands_lead commands_owe n i s h.0).1.was.owes t.now.debuggee) x
 
 event_prints : (e : Event) (s : Session) → So s → Printed (Effect s e)
 event_prints Connect s h = outcome_prints s.now.link Connect s h.0.1.was.owes h.1

@@ -21,9 +21,11 @@ module _ {A : Type 0} (seq : A → ℕ) (message : A → Message) where
   Reads xs = error_of (map text xs) ≡ None → messages_of (map text xs) ≡ map message xs
 
   reads_one : (a : A) (xs : List A) → Good a → Reads xs → (r : Result (ℕ × Message) MessageError) → reading_of (text a) ≡ r
-      → error_in (without_number r ∷ map message_of (map text xs)) ≡ None → messages_in (without_number r ∷ map message_of (map text xs)) ≡ message a ∷ map message xs
+      → error_in (without_number r ∷ map message_of (map text xs)) ≡ None
+      → messages_in (without_number r ∷ map message_of (map text xs)) ≡ message a ∷ map message xs
   reads_one a xs good rest (Ok found) e none =
-      ap (λ (m : Message). m ∷ messages_of (map text xs)) (read_as_said (seq a) (message a) good.0 good.1 found e) ∙ ap (λ (l : List Message). message a ∷ l) (rest none)
+      ap (λ (m : Message). m ∷ messages_of (map text xs)) (read_as_said (seq a) (message a) good.0 good.1 found e) ∙ ap
+      (λ (l : List Message). message a ∷ l) (rest none)
   reads_one a xs good rest (Err error) e none = absurd (apart none) where
     apart : (let o : Option MessageError = Some error in o) ≡ None → ⊥
     apart e = cc

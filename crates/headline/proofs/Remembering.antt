@@ -21,7 +21,8 @@ use Rattle.headline.specs.Known.{IsKnownBy, IsKnownIn, first_asked}
 use Rattle.session.specs.Shown.{shown}
 
 -- what is remembered of a request that is the first of its number
-pub remembers : (asks : List Ask) (number : ℕ) (r : ARequest) → first_asked asks number ≡ Some r → remembered asks number ≡ Some (asked_of r.command)
+pub remembers : (asks : List Ask) (number : ℕ) (r : ARequest) → first_asked asks number ≡ Some r
+    → remembered asks number ≡ Some (asked_of r.command)
 remembers asks number r e = ap (λ (x : Option ARequest). option_map (λ (q : ARequest). asked_of q.command) x) e
 
 -- a refusal tells nothing
@@ -32,24 +33,35 @@ refused_tells (Some a) refusal text f = refl
 outcome_same : (asks more : List Ask) (number : ℕ) (name : List ℕ) (outcome : Outcome) (f : Facts) → IsKnownBy asks number name outcome
     → answered (remembered (asks ++ more) number) outcome f ≡ answered (remembered asks number) outcome f
 outcome_same asks more number name (Done body) f k =
-    ap (λ (x : Option Asked). answered x (Done body) f) (remembers (asks ++ more) number k.request (first_more asks more number k.request k.first) ∙ sym (remembers asks number k.request k.first))
-outcome_same asks more number name (Refused refusal text) f k = refused_tells (remembered (asks ++ more) number) refusal text f ∙ sym (refused_tells (remembered asks number) refusal text f)
+    ap (λ (x : Option Asked). answered x (Done body) f)
+    (remembers (asks ++ more) number k.request (first_more asks more number k.request k.first) ∙ sym
+    (remembers asks number k.request k.first))
+outcome_same asks more number name (Refused refusal text) f k =
+    refused_tells (remembered (asks ++ more) number) refusal text f ∙ sym (refused_tells (remembered asks number) refusal text f)
 
-folded_same : (asks more : List Ask) (f : Facts) (m : Message) → IsKnownIn asks m → folded (remembered (asks ++ more)) f m ≡ folded (remembered asks) f m
+folded_same : (asks more : List Ask) (f : Facts) (m : Message) → IsKnownIn asks m
+    → folded (remembered (asks ++ more)) f m ≡ folded (remembered asks) f m
 folded_same asks more f (IsResponse r) k = outcome_same asks more r.request_seq r.command r.outcome f k
 folded_same asks more f (IsEvent e) k = refl
 
 abbrev AllKnownBy : List Ask → List Said → Type 0
 AllKnownBy asks said = All (λ (m : Said). IsKnownIn asks m.message) said
 
-pub known_same : (asks more : List Ask) (f : Facts) (said : List Said) → AllKnownBy asks said → known_after (remembered (asks ++ more)) f said ≡ known_after (remembered asks) f said
+pub known_same : (asks more : List Ask) (f : Facts) (said : List Said) → AllKnownBy asks said
+    → known_after (remembered (asks ++ more)) f said ≡ known_after (remembered asks) f said
 known_same asks more f [] k = refl
 known_same asks more f (m ∷ said) k =
-    ap (λ (g : Facts). known_after (remembered (asks ++ more)) g said) (folded_same asks more f m.message (All-head (λ (m : Said). IsKnownIn asks m.message) m said k))
+    ap (λ (g : Facts). known_after (remembered (asks ++ more)) g said)
+    (folded_same asks more f m.message (All-head (λ (m : Said). IsKnownIn asks m.message) m said k))
     ∙ known_same asks more (folded (remembered asks) f m.message) said (All-tail (λ (m : Said). IsKnownIn asks m.message) m said k)
 
-pub all_hold_same : (asks more : List Ask) (f : Facts) (said : List Said) → AllKnownBy asks said → AllHold (remembered asks) f said → AllHold (remembered (asks ++ more)) f said
+pub all_hold_same : (asks more : List Ask) (f : Facts) (said : List Said) → AllKnownBy asks said → AllHold (remembered asks) f said
+    → AllHold (remembered (asks ++ more)) f said
 all_hold_same asks more f [] k h = tt
 all_hold_same asks more f (m ∷ said) k h =
-    subst (λ (g : Facts). Holds g (shown m.snapshot) × AllHold (remembered (asks ++ more)) g said) (sym (folded_same asks more f m.message (All-head (λ (m : Said). IsKnownIn asks m.message) m said k)))
-    (h.0, all_hold_same asks more (folded (remembered asks) f m.message) said (All-tail (λ (m : Said). IsKnownIn asks m.message) m said k) h.1)
+    subst (λ (g : Facts). Holds g (shown m.snapshot) × AllHold (remembered (asks ++ more)) g said)
+    (sym (folded_same asks more f m.message (All-head (λ (m : Said). IsKnownIn asks m.message) m said k))) (
+      h.0,
+      all_hold_same asks more (folded (remembered asks) f m.message) said
+          (All-tail (λ (m : Said). IsKnownIn asks m.message) m said k) h.1,
+    )

@@ -8,11 +8,11 @@ use Rattle.mirror.specs.Folding.{happened, in_state}
 use Rattle.facts.specs.declared.breakpoint.BreakInfo.{BreakInfo}
 use Rattle.facts.specs.declared.run.RunState.TheVariants.{Running}
 use Rattle.session.specs.Acts.{Now, Tell}
-use Rattle.session.specs.Demands.{has_none, run_of}
-use Rattle.session.specs.Phases.{is_active_in, is_fresh_in, is_initialized_in}
-use Rattle.session.specs.declared.phase.Phase.{Phase}
-use Rattle.session.specs.declared.phase.Phase.TheVariants.{Fresh, Initialized, Configuring, Active, Left}
-use Rattle.session.specs.declared.terms.Terms.{Terms}
+use Rattle.handlers.specs.Demands.{has_none, run_of}
+use Rattle.handlers.specs.Phases.{is_active_in, is_fresh_in, is_initialized_in}
+use Rattle.handlers.specs.declared.phase.Phase.{Phase}
+use Rattle.handlers.specs.declared.phase.Phase.TheVariants.{Fresh, Initialized, Configuring, Active, Left}
+use Rattle.handlers.specs.declared.terms.Terms.{Terms}
 use Rattle.variables.specs.Numbers.{Numbers}
 use Rattle.headline.proofs.Agreeing.{Agrees, KnowsNoStand, MovesUnknown, SuitsPhase, holds_in, no_stand_in, none_numbered, nothing_holds}
 use Rattle.headline.proofs.Leading.{Leads, SameBut, suits_as}
@@ -20,7 +20,8 @@ use Rattle.headline.specs.Holding.{Holds}
 use Rattle.session.specs.Shown.{info_of, listed_at, shown_by, shown_of, state_of}
 
 -- an answer after which nothing is told
-pub alone : (f : Facts) (program : Option Program) (numbers : Numbers) (terms : Terms) → Agrees f program numbers terms → Holds f (shown_by program numbers) × Leads terms numbers f program []
+pub alone : (f : Facts) (program : Option Program) (numbers : Numbers) (terms : Terms) → Agrees f program numbers terms
+    → Holds f (shown_by program numbers) × Leads terms numbers f program []
 unfolding Leads
 alone f program numbers terms h = (h.holds, h)
 
@@ -30,13 +31,18 @@ no_program e = absurd (let no : true ≡ false = e in cc)
 
 -- ---- the program goes on
 
-pub goes_on : (now : Now) (terms : Terms) (f : Facts) (numbers : Numbers) (makes : Program → Program) → is_active_in terms.phase ≡ true → ((p : Program) → (makes p).run ≡ a_run.Running) → ((p : Program) → SameBut p (makes p))
-    → has_none (run_of now.debuggee.program) ≡ false → Agrees f now.debuggee.program now.numbers terms → Agrees (in_state Running f) (on_program makes now.debuggee.program) numbers terms
+pub goes_on : (now : Now) (terms : Terms) (f : Facts) (numbers : Numbers) (makes : Program → Program) → is_active_in terms.phase ≡ true
+    → ((p : Program) → (makes p).run ≡ a_run.Running) → ((p : Program) → SameBut p (makes p))
+    → has_none (run_of now.debuggee.program) ≡ false → Agrees f now.debuggee.program now.numbers terms
+    → Agrees (in_state Running f) (on_program makes now.debuggee.program) numbers terms
 goes_on now terms f numbers makes active runs same there h = by now.debuggee.program there h where
-  by : (program : Option Program) → has_none (run_of program) ≡ false → Agrees f program now.numbers terms → Agrees (in_state Running f) (on_program makes program) numbers terms
+  by : (program : Option Program) → has_none (run_of program) ≡ false → Agrees f program now.numbers terms
+      → Agrees (in_state Running f) (on_program makes program) numbers terms
   by None there h = no_program there
   by (Some p) there h = record {
-    holds = holds_in Running f (shown_of p now.numbers) (shown_of (makes p) numbers) h.holds (ap state_of (runs p)) ((same p).source now.numbers) ((same p).instructions now.numbers);
+    holds =
+        holds_in Running f (shown_of p now.numbers) (shown_of (makes p) numbers) h.holds (ap state_of (runs p))
+        ((same p).source now.numbers) ((same p).instructions now.numbers);
     moving = λ _. no_stand_in Running f;
     numbered = none_numbered numbers (in_state Running f) (no_stand_in Running f);
     phase = suits_as terms.phase terms.launched f (in_state Running f) active refl h.phase;
@@ -60,30 +66,35 @@ first_same p = record { source = λ _ _. refl; instructions = λ _. refl }
 
 -- ---- `initialize`, `launch`, `attach`
 
-fresh_knows_nothing : (phase : Phase) (launched : Bool) (f : Facts) → is_fresh_in phase ≡ true → SuitsPhase phase launched f → f ≡ nothing_known
+fresh_knows_nothing : (phase : Phase) (launched : Bool) (f : Facts) → is_fresh_in phase ≡ true → SuitsPhase phase launched f
+    → f ≡ nothing_known
 fresh_knows_nothing Fresh launched f e h = h
 fresh_knows_nothing Initialized launched f e h = h
 fresh_knows_nothing Configuring launched f e h = absurd (let no : false ≡ true = e in cc)
 fresh_knows_nothing Active launched f e h = absurd (let no : false ≡ true = e in cc)
 fresh_knows_nothing Left launched f e h = h
 
-initialized_knows_nothing : (phase : Phase) (launched : Bool) (f : Facts) → is_initialized_in phase ≡ true → SuitsPhase phase launched f → f ≡ nothing_known
+initialized_knows_nothing : (phase : Phase) (launched : Bool) (f : Facts) → is_initialized_in phase ≡ true → SuitsPhase phase launched f
+    → f ≡ nothing_known
 initialized_knows_nothing Fresh launched f e h = h
 initialized_knows_nothing Initialized launched f e h = h
 initialized_knows_nothing Configuring launched f e h = absurd (let no : false ≡ true = e in cc)
 initialized_knows_nothing Active launched f e h = absurd (let no : false ≡ true = e in cc)
 initialized_knows_nothing Left launched f e h = h
 
-pub initialize_agrees : (f : Facts) (program : Option Program) (numbers : Numbers) (terms then : Terms) → is_fresh_in terms.phase ≡ true → then.phase ≡ Initialized → Agrees f program numbers terms → Agrees f program numbers then
+pub initialize_agrees : (f : Facts) (program : Option Program) (numbers : Numbers) (terms then : Terms) → is_fresh_in terms.phase ≡ true
+    → then.phase ≡ Initialized → Agrees f program numbers terms → Agrees f program numbers then
 initialize_agrees f program numbers terms then fresh is h = record {
   holds = h.holds;
   moving = h.moving;
   numbered = h.numbered;
-  phase = subst (λ (phase : Phase). SuitsPhase phase then.launched f) (sym is) (fresh_knows_nothing terms.phase terms.launched f fresh h.phase);
+  phase =
+      subst (λ (phase : Phase). SuitsPhase phase then.launched f) (sym is) (fresh_knows_nothing terms.phase terms.launched f fresh h.phase);
 }
 
 -- nothing is known but whether it was launched
-only_agrees : (launched : Bool) (program : Option Program) (numbers : Numbers) (terms : Terms) → Agrees (record nothing_known { launched = launched }) program numbers (record terms { phase = Configuring; launched = launched })
+only_agrees : (launched : Bool) (program : Option Program) (numbers : Numbers) (terms : Terms)
+    → Agrees (record nothing_known { launched = launched }) program numbers (record terms { phase = Configuring; launched = launched })
 only_agrees launched program numbers terms =
     let n = nothing_holds (shown_by program numbers) in
     let f : Facts = record nothing_known { launched = launched } in
@@ -95,21 +106,28 @@ only_agrees launched program numbers terms =
       phase = record { launched = refl; quiet = tt; stand = stand };
     }
   where
-    moves : (program : Option Program) → KnowsNoStand (record nothing_known { launched = launched }) → MovesUnknown program (record nothing_known { launched = launched })
+    moves : (program : Option Program) → KnowsNoStand (record nothing_known { launched = launched })
+        → MovesUnknown program (record nothing_known { launched = launched })
     moves None stand = tt
     moves (Some p) stand = λ _. stand
 
-pub attach_leads : (f : Facts) (program : Option Program) (numbers : Numbers) (terms : Terms) → is_initialized_in terms.phase ≡ true → Agrees f program numbers terms → Agrees f program numbers (record terms { phase = Configuring; launched = false })
+pub attach_leads : (f : Facts) (program : Option Program) (numbers : Numbers) (terms : Terms) → is_initialized_in terms.phase ≡ true
+    → Agrees f program numbers terms → Agrees f program numbers (record terms { phase = Configuring; launched = false })
 attach_leads f program numbers terms taken h =
-    subst (λ (g : Facts). Agrees g program numbers (record terms { phase = Configuring; launched = false })) (sym (initialized_knows_nothing terms.phase terms.launched f taken h.phase)) (only_agrees false program numbers terms)
+    subst (λ (g : Facts). Agrees g program numbers (record terms { phase = Configuring; launched = false }))
+    (sym (initialized_knows_nothing terms.phase terms.launched f taken h.phase)) (only_agrees false program numbers terms)
 
-pub launch_agrees : (f : Facts) (old : Option Program) (program : Option Program) (numbers : Numbers) (terms : Terms) → is_initialized_in terms.phase ≡ true → Agrees f old numbers terms
+pub launch_agrees : (f : Facts) (old : Option Program) (program : Option Program) (numbers : Numbers) (terms : Terms)
+    → is_initialized_in terms.phase ≡ true → Agrees f old numbers terms
     → Agrees (record f { launched = true }) program numbers (record terms { phase = Configuring; launched = true })
 launch_agrees f old program numbers terms taken h =
-    subst (λ (g : Facts). Agrees (record g { launched = true }) program numbers (record terms { phase = Configuring; launched = true })) (sym (initialized_knows_nothing terms.phase terms.launched f taken h.phase)) (only_agrees true program numbers terms)
+    subst (λ (g : Facts). Agrees (record g { launched = true }) program numbers (record terms { phase = Configuring; launched = true }))
+    (sym (initialized_knows_nothing terms.phase terms.launched f taken h.phase)) (only_agrees true program numbers terms)
 
 -- an answer after which `initialized` is told
-pub with_event : (f g : Facts) (e : _) (program : Option Program) (numbers : Numbers) (terms : Terms) → happened e f ≡ g → Holds f (shown_by program numbers) → Agrees g program numbers terms
+pub with_event : (f g : Facts) (e : _) (program : Option Program) (numbers : Numbers) (terms : Terms) → happened e f ≡ g
+    → Holds f (shown_by program numbers) → Agrees g program numbers terms
     → Holds f (shown_by program numbers) × Leads terms numbers f program (map Tell (e ∷ []))
 unfolding Leads
-with_event f g e program numbers terms is holds h = (holds, subst (λ (x : Facts). Holds x (shown_by program numbers) × Agrees x program numbers terms) (sym is) (h.holds, h))
+with_event f g e program numbers terms is holds h =
+    (holds, subst (λ (x : Facts). Holds x (shown_by program numbers) × Agrees x program numbers terms) (sym is) (h.holds, h))

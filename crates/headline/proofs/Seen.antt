@@ -4,7 +4,7 @@ use Rattle.session.proofs.Joined.{at_end, program_of, histories_follow}
 use Rattle.session.proofs.Reaching.{reached}
 use Rattle.session.specs.Effects.{ended_as, enough}
 use Rattle.session.specs.Sessions.{After, Beginning, Effect, Session, histories}
-use Rattle.session.specs.declared.event.Ending.{Ending}
+use Rattle.session.specs.declared.event.SliceEnd.{SliceEnd}
 use Rattle.session.specs.declared.event.Event.{Event}
 use Rattle.session.specs.declared.event.Event.TheVariants.{Slice}
 use Rattle.headline.proofs.Agreeing.{OwesOf}
@@ -16,10 +16,14 @@ use Rattle.headline.specs.News.{IsAtRest, IsSeenAfter, Spends}
 use Rattle.session.proofs.Enough.{each_ends}
 
 owes : (from : Beginning) (events : List Event) → OwesOf (program_of (After from events))
-owes from events = (reached (Told commands_lead commands_owe) (event_so commands_lead commands_owe) from (told_at_first commands_lead commands_owe from) events).1.was.owes
+owes from events =
+    (reached (Told commands_lead commands_owe) (event_so commands_lead commands_owe) from
+    (told_at_first commands_lead commands_owe from) events).1.was.owes
 
 pub rests : (s : Session) (n : ℕ) → Spends n s → IsAtRest (Effect s (Slice n))
-rests s n spent = let e = each_ends histories histories_follow n s in ((at_end n (enough n) s).spent (e.1 ∙ ap (λ (x : Ending). Some x) (sym (ap ended_as e.1) ∙ spent))).1
+rests s n spent =
+    let e = each_ends histories histories_follow n s in
+    ((at_end n (enough n) s).spent (e.1 ∙ ap (λ (x : SliceEnd). Some x) (sym (ap ended_as e.1) ∙ spent))).1
 
 pub seen_after : (from : Beginning) (events : List Event) → IsSeenAfter (After from events)
 seen_after from events =

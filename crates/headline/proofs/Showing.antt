@@ -13,9 +13,9 @@ use Rattle.facts.specs.declared.frame.FrameInfo.{FrameInfo}
 use Rattle.protocol.specs.declared.command.Command.{Command}
 use Rattle.replies.specs.declared.response.ResponseBody.{ResponseBody}
 use Rattle.replies.specs.declared.response.ResponseBody.TheVariants as body
-use Rattle.session.specs.Acts.{Now}
-use Rattle.session.specs.Looking.{issues, seen_in}
-use Rattle.session.specs.declared.terms.Terms.{Terms}
+use Rattle.session.specs.Acts.{Now, given_of}
+use Rattle.handlers.specs.Looking.{issues, seen_in}
+use Rattle.handlers.specs.declared.terms.Terms.{Terms}
 use Rattle.variables.specs.Numbers.{Numbers, has, number_from, number_in, with_all, with_one, with_targets}
 use Rattle.variables.specs.References.{is_same}
 use Rattle.variables.specs.declared.target.Target.{Target}
@@ -29,39 +29,52 @@ use Rattle.session.specs.Shown.{frame_at, frame_in, or_zero, shown_of}
 
 -- ---- numbers that were issued stay
 
-number_more : (first : ℕ) (target : Target) (xs ys : List Target) (n : ℕ) → number_from first target xs ≡ Some n → number_from first target (xs ++ ys) ≡ Some n
+number_more : (first : ℕ) (target : Target) (xs ys : List Target) (n : ℕ) → number_from first target xs ≡ Some n
+    → number_from first target (xs ++ ys) ≡ Some n
 number_more first target [] ys n e = never n e
 number_more first target (x ∷ xs) ys n e = by (is_same x target) (number_more (first + 1) target xs ys n) e where
-  by : (b : Bool) → (number_from (first + 1) target xs ≡ Some n → number_from (first + 1) target (xs ++ ys) ≡ Some n) → cond b (Some first) (number_from (first + 1) target xs) ≡ Some n → cond b (Some first) (number_from (first + 1) target (xs ++ ys)) ≡ Some n
+  by : (b : Bool) → (number_from (first + 1) target xs ≡ Some n → number_from (first + 1) target (xs ++ ys) ≡ Some n)
+      → cond b (Some first) (number_from (first + 1) target xs) ≡ Some n
+      → cond b (Some first) (number_from (first + 1) target (xs ++ ys)) ≡ Some n
   by true rest e = e
   by false rest e = rest e
 
-number_one : (first : ℕ) (target new : Target) (known : List Target) (n : ℕ) → number_from first target known ≡ Some n → number_from first target (with_one known new) ≡ Some n
-number_one first target new known n e = if_keeps (λ (l : List Target). number_from first target l ≡ Some n) (has new known) known (known ++ new ∷ []) (λ _. e) (λ _. number_more first target known (new ∷ []) n e)
+number_one : (first : ℕ) (target new : Target) (known : List Target) (n : ℕ) → number_from first target known ≡ Some n
+    → number_from first target (with_one known new) ≡ Some n
+number_one first target new known n e =
+    if_keeps (λ (l : List Target). number_from first target l ≡ Some n) (has new known) known (known ++ new ∷ []) (λ _. e)
+    (λ _. number_more first target known (new ∷ []) n e)
 
-pub number_all : (first : ℕ) (target : Target) (known news : List Target) (n : ℕ) → number_from first target known ≡ Some n → number_from first target (with_all known news) ≡ Some n
+pub number_all : (first : ℕ) (target : Target) (known news : List Target) (n : ℕ) → number_from first target known ≡ Some n
+    → number_from first target (with_all known news) ≡ Some n
 number_all first target known [] n e = e
 number_all first target known (new ∷ news) n e = number_all first target (with_one known new) news n (number_one first target new known n e)
 
-pub numbers_stay : (numbers : Numbers) (targets : List Target) (target : Target) (n : ℕ) → number_in numbers target ≡ Some n → number_in (with_targets numbers targets) target ≡ Some n
+pub numbers_stay : (numbers : Numbers) (targets : List Target) (target : Target) (n : ℕ) → number_in numbers target ≡ Some n
+    → number_in (with_targets numbers targets) target ≡ Some n
 numbers_stay numbers targets target n e = number_all numbers.first target numbers.targets targets n e
 
-pub numbered_more : (numbers : Numbers) (targets : List Target) (f : Facts) → FramesNumbered numbers f → FramesNumbered (with_targets numbers targets) f
+pub numbered_more : (numbers : Numbers) (targets : List Target) (f : Facts) → FramesNumbered numbers f
+    → FramesNumbered (with_targets numbers targets) f
 numbered_more numbers targets f h index x e = numbers_stay numbers targets (Frame index) x.id (h index x e)
 
 -- a frame that is known is the same by more numbers
-frame_stays : (table : Table) (numbers more : Numbers) (index : ℕ) (address : Option ℕ) (x : FrameInfo) → number_in numbers (Frame index) ≡ Some x.id → number_in more (Frame index) ≡ Some x.id
+frame_stays : (table : Table) (numbers more : Numbers) (index : ℕ) (address : Option ℕ) (x : FrameInfo)
+    → number_in numbers (Frame index) ≡ Some x.id → number_in more (Frame index) ≡ Some x.id
     → frame_at table numbers index address ≡ Some x → frame_at table more index address ≡ Some x
 frame_stays table numbers more index None x old new e = e
 frame_stays table numbers more index (Some address) x old new e =
     ap (λ (id : Option ℕ). Some (record (frame_in table numbers index address) { id = or_zero id })) (new ∙ sym old) ∙ e
 
-frames_stay : (p : Program) (numbers : Numbers) (targets : List Target) (f : Facts) → FramesNumbered numbers f → HoldsAt f.frame (shown_of p numbers).frame → HoldsAt f.frame (shown_of p (with_targets numbers targets)).frame
+frames_stay : (p : Program) (numbers : Numbers) (targets : List Target) (f : Facts) → FramesNumbered numbers f
+    → HoldsAt f.frame (shown_of p numbers).frame → HoldsAt f.frame (shown_of p (with_targets numbers targets)).frame
 frames_stay p numbers targets f h holds index x e =
     let old = h index x e in
-    frame_stays p.image.lines numbers (with_targets numbers targets) index (slice_get (addresses p.machine) index) x old (numbers_stay numbers targets (Frame index) x.id old) (holds index x e)
+    frame_stays p.image.lines numbers (with_targets numbers targets) index (slice_get (addresses p.machine) index) x old
+    (numbers_stay numbers targets (Frame index) x.id old) (holds index x e)
 
-pub issued_agrees : (f : Facts) (p : Program) (numbers : Numbers) (targets : List Target) (terms : Terms) → Agrees f (Some p) numbers terms → Agrees f (Some p) (with_targets numbers targets) terms
+pub issued_agrees : (f : Facts) (p : Program) (numbers : Numbers) (targets : List Target) (terms : Terms) → Agrees f (Some p) numbers terms
+    → Agrees f (Some p) (with_targets numbers targets) terms
 issued_agrees f p numbers targets terms h = record {
   holds = record {
     run = h.holds.run;
@@ -81,29 +94,19 @@ issued_agrees f p numbers targets terms h = record {
 -- a success tells nothing to one who asked nothing that is told
 other_tells : (b : ResponseBody) (f : Facts) → succeeded b asks.Other f ≡ f
 other_tells body.Empty f = refl
-other_tells body.Continue f = refl
-other_tells (body.SetBreakpoints b) f = refl
-other_tells (body.SetInstructionBreakpoints b) f = refl
-other_tells (body.StackTrace b) f = refl
-other_tells (body.Variables b) f = refl
-other_tells (body.SetVariable b) f = refl
-other_tells (body.ReadMemory b) f = refl
-other_tells (body.WriteMemory b) f = refl
-other_tells body.Initialize f = refl
-other_tells body.Threads f = refl
-other_tells (body.Scopes b) f = refl
-other_tells (body.Evaluate b) f = refl
-other_tells (body.Disassemble b) f = refl
+other_tells others f = refl
 
 -- what a body tells is so by the numbers that there are then
 abbrev pub Tells : Asked → Facts → Program → Numbers → Terms → ResponseBody → List Target → Type 0
 Tells asked f p numbers terms b targets = Agrees (succeeded b asked f) (Some p) (with_targets numbers targets) terms
 
 -- a look that shows something, where what its body tells is so
-pub shown_leads : (now : Now) (terms : Terms) (command : Command) (asked : Asked) (f : Facts) (p : Program) (b : ResponseBody) → now.debuggee.program ≡ Some p
-    → Tells asked f p now.numbers terms b (seen_in p now terms command).targets → AnswerLeads now f (Some asked) (issues now terms b (seen_in p now terms command).targets)
+pub shown_leads : (now : Now) (terms : Terms) (command : Command) (asked : Asked) (f : Facts) (p : Program) (b : ResponseBody)
+    → now.debuggee.program ≡ Some p
+    → Tells asked f p now.numbers terms b (seen_in p (given_of now) terms command).targets
+    → AnswerLeads now f (Some asked) (issues (given_of now) terms b (seen_in p (given_of now) terms command).targets)
 shown_leads now terms command asked f p b is so =
-    let targets = (seen_in p now terms command).targets in
+    let targets = (seen_in p (given_of now) terms command).targets in
     alone (succeeded b asked f) now.debuggee.program (with_targets now.numbers targets) terms
     (subst (λ (program : Option Program). Agrees (succeeded b asked f) program (with_targets now.numbers targets) terms) (sym is) so)
 
@@ -121,9 +124,12 @@ so_of_look false true e h = e
 so_of_look false false e h = h
 
 -- a look whose success tells nothing
-pub other_tells_so : (now : Now) (terms : Terms) (command : Command) (asked : Asked) (f : Facts) (p : Program) (b : ResponseBody) → IsTrue (looks_in command) → (is_other asked || not (looks_in command)) ≡ true
-    → Agrees f (Some p) now.numbers terms → Tells asked f p now.numbers terms b (seen_in p now terms command).targets
+pub other_tells_so : (now : Now) (terms : Terms) (command : Command) (asked : Asked) (f : Facts) (p : Program) (b : ResponseBody)
+    → IsTrue (looks_in command) → (is_other asked || not (looks_in command)) ≡ true
+    → Agrees f (Some p) now.numbers terms → Tells asked f p now.numbers terms b (seen_in p (given_of now) terms command).targets
 other_tells_so now terms command asked f p b looks e a =
-    let targets = (seen_in p now terms command).targets in
-    subst (λ (asked : Asked). Tells asked f p now.numbers terms b targets) (sym (other_is asked (so_of_look (is_other asked) (looks_in command) e looks)))
-    (subst (λ (g : Facts). Agrees g (Some p) (with_targets now.numbers targets) terms) (sym (other_tells b f)) (issued_agrees f p now.numbers targets terms a))
+    let targets = (seen_in p (given_of now) terms command).targets in
+    subst (λ (asked : Asked). Tells asked f p now.numbers terms b targets)
+    (sym (other_is asked (so_of_look (is_other asked) (looks_in command) e looks)))
+    (subst (λ (g : Facts). Agrees g (Some p) (with_targets now.numbers targets) terms) (sym (other_tells b f))
+    (issued_agrees f p now.numbers targets terms a))

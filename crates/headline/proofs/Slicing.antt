@@ -11,8 +11,8 @@ use Rattle.session.specs.Acts.{Act, Become, Seen, Tell}
 use Rattle.session.specs.Effects.{Slicing, after_beat, beats, enough, from_here, next_by, performed, sliced}
 use Rattle.session.specs.Sessions.{Session, histories, performed_on}
 use Rattle.session.specs.Slices.{Beat, beat, beat_by, beat_of, ends, goes_unless, is_runnable_by}
-use Rattle.session.specs.declared.event.Ending.{Ending}
-use Rattle.session.specs.declared.event.Ending.TheVariants as ending
+use Rattle.session.specs.declared.event.SliceEnd.{SliceEnd}
+use Rattle.session.specs.declared.event.SliceEnd.TheVariants as ending
 use Rattle.session.specs.declared.state.TheConstants.{FULL}
 use Rattle.stepping.specs.declared.tick.Tick.{Tick}
 use Rattle.headline.proofs.Agreeing.{OwesOf}
@@ -28,7 +28,8 @@ unfolding AllOwe
 owes_kept [] t o h = h
 owes_kept (Become d ∷ acts) t o h = owes_kept acts (performed_on (Become d) t) o.1 o.0
 owes_kept (Tell e ∷ acts) t o h =
-    owes_kept acts (performed_on (Tell e) t) o (subst (λ (d : Debuggee). OwesOf d.program) (sym (said_debuggee t.now.link (IsEvent e) t.now.arrivals.pending t)) h)
+    owes_kept acts (performed_on (Tell e) t) o
+    (subst (λ (d : Debuggee). OwesOf d.program) (sym (said_debuggee t.now.link (IsEvent e) t.now.arrivals.pending t)) h)
 owes_kept (act ∷ acts) t o h = absurd o
 
 -- ---- a beat without a move
@@ -46,7 +47,9 @@ still_moves (Some p) seen = by_owed p.owed where
 
   by_owed : (owed : Option Tick) → moves_none (beat_by owed seen p false)
   by_owed (Some tick) = refl
-  by_owed None = if_keeps moves_none (not (is_runnable_by seen.now.link p.run)) _ _ (λ _. refl) (λ _. if_keeps moves_none (ltb FULL seen.waits) _ _ (λ _. refl) (λ _. by_mark p.mark))
+  by_owed None =
+      if_keeps moves_none (not (is_runnable_by seen.now.link p.run)) _ _ (λ _. refl)
+      (λ _. if_keeps moves_none (ltb FULL seen.waits) _ _ (λ _. refl) (λ _. by_mark p.mark))
 
 -- ---- a slice under way
 
@@ -55,12 +58,19 @@ record Under (s : Session) (d : Slicing Session) : Type 0 where
   printed : d.ending ≡ None → Printed s d.state
   owes : OwesOf (program_of d.state)
 
-still_next : (n : ℕ) (s : Session) (d : Slicing Session) (e : Option Ending) → d.ending ≡ e → (e ≡ None → ltb d.moved n ≡ false) → Under s d → Under s (next_by histories n e d)
+still_next : (n : ℕ) (s : Session) (d : Slicing Session) (e : Option SliceEnd) → d.ending ≡ e → (e ≡ None → ltb d.moved n ≡ false)
+    → Under s d → Under s (next_by histories n e d)
 still_next n s d (Some e) is none h = h
 still_next n s d None is none h =
     let b = beat (histories.see d.state) false in
     let follows = still_follows s d.state h.owes (h.printed is) in
-    subst (λ (more : Bool). Under s (record { state = after_beat histories (beat (histories.see d.state) more) d.state; moved = d.moved + (beat (histories.see d.state) more).moved; ending = (beat (histories.see d.state) more).ending }))
+    subst (λ (more : Bool). Under s
+    (record {
+      state = after_beat histories (beat (histories.see d.state) more) d.state;
+      moved = d.moved +
+          (beat (histories.see d.state) more).moved;
+      ending = (beat (histories.see d.state) more).ending;
+    }))
     (sym (none refl))
     (record {
       told = follows.told;
@@ -68,7 +78,8 @@ still_next n s d None is none h =
       owes = owes_kept b.acts d.state (beat_owes (program_of d.state) (histories.see d.state) false) h.owes;
     })
 
-still_moved : (n : ℕ) (d : Slicing Session) (e : Option Ending) → (e ≡ None → ltb d.moved n ≡ false) → (next_by histories n e d).moved ≡ d.moved
+still_moved : (n : ℕ) (d : Slicing Session) (e : Option SliceEnd) → (e ≡ None → ltb d.moved n ≡ false)
+    → (next_by histories n e d).moved ≡ d.moved
 unfolding moves_none
 still_moved n d (Some e) none = refl
 still_moved n d None none =
@@ -97,19 +108,27 @@ record UnderOne (s : Session) (d : Slicing Session) : Type 0 where
   under : Under s d
   moved : d.ending ≡ None → d.moved ≡ 1
 
-one_more : (e : Option Ending) (d : Slicing Session) → d.ending ≡ e → (d.ending ≡ None → d.moved ≡ 1) → (e ≡ None → ltb d.moved 1 ≡ false)
+one_more : (e : Option SliceEnd) (d : Slicing Session) → d.ending ≡ e → (d.ending ≡ None → d.moved ≡ 1) → (e ≡ None → ltb d.moved 1 ≡ false)
 one_more e d is moved none = ap (λ (m : ℕ). ltb m 1) (moved (is ∙ none))
 
-one_moved : (e : Option Ending) (d : Slicing Session) → d.ending ≡ e → (d.ending ≡ None → d.moved ≡ 1) → (next_by histories 1 e d).ending ≡ None → (next_by histories 1 e d).moved ≡ 1
+one_moved : (e : Option SliceEnd) (d : Slicing Session) → d.ending ≡ e → (d.ending ≡ None → d.moved ≡ 1)
+    → (next_by histories 1 e d).ending ≡ None → (next_by histories 1 e d).moved ≡ 1
 one_moved (Some e) d is moved none = moved none
 one_moved None d is moved none = still_moved 1 d None (λ _. ap (λ (m : ℕ). ltb m 1) (moved is)) ∙ moved is
 
-one_under : (s : Session) → OwesOf (program_of s) → beat (histories.see s) false ≡ ends ending.Spent → (k : ℕ) → UnderOne s (beats histories 1 (suc k) s)
+one_under : (s : Session) → OwesOf (program_of s) → beat (histories.see s) false ≡ ends ending.Spent → (k : ℕ)
+    → UnderOne s (beats histories 1 (suc k) s)
 one_under s owes rest zero =
     let b = beat (histories.see s) true in
     let first = first_begins s rest in
     record {
-      under = record { told = first.told; printed = first.printed; owes = owes_kept b.acts s (beat_owes (program_of s) (histories.see s) true) owes };
+      under =
+          record {
+            told = first.told;
+            printed = first.printed;
+            owes = owes_kept b.acts s
+                (beat_owes (program_of s) (histories.see s) true) owes;
+          };
       moved = λ on. (let all : 0 + b.moved ≡ b.moved = omega arith in all ∙ first.moved on);
     }
 one_under s owes rest (suc k) =
@@ -125,7 +144,8 @@ one_under s owes rest (suc k) =
 pub none_told : (s : Session) → OwesOf (program_of s) → IsFollowed s (sliced histories 0 s).state
 none_told s owes = (none_under s owes (enough 0)).under.told
 
-pub one_told : (s : Session) → OwesOf (program_of s) → beat (histories.see s) false ≡ ends ending.Spent → IsFollowed s (sliced histories 1 s).state
+pub one_told : (s : Session) → OwesOf (program_of s) → beat (histories.see s) false ≡ ends ending.Spent
+    → IsFollowed s (sliced histories 1 s).state
 one_told s owes rest =
     let six : suc 5 ≡ enough 1 = omega arith in
     subst (λ (k : ℕ). IsFollowed s (beats histories 1 k s).state) six (one_under s owes rest 5).under.told

@@ -13,22 +13,23 @@ use Rattle.session.proofs.ByForms.{on, on_with}
 use Rattle.session.proofs.Joined.{program_of}
 use Rattle.session.proofs.Reaching.{if_keeps, performed_append}
 use Rattle.session.proofs.Serving.{of_answer}
-use Rattle.session.specs.Acts.{Answering, Now, refers}
-use Rattle.session.specs.ConfigurationDone.{run_events}
-use Rattle.session.specs.Demands.{run_of}
+use Rattle.handlers.specs.Given.{Answering}
+use Rattle.session.specs.Acts.{Now, refers, given_of}
+use Rattle.handlers.specs.ConfigurationDone.{run_events}
+use Rattle.handlers.specs.Demands.{run_of}
 use Rattle.session.specs.Effects.{performed}
 use Rattle.session.specs.Outcomes.{Outcome, answering, answers_next, closing, done, next_turn, outcome_at, turn_by, turn_of}
 use Rattle.session.specs.Refusals.{answer_to, response_to}
 use Rattle.session.specs.References.{past_referred}
 use Rattle.session.specs.Sessions.{Effect, Session, histories, hung_on, replied_on}
-use Rattle.session.specs.Telling.{stop_event}
+use Rattle.handlers.specs.Telling.{stop_event}
 use Rattle.session.specs.declared.event.Applied.TheVariants.{Turn as DidTurn}
 use Rattle.session.specs.declared.event.Event.TheVariants.{Turn}
 use Rattle.session.specs.declared.event.Turned.TheVariants.{Full}
 use Rattle.session.specs.declared.link.Link.{Link}
 use Rattle.session.specs.declared.pending.Pending.{Pending}
 use Rattle.session.specs.declared.state.TheConstants.{FULL}
-use Rattle.session.specs.declared.terms.Terms.{Terms}
+use Rattle.handlers.specs.declared.terms.Terms.{Terms}
 use Rattle.stepping.specs.declared.tick.Tick.{Tick}
 use Rattle.headline.proofs.Agreeing.{OwesOf, OwesRunning, never}
 use Rattle.headline.proofs.Following.{tells_follow}
@@ -53,7 +54,7 @@ joined_plain (Some a_run.Running) = one event.Continued refl
 joined_plain (Some (a_run.Stopped why)) = one (stop_event why []) refl
 joined_plain (Some (a_run.Ended code)) = none
 
-successes_plain : (now : Now) (terms : Terms) → BySuccess now terms (λ c a. AllPlain a)
+successes_plain : (now : Now) (terms : Terms) → BySuccess (given_of now) terms (λ c a. AllPlain a)
 successes_plain now terms = record {
   initialized = λ _. none;
   unreadable = λ _. none;
@@ -80,13 +81,24 @@ successes_plain now terms = record {
 answer_plain : (now : Now) (terms : Terms) (file : Option (List ℕ)) (p : Pending) → AllPlain (answer_to now terms file p)
 answer_plain now terms file p =
     of_answer (λ ask answer. AllPlain answer) now terms file p.ask p.fate (λ refusal _. none)
-    (λ r taken meets. by_success now terms (λ c a. AllPlain a) (successes_plain now terms) file r.command)
+    (λ r taken meets. by_success (given_of now) terms (λ c a. AllPlain a) (successes_plain now terms) file r.command)
 
 -- ---- an answer
 
 hung_told : (s : Session) (l : Option Link) (t : Session) → IsFollowed s (on l t) → IsFollowed s (hung_on l (on l t))
 hung_told s None t h = h
-hung_told s (Some l) t h = record { news = h.news; newly = record { life = h.newly.life; before = h.newly.before; connections = h.newly.connections; linked = h.newly.linked; silent = h.newly.silent; fits = h.newly.fits } }
+hung_told s (Some l) t h =
+    record {
+      news = h.news;
+      newly = record {
+        life = h.newly.life;
+        before = h.newly.before;
+        connections = h.newly.connections;
+        linked = h.newly.linked;
+        silent = h.newly.silent;
+        fits = h.newly.fits;
+      };
+    }
 
 closing_told : (closes : Bool) (s t : Session) → IsFollowed s t → IsFollowed s (performed histories (closing closes) t)
 closing_told true s t h = hung_told s t.now.link t h
@@ -94,7 +106,11 @@ closing_told false s t h = h
 
 module _ (l : Link) (p : Pending) (rest : List Pending) (s : Session) (a : Answering) (plain : All Plain a.events) where
   changed : Session
-  changed = record s { now = refers (record s.now { debuggee = a.debuggee }) a.references; references = past_referred s.now.connections a.references s.references }
+  changed =
+      record s {
+        now = refers (record s.now { debuggee = a.debuggee }) a.references;
+        references = past_referred s.now.connections a.references s.references;
+      }
 
   ready : Session
   ready = on_with (Some (record l { terms = a.terms })) (p ∷ rest) changed
@@ -102,7 +118,17 @@ module _ (l : Link) (p : Pending) (rest : List Pending) (s : Session) (a : Answe
   ready_told : IsFollowed (on_with (Some l) (p ∷ rest) s) ready
   unfolding changed ready
   ready_told =
-      record { news = []; newly = record { life = same_life s; before = refl; connections = refl; linked = refl; silent = λ _. refl; fits = All-nil (Fits ready) } }
+      record {
+        news = [];
+        newly = record {
+          life = same_life s;
+          before = refl;
+          connections = refl;
+          linked = refl;
+          silent = λ _. refl;
+          fits = All-nil (Fits ready);
+        };
+      }
 
   answering_told : IsFollowed (on_with (Some l) (p ∷ rest) s) (performed histories (answering a) (on_with (Some l) (p ∷ rest) s))
   unfolding changed ready
@@ -116,18 +142,23 @@ module _ (l : Link) (p : Pending) (rest : List Pending) (s : Session) (a : Answe
 
 -- ---- a turn
 
-next_told : (l : Link) (file : Option (List ℕ)) (pending : List Pending) (s : Session) → let t = on_with (Some l) pending s in IsFollowed t (performed histories (next_turn t.now l.terms file pending).acts t)
+next_told : (l : Link) (file : Option (List ℕ)) (pending : List Pending) (s : Session) → let t =
+    on_with (Some l) pending s in IsFollowed t (performed histories (next_turn t.now l.terms file pending).acts t)
 next_told l file [] s = let t = on_with (Some l) [] s in just_told t t (nothing_newly t)
 next_told l file (p ∷ rest) s =
     let t = on_with (Some l) (p ∷ rest) s in
     answering_told l p rest s (answer_to t.now l.terms file p) (answer_plain t.now l.terms file p)
 
-answers_told : (l : Link) (file : Option (List ℕ)) (s : Session) → IsFollowed (on (Some l) s) (performed histories (answers_next (histories.see (on (Some l) s)) l file).acts (on (Some l) s))
+answers_told : (l : Link) (file : Option (List ℕ)) (s : Session)
+    → IsFollowed (on (Some l) s) (performed histories (answers_next (histories.see (on (Some l) s)) l file).acts (on (Some l) s))
 answers_told l file s =
     let t = on (Some l) s in
-    if_keeps (λ (o : Outcome). IsFollowed t (performed histories o.acts t)) (ltb FULL (histories.see t).waits) (done (DidTurn Full) []) (next_turn t.now l.terms file t.now.arrivals.pending) (λ _. just_told t t (nothing_newly t)) (λ _. next_told l file s.now.arrivals.pending s)
+    if_keeps (λ (o : Outcome). IsFollowed t (performed histories o.acts t)) (ltb FULL (histories.see t).waits) (done (DidTurn Full) [])
+    (next_turn t.now l.terms file t.now.arrivals.pending) (λ _. just_told t t (nothing_newly t))
+    (λ _. next_told l file s.now.arrivals.pending s)
 
-owed_told : (owed : Option Tick) (l : Link) (file : Option (List ℕ)) (p : Program) (s : Session) → p.owed ≡ owed → OwesRunning p → program_of s ≡ Some p
+owed_told : (owed : Option Tick) (l : Link) (file : Option (List ℕ)) (p : Program) (s : Session) → p.owed ≡ owed → OwesRunning p
+    → program_of s ≡ Some p
     → IsFollowed (on (Some l) s) (performed histories (turn_by owed (histories.see (on (Some l) s)) l p file).acts (on (Some l) s))
 owed_told (Some tick) l file p s e owes is =
     let t = on (Some l) s in (tells_follow t t p tick is (owes (λ none. never tick (sym none ∙ e))) (nothing_newly t)).told
@@ -138,7 +169,8 @@ program_told : (program : Option Program) (l : Link) (file : Option (List ℕ)) 
 program_told None l file s is owes = answers_told l file s
 program_told (Some p) l file s is owes = owed_told p.owed l file p s refl owes is
 
-link_told : (l : Option Link) (file : Option (List ℕ)) (s : Session) → OwesOf (program_of s) → IsFollowed (on l s) (performed histories (outcome_at (histories.see (on l s)) l (Turn file)).acts (on l s))
+link_told : (l : Option Link) (file : Option (List ℕ)) (s : Session) → OwesOf (program_of s)
+    → IsFollowed (on l s) (performed histories (outcome_at (histories.see (on l s)) l (Turn file)).acts (on l s))
 link_told None file s owes = let t = on None s in just_told t t (nothing_newly t)
 link_told (Some l) file s owes = program_told (program_of s) l file s refl owes
 

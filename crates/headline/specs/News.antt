@@ -14,7 +14,7 @@ use Rattle.session.specs.Effects.{ended_as, sliced}
 use Rattle.session.specs.Sessions.{Effect, Said, Session, histories, snapshot_of}
 use Rattle.session.specs.Shown.{shown}
 use Rattle.session.specs.Slices.{beat, ends}
-use Rattle.session.specs.declared.event.Ending.TheVariants as ending
+use Rattle.session.specs.declared.event.SliceEnd.TheVariants as ending
 use Rattle.session.specs.declared.event.Event.TheVariants.{Slice, Turn}
 
 -- what there is to see

@@ -196,7 +196,7 @@ feeds_past old new piece result (inr none) past s = inr none
 
 -- ---- the bodies that wait
 
-waits_by : (waiting : List (List ℕ)) (body : List ℕ) → Some body ≡ first_of waiting → waiting ≡ body ∷ others_of waiting
+pub waits_by : (waiting : List (List ℕ)) (body : List ℕ) → Some body ≡ first_of waiting → waiting ≡ body ∷ others_of waiting
 waits_by [] body e = absurd (apart e) where
   apart : (let o : Option (List ℕ) = Some body in o) ≡ None → ⊥
   apart e = cc

@@ -3,11 +3,9 @@
 -- A response does not repeat what was asked: that a list of breakpoints is the list of this path, that the first of these
 -- frames has that index, stands in the request (DAP specification, `Request`, `Response.request_seq`). So an editor that
 -- reads responses remembers its requests by their numbers. Of each only what a success would tell has to be remembered.
-use Rattle.std.specs.Prelude.{◌≡◌, ℕ, ℤ, pos, negsuc, neg_ℤ, ◌+ℤ◌, ◌==◌, nat_le, nat_lt, ◌^◌, if◌then◌else◌, List}
-use Rattle.std.specs.Prelude.{length, Option, Some, None, find, bytes_eq, codes, refl}
+use Rattle.std.specs.Prelude.{◌≡◌, ℕ, ◌==◌, if◌then◌else◌, List, Option, Some, None, find, bytes_eq, codes, refl}
 use Rattle.std.specs.List.{range_with_len}
-use Rattle.std.specs.Result.{result_ok}
-use Rattle.numerals.specs.Numerals.{numeral, prefixed}
+use Rattle.numerals.specs.MemoryReferences.{address_in}
 use Rattle.protocol.specs.declared.command.Command.{Command}
 use Rattle.protocol.specs.declared.command.Command.TheVariants.{Initialize, Attach, Threads, Cancel, Restart}
 use Rattle.protocol.specs.declared.command.Command.TheVariants.{SetExceptionBreakpoints, Next, StepIn, StepOut, Pause}
@@ -51,33 +49,6 @@ no_other_names : register_of (codes "fp") ≡ None
 unfolding named
 no_other_names = refl
 
--- ---- addresses as requests name them (`memoryReference`, `offset`)
-
--- the number that a reference writes: `0x` and 1 to 8 hexadecimal digits, or decimal digits
-abbrev pub reference_by : List ℕ → Option (List ℕ) → Option ℕ
-reference_by text (Some digits) = if nat_le (length digits) 8 then result_ok (numeral 16 digits) else None
-reference_by text None = result_ok (numeral 10 text)
-
--- a number that is an address
-abbrev pub address_of : ℤ → Option ℕ
-address_of (pos n) = if nat_lt n (2 ^ 32) then Some n else None
-address_of (negsuc n) = None
-
--- the address that a number and what is added to it come to; the sum does not wrap
-abbrev pub offset_by : ℤ → Option ℕ → Option ℕ
-offset_by offset None = None
-offset_by offset (Some n) = address_of (pos n +ℤ offset)
-
--- the address that a reference and what is added to it come to
-abbrev pub place_of : List ℕ → ℤ → Option ℕ
-place_of text offset = offset_by offset (reference_by text (prefixed text))
-
-a_place : place_of (codes "0x0001000C") (pos 4) ≡ Some 65552
-a_place = refl
-
-no_place : place_of (codes "3") (neg_ℤ (pos 4)) ≡ None
-no_place = refl
-
 -- ---- the requests
 
 -- what a request would tell
@@ -106,7 +77,7 @@ asked_of (AskSetVariable arguments) = SetVariable arguments.name
 asked_of (Evaluate arguments) = Other
 asked_of (Disassemble arguments) = Other
 asked_of (AskReadMemory arguments) = ReadMemory
-asked_of (AskWriteMemory arguments) = WriteMemory (place_of arguments.memory_reference arguments.offset) arguments.bytes
+asked_of (AskWriteMemory arguments) = WriteMemory (address_in arguments.memory_reference arguments.offset) arguments.bytes
 
 -- what was asked, by the numbers of the requests, after one more: the first of a number stays
 abbrev pub kept_first : Asked → Option Asked → Option Asked

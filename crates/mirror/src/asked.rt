@@ -3,8 +3,8 @@ ghost use Rattle.std.specs.Prelude.{◌≡◌, IfOk, OnOk, OnErr, option_copied}
 ghost use Rattle.mirror.specs.Kept.{at};
 ghost use Rattle.mirror.specs.Requests.{asked_of, told_of};
 
-use crate::reference::place_of;
 use byte_strings::Bytes;
+use numerals::address_in;
 use protocol::{Command, SetBreakpointsArguments, WriteMemoryArguments};
 use std::alloc::{AllocError, Global};
 use std::collections::BTreeMap;
@@ -95,7 +95,7 @@ fn source(alloc: Global, arguments: &SetBreakpointsArguments) -> Result<Asked, A
 fn writing(alloc: Global, arguments: &WriteMemoryArguments) -> Result<Asked, AllocError>
     ensures { IfOk result (λ asked. asked ≡ asked_of (Command.WriteMemory arguments.now)) }
 {
-    let place = place_of(arguments.memory_reference.as_str(), arguments.offset);
+    let place = address_in(arguments.memory_reference.as_str(), arguments.offset);
     Ok(Asked::WriteMemory(place, copied(alloc, arguments.bytes.as_slice())?))
 }
 

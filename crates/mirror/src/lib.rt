@@ -12,7 +12,6 @@ mod memory;
 mod message;
 mod mirror;
 mod news;
-mod reference;
 mod registers;
 mod response;
 mod sources;

@@ -1,6 +1,9 @@
 //! Numbers as a text writes them: decimal digits, or `0x` and hexadecimal digits.
 #![tactic(auto)]
 
+mod memory_reference;
+mod words;
+
 ghost use Rattle.std.specs.Prelude.{◌≡◌, ◌≤◌};
 ghost use Rattle.std.specs.List.{list_all};
 ghost use Rattle.std.specs.Char.{digit_value, is_digit};
@@ -8,7 +11,9 @@ ghost use Rattle.std.specs.Option.{option_copied};
 ghost use Rattle.std.specs.Str.Parse.{digits_value};
 ghost use Rattle.numerals.specs.Numerals.{magnitude, numeral, prefixed, within};
 
+pub use memory_reference::{address_in, offset_by};
 use thiserror::Error;
+pub use words::word;
 
 /// The greatest number that 32 bits hold.
 const GREATEST: u32 = 4_294_967_295;
@@ -51,7 +56,7 @@ pub fn numeral(radix: u32, digits: &[u8]) -> Result<u32, NumeralError>
 }
 
 // The digits after `0x`, if a text begins so.
-fn prefixed(text: &[u8]) -> Option<&[u8]>
+pub(crate) fn prefixed(text: &[u8]) -> Option<&[u8]>
     ensures { option_copied result ≡ prefixed text.now }
 {
     match text {

@@ -1,5 +1,5 @@
 -- What holds of each meaning of a body.
-use Rattle.std.proofs.Common.{◌≡◌, ◌≤◌, ◌⊎◌, ◌++◌, map, option_map, inl, inr, ℕ, Bool, true, false, cond, leb, List, [], ◌∷◌, Option, Some, None, Result, Ok, Err, refl, ap, ◌∙◌, ⊎_elim, arith}
+use Rattle.std.proofs.Common.{◌≡◌, ◌≤◌, ◌⊎◌, map, option_map, inl, inr, ℕ, Bool, true, false, cond, leb, List, [], ◌∷◌, Option, Some, None, Result, Ok, Err, refl, sym, ap, ◌∙◌, ⊎_elim, arith}
 use Rattle.std.proofs.lemmas.Bool.Decides.{nat_tests}
 use Rattle.std.proofs.lemmas.List.Elements.{All-nil, All-cons, All-map}
 use Rattle.std.specs.Prelude.{All, IfSome, ok_or, bytes_eq, option_and_then, unwrap_or, ◌||◌}
@@ -9,31 +9,14 @@ use Rattle.serde_json.proofs.Views.{get_member-put_other}
 use Rattle.protocol.specs.Json.{json_of}
 use Rattle.protocol.specs.Properties.{natural, property, text, sequence_number, within_i32_max, non_null}
 use Rattle.protocol.specs.Arguments.{arguments_members, each, list, optional, required}
-use Rattle.protocol.specs.Commands.{Row, command_among, execution_requests, inspection_requests, requests, session_requests}
+use Rattle.protocol.specs.Commands.{command_among, command_of, execution_requests, requests}
+use Rattle.protocol.specs.Rows.{Row}
 use Rattle.protocol.specs.Reading.{◌>>=◌, received, request_of, typed_message_of, message_of, incoming_of}
-use Rattle.protocol.specs.Initialize.{initialize_arguments}
-use Rattle.protocol.specs.Launch.{launch_arguments}
-use Rattle.protocol.specs.Cancel.{cancel_arguments}
-use Rattle.protocol.specs.Disconnect.{disconnect_arguments}
 use Rattle.protocol.specs.SetBreakpoints.{asked, at_line, by_lines, or_by_lines, set_breakpoints_arguments, source_breakpoint, source_of}
-use Rattle.protocol.specs.SetInstructionBreakpoints.{set_instruction_breakpoints_arguments}
-use Rattle.protocol.specs.Continue.{continue_arguments}
-use Rattle.protocol.specs.Next.{next_arguments}
-use Rattle.protocol.specs.StepIn.{step_in_arguments}
-use Rattle.protocol.specs.StepOut.{step_out_arguments}
-use Rattle.protocol.specs.Pause.{pause_arguments}
-use Rattle.protocol.specs.StackTrace.{stack_trace_arguments}
-use Rattle.protocol.specs.Scopes.{scopes_arguments}
-use Rattle.protocol.specs.Variables.{variables_arguments}
-use Rattle.protocol.specs.SetVariable.{set_variable_arguments}
-use Rattle.protocol.specs.Evaluate.{evaluate_arguments}
-use Rattle.protocol.specs.Disassemble.{disassemble_arguments}
-use Rattle.protocol.specs.ReadMemory.{read_memory_arguments}
-use Rattle.protocol.specs.WriteMemory.{write_memory_arguments}
+use Rattle.protocol.proofs.Requests.{of_arguments, read_by_its_name}
 use Rattle.protocol.specs.Laws.{AsksLinesWithin, IsOfType, IgnoresWhatIsNoRequest, PassesOverUnknownMembers}
 use Rattle.protocol.specs.declared.command.Command.{Command}
-use Rattle.protocol.specs.declared.command.Command.TheVariants.{Initialize, Launch, Cancel, Disconnect, SetBreakpoints, SetInstructionBreakpoints, Continue, Next, StepIn, StepOut, Pause}
-use Rattle.protocol.specs.declared.command.Command.TheVariants.{StackTrace, Scopes, Variables, SetVariable, Evaluate, Disassemble, ReadMemory, WriteMemory}
+use Rattle.protocol.specs.declared.command.Command.TheVariants.{SetBreakpoints}
 use Rattle.protocol.specs.declared.set_breakpoints.SourceBreakpoint.{SourceBreakpoint}
 use Rattle.protocol.specs.declared.set_breakpoints.TheConstants.{SOURCE, LINES, LINE}
 use Rattle.protocol.specs.declared.refusal.Refusal.{Refusal}
@@ -155,126 +138,40 @@ set_breakpoints_holds members =
 
 -- ---- commands
 
--- what each command of a row asks is within bounds
-abbrev RowWithin : Row → Type 0
-RowWithin r = (members : Members) → IfSome (r.meaning members) AsksLinesWithin
+-- only `setBreakpoints` asks for lines
+lines_asked : (name : List ℕ) (arguments : Option Data) (command : Command)
+    → command_of name arguments ≡ Ok command → AsksLinesWithin command
+unfolding execution_requests
+lines_asked name arguments (SetBreakpoints a) e =
+    of_arguments (λ b. All IsLineWithin b.breakpoints) AsksLinesWithin (λ b. SetBreakpoints b)
+    set_breakpoints_arguments (arguments_members arguments) (SetBreakpoints a)
+    set_breakpoints_holds (λ b h. h) (read_by_its_name name arguments (SetBreakpoints a) e)
+lines_asked name arguments other e = tt
 
-made_within : {A : Type 0} (make : A → Command) (found : Option A) → ((a : A) → AsksLinesWithin (make a)) → IfSome (option_map make found) AsksLinesWithin
-made_within make None h = tt
-made_within make (Some a) h = h a
+-- a refusal is of the name or of the arguments
+refused_at : (here : Bool) (found : Option Command) (rest : Result Command Refusal) (refusal : Refusal)
+    → (rest ≡ Err refusal → IsOfNameOrArguments refusal)
+    → cond here (ok_or found BadArguments) rest ≡ Err refusal → IsOfNameOrArguments refusal
+refused_at true None rest refusal later e = let same : BadArguments ≡ refusal = cc in inr (sym same)
+refused_at true (Some command) rest refusal later e = absurd (cc)
+refused_at false found rest refusal later e = later e
 
-made_of : {A : Type 0} (P : A → Type 0) (make : A → Command) (found : Option A) → IfSome found P → ((a : A) → P a → AsksLinesWithin (make a)) → IfSome (option_map make found) AsksLinesWithin
-made_of P make None h on = tt
-made_of P make (Some a) h on = on a h
-
--- the same of each of several
-AllWithin : List Row → Type 0
-AllWithin [] = Unit {0}
-AllWithin (r ∷ rows) = RowWithin r × AllWithin rows
-
-session_within : (more : List Row) → AllWithin more → AllWithin (session_requests ++ more)
-unfolding AllWithin
-session_within more h = (
-  (λ m. made_within (λ a. Initialize a) (initialize_arguments m) (λ a. tt)),
-  (
-    (λ m. made_within (λ a. Launch a) (launch_arguments m) (λ a. tt)),
-    (
-      (λ m. tt),
-      (
-        (λ m. tt),
-        (
-          (λ m. tt),
-          (
-            (λ m. made_within (λ a. Cancel a) (cancel_arguments m) (λ a. tt)),
-            (
-              (λ m. tt),
-              (
-                (λ m. tt),
-                ((λ m. made_within (λ a. Disconnect a) (disconnect_arguments m) (λ a. tt)), h),
-              ),
-            ),
-          ),
-        ),
-      ),
-    ),
-  ),
-)
-
-execution_within : (more : List Row) → AllWithin more → AllWithin (execution_requests ++ more)
-unfolding AllWithin execution_requests
-execution_within more h = (
-  (λ m. made_of (λ a. All IsLineWithin a.breakpoints) (λ a. SetBreakpoints a) (set_breakpoints_arguments m) (set_breakpoints_holds m) (λ a within. within)),
-  (
-    (λ m. made_within (λ a. SetInstructionBreakpoints a) (set_instruction_breakpoints_arguments m) (λ a. tt)),
-    (
-      (λ m. tt),
-      (
-        (λ m. made_within (λ a. Continue a) (continue_arguments m) (λ a. tt)),
-        (
-          (λ m. made_within (λ a. Next a) (next_arguments m) (λ a. tt)),
-          (
-            (λ m. made_within (λ a. StepIn a) (step_in_arguments m) (λ a. tt)),
-            (
-              (λ m. made_within (λ a. StepOut a) (step_out_arguments m) (λ a. tt)),
-              ((λ m. made_within (λ a. Pause a) (pause_arguments m) (λ a. tt)), h),
-            ),
-          ),
-        ),
-      ),
-    ),
-  ),
-)
-
-inspection_within : AllWithin inspection_requests
-unfolding AllWithin inspection_requests
-inspection_within = (
-  (λ m. made_within (λ a. StackTrace a) (stack_trace_arguments m) (λ a. tt)),
-  (
-    (λ m. made_within (λ a. Scopes a) (scopes_arguments m) (λ a. tt)),
-    (
-      (λ m. made_within (λ a. Variables a) (variables_arguments m) (λ a. tt)),
-      (
-        (λ m. made_within (λ a. SetVariable a) (set_variable_arguments m) (λ a. tt)),
-        (
-          (λ m. made_within (λ a. Evaluate a) (evaluate_arguments m) (λ a. tt)),
-          (
-            (λ m. made_within (λ a. Disassemble a) (disassemble_arguments m) (λ a. tt)),
-            (
-              (λ m. made_within (λ a. ReadMemory a) (read_memory_arguments m) (λ a. tt)),
-              ((λ m. made_within (λ a. WriteMemory a) (write_memory_arguments m) (λ a. tt)), tt),
-            ),
-          ),
-        ),
-      ),
-    ),
-  ),
-)
+refused_among : (rows : List Row) (name : List ℕ) (members : Option Members) (refusal : Refusal)
+    → command_among rows name members ≡ Err refusal → IsOfNameOrArguments refusal
+refused_among [] name members refusal e = let same : UnknownCommand ≡ refusal = cc in inl (sym same)
+refused_among (r ∷ rs) name members refusal e =
+    refused_at (bytes_eq name r.name) (option_and_then r.meaning members) (command_among rs name members) refusal
+    (refused_among rs name members refusal) e
 
 -- a command that asks within bounds, or a refusal of its name or its arguments
 abbrev IsReadRightly : Result Command Refusal → Type 0
 IsReadRightly (Ok command) = AsksLinesWithin command
 IsReadRightly (Err refusal) = IsOfNameOrArguments refusal
 
-arguments-right : (found : Option Command) → IfSome found AsksLinesWithin → IsReadRightly (ok_or found BadArguments)
-arguments-right None h = inr refl
-arguments-right (Some command) h = h
-
-meaning-right : (r : Row) (members : Option Members) → RowWithin r → IsReadRightly (ok_or (option_and_then r.meaning members) BadArguments)
-meaning-right r None h = inr refl
-meaning-right r (Some members) h = arguments-right (r.meaning members) (h members)
-
-if-right : (b : Bool) (x y : Result Command Refusal) → IsReadRightly x → IsReadRightly y
-    → IsReadRightly (cond b x y)
-if-right true x y p q = p
-if-right false x y p q = q
-
-command_among-right : (rows : List Row) (name : List ℕ) (members : Option Members)
-    → AllWithin rows → IsReadRightly (command_among rows name members)
-unfolding AllWithin
-command_among-right [] name members h = inl refl
-command_among-right (r ∷ rs) name members h =
-    if-right (bytes_eq name r.name) _ _ (meaning-right r members h.0)
-    (command_among-right rs name members h.1)
+read_rightly : (name : List ℕ) (arguments : Option Data) (found : Result Command Refusal)
+    → command_of name arguments ≡ found → IsReadRightly found
+read_rightly name arguments (Ok command) e = lines_asked name arguments command e
+read_rightly name arguments (Err refusal) e = refused_among requests name (arguments_members arguments) refusal e
 
 received-sound : (seq : ℕ) (name : List ℕ) (found : Result Command Refusal) → seq ≤ 2147483647
     → IsReadRightly found → IsSound (Ok (received seq name found))
@@ -303,8 +200,7 @@ request_of-sound members =
     sound_next (text (property COMMAND.now members)) NotAMessage _ tt (λ name _.
     sound_next (sequence_number (property SEQ.now members)) BadSeq _ tt (λ seq is.
     received-sound seq name _ (sequence_number-within (property SEQ.now members) seq is)
-    (command_among-right requests name (arguments_members (property ARGUMENTS.now members))
-    (session_within (execution_requests ++ inspection_requests) (execution_within inspection_requests inspection_within)))))
+    (read_rightly name (property ARGUMENTS.now members) _ refl)))
 
 typed_message_of-sound : (kind : List ℕ) (members : Members)
     → IsSound (typed_message_of kind members)

@@ -1,12 +1,13 @@
 -- What holds of the table of requests, row by row.
-use Rattle.std.proofs.Common.{◌≡◌, ℕ, Bool, true, false, cond, List, [], ◌∷◌, Option, Some, None, Result, Ok, Err, refl, sym, ◌∙◌, ap, rules, ◌++◌}
+use Rattle.std.proofs.Common.{◌≡◌, ℕ, Bool, true, false, cond, List, [], ◌∷◌, Option, Some, None, Result, Ok, Err, refl, sym, ◌∙◌, ap, subst, rules, ◌++◌}
 use Rattle.std.proofs.lemmas.Grind.{common_steps}
 use Rattle.std.proofs.lemmas.Slice.Eq.{bytes_eq-Decides}
 use Rattle.std.specs.List.{AllByRecursion}
-use Rattle.std.specs.Prelude.{ok_or, bytes_eq, option_and_then, option_map}
-use Rattle.serde_json.specs.Data.{Members}
+use Rattle.std.specs.Prelude.{IfSome, ok_or, bytes_eq, option_and_then, option_map}
+use Rattle.serde_json.specs.Data.{Data, Members}
 use Rattle.protocol.specs.Arguments.{arguments_members}
-use Rattle.protocol.specs.Commands.{Row, row, bare, requests, execution_requests, inspection_requests, command_among, name_of}
+use Rattle.protocol.specs.Commands.{requests, execution_requests, inspection_requests, command_among, command_of, name_of}
+use Rattle.protocol.specs.Rows.{Row, row, bare}
 use Rattle.protocol.specs.Laws.{KnowsRequestsByName, KeepsTheName}
 use Rattle.protocol.specs.declared.command.Command.{Command}
 use Rattle.protocol.specs.declared.refusal.Refusal.{Refusal}
@@ -101,3 +102,23 @@ requests_keep = search (rules, row_keeps, bare_keeps)
 pub keeps_the_name : KeepsTheName
 keeps_the_name name arguments command e =
     named_among requests name (arguments_members arguments) command requests_keep e
+
+-- ---- what holds of the commands of one request alone
+
+-- as it is read by the name of the command
+pub read_by_its_name : (name : List ℕ) (arguments : Option Data) (command : Command)
+    → command_of name arguments ≡ Ok command → command_of (name_of command) arguments ≡ Ok command
+read_by_its_name name arguments command e =
+    subst (λ n. command_of n arguments ≡ Ok command) (sym (keeps_the_name name arguments command e)) e
+
+-- what holds of all arguments that a request may find holds of those of its command
+pub of_arguments : {A : Type 0} (P : A → Type 0) (Q : Command → Type 0) (make : A → Command)
+    (arguments : Members → Option A) (found : Option Members) (command : Command)
+    → ((members : Members) → IfSome (arguments members) P) → ((a : A) → P a → Q (make a))
+    → ok_or (option_and_then (λ members. option_map make (arguments members)) found) BadArguments ≡ Ok command
+    → Q command
+of_arguments P Q make arguments None command h on e = absurd (cc)
+of_arguments {A} P Q make arguments (Some members) command h on e = by (arguments members) (h members) e where
+  by : (found : Option A) → IfSome found P → ok_or (option_map make found) BadArguments ≡ Ok command → Q command
+  by None p e = absurd (cc)
+  by (Some a) p e = let same : make a ≡ command = cc in subst Q same (on a p)

@@ -9,13 +9,19 @@ use Rattle.serde_json.specs.Data.{number, string, unsigned, Members, no_members,
 use Rattle.protocol.specs.Properties.{◌>>=◌, property, integer}
 use Rattle.protocol.specs.Arguments.{optional}
 use Rattle.protocol.specs.declared.cancel.CancelArguments.{CancelArguments}
-use Rattle.protocol.specs.declared.cancel.TheConstants.{REQUEST_ID}
+use Rattle.protocol.specs.declared.cancel.TheConstants.{NAME, REQUEST_ID}
+use Rattle.protocol.specs.declared.command.Command.TheVariants as command
+use Rattle.protocol.specs.Rows.{Row, row}
 
 -- the arguments; None where the request's number is there and is no integer
 abbrev pub cancel_arguments : Members → Option CancelArguments
 cancel_arguments members = do
   request ← optional integer (property REQUEST_ID.now members)
   Some (record { request_id = request })
+
+-- the request
+abbrev pub cancel_request : Row
+cancel_request = row NAME.now cancel_arguments (λ a. command.Cancel a)
 
 request_8 : cancel_arguments (member (codes "requestId") (number (unsigned 8)) no_members)
     ≡ Some (record { request_id = Some (pos 8) })

@@ -8,12 +8,19 @@ use Rattle.protocol.specs.Properties.{integer, property, ◌>>=◌}
 use Rattle.protocol.specs.Arguments.{required}
 use Rattle.protocol.specs.declared.members.TheConstants.{THREAD_ID}
 use Rattle.protocol.specs.declared.continue_.ContinueArguments.{ContinueArguments}
+use Rattle.protocol.specs.declared.continue_.TheConstants.{NAME}
+use Rattle.protocol.specs.declared.command.Command.TheVariants as command
+use Rattle.protocol.specs.Rows.{Row, row}
 
 -- the arguments; None where the thread is absent, or no integer
 abbrev pub continue_arguments : Members → Option ContinueArguments
 continue_arguments members = do
   thread_id ← required integer (property THREAD_ID.now members)
   Some (record { thread_id = thread_id })
+
+-- the request
+abbrev pub continue_request : Row
+continue_request = row NAME.now continue_arguments (λ a. command.Continue a)
 
 thread_1 : continue_arguments (member (codes "threadId") (number (unsigned 1)) no_members)
     ≡ Some (record { thread_id = pos 1 })

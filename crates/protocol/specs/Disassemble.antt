@@ -9,7 +9,9 @@ use Rattle.protocol.specs.Properties.{integer, natural, property, ◌>>=◌}
 use Rattle.protocol.specs.Arguments.{optional, required}
 use Rattle.protocol.specs.declared.members.TheConstants.{MEMORY_REFERENCE, OFFSET}
 use Rattle.protocol.specs.declared.disassemble.DisassembleArguments.{DisassembleArguments}
-use Rattle.protocol.specs.declared.disassemble.TheConstants.{INSTRUCTION_OFFSET, INSTRUCTION_COUNT}
+use Rattle.protocol.specs.declared.disassemble.TheConstants.{NAME, INSTRUCTION_OFFSET, INSTRUCTION_COUNT}
+use Rattle.protocol.specs.declared.command.Command.TheVariants as command
+use Rattle.protocol.specs.Rows.{Row, row}
 
 -- the arguments; None where the address or the number of instructions is absent, or one has another type
 abbrev pub disassemble_arguments : Members → Option DisassembleArguments
@@ -24,6 +26,10 @@ disassemble_arguments members = do
     instruction_offset = unwrap_or instruction_offset (pos 0);
     instruction_count = instruction_count;
   })
+
+-- the request
+abbrev pub disassemble_request : Row
+disassemble_request = row NAME.now disassemble_arguments (λ a. command.Disassemble a)
 
 from_an_address : disassemble_arguments
     (member (codes "instructionCount") (number (unsigned 8))

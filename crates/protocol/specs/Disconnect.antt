@@ -8,7 +8,9 @@ use Rattle.serde_json.specs.Find.{as_bool}
 use Rattle.protocol.specs.Properties.{◌>>=◌, property}
 use Rattle.protocol.specs.Arguments.{optional}
 use Rattle.protocol.specs.declared.disconnect.DisconnectArguments.{DisconnectArguments}
-use Rattle.protocol.specs.declared.disconnect.TheConstants.{TERMINATE_DEBUGGEE, SUSPEND_DEBUGGEE}
+use Rattle.protocol.specs.declared.disconnect.TheConstants.{NAME, TERMINATE_DEBUGGEE, SUSPEND_DEBUGGEE}
+use Rattle.protocol.specs.declared.command.Command.TheVariants as command
+use Rattle.protocol.specs.Rows.{Row, row}
 
 -- the arguments; None where one of the two is there and is neither true nor false
 abbrev pub disconnect_arguments : Members → Option DisconnectArguments
@@ -16,6 +18,10 @@ disconnect_arguments members = do
   terminate ← optional as_bool (property TERMINATE_DEBUGGEE.now members)
   suspend ← optional as_bool (property SUSPEND_DEBUGGEE.now members)
   Some (record { terminate_debuggee = terminate; suspend_debuggee = suspend })
+
+-- the request
+abbrev pub disconnect_request : Row
+disconnect_request = row NAME.now disconnect_arguments (λ a. command.Disconnect a)
 
 to_end : disconnect_arguments (member (codes "terminateDebuggee") (boolean true) no_members)
     ≡ Some (record { terminate_debuggee = Some true; suspend_debuggee = None })

@@ -8,7 +8,9 @@ use Rattle.serde_json.specs.Find.{as_bool}
 use Rattle.protocol.specs.Properties.{◌>>=◌, property}
 use Rattle.protocol.specs.Arguments.{optional}
 use Rattle.protocol.specs.declared.initialize.InitializeArguments.{InitializeArguments}
-use Rattle.protocol.specs.declared.initialize.TheConstants.{LINES_START_AT1, COLUMNS_START_AT1}
+use Rattle.protocol.specs.declared.initialize.TheConstants.{NAME, LINES_START_AT1, COLUMNS_START_AT1}
+use Rattle.protocol.specs.declared.command.Command.TheVariants as command
+use Rattle.protocol.specs.Rows.{Row, row}
 
 -- the arguments; None where one of the two is neither true nor false
 abbrev pub initialize_arguments : Members → Option InitializeArguments
@@ -19,6 +21,10 @@ initialize_arguments members = do
     lines_start_at1 = unwrap_or lines true;
     columns_start_at1 = unwrap_or columns true;
   })
+
+-- the request
+abbrev pub initialize_request : Row
+initialize_request = row NAME.now initialize_arguments (λ a. command.Initialize a)
 
 lines_from_0 : initialize_arguments (member (codes "linesStartAt1") (boolean false) no_members)
     ≡ Some (record { lines_start_at1 = false; columns_start_at1 = true })

@@ -12,6 +12,8 @@ pub mod Arguments
 pub mod Granularity
 -- a kind of variables
 pub mod Filter
+-- a request, as a row of the table of all
+pub mod Rows
 -- ---- the requests that take arguments: what these mean
 pub mod Initialize
 pub mod Launch

@@ -11,6 +11,9 @@ use Rattle.protocol.specs.declared.granularity.TheConstants.{GRANULARITY}
 use Rattle.protocol.specs.declared.granularity.Granularity.TheVariants.{Statement, Line}
 use Rattle.protocol.specs.declared.members.TheConstants.{THREAD_ID}
 use Rattle.protocol.specs.declared.next.NextArguments.{NextArguments}
+use Rattle.protocol.specs.declared.next.TheConstants.{NAME}
+use Rattle.protocol.specs.declared.command.Command.TheVariants as command
+use Rattle.protocol.specs.Rows.{Row, row}
 
 -- the arguments; None where the thread is absent, or one of the two has another type
 abbrev pub next_arguments : Members → Option NextArguments
@@ -18,6 +21,10 @@ next_arguments members = do
   thread_id ← required integer (property THREAD_ID.now members)
   granularity ← optional granularity_of (property GRANULARITY.now members)
   Some (record { thread_id = thread_id; granularity = unwrap_or granularity Statement })
+
+-- the request
+abbrev pub next_request : Row
+next_request = row NAME.now next_arguments (λ a. command.Next a)
 
 by_statements : next_arguments (member (codes "threadId") (number (unsigned 1)) no_members)
     ≡ Some (record { thread_id = pos 1; granularity = Statement })

@@ -7,12 +7,19 @@ use Rattle.protocol.specs.Properties.{integer, property, ◌>>=◌}
 use Rattle.protocol.specs.Arguments.{required}
 use Rattle.protocol.specs.declared.members.TheConstants.{THREAD_ID}
 use Rattle.protocol.specs.declared.pause.PauseArguments.{PauseArguments}
+use Rattle.protocol.specs.declared.pause.TheConstants.{NAME}
+use Rattle.protocol.specs.declared.command.Command.TheVariants as command
+use Rattle.protocol.specs.Rows.{Row, row}
 
 -- the arguments; None where the thread is absent, or no integer
 abbrev pub pause_arguments : Members → Option PauseArguments
 pause_arguments members = do
   thread_id ← required integer (property THREAD_ID.now members)
   Some (record { thread_id = thread_id })
+
+-- the request
+abbrev pub pause_request : Row
+pause_request = row NAME.now pause_arguments (λ a. command.Pause a)
 
 thread_1 : pause_arguments (member (codes "threadId") (number (unsigned 1)) no_members)
     ≡ Some (record { thread_id = pos 1 })

@@ -9,6 +9,9 @@ use Rattle.protocol.specs.Properties.{integer, natural, property, ◌>>=◌}
 use Rattle.protocol.specs.Arguments.{optional, required}
 use Rattle.protocol.specs.declared.members.TheConstants.{MEMORY_REFERENCE, OFFSET, COUNT}
 use Rattle.protocol.specs.declared.read_memory.ReadMemoryArguments.{ReadMemoryArguments}
+use Rattle.protocol.specs.declared.read_memory.TheConstants.{NAME}
+use Rattle.protocol.specs.declared.command.Command.TheVariants as command
+use Rattle.protocol.specs.Rows.{Row, row}
 
 -- the arguments; None where the address or the number of bytes is absent, or one has another type
 abbrev pub read_memory_arguments : Members → Option ReadMemoryArguments
@@ -17,6 +20,10 @@ read_memory_arguments members = do
   offset ← optional integer (property OFFSET.now members)
   count ← required natural (property COUNT.now members)
   Some (record { memory_reference = memory_reference; offset = unwrap_or offset (pos 0); count = count })
+
+-- the request
+abbrev pub read_memory_request : Row
+read_memory_request = row NAME.now read_memory_arguments (λ a. command.ReadMemory a)
 
 four_bytes : read_memory_arguments
     (member (codes "count") (number (unsigned 4))

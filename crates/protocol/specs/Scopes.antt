@@ -7,12 +7,19 @@ use Rattle.protocol.specs.Properties.{integer, property, ◌>>=◌}
 use Rattle.protocol.specs.Arguments.{required}
 use Rattle.protocol.specs.declared.members.TheConstants.{FRAME_ID}
 use Rattle.protocol.specs.declared.scopes.ScopesArguments.{ScopesArguments}
+use Rattle.protocol.specs.declared.scopes.TheConstants.{NAME}
+use Rattle.protocol.specs.declared.command.Command.TheVariants as command
+use Rattle.protocol.specs.Rows.{Row, row}
 
 -- the arguments; None where the frame is absent, or no integer
 abbrev pub scopes_arguments : Members → Option ScopesArguments
 scopes_arguments members = do
   frame_id ← required integer (property FRAME_ID.now members)
   Some (record { frame_id = frame_id })
+
+-- the request
+abbrev pub scopes_request : Row
+scopes_request = row NAME.now scopes_arguments (λ a. command.Scopes a)
 
 frame_1000 : scopes_arguments (member (codes "frameId") (number (unsigned 1000)) no_members)
     ≡ Some (record { frame_id = pos 1000 })

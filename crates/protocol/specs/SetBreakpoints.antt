@@ -13,8 +13,10 @@ use Rattle.protocol.specs.Arguments.{required, optional, list}
 use Rattle.protocol.specs.declared.set_breakpoints.Source.{Source}
 use Rattle.protocol.specs.declared.set_breakpoints.SourceBreakpoint.{SourceBreakpoint}
 use Rattle.protocol.specs.declared.set_breakpoints.SetBreakpointsArguments.{SetBreakpointsArguments}
-use Rattle.protocol.specs.declared.set_breakpoints.TheConstants.{SOURCE, PATH, LINES, LINE}
+use Rattle.protocol.specs.declared.set_breakpoints.TheConstants.{NAME, SOURCE, PATH, LINES, LINE}
 use Rattle.protocol.specs.declared.members.TheConstants.{BREAKPOINTS, CONDITION, HIT_CONDITION}
+use Rattle.protocol.specs.declared.command.Command.TheVariants as command
+use Rattle.protocol.specs.Rows.{Row, row}
 
 -- a source
 abbrev pub source_of : Data → Option Source
@@ -59,6 +61,10 @@ set_breakpoints_arguments members = do
   source ← optional source_of (property SOURCE.now members)
   breakpoints ← asked members
   Some (record { source = unwrap_or source (record { path = None }); breakpoints = breakpoints })
+
+-- the request
+abbrev pub set_breakpoints_request : Row
+set_breakpoints_request = row NAME.now set_breakpoints_arguments (λ a. command.SetBreakpoints a)
 
 no_breakpoints : set_breakpoints_arguments no_members
     ≡ Some (record { source = record { path = None }; breakpoints = [] })

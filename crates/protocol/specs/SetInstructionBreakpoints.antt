@@ -10,7 +10,9 @@ use Rattle.protocol.specs.Arguments.{required, optional, list}
 use Rattle.protocol.specs.declared.members.TheConstants.{BREAKPOINTS, CONDITION, HIT_CONDITION, OFFSET}
 use Rattle.protocol.specs.declared.set_instruction_breakpoints.InstructionBreakpoint.{InstructionBreakpoint}
 use Rattle.protocol.specs.declared.set_instruction_breakpoints.SetInstructionBreakpointsArguments as given
-use Rattle.protocol.specs.declared.set_instruction_breakpoints.TheConstants.{INSTRUCTION_REFERENCE}
+use Rattle.protocol.specs.declared.set_instruction_breakpoints.TheConstants.{NAME, INSTRUCTION_REFERENCE}
+use Rattle.protocol.specs.declared.command.Command.TheVariants as command
+use Rattle.protocol.specs.Rows.{Row, row}
 
 -- a breakpoint; its address has to be there
 abbrev pub instruction_breakpoint : Data → Option InstructionBreakpoint
@@ -32,6 +34,11 @@ abbrev pub set_instruction_breakpoints_arguments : Members → Option given.SetI
 set_instruction_breakpoints_arguments members = do
   breakpoints ← required (list instruction_breakpoint) (property BREAKPOINTS.now members)
   Some (record { breakpoints = breakpoints })
+
+-- the request
+abbrev pub set_instruction_breakpoints_request : Row
+set_instruction_breakpoints_request =
+    row NAME.now set_instruction_breakpoints_arguments (λ a. command.SetInstructionBreakpoints a)
 
 none_at_all : set_instruction_breakpoints_arguments (member (codes "breakpoints") (array no_items) no_members)
     ≡ Some (record { breakpoints = [] })

@@ -9,7 +9,9 @@ use Rattle.protocol.specs.Properties.{integer, property, ◌>>=◌}
 use Rattle.protocol.specs.Arguments.{required}
 use Rattle.protocol.specs.declared.members.TheConstants.{VARIABLES_REFERENCE}
 use Rattle.protocol.specs.declared.set_variable.SetVariableArguments.{SetVariableArguments}
-use Rattle.protocol.specs.declared.set_variable.TheConstants.{VARIABLE_NAME, VALUE}
+use Rattle.protocol.specs.declared.set_variable.TheConstants.{NAME, VARIABLE_NAME, VALUE}
+use Rattle.protocol.specs.declared.command.Command.TheVariants as command
+use Rattle.protocol.specs.Rows.{Row, row}
 
 -- the arguments; None where one of the three is absent, or has another type
 abbrev pub set_variable_arguments : Members → Option SetVariableArguments
@@ -18,6 +20,10 @@ set_variable_arguments members = do
   name ← required as_str (property VARIABLE_NAME.now members)
   value ← required as_str (property VALUE.now members)
   Some (record { variables_reference = variables_reference; name = name; value = value })
+
+-- the request
+abbrev pub set_variable_request : Row
+set_variable_request = row NAME.now set_variable_arguments (λ a. command.SetVariable a)
 
 a_number_is_no_text : set_variable_arguments
     (member (codes "name") (string (codes "a0"))

@@ -9,7 +9,9 @@ use Rattle.protocol.specs.Properties.{integer, natural, property, ◌>>=◌}
 use Rattle.protocol.specs.Arguments.{optional, required}
 use Rattle.protocol.specs.declared.members.TheConstants.{THREAD_ID}
 use Rattle.protocol.specs.declared.stack_trace.StackTraceArguments.{StackTraceArguments}
-use Rattle.protocol.specs.declared.stack_trace.TheConstants.{START_FRAME, LEVELS}
+use Rattle.protocol.specs.declared.stack_trace.TheConstants.{NAME, START_FRAME, LEVELS}
+use Rattle.protocol.specs.declared.command.Command.TheVariants as command
+use Rattle.protocol.specs.Rows.{Row, row}
 
 -- the arguments; None where the thread is absent, or one of the three has another type
 abbrev pub stack_trace_arguments : Members → Option StackTraceArguments
@@ -18,6 +20,10 @@ stack_trace_arguments members = do
   start_frame ← optional natural (property START_FRAME.now members)
   levels ← optional natural (property LEVELS.now members)
   Some (record { thread_id = thread_id; start_frame = unwrap_or start_frame 0; levels = levels })
+
+-- the request
+abbrev pub stack_trace_request : Row
+stack_trace_request = row NAME.now stack_trace_arguments (λ a. command.StackTrace a)
 
 from_the_innermost : stack_trace_arguments (member (codes "threadId") (number (unsigned 1)) no_members)
     ≡ Some (record { thread_id = pos 1; start_frame = 0; levels = None })

@@ -11,6 +11,9 @@ use Rattle.protocol.specs.declared.granularity.TheConstants.{GRANULARITY}
 use Rattle.protocol.specs.declared.granularity.Granularity.TheVariants.{Statement, Line}
 use Rattle.protocol.specs.declared.members.TheConstants.{THREAD_ID}
 use Rattle.protocol.specs.declared.step_out.StepOutArguments.{StepOutArguments}
+use Rattle.protocol.specs.declared.step_out.TheConstants.{NAME}
+use Rattle.protocol.specs.declared.command.Command.TheVariants as command
+use Rattle.protocol.specs.Rows.{Row, row}
 
 -- the arguments; None where the thread is absent, or one of the two has another type
 abbrev pub step_out_arguments : Members → Option StepOutArguments
@@ -18,6 +21,10 @@ step_out_arguments members = do
   thread_id ← required integer (property THREAD_ID.now members)
   granularity ← optional granularity_of (property GRANULARITY.now members)
   Some (record { thread_id = thread_id; granularity = unwrap_or granularity Statement })
+
+-- the request
+abbrev pub step_out_request : Row
+step_out_request = row NAME.now step_out_arguments (λ a. command.StepOut a)
 
 by_statements : step_out_arguments (member (codes "threadId") (number (unsigned 1)) no_members)
     ≡ Some (record { thread_id = pos 1; granularity = Statement })

@@ -11,7 +11,9 @@ use Rattle.protocol.specs.Filter.{filter_of}
 use Rattle.protocol.specs.declared.filter.Filter.TheVariants.{Named}
 use Rattle.protocol.specs.declared.members.TheConstants.{VARIABLES_REFERENCE, COUNT}
 use Rattle.protocol.specs.declared.variables.VariablesArguments.{VariablesArguments}
-use Rattle.protocol.specs.declared.variables.TheConstants.{FILTER, START}
+use Rattle.protocol.specs.declared.variables.TheConstants.{NAME, FILTER, START}
+use Rattle.protocol.specs.declared.command.Command.TheVariants as command
+use Rattle.protocol.specs.Rows.{Row, row}
 
 -- the arguments; None where the reference is absent, or one of the four has another type
 abbrev pub variables_arguments : Members → Option VariablesArguments
@@ -26,6 +28,10 @@ variables_arguments members = do
     start = unwrap_or start 0;
     count = count;
   })
+
+-- the request
+abbrev pub variables_request : Row
+variables_request = row NAME.now variables_arguments (λ a. command.Variables a)
 
 all_variables : variables_arguments (member (codes "variablesReference") (number (unsigned 1001)) no_members)
     ≡ Some (record { variables_reference = pos 1001; filter = None; start = 0; count = None })

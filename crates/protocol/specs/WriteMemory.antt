@@ -9,7 +9,9 @@ use Rattle.protocol.specs.Properties.{integer, property, ◌>>=◌}
 use Rattle.protocol.specs.Arguments.{base64, optional, required}
 use Rattle.protocol.specs.declared.members.TheConstants.{MEMORY_REFERENCE, OFFSET}
 use Rattle.protocol.specs.declared.write_memory.WriteMemoryArguments.{WriteMemoryArguments}
-use Rattle.protocol.specs.declared.write_memory.TheConstants.{DATA, ALLOW_PARTIAL}
+use Rattle.protocol.specs.declared.write_memory.TheConstants.{NAME, DATA, ALLOW_PARTIAL}
+use Rattle.protocol.specs.declared.command.Command.TheVariants as command
+use Rattle.protocol.specs.Rows.{Row, row}
 
 -- the arguments; None where the address or the bytes are absent, or one has another type
 abbrev pub write_memory_arguments : Members → Option WriteMemoryArguments
@@ -24,6 +26,10 @@ write_memory_arguments members = do
     bytes = bytes;
     allow_partial = unwrap_or allow_partial false;
   })
+
+-- the request
+abbrev pub write_memory_request : Row
+write_memory_request = row NAME.now write_memory_arguments (λ a. command.WriteMemory a)
 
 bytes_have_to_be_there : write_memory_arguments
     (member (codes "memoryReference") (string (codes "0x00010000")) no_members)

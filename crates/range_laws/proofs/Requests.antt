@@ -1,22 +1,21 @@
 -- What a request gives to be written is bytes.
-use Rattle.std.proofs.Common.{ℕ, ◌++◌, Bool, true, false, cond, List, [], ◌∷◌, Option, Some, None, Result, Ok, Err, IfSome, option_map, subst}
+use Rattle.std.proofs.Common.{◌≡◌, refl, ℕ, Bool, true, false, cond, List, Option, Some, None, Result, Ok, Err, IfSome, subst}
 use Rattle.std.specs.Prelude.{bytes_eq, ok_or, option_and_then, ◌||◌}
 use Rattle.serde_json.specs.Data.{Data, Members}
 use Rattle.serde_json.specs.Find.{as_bool, as_object, as_str}
 use Rattle.base64.specs.Engines.{standard}
 use Rattle.base64.specs.GeneralPurpose.{decoded_of}
 use Rattle.protocol.specs.Arguments.{arguments_members, base64, optional, required}
-use Rattle.protocol.specs.Commands.{Row, command_among, execution_requests, inspection_requests, requests, session_requests}
+use Rattle.protocol.specs.Commands.{command_of, execution_requests, inspection_requests}
+use Rattle.protocol.proofs.Requests.{of_arguments, read_by_its_name}
 use Rattle.protocol.specs.Json.{json_of}
 use Rattle.protocol.specs.Properties.{integer, property, sequence_number, text}
 use Rattle.protocol.specs.Reading.{◌>>=◌, incoming_of, message_of, received, request_of, typed_message_of}
 use Rattle.protocol.specs.WriteMemory.{write_memory_arguments}
 use Rattle.protocol.specs.declared.command.Command.{Command}
-use Rattle.protocol.specs.declared.command.Command.TheVariants.{Initialize, Launch, Cancel, Disconnect, SetBreakpoints, SetInstructionBreakpoints, Continue, Next, StepIn, StepOut, Pause}
-use Rattle.protocol.specs.declared.command.Command.TheVariants.{StackTrace, Scopes, Variables, SetVariable, Evaluate, Disassemble, ReadMemory, WriteMemory}
+use Rattle.protocol.specs.declared.command.Command.TheVariants.{WriteMemory}
 use Rattle.protocol.specs.declared.members.TheConstants.{ARGUMENTS, COMMAND, EVENT, MEMORY_REFERENCE, OFFSET, REQUEST, RESPONSE, SEQ, TYPE}
 use Rattle.protocol.specs.declared.refusal.Refusal.{Refusal}
-use Rattle.protocol.specs.declared.refusal.Refusal.TheVariants.{BadArguments}
 use Rattle.protocol.specs.declared.request.Incoming.{Incoming}
 use Rattle.protocol.specs.declared.request.Incoming.TheVariants.{Request}
 use Rattle.protocol.specs.declared.request.MessageError.{MessageError}
@@ -57,109 +56,16 @@ write_memory_gives members =
 
 -- ---- commands
 
-abbrev RowGives : Row → Type 0
-RowGives r = (members : Members) → IfSome (r.meaning members) GivesBytes
-
-made : {A : Type 0} (make : A → Command) (found : Option A) → ((a : A) → GivesBytes (make a)) → IfSome (option_map make found) GivesBytes
-made make None h = tt
-made make (Some a) h = h a
-
-made_of : {A : Type 0} (P : A → Type 0) (make : A → Command) (found : Option A) → IfSome found P → ((a : A) → P a → GivesBytes (make a)) → IfSome (option_map make found) GivesBytes
-made_of P make None h on = tt
-made_of P make (Some a) h on = on a h
-
-AllGive : List Row → Type 0
-AllGive [] = Unit {0}
-AllGive (r ∷ rows) = RowGives r × AllGive rows
-
-session_gives : (more : List Row) → AllGive more → AllGive (session_requests ++ more)
-unfolding AllGive
-session_gives more h = (
-  λ m. made (λ a. Initialize a) _ (λ a. tt),
-  (
-    λ m. made (λ a. Launch a) _ (λ a. tt),
-    (
-      λ m. tt,
-      (
-        λ m. tt,
-        (
-          λ m. tt,
-          (λ m. made (λ a. Cancel a) _ (λ a. tt), (λ m. tt, (λ m. tt, (λ m. made (λ a. Disconnect a) _ (λ a. tt), h)))),
-        ),
-      ),
-    ),
-  ),
-)
-
-execution_gives : (more : List Row) → AllGive more → AllGive (execution_requests ++ more)
-unfolding AllGive execution_requests
-execution_gives more h = (
-  λ m. made (λ a. SetBreakpoints a) _ (λ a. tt),
-  (
-    λ m. made (λ a. SetInstructionBreakpoints a) _ (λ a. tt),
-    (
-      λ m. tt,
-      (
-        λ m. made (λ a. Continue a) _ (λ a. tt),
-        (
-          λ m. made (λ a. Next a) _ (λ a. tt),
-          (
-            λ m. made (λ a. StepIn a) _ (λ a. tt),
-            (λ m. made (λ a. StepOut a) _ (λ a. tt), (λ m. made (λ a. Pause a) _ (λ a. tt), h)),
-          ),
-        ),
-      ),
-    ),
-  ),
-)
-
-inspection_gives : AllGive inspection_requests
-unfolding AllGive inspection_requests
-inspection_gives = (
-  λ m. made (λ a. StackTrace a) _ (λ a. tt),
-  (
-    λ m. made (λ a. Scopes a) _ (λ a. tt),
-    (
-      λ m. made (λ a. Variables a) _ (λ a. tt),
-      (
-        λ m. made (λ a. SetVariable a) _ (λ a. tt),
-        (
-          λ m. made (λ a. Evaluate a) _ (λ a. tt),
-          (
-            λ m. made (λ a. Disassemble a) _ (λ a. tt),
-            (
-              λ m. made (λ a. ReadMemory a) _ (λ a. tt),
-              (λ m. made_of HasBytes (λ a. WriteMemory a) (write_memory_arguments m) (write_memory_gives m) (λ a h. h), tt),
-            ),
-          ),
-        ),
-      ),
-    ),
-  ),
-)
+-- only `writeMemory` gives bytes
+command_gives : (name : List ℕ) (arguments : Option Data) (command : Command)
+    → command_of name arguments ≡ Ok command → GivesBytes command
+unfolding execution_requests inspection_requests
+command_gives name arguments (WriteMemory a) e =
+    of_arguments HasBytes GivesBytes (λ b. WriteMemory b) write_memory_arguments (arguments_members arguments) (WriteMemory a)
+    write_memory_gives (λ b h. h) (read_by_its_name name arguments (WriteMemory a) e)
+command_gives name arguments other e = tt
 
 -- ---- what is read
-
-abbrev CommandGives : Result Command Refusal → Type 0
-CommandGives (Ok command) = GivesBytes command
-CommandGives (Err refusal) = Unit {0}
-
-arguments_give : (found : Option Command) → IfSome found GivesBytes → CommandGives (ok_or found BadArguments)
-arguments_give None h = tt
-arguments_give (Some command) h = h
-
-meaning_gives : (r : Row) (members : Option Members) → RowGives r → CommandGives (ok_or (option_and_then r.meaning members) BadArguments)
-meaning_gives r None h = tt
-meaning_gives r (Some members) h = arguments_give (r.meaning members) (h members)
-
-either : (P : Result Command Refusal → Type 0) (b : Bool) (x y : Result Command Refusal) → P x → P y → P (cond b x y)
-either P true x y p q = p
-either P false x y p q = q
-
-among_gives : (rows : List Row) (name : List ℕ) (members : Option Members) → AllGive rows → CommandGives (command_among rows name members)
-unfolding AllGive
-among_gives [] name members h = tt
-among_gives (r ∷ rows) name members h = either CommandGives (bytes_eq name r.name) _ _ (meaning_gives r members h.0) (among_gives rows name members h.1)
 
 -- what a body gives, where it means a request
 abbrev pub BodyGives : Result Incoming MessageError → Type 0
@@ -174,16 +80,15 @@ if_gives : (b : Bool) (x y : Result Incoming MessageError) → BodyGives x → B
 if_gives true x y p q = p
 if_gives false x y p q = q
 
-received_gives : (seq : ℕ) (name : List ℕ) (found : Result Command Refusal) → CommandGives found → BodyGives (Ok (received seq name found))
-received_gives seq name (Ok command) h = h
+received_gives : (seq : ℕ) (name : List ℕ) (found : Result Command Refusal) → ((command : Command) → found ≡ Ok command → GivesBytes command) → BodyGives (Ok (received seq name found))
+received_gives seq name (Ok command) h = h command refl
 received_gives seq name (Err refusal) h = tt
 
 request_gives : (members : Members) → BodyGives (request_of members)
 request_gives members =
     next_gives (text (property COMMAND.now members)) NotAMessage _ (λ name.
     next_gives (sequence_number (property SEQ.now members)) BadSeq _ (λ seq.
-    received_gives seq name _ (among_gives requests name (arguments_members (property ARGUMENTS.now members))
-    (session_gives (execution_requests ++ inspection_requests) (execution_gives inspection_requests inspection_gives)))))
+    received_gives seq name _ (command_gives name (property ARGUMENTS.now members))))
 
 typed_gives : (kind : List ℕ) (members : Members) → BodyGives (typed_message_of kind members)
 typed_gives kind members =

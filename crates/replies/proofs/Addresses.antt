@@ -95,5 +95,6 @@ lawful_address {n} = record {
   shallow = λ x. omega arith;
   no_float = λ x. refl;
   ordered = λ x. refl;
+  small = λ x h. tt;
   plain = λ x h t. IsUtf8-are_ascii (address_text x) (ascii-address_text x (ltb-true _ _ h));
 }

@@ -55,5 +55,6 @@ lawful_encoded_bytes {n} = record {
   shallow = λ x. omega arith;
   no_float = λ x. refl;
   ordered = λ x. refl;
+  small = λ x h. tt;
   plain = λ x h t. IsUtf8-from_ascii (encode_of standard x) (IsAscii-encode_of standard x);
 }

@@ -37,5 +37,6 @@ lawful_instruction_bytes {n} = record {
   shallow = λ x. omega arith;
   no_float = λ x. refl;
   ordered = λ x. refl;
+  small = λ x h. tt;
   plain = λ x h t. IsUtf8-are_ascii (bytes_text x) (ascii-bytes_text x (ltb-true _ _ h));
 }

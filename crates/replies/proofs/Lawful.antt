@@ -14,7 +14,8 @@ use Rattle.protocol.specs.Properties.{◌>>=◌, integer, within_i32}
 use Rattle.serde_json.specs.Written.{has_float, items_have_float, members_have_float}
 use Rattle.replies.specs.Forms.{Form, Fields, whole, signed, is_signed_word, truth, text, first_named, one_of, list, none, field, fixed, optional, unless_empty, if_any, found_or_empty, object_of, either, left_or_right, members_either, is_in_either, texts_either, made_of, all_found, items_of, texts_of, member_if, found_if, is_in_if, texts_if, AreTexts, is_word, within_word}
 use Rattle.replies.specs.Laws.{begins_above, is_ordered, are_items_ordered, are_members_ordered}
-use Rattle.replies.proofs.Texts.{IsPlain, AreItemsPlain, AreMembersPlain}
+use Rattle.replies.specs.Written.{HasSmallNumbers, ItemsHaveSmallNumbers, MembersHaveSmallNumbers}
+use Rattle.replies.proofs.Texts.{IsPlain, AreItemsPlain, AreMembersPlain, HasSmallNumbers-IsPlain}
 
 -- ---- what holds of every form here, whose values nest so deep at most
 
@@ -24,6 +25,7 @@ pub record Lawful (n : ℕ) {A : Type 0} (form : Form A) : Type 0 where
   pub shallow : (x : A) → depth (form.value x) ≤ n
   pub no_float : (x : A) → has_float (form.value x) ≡ false
   pub ordered : (x : A) → is_ordered (form.value x) ≡ true
+  pub small : (x : A) → form.is_in x ≡ true → HasSmallNumbers (form.value x)
   pub plain : (x : A) → form.is_in x ≡ true → AreTexts (form.texts x) → IsPlain (form.value x)
 
 -- ---- single values
@@ -47,7 +49,8 @@ lawful_whole {n} = record {
   shallow = λ x. omega arith;
   no_float = λ x. refl;
   ordered = λ x. refl;
-  plain = λ x h _. let small : x < 2 ^ 32 = ltb-true _ _ h in omega (arith, small);
+  small = λ x h. let few : x < 2 ^ 32 = ltb-true _ _ h in omega (arith, few);
+  plain = λ x h _. let few : x < 2 ^ 32 = ltb-true _ _ h in omega (arith, few);
 }
 
 small_signed : (n : ℕ) → is_signed_word (pos n) ≡ true → n < 2 ^ 31
@@ -68,6 +71,10 @@ plain_signed : (z : ℤ) → is_signed_word z ≡ true → IsPlain (number (of_i
 plain_signed (pos n) h = let small = small_signed n h in omega (arith, small)
 plain_signed (negsuc n) h = let small = small_negative n h in omega (arith, small)
 
+few_signed : (z : ℤ) → is_signed_word z ≡ true → HasSmallNumbers (number (of_integer z))
+few_signed (pos n) h = plain_signed (pos n) h
+few_signed (negsuc n) h = plain_signed (negsuc n) h
+
 pub lawful_signed : {n : ℕ} → Lawful n signed
 lawful_signed {n} = record {
   back = back_signed;
@@ -75,6 +82,7 @@ lawful_signed {n} = record {
   shallow = λ z. omega arith;
   no_float = no_float_signed;
   ordered = λ z. refl;
+  small = λ z h. few_signed z h;
   plain = λ z h _. plain_signed z h;
 }
 
@@ -85,6 +93,7 @@ lawful_truth {n} = record {
   shallow = λ x. omega arith;
   no_float = λ x. refl;
   ordered = λ x. refl;
+  small = λ x h. tt;
   plain = λ x h _. tt;
 }
 
@@ -95,6 +104,7 @@ lawful_text {n} = record {
   shallow = λ x. omega arith;
   no_float = λ x. refl;
   ordered = λ x. refl;
+  small = λ x h. tt;
   plain = λ x h t. t.0;
 }
 
@@ -105,6 +115,7 @@ lawful_one_of {n} name_of xs again ascii = record {
   shallow = λ x. omega arith;
   no_float = λ x. refl;
   ordered = λ x. refl;
+  small = λ x h. tt;
   plain = λ x h t. IsUtf8-are_ascii (name_of x) (ascii x);
 }
 
@@ -135,6 +146,10 @@ ordered_items : {n : ℕ} {A : Type 0} (form : Form A) → Lawful n form → (xs
 ordered_items form h [] = refl
 ordered_items form h (x ∷ xs) = rw (h.ordered x, ordered_items form h xs) refl
 
+small_items : {n : ℕ} {A : Type 0} (form : Form A) → Lawful n form → (xs : List A) → list_all form.is_in xs ≡ true → ItemsHaveSmallNumbers (items_of form.value xs)
+small_items form h [] e = tt
+small_items form h (x ∷ xs) e = let p = and_parts _ _ e in (h.small x p.0, small_items form h xs p.1)
+
 texts_parts : (ss ts : List (List ℕ)) → AreTexts (ss ++ ts) → AreTexts ss × AreTexts ts
 texts_parts [] ts h = (tt, h)
 texts_parts (s ∷ ss) ts h = let p = texts_parts ss ts h.1 in ((h.0, p.0), p.1)
@@ -153,6 +168,7 @@ lawful_list {n} {A} {form} h = record {
   shallow = λ xs. let most = shallow_items form h xs in omega (arith, most);
   no_float = λ xs. no_float_items form h xs;
   ordered = λ xs. ordered_items form h xs;
+  small = λ xs e. small_items form h xs e;
   plain = λ xs e t. plain_items form h xs e t;
 }
 
@@ -228,6 +244,7 @@ pub record LawfulFields (n : ℕ) {A : Type 0} (fields : Fields A) : Type 0 wher
   pub no_float : (x : A) → members_have_float (fields.members x) ≡ false
   pub above : (k : List ℕ) (x : A) → is_first k fields.names ≡ true → begins_above k (fields.members x) ≡ true
   pub ordered : (x : A) → are_members_ordered (fields.members x) ≡ true
+  pub small : (x : A) → fields.is_in x ≡ true → MembersHaveSmallNumbers (fields.members x)
   pub plain : (x : A) → fields.is_in x ≡ true → AreTexts (fields.texts x) → AreMembersPlain (fields.members x)
 
 pub lawful_none : {n : ℕ} → LawfulFields n none
@@ -239,6 +256,7 @@ lawful_none {n} = record {
   no_float = λ x. refl;
   above = λ k x e. refl;
   ordered = λ x. refl;
+  small = λ x e. tt;
   plain = λ x e t. tt;
 }
 
@@ -282,6 +300,7 @@ lawful_field {n} {A} {B} {form} {rest} {name} first ascii h k = record {
   no_float = λ x. rw (h.no_float x.0, k.no_float x.1) refl;
   above = λ l x e. let f = first_parts l name rest.names e in f.less;
   ordered = λ x. rw (k.above name x.1 first, h.ordered x.0, k.ordered x.1) refl;
+  small = λ x e. let p = and_parts (form.is_in x.0) (rest.is_in x.1) e in (h.small x.0 p.0, k.small x.1 p.1);
   plain = λ x e t.
       let p = and_parts (form.is_in x.0) (rest.is_in x.1) e in
       let q = texts_parts (form.texts x.0) (rest.texts x.1) t in
@@ -303,6 +322,7 @@ lawful_fixed {n} {B} {rest} {name} {value} first ascii shallow no_float ordered 
   no_float = λ x. rw (no_float, k.no_float x) refl;
   above = λ l x e. let f = first_parts l name rest.names e in f.less;
   ordered = λ x. rw (k.above name x first, ordered, k.ordered x) refl;
+  small = λ x e. (HasSmallNumbers-IsPlain value plain, k.small x e);
   plain = λ x e t. (IsUtf8-are_ascii name ascii, plain, k.plain x e t);
 }
 
@@ -347,6 +367,10 @@ ordered_if : {n : ℕ} {A : Type 0} (form : Form A) (name : List ℕ) → Lawful
 ordered_if form name h None ms above e = e
 ordered_if form name h (Some x) ms above e = rw (above, h.ordered x, e) refl
 
+small_if : {n : ℕ} {A : Type 0} (form : Form A) (name : List ℕ) → Lawful n form → (x : Option A) (ms : Members) → is_in_if form.is_in x ≡ true → MembersHaveSmallNumbers ms → MembersHaveSmallNumbers (member_if name form.value x ms)
+small_if form name h None ms e k = k
+small_if form name h (Some x) ms e k = (h.small x e, k)
+
 plain_if : {n : ℕ} {A : Type 0} (form : Form A) (name : List ℕ) → are_ascii name ≡ true → Lawful n form → (x : Option A) (ms : Members) → is_in_if form.is_in x ≡ true → AreTexts (texts_if form.texts x) → AreMembersPlain ms → AreMembersPlain (member_if name form.value x ms)
 plain_if form name ascii h None ms e t k = k
 plain_if form name ascii h (Some x) ms e t k = (IsUtf8-are_ascii name ascii, h.plain x e t, k)
@@ -360,6 +384,7 @@ lawful_optional {n} {A} {B} {form} {rest} {name} first ascii h k = record {
   no_float = λ x. no_float_if form name h x.0 (rest.members x.1) (k.no_float x.1);
   above = λ l x e. let f = first_parts l name rest.names e in above_if l name form.value x.0 (rest.members x.1) f.less (k.above l x.1 f.rest);
   ordered = λ x. ordered_if form name h x.0 (rest.members x.1) (k.above name x.1 first) (k.ordered x.1);
+  small = λ x e. let p = and_parts (is_in_if form.is_in x.0) (rest.is_in x.1) e in small_if form name h x.0 (rest.members x.1) p.0 (k.small x.1 p.1);
   plain = λ x e t.
       let p = and_parts (is_in_if form.is_in x.0) (rest.is_in x.1) e in
       let q = texts_parts (texts_if form.texts x.0) (rest.texts x.1) t in
@@ -385,6 +410,10 @@ kept_or_empty : {n : ℕ} {A : Type 0} (form : Form A) → Lawful n (list form) 
 kept_or_empty form h None = refl
 kept_or_empty form h (Some d) = h.kept d
 
+small_unless_empty : {n : ℕ} {A : Type 0} (form : Form A) (name : List ℕ) → Lawful n (list form) → (xs : List A) (ms : Members) → (list form).is_in xs ≡ true → MembersHaveSmallNumbers ms → MembersHaveSmallNumbers (member_if name (list form).value (if_any xs) ms)
+small_unless_empty form name h [] ms e k = k
+small_unless_empty form name h (x ∷ xs) ms e k = (h.small (x ∷ xs) e, k)
+
 plain_unless_empty : {n : ℕ} {A : Type 0} (form : Form A) (name : List ℕ) → are_ascii name ≡ true → Lawful n (list form) → (xs : List A) (ms : Members) → (list form).is_in xs ≡ true → AreTexts ((list form).texts xs) → AreMembersPlain ms
     → AreMembersPlain (member_if name (list form).value (if_any xs) ms)
 plain_unless_empty form name ascii h [] ms e t k = k
@@ -399,6 +428,7 @@ lawful_unless_empty {n} {A} {B} form {rest} {name} first ascii h k = record {
   no_float = λ x. no_float_if (list form) name h (if_any x.0) (rest.members x.1) (k.no_float x.1);
   above = λ l x e. let f = first_parts l name rest.names e in above_if l name (list form).value (if_any x.0) (rest.members x.1) f.less (k.above l x.1 f.rest);
   ordered = λ x. ordered_if (list form) name h (if_any x.0) (rest.members x.1) (k.above name x.1 first) (k.ordered x.1);
+  small = λ x e. let p = and_parts ((list form).is_in x.0) (rest.is_in x.1) e in small_unless_empty form name h x.0 (rest.members x.1) p.0 (k.small x.1 p.1);
   plain = λ x e t.
       let p = and_parts ((list form).is_in x.0) (rest.is_in x.1) e in
       let q = texts_parts ((list form).texts x.0) (rest.texts x.1) t in
@@ -413,6 +443,7 @@ lawful_object {n} {A} {fields} k = record {
   shallow = λ x. let others : members_depth (fields.members x) ≤ n = k.shallow x in omega (arith, others);
   no_float = λ x. k.no_float x;
   ordered = λ x. k.ordered x;
+  small = λ x e. k.small x e;
   plain = λ x e t. k.plain x e t;
 }
 
@@ -425,6 +456,7 @@ lawful_either {n} {A} {B} {left} {right} is_left is_so is_other h k = record {
   shallow = shallow_either;
   no_float = no_float_either;
   ordered = ordered_either;
+  small = small_either;
   plain = plain_either;
 } where
   back_either : (x : A ⊎ B) → is_in_either left right x ≡ true → (either is_left left right).found (object (members_either left right x)) ≡ Some x
@@ -442,6 +474,10 @@ lawful_either {n} {A} {B} {left} {right} is_left is_so is_other h k = record {
   ordered_either : (x : A ⊎ B) → is_ordered ((either is_left left right).value x) ≡ true
   ordered_either (inl a) = h.ordered a
   ordered_either (inr b) = k.ordered b
+
+  small_either : (x : A ⊎ B) → is_in_either left right x ≡ true → HasSmallNumbers ((either is_left left right).value x)
+  small_either (inl a) = h.small a
+  small_either (inr b) = k.small b
 
   plain_either : (x : A ⊎ B) → is_in_either left right x ≡ true → AreTexts (texts_either left right x) → IsPlain ((either is_left left right).value x)
   plain_either (inl a) = h.plain a
@@ -470,6 +506,7 @@ lawful_made_of {n} {A} {B} {form} parts made again stays h = record {
   shallow = λ x. h.shallow (parts x);
   no_float = λ x. h.no_float (parts x);
   ordered = λ x. h.ordered (parts x);
+  small = λ x e. h.small (parts x) e;
   plain = λ x e t. h.plain (parts x) e t;
 } where
   IfSome-then : (o : Option A) → IfSome o (λ y. form.is_in y ≡ true) → IfSome (o >>= made) (λ x. form.is_in (parts x) ≡ true)

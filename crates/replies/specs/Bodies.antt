@@ -23,11 +23,7 @@ use Rattle.replies.specs.Disassemble.{disassemble}
 use Rattle.replies.specs.ReadMemory.{read_memory}
 use Rattle.replies.specs.WriteMemory.{write_memory}
 use Rattle.replies.specs.declared.response.ResponseBody.{ResponseBody}
-use Rattle.replies.specs.declared.response.ResponseBody.TheVariants.{Initialize, Threads, Continue, Empty}
-use Rattle.replies.specs.declared.response.ResponseBody.TheVariants.{SetBreakpoints, SetInstructionBreakpoints}
-use Rattle.replies.specs.declared.response.ResponseBody.TheVariants.{StackTrace, Scopes, Variables}
-use Rattle.replies.specs.declared.response.ResponseBody.TheVariants.{SetVariable, Evaluate}
-use Rattle.replies.specs.declared.response.ResponseBody.TheVariants.{Disassemble, ReadMemory, WriteMemory}
+use Rattle.replies.specs.declared.response.ResponseBody.TheVariants as kind
 
 -- a body: the requests whose success has it, its JSON value if it has one, whether its numbers are in their ranges, and
 -- its texts
@@ -59,20 +55,20 @@ without_body =
 
 -- the table
 abbrev pub row : ResponseBody → Row
-row Initialize = always (codes "initialize") initialize_body
-row Threads = always (codes "threads") threads_body
-row Continue = always (codes "continue") continue_body
-row (SetBreakpoints b) = in_form (codes "setBreakpoints") set_breakpoints b
-row (SetInstructionBreakpoints b) = in_form (codes "setInstructionBreakpoints") set_instruction_breakpoints b
-row (StackTrace b) = in_form (codes "stackTrace") stack_trace b
-row (Scopes b) = in_form (codes "scopes") scopes b
-row (Variables b) = in_form (codes "variables") variables b
-row (SetVariable b) = in_form (codes "setVariable") set_variable b
-row (Evaluate b) = in_form (codes "evaluate") evaluate b
-row (Disassemble b) = in_form (codes "disassemble") disassemble b
-row (ReadMemory b) = in_form (codes "readMemory") read_memory b
-row (WriteMemory b) = in_form (codes "writeMemory") write_memory b
-row Empty = none_after without_body
+row kind.Initialize = always (codes "initialize") initialize_body
+row kind.Threads = always (codes "threads") threads_body
+row kind.Continue = always (codes "continue") continue_body
+row (kind.SetBreakpoints b) = in_form (codes "setBreakpoints") set_breakpoints b
+row (kind.SetInstructionBreakpoints b) = in_form (codes "setInstructionBreakpoints") set_instruction_breakpoints b
+row (kind.StackTrace b) = in_form (codes "stackTrace") stack_trace b
+row (kind.Scopes b) = in_form (codes "scopes") scopes b
+row (kind.Variables b) = in_form (codes "variables") variables b
+row (kind.SetVariable b) = in_form (codes "setVariable") set_variable b
+row (kind.Evaluate b) = in_form (codes "evaluate") evaluate b
+row (kind.Disassemble b) = in_form (codes "disassemble") disassemble b
+row (kind.ReadMemory b) = in_form (codes "readMemory") read_memory b
+row (kind.WriteMemory b) = in_form (codes "writeMemory") write_memory b
+row kind.Empty = none_after without_body
 
 -- the body, if there is one
 abbrev pub body_data : ResponseBody → Option Data
@@ -108,24 +104,24 @@ formed command form body =
 
 abbrev pub all_taken : List Taken
 all_taken =
-    surely Initialize (codes "initialize")
-    ∷ surely Threads (codes "threads")
-    ∷ surely Continue (codes "continue")
-    ∷ formed (codes "setBreakpoints") set_breakpoints (λ b. SetBreakpoints b)
-    ∷ formed (codes "setInstructionBreakpoints") set_instruction_breakpoints (λ b. SetInstructionBreakpoints b)
-    ∷ formed (codes "stackTrace") stack_trace (λ b. StackTrace b)
-    ∷ formed (codes "scopes") scopes (λ b. Scopes b)
-    ∷ formed (codes "variables") variables (λ b. Variables b)
-    ∷ formed (codes "setVariable") set_variable (λ b. SetVariable b)
-    ∷ formed (codes "evaluate") evaluate (λ b. Evaluate b)
-    ∷ formed (codes "disassemble") disassemble (λ b. Disassemble b)
-    ∷ formed (codes "readMemory") read_memory (λ b. ReadMemory b)
-    ∷ formed (codes "writeMemory") write_memory (λ b. WriteMemory b)
+    surely kind.Initialize (codes "initialize")
+    ∷ surely kind.Threads (codes "threads")
+    ∷ surely kind.Continue (codes "continue")
+    ∷ formed (codes "setBreakpoints") set_breakpoints (λ b. kind.SetBreakpoints b)
+    ∷ formed (codes "setInstructionBreakpoints") set_instruction_breakpoints (λ b. kind.SetInstructionBreakpoints b)
+    ∷ formed (codes "stackTrace") stack_trace (λ b. kind.StackTrace b)
+    ∷ formed (codes "scopes") scopes (λ b. kind.Scopes b)
+    ∷ formed (codes "variables") variables (λ b. kind.Variables b)
+    ∷ formed (codes "setVariable") set_variable (λ b. kind.SetVariable b)
+    ∷ formed (codes "evaluate") evaluate (λ b. kind.Evaluate b)
+    ∷ formed (codes "disassemble") disassemble (λ b. kind.Disassemble b)
+    ∷ formed (codes "readMemory") read_memory (λ b. kind.ReadMemory b)
+    ∷ formed (codes "writeMemory") write_memory (λ b. kind.WriteMemory b)
     ∷ []
 
 -- the first of them that is for the command, or no body where the request has none
 abbrev pub taken_among : List Taken → List ℕ → Data → Option ResponseBody
-taken_among [] command message = if list_any (bytes_eq command) without_body then Some Empty else None
+taken_among [] command message = if list_any (bytes_eq command) without_body then Some kind.Empty else None
 taken_among (t ∷ ts) command message =
     if bytes_eq command t.command then t.found message else taken_among ts command message
 

@@ -5,37 +5,23 @@ pub mod Forms
 -- addresses and values of words, as texts
 pub mod Addresses
 -- ---- the bodies of responses
--- the body that answers `initialize`: the capabilities
-pub mod Initialize
--- the body that answers `threads`: the one hart
-pub mod Threads
--- the body that answers `continue`
-pub mod Continue
--- whether a breakpoint is set
+-- whether a breakpoint is set, the bytes of an instruction, and bytes in base64
 pub mod Breakpoints
--- the body that answers `setBreakpoints`: what became of each
-pub mod SetBreakpoints
--- the body that answers `setInstructionBreakpoints`, likewise
-pub mod SetInstructionBreakpoints
--- the body that answers `stackTrace`: the frames
-pub mod StackTrace
--- the body that answers `scopes`: the groups of variables
-pub mod Scopes
--- the body that answers `variables`: names and values
-pub mod Variables
--- the body that answers `setVariable`: the value
-pub mod SetVariable
--- the body that answers `evaluate`: the value
-pub mod Evaluate
--- the bytes of an instruction, as text
 pub mod InstructionBytes
--- the body that answers `disassemble`: the instructions at an address
-pub mod Disassemble
--- bytes in base64
 pub mod EncodedBytes
--- the body that answers `readMemory`: bytes of memory
+-- the body that answers each request, in the file of its name
+pub mod Initialize
+pub mod Threads
+pub mod Continue
+pub mod SetBreakpoints
+pub mod SetInstructionBreakpoints
+pub mod StackTrace
+pub mod Scopes
+pub mod Variables
+pub mod SetVariable
+pub mod Evaluate
+pub mod Disassemble
 pub mod ReadMemory
--- the body that answers `writeMemory`: how much was written
 pub mod WriteMemory
 -- the table of the bodies
 pub mod Bodies

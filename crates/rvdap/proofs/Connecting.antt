@@ -7,7 +7,8 @@ use Rattle.session.specs.declared.event.EventError.TheVariants.{NotConnected, Al
 use Rattle.session.specs.Kept.{Kept, Stands, Happens, answered}
 use Rattle.session.specs.Sessions.{Session, Effect}
 
-pub connected : (k mid : Kept) (r : Result ℕ EventError) → (r ≡ Err NoMemory → ⊥) → Happens k Connect (answered applied.Connect r) mid → (s : Session) → Stands k s → Stands mid (Effect s Connect)
+pub connected : (k mid : Kept) (r : Result ℕ EventError) → (r ≡ Err NoMemory → ⊥) → Happens k Connect (answered applied.Connect r) mid
+    → (s : Session) → Stands k s → Stands mid (Effect s Connect)
 connected k mid (Ok n) none h s st = (h.to_each s st).1
 connected k mid (Err NoMemory) none h s st = absurd (none refl)
 connected k mid (Err NotConnected) none h s st = (h.to_each s st).1

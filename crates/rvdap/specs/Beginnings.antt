@@ -2,7 +2,8 @@
 use Rattle.std.specs.Prelude.{◌≡◌, ℕ, List, Option, Result, Ok, Err, refl, true, ⊤}
 use Rattle.rvdap.specs.declared.serving.NoSession.{NoSession}
 use Rattle.rvdap.specs.declared.serving.NoSession.TheVariants.{Assembly, NoMemory}
-use Rattle.session.specs.Config.{HasError, HasImage, is_size}
+use Rattle.handlers.specs.Sizes.{is_size}
+use Rattle.session.specs.Config.{HasError, HasImage}
 use Rattle.session.specs.Kept.{Kept, Stands}
 use Rattle.session.specs.Limits.{greatest_limits}
 use Rattle.session.specs.Sessions.{Beginning, start}

@@ -15,7 +15,7 @@ use Rattle.debuggee.specs.declared.program.Advanced.{Advanced}
 use Rattle.debuggee.specs.declared.program.Advanced.TheVariants.{Spent, Owes, Meets}
 use Rattle.debuggee.specs.declared.run.Run.{Run}
 use Rattle.session.specs.Beats.{IsFree, MeetsNext, Moved, Stretches, going, moves_of, unless_memory}
-use Rattle.session.specs.declared.event.Ending.{Ending}
+use Rattle.session.specs.declared.event.SliceEnd.{SliceEnd}
 use Rattle.session.specs.declared.slices.Moves.{Moves}
 use Rattle.session.specs.Effects.{Slicing, after_beat, beats_on, next_beat}
 use Rattle.session.specs.Kept.{Kept, keepings}
@@ -29,16 +29,21 @@ use Rattle.session.proofs.ByMove.{by_move}
 abbrev pub Retires : Debugged → Debugged → Type 0
 Retires before after = (after.check_due ≡ before.check_due) × (after.retired ≡ before.retired + 1)
 
-settled_retires : (before after : Debugged) (s : Stepped) (instr : Option Instr) (pc : ℕ) → stays (tick_of s instr pc (moved_as before after)).outcome ≡ false → after ≡ settled s instr pc (moved_as before after) → Retires before after
+settled_retires : (before after : Debugged) (s : Stepped) (instr : Option Instr) (pc : ℕ)
+    → stays (tick_of s instr pc (moved_as before after)).outcome ≡ false → after ≡ settled s instr pc (moved_as before after)
+    → Retires before after
 settled_retires before after Retired instr pc e h = (ap (λ (d : Debugged). d.check_due) h, ap (λ (d : Debugged). d.retired) h)
 settled_retires before after (Printed number) instr pc e h = (ap (λ (d : Debugged). d.check_due) h, ap (λ (d : Debugged). d.retired) h)
 settled_retires before after Break instr pc e h = (ap (λ (d : Debugged). d.check_due) h, ap (λ (d : Debugged). d.retired) h)
 settled_retires before after (Exit code) instr pc e h = absurd (let never : true ≡ false = e in cc)
 settled_retires before after (Trap cause) instr pc e h = absurd (let never : true ≡ false = e in cc)
 
-tick_retires : (before after : Debugged) (tick : Tick) → before.check_due ≡ false → stays tick.outcome ≡ false → IsTick before (Ok tick) after → Retires before after
+tick_retires : (before after : Debugged) (tick : Tick) → before.check_due ≡ false → stays tick.outcome ≡ false
+    → IsTick before (Ok tick) after → Retires before after
 tick_retires before after tick due e h =
-    let m : Ticks before (Ok tick) after = subst (λ (b : Bool). MatchBool b (((let r : Result Tick AllocError = Ok tick in r) ≡ Ok (entry_tick before)) × (after ≡ entry_checked before)) (Ticks before (Ok tick) after)) due h in
+    let m : Ticks before (Ok tick) after = subst
+    (λ (b : Bool). MatchBool b (((let r : Result Tick AllocError = Ok tick in r) ≡ Ok (entry_tick before)) × (after ≡ entry_checked before))
+    (Ticks before (Ok tick) after)) due h in
     by m.instr m.stepped m.settles where
       by : (instr : Option Instr) (s : Result Stepped AllocError) → Settles before instr s (Ok tick) after → Retires before after
       by instr (Ok s) x =
@@ -56,17 +61,21 @@ plain_goes t e = ap (λ (x : Tick). stays x.outcome) e
 
 retiring : (k : Kept) (p : Program) (outcome : Outcome) → stays outcome ≡ false → moves_by k.now p outcome ≡ retires k.now p
 retiring k p outcome =
-    by_move (λ o b. stays o ≡ false → b ≡ retires k.now p) k.now p outcome (λ _ _ _. refl) (λ _ e. absurd (let never : true ≡ false = e in cc)) (λ _ e. absurd (let never : true ≡ false = e in cc))
+    by_move (λ o b. stays o ≡ false → b ≡ retires k.now p) k.now p outcome (λ _ _ _. refl)
+    (λ _ e. absurd (let never : true ≡ false = e in cc)) (λ _ e. absurd (let never : true ≡ false = e in cc))
 
 -- one beat more
-one_more : (n m j : ℕ) (k t : Kept) (p : Program) → ltb (m + j) n ≡ true → IsFree p t → stays (next_tick p).outcome ≡ false → beats_on keepings n j (going k m) ≡ going t (m + j)
+one_more : (n m j : ℕ) (k t : Kept) (p : Program) → ltb (m + j) n ≡ true → IsFree p t → stays (next_tick p).outcome ≡ false
+    → beats_on keepings n j (going k m) ≡ going t (m + j)
     → beats_on keepings n (suc j) (going k m) ≡ going (with_one (moved p) t) (m + suc j)
 one_more n m j k t p lt free e h =
     let b : beat (keepings.see t) true ≡ retires t.now p = free_beat p t free ∙ retiring t p (next_tick p).outcome e in
     let sum : m + j + 1 ≡ m + suc j = omega arith in
     ap (next_beat keepings n) h
-    ∙ ap (λ (x : Bool). let c = beat (keepings.see t) x in let d : Slicing Kept = record { state = after_beat keepings c t; moved = m + j + c.moved; ending = c.ending } in d) lt
-    ∙ ap (λ (c : Beat). let d : Slicing Kept = record { state = after_beat keepings c t; moved = m + j + c.moved; ending = c.ending } in d) b
+    ∙ ap (λ (x : Bool). let c = beat (keepings.see t) x in
+    let d : Slicing Kept = record { state = after_beat keepings c t; moved = m + j + c.moved; ending = c.ending } in d) lt
+    ∙ ap (λ (c : Beat). let d : Slicing Kept = record { state = after_beat keepings c t; moved = m + j + c.moved; ending = c.ending } in
+    d) b
     ∙ ap (λ (x : ℕ). going (with_one (moved p) t) x) sum
 
 -- ---- many
@@ -87,7 +96,8 @@ still_fewer last retired theirs j most e lt few =
     let h : theirs < last = omega (arith, e, lt, few) in
     grind (arith, nat_tests)
 
-still_free : (k : Kept) (p q : Program) (j most : ℕ) → IsFree p k → Still j p q → j < most → p.machine.retired + most ≤ k.now.limits.last_retired → IsFree q (with_one q k)
+still_free : (k : Kept) (p q : Program) (j most : ℕ) → IsFree p k → Still j p q → j < most
+    → p.machine.retired + most ≤ k.now.limits.last_retired → IsFree q (with_one q k)
 still_free k p q j most f s lt few = record {
   program = refl;
   owed = s.owed;
@@ -120,13 +130,17 @@ record Quietly (n m j : ℕ) (k : Kept) (p q : Program) : Type 0 where
   goes : beats_on keepings n j (going k m) ≡ going (with_one q k) (m + j)
   still : Still j p q
 
-quietly : (n m most j : ℕ) (k : Kept) (p q : Program) → IsFree p k → j ≤ most → m + most ≤ n → p.machine.retired + most ≤ k.now.limits.last_retired → GoesQuietly j p q → Quietly n m j k p q
+quietly : (n m most j : ℕ) (k : Kept) (p q : Program) → IsFree p k → j ≤ most → m + most ≤ n
+    → p.machine.retired + most ≤ k.now.limits.last_retired → GoesQuietly j p q → Quietly n m j k p q
 quietly n m most zero k p q f le room few g =
     let none : m ≡ m + zero = omega arith in
     let here : p.machine.retired ≡ p.machine.retired + zero = omega arith in
     record {
-      goes = ap (λ (x : Kept). going x m) (same_one k p f.program) ∙ ap (λ (x : Program). going (with_one x k) m) (sym g) ∙ ap (λ (x : ℕ). going (with_one q k) x) none;
-      still = subst (λ (x : Program). Still zero p x) (sym g) (record { run = refl; mark = refl; owed = f.owed; due = f.due; retired = here });
+      goes =
+          ap (λ (x : Kept). going x m) (same_one k p f.program) ∙ ap (λ (x : Program). going (with_one x k) m) (sym g) ∙ ap
+          (λ (x : ℕ). going (with_one q k) x) none;
+      still =
+          subst (λ (x : Program). Still zero p x) (sym g) (record { run = refl; mark = refl; owed = f.owed; due = f.due; retired = here });
     }
 quietly n m most (suc j) k p q f le room few g =
     let middle = g.0 in
@@ -135,17 +149,22 @@ quietly n m most (suc j) k p q f le room few g =
     let before : Quietly n m j k p middle = quietly n m most j k p middle f less room few g.1.0 in
     let free = still_free k p middle j most f before.still lt few in
     record {
-      goes = one_more n m j k (with_one middle k) middle (still_more m j most n le room) free (plain_goes (next_tick middle) g.1.1.0) before.goes
+      goes =
+          one_more n m j k (with_one middle k) middle (still_more m j most n le room) free
+          (plain_goes (next_tick middle) g.1.1.0) before.goes
           ∙ ap (λ (x : Program). going (with_one x k) (m + suc j)) (sym g.1.1.1);
       still = subst (λ (x : Program). Still (suc j) p x) (sym g.1.1.1) (moved_still j p middle before.still g.1.1.0);
     }
 
 -- ---- what is made of them
 
-pub advance_moves : (left most : ℕ) (k new : Kept) (p q : Program) (a : Advanced) → IsFree p k → 1 ≤ most → most ≤ left → p.machine.retired + most ≤ k.now.limits.last_retired → Advances most p a q → new ≡ with_one q k → Moved left k (moves_of most a) new
+pub advance_moves : (left most : ℕ) (k new : Kept) (p q : Program) (a : Advanced) → IsFree p k → 1 ≤ most → most ≤ left
+    → p.machine.retired + most ≤ k.now.limits.last_retired → Advances most p a q → new ≡ with_one q k → Moved left k (moves_of most a) new
 advance_moves left most k new p q Spent f some le few g e = record {
   few = le;
-  goes = λ n m room. let less : m + most ≤ n = omega (arith, le, room) in let same : most ≤ most = omega arith in (quietly n m most most k p q f same less few g).goes ∙ ap (λ (x : Kept). going x (m + most)) (sym e);
+  goes =
+      λ n m room. let less : m + most ≤ n = omega (arith, le, room) in let same : most ≤ most = omega arith in
+      (quietly n m most most k p q f same less few g).goes ∙ ap (λ (x : Kept). going x (m + most)) (sym e);
   next = some;
 }
 advance_moves left most k new p q (Owes count) f some le few g e =
@@ -178,7 +197,9 @@ advance_moves left most k new p q (Meets count tick) f some le few g e =
     let still : Still count p q = (quietly most 0 most count k p q f within none few g.1.0).still in
     record {
       few = less;
-      goes = λ n m room. let before : m + most ≤ n = omega (arith, le, room) in (quietly n m most count k p q f within before few g.1.0).goes ∙ ap (λ (x : Kept). going x (m + count)) (sym e);
+      goes =
+          λ n m room. let before : m + most ≤ n = omega (arith, le, room) in (quietly n m most count k p q f within before few g.1.0).goes
+          ∙ ap (λ (x : Kept). going x (m + count)) (sym e);
       next = (fewer, (q, (subst (IsFree q) (sym e) (still_free k p q count most f still lt few), g.1.1)));
     }
 
@@ -186,15 +207,19 @@ advance_moves left most k new p q (Meets count tick) f some le few g e =
 
 pub beats_after : (n j i : ℕ) (d : Slicing Kept) → beats_on keepings n (j + i) d ≡ beats_on keepings n i (beats_on keepings n j d)
 beats_after n j zero d = let e : j + zero ≡ j = omega arith in ap (λ (x : ℕ). beats_on keepings n x d) e
-beats_after n j (suc i) d = let e : j + suc i ≡ suc (j + i) = omega arith in ap (λ (x : ℕ). beats_on keepings n x d) e ∙ ap (next_beat keepings n) (beats_after n j i d)
+beats_after n j (suc i) d =
+    let e : j + suc i ≡ suc (j + i) = omega arith in ap (λ (x : ℕ). beats_on keepings n x d) e ∙ ap (next_beat keepings n)
+    (beats_after n j i d)
 
-pub moves_stretch : (left m : ℕ) (k new : Kept) (moves : Moves) → Moved left k moves new → moves.meets ≡ None → Stretches (m + left) m k (record { moved = moves.moved; ending = None }) new
+pub moves_stretch : (left m : ℕ) (k new : Kept) (moves : Moves) → Moved left k moves new → moves.meets ≡ None
+    → Stretches (m + left) m k (record { moved = moves.moved; ending = None }) new
 moves_stretch left m k new moves h e =
     let all : m + left ≤ m + left = omega arith in
     let next : MeetsNext left moves.moved None new = subst (λ (x : Option Tick). MeetsNext left moves.moved x new) e h.next in
     record { count = moves.moved; goes = h.goes (m + left) m all; some = λ none. next }
 
-pub moves_then : (left m : ℕ) (k middle new : Kept) (moves : Moves) (end : Option Ending) → Moved left k moves middle → Stretches (m + left) (m + moves.moved) middle (record { moved = 0; ending = end }) new → (end ≡ None → ⊥)
+pub moves_then : (left m : ℕ) (k middle new : Kept) (moves : Moves) (end : Option SliceEnd) → Moved left k moves middle
+    → Stretches (m + left) (m + moves.moved) middle (record { moved = 0; ending = end }) new → (end ≡ None → ⊥)
     → Stretches (m + left) m k (record { moved = moves.moved; ending = end }) new
 moves_then left m k middle new moves end h s some =
     let all : m + left ≤ m + left = omega arith in
@@ -219,5 +244,8 @@ pub the_free_one : (k : Kept) (p q : Program) → k.now.debuggee.program ≡ Som
 unfolding some_or
 the_free_one k p q e f = subst (λ (x : Program). IsFree x k) (ap (some_or p) (sym f.program ∙ e)) f
 
-pub advances_so : (left most : ℕ) (k new : Kept) (p q : Program) (a : Advanced) (made : Moves) → made ≡ moves_of most a → IsFree p k → 1 ≤ most → most ≤ left → p.machine.retired + most ≤ k.now.limits.last_retired → Advances most p a q → new ≡ with_one q k → Moved left k made new
-advances_so left most k new p q a made is f some le few g e = subst (λ (x : Moves). Moved left k x new) (sym is) (advance_moves left most k new p q a f some le few g e)
+pub advances_so : (left most : ℕ) (k new : Kept) (p q : Program) (a : Advanced) (made : Moves) → made ≡ moves_of most a → IsFree p k
+    → 1 ≤ most → most ≤ left → p.machine.retired + most ≤ k.now.limits.last_retired → Advances most p a q → new ≡ with_one q k
+    → Moved left k made new
+advances_so left most k new p q a made is f some le few g e =
+    subst (λ (x : Moves). Moved left k x new) (sym is) (advance_moves left most k new p q a f some le few g e)

@@ -43,7 +43,8 @@ no_text : (refusal : Refusal) → IsOfNameOrArguments refusal → has_text refus
 no_text refusal (inl e) = ap has_text e
 no_text refusal (inr e) = ap has_text e
 
-message_is_read : (i : Result Incoming MessageError) → IsSound i → BodyGives i → (rest : List (Result Incoming MessageError)) → AreRead (asks_in rest) → AreRead (asks_in (i ∷ rest))
+message_is_read : (i : Result Incoming MessageError) → IsSound i → BodyGives i → (rest : List (Result Incoming MessageError))
+    → AreRead (asks_in rest) → AreRead (asks_in (i ∷ rest))
 message_is_read (Ok (IsRequest r)) sound gives rest h = ((sound.0, (sound.1, gives)), h)
 message_is_read (Ok (IsBad seq command refusal)) sound gives rest h = ((sound.0, no_text refusal sound.1), h)
 message_is_read (Ok Ignored) sound gives rest h = h
@@ -51,14 +52,16 @@ message_is_read (Err e) sound gives rest h = tt
 
 asks_are_read : (bodies : List (List ℕ)) → AreRead (asks_of bodies)
 asks_are_read [] = tt
-asks_are_read (b ∷ bodies) = message_is_read (incoming_of b) (incoming_of-sound b) (body_gives b) (map incoming_of bodies) (asks_are_read bodies)
+asks_are_read (b ∷ bodies) =
+    message_is_read (incoming_of b) (incoming_of-sound b) (body_gives b) (map incoming_of bodies) (asks_are_read bodies)
 
 -- those that wait
 abbrev pub asks_that_wait : List Pending → List Ask
 asks_that_wait pending = seen_as (λ ask. ask) pending
 
 -- and those that join them
-pub joined_are_read : (bodies : List (List ℕ)) (came : Arrivals) → AreRead (asks_that_wait came.pending) → AreRead (asks_that_wait (all_joined came (asks_of bodies)).pending)
+pub joined_are_read : (bodies : List (List ℕ)) (came : Arrivals) → AreRead (asks_that_wait came.pending)
+    → AreRead (asks_that_wait (all_joined came (asks_of bodies)).pending)
 joined_are_read bodies came h =
     let asks = asks_of bodies in
     subst AreRead (sym (all_joined_as (λ ask. ask) asks came ∙ ap (λ l. asks_that_wait came.pending ++ l) (map-id asks)))

@@ -5,7 +5,7 @@ use Rattle.replies.specs.declared.message.Message.TheVariants.{Response, Event a
 use Rattle.replies.specs.declared.response.Outcome.{Outcome}
 use Rattle.session.specs.declared.link.Link.{Link}
 use Rattle.session.specs.declared.pending.Pending.{Pending}
-use Rattle.session.specs.declared.terms.Terms.{Terms}
+use Rattle.handlers.specs.declared.terms.Terms.{Terms}
 use Rattle.debuggee.specs.Programs.{Debuggee}
 use Rattle.replies.specs.declared.event.Event.{Event}
 use Rattle.session.specs.Acts.{Open, Close, Accept, Agree, Become, Refer, Reply, Tell, HangUp, Take, numbered, accepted, read_on}
@@ -37,13 +37,16 @@ pub record KeptByOthers (P : Session → Type 0) : Type 0 where
   pub agrees : (l : Link) (terms : Terms) (s : Session) → P (on (Some l) s) → P (performed_on (Agree terms) (on (Some l) s))
   pub refers : (l : Link) (call : Option Call) (s : Session) → P (on (Some l) s) → P (performed_on (Refer call) (on (Some l) s))
   pub becomes : (d : Debuggee) (s : Session) → P s → P (performed_on (Become d) s)
-  pub tells : (l : Link) (event : Event) (s : Session) → l.seq < s.now.limits.last_seq → P (on (Some l) s) → P (saying l (IsEvent event) s.now.arrivals.pending (on (Some l) s))
+  pub tells : (l : Link) (event : Event) (s : Session) → l.seq < s.now.limits.last_seq → P (on (Some l) s)
+      → P (saying l (IsEvent event) s.now.arrivals.pending (on (Some l) s))
   pub hangs : (l : Link) (s : Session) → P (on (Some l) s) → P (performed_on HangUp (on (Some l) s))
   pub takes : (n : ℕ) (s : Session) → P s → P (performed_on (Take n) s)
 
 -- and for answers
 abbrev pub KeptByAnswers : (Session → Type 0) → Type 0
-KeptByAnswers P = (l : Link) (p : Pending) (rest : List Pending) (outcome : Outcome) (s : Session) → l.seq < s.now.limits.last_seq → P (on_with (Some l) (p ∷ rest) s) → P (saying l (Response (response_to p.ask outcome)) rest (on_with (Some l) (p ∷ rest) s))
+KeptByAnswers P =
+    (l : Link) (p : Pending) (rest : List Pending) (outcome : Outcome) (s : Session) → l.seq < s.now.limits.last_seq → P
+    (on_with (Some l) (p ∷ rest) s) → P (saying l (Response (response_to p.ask outcome)) rest (on_with (Some l) (p ∷ rest) s))
 
 module _ (P : Session → Type 0) (k : KeptByOthers P) (says : KeptByAnswers P) where
   opens_by : (l : Option Link) (s : Session) → P (on l s) → P (opened_on l (on l s))
@@ -64,16 +67,19 @@ module _ (P : Session → Type 0) (k : KeptByOthers P) (says : KeptByAnswers P) 
 
   tells_by : (l : Option Link) (event : Event) (s : Session) → P (on l s) → P (said_on l (IsEvent event) s.now.arrivals.pending (on l s))
   tells_by None event s h = h
-  tells_by (Some l) event s h = if_keeps P (ltb l.seq s.now.limits.last_seq) _ _ (λ e. k.tells l event s (ltb-true l.seq s.now.limits.last_seq e) h) (λ _. h)
+  tells_by (Some l) event s h =
+      if_keeps P (ltb l.seq s.now.limits.last_seq) _ _ (λ e. k.tells l event s (ltb-true l.seq s.now.limits.last_seq e) h) (λ _. h)
 
   hangs_by : (l : Option Link) (s : Session) → P (on l s) → P (hung_on l (on l s))
   hangs_by None s h = h
   hangs_by (Some l) s h = k.hangs l s h
 
-  replies_by : (l : Option Link) (pending : List Pending) (outcome : Outcome) (s : Session) → P (on_with l pending s) → P (replied_on pending outcome (on_with l pending s))
+  replies_by : (l : Option Link) (pending : List Pending) (outcome : Outcome) (s : Session) → P (on_with l pending s)
+      → P (replied_on pending outcome (on_with l pending s))
   replies_by l [] outcome s h = h
   replies_by None (p ∷ rest) outcome s h = h
-  replies_by (Some l) (p ∷ rest) outcome s h = if_keeps P (ltb l.seq s.now.limits.last_seq) _ _ (λ e. says l p rest outcome s (ltb-true l.seq s.now.limits.last_seq e) h) (λ _. h)
+  replies_by (Some l) (p ∷ rest) outcome s h =
+      if_keeps P (ltb l.seq s.now.limits.last_seq) _ _ (λ e. says l p rest outcome s (ltb-true l.seq s.now.limits.last_seq e) h) (λ _. h)
 
   pub by_forms : KeptByActs P
   by_forms Open s h = opens_by s.now.link s h

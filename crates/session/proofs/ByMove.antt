@@ -3,7 +3,7 @@ use Rattle.std.proofs.Common.{◌≡◌, ℤ, false, Some, refl}
 use Rattle.debuggee.specs.Programs.{Program, stays}
 use Rattle.debuggee.specs.declared.run.Why.TheVariants as why
 use Rattle.rv32i.specs.declared.stepped.Cause.{Cause}
-use Rattle.session.specs.declared.event.Ending.TheVariants as ending
+use Rattle.session.specs.declared.event.SliceEnd.TheVariants as ending
 use Rattle.session.specs.Acts.{Now}
 use Rattle.session.specs.Slices.{Beat, exits, moves_by, retires, stops}
 use Rattle.stepping.specs.declared.tick.Outcome.{Outcome}

@@ -30,26 +30,26 @@ use Rattle.replies.specs.Responses.{IsOutcomeOf}
 use Rattle.replies.specs.declared.response.Outcome.TheVariants.{Done}
 use Rattle.replies.specs.declared.response.ResponseBody.{ResponseBody}
 use Rattle.replies.specs.declared.response.ResponseBody.TheVariants as body
-use Rattle.session.specs.declared.phase.Phase.{Phase}
-use Rattle.session.specs.declared.phase.Phase.TheVariants.{Active}
-use Rattle.session.specs.declared.terms.Terms.{Terms}
-use Rattle.session.specs.Acts.{Answering, Now}
-use Rattle.session.specs.Attach as attach
-use Rattle.session.specs.Breaks.{replaces, success_on}
-use Rattle.session.specs.ConfigurationDone.{begins, joins}
-use Rattle.session.specs.Demands.{has_none, run_of}
-use Rattle.session.specs.Disconnect as disconnect
-use Rattle.session.specs.Initialize as initialize
-use Rattle.session.specs.Launch.{assembles, error_text, loads}
+use Rattle.handlers.specs.declared.phase.Phase.{Phase}
+use Rattle.handlers.specs.declared.phase.Phase.TheVariants.{Active}
+use Rattle.handlers.specs.declared.terms.Terms.{Terms}
+use Rattle.handlers.specs.Given.{Answering, Given}
+use Rattle.handlers.specs.Attach as attach
+use Rattle.handlers.specs.Breaks.{replaces, success_on}
+use Rattle.handlers.specs.ConfigurationDone.{begins, joins}
+use Rattle.handlers.specs.Demands.{has_none, run_of}
+use Rattle.handlers.specs.Disconnect as disconnect
+use Rattle.handlers.specs.Initialize as initialize
+use Rattle.handlers.specs.Launch.{assembles, error_text, loads}
 use Rattle.session.specs.Laws.{initializes, is_resume}
-use Rattle.session.specs.Looking.{issues, looks_on, seen_in}
-use Rattle.session.specs.Pause as pause
-use Rattle.session.specs.Phases.{is_active_in}
-use Rattle.session.specs.Requests.{demand_of, is_taken_in, success_of}
-use Rattle.session.specs.Restart as restart
-use Rattle.session.specs.Stepping.{granularity_of}
-use Rattle.session.specs.Successes.{agreeing, changing, refusing, resuming}
-use Rattle.session.specs.Terminate as terminate
+use Rattle.handlers.specs.Looking.{issues, looks_on, seen_in}
+use Rattle.handlers.specs.Pause as pause
+use Rattle.handlers.specs.Phases.{is_active_in}
+use Rattle.handlers.specs.Requests.{demand_of, is_taken_in, success_of}
+use Rattle.handlers.specs.Restart as restart
+use Rattle.handlers.specs.Stepping.{granularity_of}
+use Rattle.handlers.specs.Successes.{agreeing, changing, refusing, resuming}
+use Rattle.handlers.specs.Terminate as terminate
 use Rattle.session.proofs.Breaking.{answer_on, by_answer}
 use Rattle.session.proofs.Looked.{by_look, by_setting, by_writing}
 use Rattle.session.proofs.Reaching.{if_keeps}
@@ -113,90 +113,124 @@ pub record Looks (c : Command) : Type 0 where
   pub still : (demand_of c).still ≡ true
 
 -- there is a program where one is asked for
-abbrev pub Has : Now → Command → Type 0
-Has now c = ((demand_of c).loaded && has_none (run_of now.debuggee.program)) ≡ false
+abbrev pub Has : Given → Command → Type 0
+Has given c = ((demand_of c).loaded && has_none (run_of given.debuggee.program)) ≡ false
 
-pub has_program : (now : Now) (c : Command) → (demand_of c).loaded ≡ true → Has now c → has_none (run_of now.debuggee.program) ≡ false
-has_program now c loaded there = subst (λ (l : Bool). (l && has_none (run_of now.debuggee.program)) ≡ false) loaded there
+pub has_program : (given : Given) (c : Command) → (demand_of c).loaded ≡ true → Has given c
+    → has_none (run_of given.debuggee.program) ≡ false
+has_program given c loaded there = subst (λ (l : Bool). (l && has_none (run_of given.debuggee.program)) ≡ false) loaded there
 
-pub not_absent : {A : Type 0} (now : Now) (c : Command) → IsAboutProgram c → Has now c → now.debuggee.program ≡ None → A
-not_absent now c about there none =
-    absurd (let no : true ≡ false = sym (ap (λ (x : Option Program). has_none (run_of x)) none) ∙ has_program now c about.loaded there in cc)
+pub not_absent : {A : Type 0} (given : Given) (c : Command) → IsAboutProgram c → Has given c → given.debuggee.program ≡ None → A
+not_absent given c about there none =
+    absurd (let no : true ≡ false = sym (ap (λ (x : Option Program). has_none (run_of x)) none) ∙ has_program given c about.loaded there in
+    cc)
 
 -- ---- what has to be shown of each kind
 
-pub record BySuccess (now : Now) (terms : Terms) (P : Command → Answering → Type 0) : Type 0 where
-  pub initialized : (arguments : InitializeArguments) → P (command.Initialize arguments) (initialize.success now terms arguments)
-  pub unreadable : (arguments : LaunchArguments) → P (command.Launch arguments) (refusing now terms FileUnreadable None)
-  pub loaded : (arguments : LaunchArguments) (text : List ℕ) → error_of text now.size ≡ None → P (command.Launch arguments) (loads now terms arguments text)
-  pub wrong : (arguments : LaunchArguments) (text : List ℕ) (error : AsmError) → error_of text now.size ≡ Some error → P (command.Launch arguments) (refusing now terms AssemblyFailed (Some (error_text error)))
-  pub attaches : P command.Attach (attach.success now terms)
-  pub begun : terms.launched ≡ true → P command.ConfigurationDone (begins now (record terms { phase = Active }))
-  pub joined : terms.launched ≡ false → P command.ConfigurationDone (joins now (record terms { phase = Active }))
-  pub agreed : (c : Command) → Agrees c → P c (agreeing now terms (agreed_body c))
-  pub restarts : P command.Restart (restart.success now terms)
-  pub terminates : P command.Terminate (terminate.success now terms)
-  pub leaves : (arguments : DisconnectArguments) → P (command.Disconnect arguments) (disconnect.success now terms arguments)
-  pub pauses : (arguments : PauseArguments) → P (command.Pause arguments) (pause.success now terms)
-  pub stepped : (c : Command) → Steps c → (g : Goal) → P c (resuming now terms (resumed g) (step_body c))
+pub record BySuccess (given : Given) (terms : Terms) (P : Command → Answering → Type 0) : Type 0 where
+  pub initialized : (arguments : InitializeArguments) → P (command.Initialize arguments) (initialize.success given terms arguments)
+  pub unreadable : (arguments : LaunchArguments) → P (command.Launch arguments) (refusing given terms FileUnreadable None)
+  pub loaded : (arguments : LaunchArguments) (text : List ℕ) → error_of text given.size ≡ None
+      → P (command.Launch arguments) (loads given terms arguments text)
+  pub wrong : (arguments : LaunchArguments) (text : List ℕ) (error : AsmError) → error_of text given.size ≡ Some error
+      → P (command.Launch arguments) (refusing given terms AssemblyFailed (Some (error_text error)))
+  pub attaches : P command.Attach (attach.success given terms)
+  pub begun : terms.launched ≡ true → P command.ConfigurationDone (begins given (record terms { phase = Active }))
+  pub joined : terms.launched ≡ false → P command.ConfigurationDone (joins given (record terms { phase = Active }))
+  pub agreed : (c : Command) → Agrees c → P c (agreeing given terms (agreed_body c))
+  pub restarts : P command.Restart (restart.success given terms)
+  pub terminates : P command.Terminate (terminate.success given terms)
+  pub leaves : (arguments : DisconnectArguments) → P (command.Disconnect arguments) (disconnect.success given terms arguments)
+  pub pauses : (arguments : PauseArguments) → P (command.Pause arguments) (pause.success given terms)
+  pub stepped : (c : Command) → Steps c → (g : Goal) → P c (resuming given terms (resumed g) (step_body c))
   -- of those that are answered by the program: none is there, or it is refused
-  pub absent : (c : Command) → IsAboutProgram c → now.debuggee.program ≡ None → P c (agreeing now terms body.Empty)
-  pub refused : (c : Command) → IsAboutProgram c → (refusal : Refusal) → has_text refusal ≡ false → P c (refusing now terms refusal None)
-  pub sets_none : (c : Command) → SetsList c → (p : Program) (b : ResponseBody) → now.debuggee.program ≡ Some p → (answer_on p now terms c).result ≡ Ok b → (answer_on p now terms c).list ≡ None
-      → P c (agreeing now terms b)
-  pub sets_list : (c : Command) → SetsList c → (p : Program) (b : ResponseBody) (list : List Wanted) → now.debuggee.program ≡ Some p → (answer_on p now terms c).result ≡ Ok b → (answer_on p now terms c).list ≡ Some list
-      → now.debuggee.last_break + length list ≤ now.limits.last_ref → P c (replaces now terms c b (record { list = list; last = now.debuggee.last_break + length list }))
-  pub shows : (c : Command) → Looks c → (p : Program) (b : ResponseBody) → now.debuggee.program ≡ Some p → (seen_in p now terms c).result ≡ Ok b → initializes (Done b) ≡ 0
-      → has_room now.numbers (seen_in p now terms c).targets ≡ true → P c (issues now terms b (seen_in p now terms c).targets)
-  pub sets_register : (arguments : SetVariableArguments) (p : Program) (setting : Setting) → now.debuggee.program ≡ Some p → set_variable arguments p.machine now.numbers ≡ Ok setting → initializes (Done setting.body) ≡ 0
-      → P (command.SetVariable arguments) (changing now terms (with_hart setting.hart) setting.body)
-  pub writes : (arguments : WriteMemoryArguments) (p : Program) (writing : Writing) → now.debuggee.program ≡ Some p → write_memory arguments p.machine.memory ≡ Ok writing → initializes (Done writing.body) ≡ 0
-      → P (command.WriteMemory arguments) (changing now terms (written writing.address (take writing.count arguments.bytes)) writing.body)
+  pub absent : (c : Command) → IsAboutProgram c → given.debuggee.program ≡ None → P c (agreeing given terms body.Empty)
+  pub refused : (c : Command) → IsAboutProgram c → (refusal : Refusal) → has_text refusal ≡ false → P c (refusing given terms refusal None)
+  pub sets_none : (c : Command) → SetsList c → (p : Program) (b : ResponseBody) → given.debuggee.program ≡ Some p
+      → (answer_on p given terms c).result ≡ Ok b → (answer_on p given terms c).list ≡ None
+      → P c (agreeing given terms b)
+  pub sets_list : (c : Command) → SetsList c → (p : Program) (b : ResponseBody) (list : List Wanted) → given.debuggee.program ≡ Some p
+      → (answer_on p given terms c).result ≡ Ok b → (answer_on p given terms c).list ≡ Some list
+      → given.debuggee.last_break + length list ≤ given.last_ref
+      → P c (replaces given terms c b (record { list = list; last = given.debuggee.last_break + length list }))
+  pub shows : (c : Command) → Looks c → (p : Program) (b : ResponseBody) → given.debuggee.program ≡ Some p
+      → (seen_in p given terms c).result ≡ Ok b → initializes (Done b) ≡ 0
+      → has_room given.numbers (seen_in p given terms c).targets ≡ true → P c (issues given terms b (seen_in p given terms c).targets)
+  pub sets_register : (arguments : SetVariableArguments) (p : Program) (setting : Setting) → given.debuggee.program ≡ Some p
+      → set_variable arguments p.machine given.numbers ≡ Ok setting → initializes (Done setting.body) ≡ 0
+      → P (command.SetVariable arguments) (changing given terms (with_hart setting.hart) setting.body)
+  pub writes : (arguments : WriteMemoryArguments) (p : Program) (writing : Writing) → given.debuggee.program ≡ Some p
+      → write_memory arguments p.machine.memory ≡ Ok writing → initializes (Done writing.body) ≡ 0
+      → P (command.WriteMemory arguments) (changing given terms (written writing.address (take writing.count arguments.bytes)) writing.body)
 
 -- ---- and then it is so of each request
 
-module _ (now : Now) (terms : Terms) (P : Command → Answering → Type 0) (h : BySuccess now terms P) where
-  launched : (arguments : LaunchArguments) (text : List ℕ) (error : Option AsmError) → error_of text now.size ≡ error → P (command.Launch arguments) (assembles now terms arguments text error)
+module _ (given : Given) (terms : Terms) (P : Command → Answering → Type 0) (h : BySuccess given terms P) where
+  launched : (arguments : LaunchArguments) (text : List ℕ) (error : Option AsmError) → error_of text given.size ≡ error
+      → P (command.Launch arguments) (assembles given terms arguments text error)
   launched arguments text None e = h.loaded arguments text e
   launched arguments text (Some error) e = h.wrong arguments text error e
 
-  listed : (c : Command) → SetsList c → P c (success_on now.debuggee.program now terms c)
-  listed c kind = by_answer (P c) now.debuggee.program now terms c kind.sets (h.absent c kind.about) (h.refused c kind.about) (h.sets_none c kind) (h.sets_list c kind)
+  listed : (c : Command) → SetsList c → P c (success_on given.debuggee.program given terms c)
+  listed c kind =
+      by_answer (P c) given.debuggee.program given terms c kind.sets (h.absent c kind.about) (h.refused c kind.about) (h.sets_none c kind)
+      (h.sets_list c kind)
 
-  looked : (c : Command) → Looks c → P c (looks_on now.debuggee.program now terms c)
-  looked c kind = by_look (P c) now.debuggee.program now terms c kind.looks (h.absent c kind.about) (h.refused c kind.about) (h.shows c kind)
+  looked : (c : Command) → Looks c → P c (looks_on given.debuggee.program given terms c)
+  looked c kind =
+      by_look (P c) given.debuggee.program given terms c kind.looks (h.absent c kind.about) (h.refused c kind.about) (h.shows c kind)
 
-  pub by_success : (file : Option (List ℕ)) (c : Command) → P c (success_of now terms file c)
+  pub by_success : (file : Option (List ℕ)) (c : Command) → P c (success_of given terms file c)
   by_success file (command.Initialize arguments) = h.initialized arguments
   by_success None (command.Launch arguments) = h.unreadable arguments
-  by_success (Some text) (command.Launch arguments) = launched arguments text (error_of text now.size) refl
+  by_success (Some text) (command.Launch arguments) = launched arguments text (error_of text given.size) refl
   by_success file command.Attach = h.attaches
   by_success file command.ConfigurationDone = if_keeps (P command.ConfigurationDone) terms.launched _ _ h.begun h.joined
   by_success file command.Threads = h.agreed command.Threads (record { kind = refl; outcome = (refl, refl); plain = refl; stays = refl })
-  by_success file (command.Cancel arguments) = h.agreed (command.Cancel arguments) (record { kind = refl; outcome = (refl, refl); plain = refl; stays = refl })
-  by_success file command.SetExceptionBreakpoints = h.agreed command.SetExceptionBreakpoints (record { kind = refl; outcome = (refl, refl); plain = refl; stays = refl })
+  by_success file (command.Cancel arguments) =
+      h.agreed (command.Cancel arguments) (record { kind = refl; outcome = (refl, refl); plain = refl; stays = refl })
+  by_success file command.SetExceptionBreakpoints =
+      h.agreed command.SetExceptionBreakpoints (record { kind = refl; outcome = (refl, refl); plain = refl; stays = refl })
   by_success file command.Restart = h.restarts
   by_success file command.Terminate = h.terminates
   by_success file (command.Disconnect arguments) = h.leaves arguments
   by_success file (command.Pause arguments) = h.pauses arguments
-  by_success file (command.Continue arguments) = h.stepped (command.Continue arguments) (record { kind = refl; outcome = (refl, refl); plain = refl; active = λ _. refl; loaded = refl; still = refl }) goal.Go
+  by_success file (command.Continue arguments) =
+      h.stepped (command.Continue arguments)
+      (record { kind = refl; outcome = (refl, refl); plain = refl; active = λ _. refl; loaded = refl; still = refl }) goal.Go
   by_success file (command.Next arguments) =
-      h.stepped (command.Next arguments) (record { kind = refl; outcome = (refl, refl); plain = refl; active = λ _. refl; loaded = refl; still = refl }) (goal.Over (granularity_of arguments.granularity))
+      h.stepped (command.Next arguments)
+      (record { kind = refl; outcome = (refl, refl); plain = refl; active = λ _. refl; loaded = refl; still = refl })
+      (goal.Over (granularity_of arguments.granularity))
   by_success file (command.StepIn arguments) =
-      h.stepped (command.StepIn arguments) (record { kind = refl; outcome = (refl, refl); plain = refl; active = λ _. refl; loaded = refl; still = refl }) (goal.In (granularity_of arguments.granularity))
+      h.stepped (command.StepIn arguments)
+      (record { kind = refl; outcome = (refl, refl); plain = refl; active = λ _. refl; loaded = refl; still = refl })
+      (goal.In (granularity_of arguments.granularity))
   by_success file (command.StepOut arguments) =
-      h.stepped (command.StepOut arguments) (record { kind = refl; outcome = (refl, refl); plain = refl; active = λ _. refl; loaded = refl; still = refl }) (goal.Out (granularity_of arguments.granularity))
-  by_success file (command.SetBreakpoints arguments) = listed (command.SetBreakpoints arguments) (record { sets = refl; about = record { loaded = refl; stays = refl } })
-  by_success file (command.SetInstructionBreakpoints arguments) = listed (command.SetInstructionBreakpoints arguments) (record { sets = refl; about = record { loaded = refl; stays = refl } })
-  by_success file (command.StackTrace arguments) = looked (command.StackTrace arguments) (record { looks = refl; about = record { loaded = refl; stays = refl }; still = refl })
-  by_success file (command.Scopes arguments) = looked (command.Scopes arguments) (record { looks = refl; about = record { loaded = refl; stays = refl }; still = refl })
-  by_success file (command.Variables arguments) = looked (command.Variables arguments) (record { looks = refl; about = record { loaded = refl; stays = refl }; still = refl })
-  by_success file (command.Evaluate arguments) = looked (command.Evaluate arguments) (record { looks = refl; about = record { loaded = refl; stays = refl }; still = refl })
-  by_success file (command.Disassemble arguments) = looked (command.Disassemble arguments) (record { looks = refl; about = record { loaded = refl; stays = refl }; still = refl })
-  by_success file (command.ReadMemory arguments) = looked (command.ReadMemory arguments) (record { looks = refl; about = record { loaded = refl; stays = refl }; still = refl })
+      h.stepped (command.StepOut arguments)
+      (record { kind = refl; outcome = (refl, refl); plain = refl; active = λ _. refl; loaded = refl; still = refl })
+      (goal.Out (granularity_of arguments.granularity))
+  by_success file (command.SetBreakpoints arguments) =
+      listed (command.SetBreakpoints arguments) (record { sets = refl; about = record { loaded = refl; stays = refl } })
+  by_success file (command.SetInstructionBreakpoints arguments) =
+      listed (command.SetInstructionBreakpoints arguments) (record { sets = refl; about = record { loaded = refl; stays = refl } })
+  by_success file (command.StackTrace arguments) =
+      looked (command.StackTrace arguments) (record { looks = refl; about = record { loaded = refl; stays = refl }; still = refl })
+  by_success file (command.Scopes arguments) =
+      looked (command.Scopes arguments) (record { looks = refl; about = record { loaded = refl; stays = refl }; still = refl })
+  by_success file (command.Variables arguments) =
+      looked (command.Variables arguments) (record { looks = refl; about = record { loaded = refl; stays = refl }; still = refl })
+  by_success file (command.Evaluate arguments) =
+      looked (command.Evaluate arguments) (record { looks = refl; about = record { loaded = refl; stays = refl }; still = refl })
+  by_success file (command.Disassemble arguments) =
+      looked (command.Disassemble arguments) (record { looks = refl; about = record { loaded = refl; stays = refl }; still = refl })
+  by_success file (command.ReadMemory arguments) =
+      looked (command.ReadMemory arguments) (record { looks = refl; about = record { loaded = refl; stays = refl }; still = refl })
   by_success file (command.SetVariable arguments) =
       let about : IsAboutProgram (command.SetVariable arguments) = record { loaded = refl; stays = refl } in
-      by_setting (P (command.SetVariable arguments)) now.debuggee.program now terms arguments (h.absent (command.SetVariable arguments) about) (h.refused (command.SetVariable arguments) about) (h.sets_register arguments)
+      by_setting (P (command.SetVariable arguments)) given.debuggee.program given terms arguments
+      (h.absent (command.SetVariable arguments) about) (h.refused (command.SetVariable arguments) about) (h.sets_register arguments)
   by_success file (command.WriteMemory arguments) =
       let about : IsAboutProgram (command.WriteMemory arguments) = record { loaded = refl; stays = refl } in
-      by_writing (P (command.WriteMemory arguments)) now.debuggee.program now terms arguments (h.absent (command.WriteMemory arguments) about) (h.refused (command.WriteMemory arguments) about) (h.writes arguments)
+      by_writing (P (command.WriteMemory arguments)) given.debuggee.program given terms arguments
+      (h.absent (command.WriteMemory arguments) about) (h.refused (command.WriteMemory arguments) about) (h.writes arguments)

@@ -5,7 +5,7 @@ use Rattle.std.proofs.lemmas.Bool.Decides.{nat_tests}
 use Rattle.debuggee.specs.Programs.{Program, entered, why_marked}
 use Rattle.debuggee.specs.declared.run.Mark.{Mark}
 use Rattle.debuggee.specs.declared.run.Why.TheVariants as why
-use Rattle.session.specs.declared.event.Ending.TheVariants as ending
+use Rattle.session.specs.declared.event.SliceEnd.TheVariants as ending
 use Rattle.session.specs.declared.slices.Next.TheVariants as next
 use Rattle.session.specs.declared.state.TheConstants.{FULL}
 use Rattle.session.specs.Beats.{Decides, IsFree}
@@ -24,7 +24,8 @@ pub ready_beat : (p : Program) (k : Kept) (more : Bool) → IsReady p k → beat
 ready_beat p k more r =
     ap (λ (x : Option Program). beat_of x (keepings.see k) more) r.program
     ∙ ap (λ (x : Option Tick). beat_by x (keepings.see k) p more) r.owed
-    ∙ ap (λ (b : Bool). cond (not b) (ends ending.Idle) (cond (ltb FULL (length k.waiting)) (ends ending.Full) (goes_unless p.mark k.now p more))) r.runnable
+    ∙ ap (λ (b : Bool). cond (not b) (ends ending.Idle)
+    (cond (ltb FULL (length k.waiting)) (ends ending.Full) (goes_unless p.mark k.now p more))) r.runnable
     ∙ ap (λ (b : Bool). cond b (ends ending.Full) (goes_unless p.mark k.now p more)) r.room
 
 unmarked_beat : (p : Program) (k : Kept) (more : Bool) → IsReady p k → p.mark ≡ None → beat (keepings.see k) more ≡ goes k.now p more
@@ -35,13 +36,24 @@ checked_beat p k = record { acts = becomes k.now (entered p) ∷ []; moved = 0; 
 
 -- by whether a check is due, more moves are to be made, and more may retire
 by_tests : (due more few : Bool) (p : Program) (k : Kept) → Beat
-by_tests due more few p k = cond due (checked_beat p k) (cond (not more) (ends ending.Spent) (cond few (stops k.now p why.Limit) (moves k.now p)))
+by_tests due more few p k =
+    cond due (checked_beat p k) (cond (not more) (ends ending.Spent) (cond few (stops k.now p why.Limit) (moves k.now p)))
 
-pub marks_there : (k : Kept) (p : Program) (mark : Mark) (more : Bool) → k.now.debuggee.program ≡ Some p → p.owed ≡ None → is_runnable_by k.now.link p.run ≡ true → ltb FULL (length k.waiting) ≡ false → p.mark ≡ Some mark → Decides (next.Stop (why_marked mark)) k more
-marks_there k p mark more is owed runnable room e =
-    (p, (is, ready_beat p k more (record { program = is; owed = owed; runnable = runnable; room = room }) ∙ ap (λ (m : Option Mark). goes_unless m k.now p more) e))
+pub marks_there : (k : Kept) (p : Program) (mark : Mark) (more : Bool) → k.now.debuggee.program ≡ Some p → p.owed ≡ None
+    → is_runnable_by k.now.link p.run ≡ true → ltb FULL (length k.waiting) ≡ false → p.mark ≡ Some mark
+    → Decides (next.Stop (why_marked mark)) k more
+marks_there k p mark more is owed runnable room e = (
+  p,
+  (
+    is,
+    ready_beat p k more (record { program = is; owed = owed; runnable = runnable; room = room }) ∙ ap
+        (λ (m : Option Mark). goes_unless m k.now p more) e,
+  ),
+)
 
-pub checks_there : (k : Kept) (p : Program) (more : Bool) → k.now.debuggee.program ≡ Some p → p.owed ≡ None → is_runnable_by k.now.link p.run ≡ true → ltb FULL (length k.waiting) ≡ false → p.mark ≡ None → p.machine.check_due ≡ true → Decides next.Check k more
+pub checks_there : (k : Kept) (p : Program) (more : Bool) → k.now.debuggee.program ≡ Some p → p.owed ≡ None
+    → is_runnable_by k.now.link p.run ≡ true → ltb FULL (length k.waiting) ≡ false → p.mark ≡ None → p.machine.check_due ≡ true
+    → Decides next.Check k more
 unfolding by_tests checked_beat
 checks_there k p more is owed runnable room e due = (
   p,
@@ -52,7 +64,8 @@ checks_there k p more is owed runnable room e due = (
   ),
 )
 
-pub limits_there : (k : Kept) (p : Program) (more : Bool) → k.now.debuggee.program ≡ Some p → p.owed ≡ None → is_runnable_by k.now.link p.run ≡ true → ltb FULL (length k.waiting) ≡ false → p.mark ≡ None → p.machine.check_due ≡ false
+pub limits_there : (k : Kept) (p : Program) (more : Bool) → k.now.debuggee.program ≡ Some p → p.owed ≡ None
+    → is_runnable_by k.now.link p.run ≡ true → ltb FULL (length k.waiting) ≡ false → p.mark ≡ None → p.machine.check_due ≡ false
     → more ≡ true → leb k.now.limits.last_retired p.machine.retired ≡ true → Decides (next.Stop why.Limit) k more
 unfolding by_tests checked_beat
 limits_there k p more is owed runnable room e due going few = (
@@ -66,7 +79,8 @@ limits_there k p more is owed runnable room e due going few = (
   ),
 )
 
-pub free_there : (k : Kept) (p : Program) (more : Bool) → k.now.debuggee.program ≡ Some p → p.owed ≡ None → is_runnable_by k.now.link p.run ≡ true → ltb FULL (length k.waiting) ≡ false → p.mark ≡ None → p.machine.check_due ≡ false
+pub free_there : (k : Kept) (p : Program) (more : Bool) → k.now.debuggee.program ≡ Some p → p.owed ≡ None
+    → is_runnable_by k.now.link p.run ≡ true → ltb FULL (length k.waiting) ≡ false → p.mark ≡ None → p.machine.check_due ≡ false
     → more ≡ true → leb k.now.limits.last_retired p.machine.retired ≡ false → Decides next.Advance k more
 free_there k p more is owed runnable room e due going few = (
   going,

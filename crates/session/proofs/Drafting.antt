@@ -8,17 +8,20 @@ use Rattle.replies.specs.declared.message.Message.TheVariants.{Response, Event a
 use Rattle.session.specs.declared.limits.Limits.{Limits}
 use Rattle.session.specs.declared.link.Link.{Link}
 use Rattle.session.specs.declared.pending.Pending.{Pending}
-use Rattle.session.specs.declared.terms.Terms.{Terms}
-use Rattle.session.specs.declared.answer.Change.{Change}
+use Rattle.handlers.specs.declared.terms.Terms.{Terms}
+use Rattle.handlers.specs.declared.change.Change.{Change}
 use Rattle.session.specs.declared.prepared.Prepared.{Prepared}
 use Rattle.session.specs.Preparing.{IsPrepared, draft_of}
-use Rattle.session.specs.Acts.{Act, Answering, Now, Tell, agreed, numbered, refers}
+use Rattle.handlers.specs.declared.answer.Answer.{Answer as AnAnswer}
+use Rattle.handlers.specs.Given.{Answering, Lent}
+use Rattle.session.specs.Acts.{Act, Now, Tell, agreed, given_of, numbered, refers}
 use Rattle.session.specs.Arrivals.{first_pending, others_pending}
 use Rattle.session.specs.Effects.{performed}
 use Rattle.session.specs.Outcomes.{answering, closing, needs_memory, next_turn}
-use Rattle.session.specs.Kept.{Kept, Drafted, call_of, changed, kept_changed, kept_closing, draft_on, draft_told, drafted, drafted_all, keepings, kept_said, settled}
+use Rattle.handlers.specs.Changes.{answering_as, call_of, changed}
+use Rattle.session.specs.Kept.{Kept, Drafted, kept_changed, kept_closing, draft_on, draft_told, drafted, drafted_all, keepings, kept_said, settled}
 use Rattle.session.specs.Phases.{is_active}
-use Rattle.session.specs.Refusals.{answer_to, response_to}
+use Rattle.session.specs.Refusals.{answer_of, answer_to, response_to}
 use Rattle.session.specs.Writing.{frame_of}
 use Rattle.variables.specs.Laws.{Call}
 
@@ -61,13 +64,18 @@ one_told true link rest k d m h =
       waiting = (k.waiting ++ d.bytes) ++ frame_of (d.seq + 1) m;
     } in
     ap (λ b. cond b (said (eqb d.seq last)) t) h ∙ ap said (not_last d.seq last h)
-    ∙ ap (λ w. record (after (eqb (d.seq + 1) last) link rest k next) { waiting = w }) (append_assoc k.waiting d.bytes (frame_of (d.seq + 1) m))
+    ∙ ap (λ w. record (after (eqb (d.seq + 1) last) link rest k next) { waiting = w })
+    (append_assoc k.waiting d.bytes (frame_of (d.seq + 1) m))
     ∙ sym (ap (λ b. let e : Drafted = cond b next d in after (eqb e.seq last) link rest k e) h)
 one_told false link rest k d m h =
     let last = k.now.limits.last_seq in
     let t = after (eqb d.seq last) link rest k d in
     let next = next_frame d m in
-    ap (λ b. cond b (record t { now = numbered t.now (record link { seq = d.seq; is_closing = cond (eqb d.seq last) true link.is_closing }) t.now.arrivals.pending; waiting = t.waiting ++ frame_of (d.seq + 1) m }) t) h
+    ap (λ b. cond b (record t {
+      now = numbered t.now
+          (record link { seq = d.seq; is_closing = cond (eqb d.seq last) true link.is_closing }) t.now.arrivals.pending;
+      waiting = t.waiting ++ frame_of (d.seq + 1) m;
+    }) t) h
     ∙ sym (ap (λ b. let e : Drafted = cond b next d in after (eqb e.seq last) link rest k e) h)
 
 all_told : (events : List Event) (link : Link) (rest : List Pending) (k : Kept) (d : Drafted) →
@@ -93,14 +101,16 @@ full_told : (events : List Event) (link : Link) (pending : List Pending) (k : Ke
 full_told [] link pending k h = refl
 full_told (e ∷ es) link pending k h =
     let t = at (Some link) pending k in
-    ap (λ b. performed keepings (map Tell es) (cond b (record t { now = numbered t.now link pending; waiting = t.waiting ++ frame_of (link.seq + 1) (IsEvent e) }) t)) h
+    ap (λ b. performed keepings (map Tell es)
+    (cond b (record t { now = numbered t.now link pending; waiting = t.waiting ++ frame_of (link.seq + 1) (IsEvent e) }) t)) h
     ∙ full_told es link pending k h
 
 full_written : (limits : Limits) (events : List Event) (d : Drafted) → ltb d.seq limits.last_seq ≡ false → drafted_all limits events d ≡ d
 full_written limits [] d h = refl
 full_written limits (e ∷ es) d h = ap (λ b. drafted_all limits es (cond b (next_frame d (IsEvent e)) d)) h ∙ full_written limits es d h
 
-none_told : (events : List Event) (pending : List Pending) (k : Kept) → performed keepings (map Tell events) (at None pending k) ≡ at None pending k
+none_told : (events : List Event) (pending : List Pending) (k : Kept)
+    → performed keepings (map Tell events) (at None pending k) ≡ at None pending k
 none_told [] pending k = refl
 none_told (e ∷ es) pending k = none_told es pending k
 
@@ -108,48 +118,64 @@ none_left : (n : ℕ) → ltb n n ≡ false
 none_left n = grind (arith, nat_tests)
 
 -- without a connection, or a number, a draft settles nothing
-settles_none : (l : Option Link) (pending : List Pending) (k : Kept) → settling l pending (draft_on k.now.limits l) (at l pending k) ≡ at l pending k
+settles_none : (l : Option Link) (pending : List Pending) (k : Kept)
+    → settling l pending (draft_on k.now.limits l) (at l pending k) ≡ at l pending k
 settles_none None pending k = ap (λ w. record (at None pending k) { waiting = w }) (append-nil k.waiting)
 settles_none (Some link) pending k =
     let t = at (Some link) pending k in
-    ap (λ b. record t { now = cond b (after (eqb link.seq k.now.limits.last_seq) link pending t (record { bytes = []; seq = link.seq })).now t.now; waiting = k.waiting ++ [] }) (none_left link.seq)
+    ap (λ b. record t {
+      now = cond b
+          (after (eqb link.seq k.now.limits.last_seq) link pending t (record { bytes = []; seq = link.seq })).now t.now;
+      waiting = k.waiting ++ [];
+    }) (none_left link.seq)
     ∙ ap (λ w. record t { waiting = w }) (append-nil k.waiting)
 
 -- ---- a message, and events after it
 
-linked_says : (b : Bool) (link : Link) (k : Kept) (pending rest : List Pending) (m : Message) (events : List Event) → ltb link.seq k.now.limits.last_seq ≡ b →
+linked_says : (b : Bool) (link : Link) (k : Kept) (pending rest : List Pending) (m : Message) (events : List Event)
+    → ltb link.seq k.now.limits.last_seq ≡ b →
     performed keepings (map Tell events) (kept_said (Some link) m rest (at (Some link) pending k))
-    ≡ cond b (settling (Some link) rest (drafted_all k.now.limits events (drafted k.now.limits m (draft_on k.now.limits (Some link)))) (at (Some link) pending k)) (at (Some link) pending k)
+    ≡ cond b (settling (Some link) rest (drafted_all k.now.limits events (drafted k.now.limits m (draft_on k.now.limits (Some link))))
+    (at (Some link) pending k)) (at (Some link) pending k)
 linked_says true link k pending rest m events h =
     let s = at (Some link) pending k in
     let first : Drafted = record { bytes = frame_of (link.seq + 1) m; seq = link.seq + 1 } in
     let d = drafted_all k.now.limits events first in
     let rises : link.seq < d.seq = let g = grows k.now.limits events first in omega (arith, g) in
-    ap (λ b. performed keepings (map Tell events) (cond b (record s { now = numbered s.now link rest; waiting = s.waiting ++ frame_of (link.seq + 1) m }) s)) h
+    ap (λ b. performed keepings (map Tell events)
+    (cond b (record s { now = numbered s.now link rest; waiting = s.waiting ++ frame_of (link.seq + 1) m }) s)) h
     ∙ all_told events link rest s first
     ∙ sym (ap (λ b. settling (Some link) rest (drafted_all k.now.limits events (cond b first (record { bytes = []; seq = link.seq }))) s) h
-    ∙ ap (λ b. record s { now = cond b (after (eqb d.seq k.now.limits.last_seq) link rest s d).now s.now; waiting = s.waiting ++ d.bytes }) (lt-ltb link.seq d.seq rises))
+    ∙ ap (λ b. record s { now = cond b (after (eqb d.seq k.now.limits.last_seq) link rest s d).now s.now; waiting = s.waiting ++ d.bytes })
+    (lt-ltb link.seq d.seq rises))
 linked_says false link k pending rest m events h =
     let s = at (Some link) pending k in
-    ap (λ b. performed keepings (map Tell events) (cond b (record s { now = numbered s.now link rest; waiting = s.waiting ++ frame_of (link.seq + 1) m }) s)) h
+    ap (λ b. performed keepings (map Tell events)
+    (cond b (record s { now = numbered s.now link rest; waiting = s.waiting ++ frame_of (link.seq + 1) m }) s)) h
     ∙ full_told events link pending k h
 
 -- where there is no number, the same is drafted
-no_number : (link : Link) (k : Kept) (pending rest : List Pending) (m : Message) (events : List Event) → ltb link.seq k.now.limits.last_seq ≡ false →
-    settling (Some link) rest (drafted_all k.now.limits events (drafted k.now.limits m (draft_on k.now.limits (Some link)))) (at (Some link) pending k) ≡ at (Some link) pending k
+no_number : (link : Link) (k : Kept) (pending rest : List Pending) (m : Message) (events : List Event)
+    → ltb link.seq k.now.limits.last_seq ≡ false →
+    settling (Some link) rest (drafted_all k.now.limits events (drafted k.now.limits m (draft_on k.now.limits (Some link))))
+    (at (Some link) pending k) ≡ at (Some link) pending k
 no_number link k pending rest m events h =
     let s = at (Some link) pending k in
     let none : Drafted = record { bytes = []; seq = link.seq } in
     ap (λ b. settling (Some link) rest (drafted_all k.now.limits events (cond b (next_frame none m) none)) s) h
     ∙ ap (λ e. settling (Some link) rest e s) (full_written k.now.limits events none h)
-    ∙ ap (λ b. record s { now = cond b (after (eqb link.seq k.now.limits.last_seq) link rest s none).now s.now; waiting = s.waiting ++ [] }) (none_left link.seq)
+    ∙ ap (λ b. record s { now = cond b (after (eqb link.seq k.now.limits.last_seq) link rest s none).now s.now; waiting = s.waiting ++ [] })
+    (none_left link.seq)
     ∙ ap (λ w. record s { waiting = w }) (append-nil s.waiting)
 
-either_says : (b : Bool) (link : Link) (k : Kept) (pending rest : List Pending) (m : Message) (events : List Event) → ltb link.seq k.now.limits.last_seq ≡ b →
+either_says : (b : Bool) (link : Link) (k : Kept) (pending rest : List Pending) (m : Message) (events : List Event)
+    → ltb link.seq k.now.limits.last_seq ≡ b →
     performed keepings (map Tell events) (kept_said (Some link) m rest (at (Some link) pending k))
-    ≡ settling (Some link) rest (drafted_all k.now.limits events (drafted k.now.limits m (draft_on k.now.limits (Some link)))) (at (Some link) pending k)
+    ≡ settling (Some link) rest (drafted_all k.now.limits events (drafted k.now.limits m (draft_on k.now.limits (Some link))))
+    (at (Some link) pending k)
 either_says true link k pending rest m events h = linked_says true link k pending rest m events h
-either_says false link k pending rest m events h = linked_says false link k pending rest m events h ∙ sym (no_number link k pending rest m events h)
+either_says false link k pending rest m events h =
+    linked_says false link k pending rest m events h ∙ sym (no_number link k pending rest m events h)
 
 nothing_drafted : (limits : Limits) (events : List Event) → drafted_all limits events (draft_on limits None) ≡ draft_on limits None
 nothing_drafted limits events = full_written limits events (draft_on limits None) (none_left limits.last_seq)
@@ -162,14 +188,16 @@ says None k pending rest m events =
     let none = draft_on k.now.limits None in
     let s = at None pending k in
     none_told events pending k
-    ∙ sym (ap (λ b. settling None rest (drafted_all k.now.limits events (cond b (next_frame none m) none)) s) (none_left k.now.limits.last_seq)
+    ∙ sym (ap (λ b. settling None rest (drafted_all k.now.limits events (cond b (next_frame none m) none)) s)
+    (none_left k.now.limits.last_seq)
     ∙ ap (λ e. settling None rest e s) (nothing_drafted k.now.limits events)
     ∙ ap (λ w. record s { waiting = w }) (append-nil k.waiting))
 
 -- ---- events alone
 
 pub tells_all : (events : List Event) (l : Option Link) (pending : List Pending) (k : Kept) →
-    performed keepings (map Tell events) (at l pending k) ≡ settling l pending (drafted_all k.now.limits events (draft_on k.now.limits l)) (at l pending k)
+    performed keepings (map Tell events) (at l pending k) ≡ settling l pending (drafted_all k.now.limits events (draft_on k.now.limits l))
+    (at l pending k)
 tells_all [] l pending k = sym (settles_none l pending k)
 tells_all (e ∷ es) l pending k = says l k pending pending (IsEvent e) es
 
@@ -178,12 +206,14 @@ abbrev pub tells_if : Bool → List Event → List Act
 tells_if b events = cond b (map Tell events) []
 
 told_if : (b : Bool) (events : List Event) (l : Option Link) (pending : List Pending) (k : Kept) →
-    performed keepings (tells_if b events) (at l pending k) ≡ settling l pending (cond b (drafted_all k.now.limits events (draft_on k.now.limits l)) (draft_on k.now.limits l)) (at l pending k)
+    performed keepings (tells_if b events) (at l pending k) ≡ settling l pending
+    (cond b (drafted_all k.now.limits events (draft_on k.now.limits l)) (draft_on k.now.limits l)) (at l pending k)
 told_if true events l pending k = tells_all events l pending k
 told_if false events l pending k = sym (settles_none l pending k)
 
 pub tells_told : (events : List Event) (k : Kept) →
-    performed keepings (tells_if (is_active k.now.link) events) k ≡ settling k.now.link k.now.arrivals.pending (draft_told k.now.limits k.now.link events) k
+    performed keepings (tells_if (is_active k.now.link) events) k ≡ settling k.now.link k.now.arrivals.pending
+    (draft_told k.now.limits k.now.link events) k
 tells_told events k = told_if (is_active k.now.link) events k.now.link k.now.arrivals.pending k
 
 -- ---- an answer
@@ -202,7 +232,8 @@ closes_after : (closes : Bool) (k : Kept) → performed keepings (closing closes
 closes_after true k = refl
 closes_after false k = refl
 
-answers : (link : Link) (p : Pending) (rest : List Pending) (k : Kept) (c : Change) (a : Answering) → changed c k.now.debuggee ≡ a.debuggee → call_of c ≡ a.references →
+answers : (link : Link) (p : Pending) (rest : List Pending) (k : Kept) (c : Change) (a : Answering) → changed c k.now.debuggee ≡ a.debuggee
+    → call_of c ≡ a.references →
     let s = at (Some link) (p ∷ rest) k in
     let d = draft_of k.now.limits (Some link) p a in
     kept_closing a.closes (numbers_given (kept_changed c a.terms (written s d)) d) ≡ performed keepings (answering a) s
@@ -225,14 +256,19 @@ abbrev Turns : Option (List ℕ) → Link → Prepared → Kept → Type 0
 Turns file link r k = (t : Kept) → t ≡ kept_changed r.change r.terms (written k r.draft)
     → kept_closing r.closes (numbers_given t r.draft) ≡ performed keepings (next_turn k.now link.terms file k.now.arrivals.pending).acts k
 
-at_once : (k : Kept) (link : Link) (file : Option (List ℕ)) (p : Pending) (rest : List Pending) (r : Prepared) → AnswersAs file link p r (at (Some link) (p ∷ rest) k) → Turns file link r (at (Some link) (p ∷ rest) k)
+at_once : (k : Kept) (link : Link) (file : Option (List ℕ)) (p : Pending) (rest : List Pending) (r : Prepared)
+    → AnswersAs file link p r (at (Some link) (p ∷ rest) k) → Turns file link r (at (Some link) (p ∷ rest) k)
 at_once k link file p rest r h t e =
     let s = at (Some link) (p ∷ rest) k in
     let a = answer_to s.now link.terms file p in
     ap (λ x. kept_closing r.closes (numbers_given x r.draft)) e
     ∙ ap (λ (x : Drafted). kept_closing r.closes (numbers_given (kept_changed r.change r.terms (written s x)) x)) h.draft
-    ∙ ap (λ (x : Terms). kept_closing r.closes (numbers_given (kept_changed r.change x (written s (draft_of s.now.limits (Some link) p a))) (draft_of s.now.limits (Some link) p a))) h.terms
-    ∙ ap (λ (x : Bool). kept_closing x (numbers_given (kept_changed r.change a.terms (written s (draft_of s.now.limits (Some link) p a))) (draft_of s.now.limits (Some link) p a))) h.closes
+    ∙ ap (λ (x : Terms). kept_closing r.closes
+    (numbers_given (kept_changed r.change x (written s (draft_of s.now.limits (Some link) p a)))
+    (draft_of s.now.limits (Some link) p a))) h.terms
+    ∙ ap (λ (x : Bool). kept_closing x
+    (numbers_given (kept_changed r.change a.terms (written s (draft_of s.now.limits (Some link) p a)))
+    (draft_of s.now.limits (Some link) p a))) h.closes
     ∙ answers link p rest k r.change a h.debuggee h.references
 
 first_is : (pending : List Pending) (p : Pending) → Some p ≡ first_pending pending → pending ≡ p ∷ others_pending pending
@@ -243,7 +279,8 @@ abbrev Claims : Option (List ℕ) → Link → Pending → Prepared → Kept →
 Claims file link p r k l pending = AnswersAs file link p r (at l pending k) → Turns file link r (at l pending k)
 
 pub first_answers : (k t : Kept) (link : Link) (file : Option (List ℕ)) (p : Pending) (r : Prepared)
-    → k.now.link ≡ Some link → Some p ≡ first_pending k.now.arrivals.pending → IsPrepared k.now p (answer_to k.now link.terms file p) r → t ≡ kept_changed r.change r.terms (written k r.draft)
+    → k.now.link ≡ Some link → Some p ≡ first_pending k.now.arrivals.pending → IsPrepared k.now p (answer_to k.now link.terms file p) r
+    → t ≡ kept_changed r.change r.terms (written k r.draft)
     → kept_closing r.closes (numbers_given t r.draft) ≡ performed keepings (next_turn k.now link.terms file k.now.arrivals.pending).acts k
 first_answers k t link file p r is_link first prepared changed =
     let rest = others_pending k.now.arrivals.pending in
@@ -253,6 +290,18 @@ first_answers k t link file p r is_link first prepared changed =
     (subst (λ pending. Claims file link p r k k.now.link pending) (sym waits) linked) prepared t changed
 
 -- an answer needs memory
-pub answer_needs : (now : Now) (terms : Terms) (file : Option (List ℕ)) (pending : List Pending) (p : Pending) → Some p ≡ first_pending pending → needs_memory (next_turn now terms file pending).acts ≡ true
+pub answer_needs : (now : Now) (terms : Terms) (file : Option (List ℕ)) (pending : List Pending) (p : Pending)
+    → Some p ≡ first_pending pending → needs_memory (next_turn now terms file pending).acts ≡ true
 answer_needs now terms file [] p e = absurd (cc)
 answer_needs now terms file (q ∷ rest) p e = refl
+
+-- an answer that was written is the one to the request, where what it was lent is the session's
+pub prepared_so : (now : Now) (lent : Lent) (terms : Terms) (file : Option (List ℕ)) (p : Pending) (a : AnAnswer) (draft : Drafted)
+    → lent ≡ record { given = given_of now; terms = terms; file = file }
+    → answering_as lent.given.debuggee a ≡ answer_of lent p → draft ≡ draft_of now.limits now.link p (answering_as now.debuggee a)
+    → IsPrepared now p (answer_to now terms file p) (record { change = a.change; terms = a.terms; closes = a.closes; draft = draft })
+prepared_so now lent terms file p a draft is answers drafts =
+    let e : answering_as now.debuggee a ≡ answer_to now terms file p = subst
+    (λ (l : Lent). answering_as l.given.debuggee a ≡ answer_of l p) is answers in
+    subst (λ (x : Answering). IsPrepared now p x (record { change = a.change; terms = a.terms; closes = a.closes; draft = draft })) e
+    (record { debuggee = refl; references = refl; terms = refl; closes = refl; draft = drafts })

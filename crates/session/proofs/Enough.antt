@@ -5,8 +5,8 @@ use Rattle.std.proofs.lemmas.Bool.Decides.{nat_tests}
 use Rattle.debuggee.specs.Programs.{Program, entered, moved, next_tick, stays, told, why_marked}
 use Rattle.debuggee.specs.declared.run.Why.TheVariants as why
 use Rattle.debuggee.specs.declared.run.Mark.{Mark}
-use Rattle.session.specs.declared.event.Ending.{Ending}
-use Rattle.session.specs.declared.event.Ending.TheVariants as ending
+use Rattle.session.specs.declared.event.SliceEnd.{SliceEnd}
+use Rattle.session.specs.declared.event.SliceEnd.TheVariants as ending
 use Rattle.session.specs.declared.state.TheConstants.{FULL}
 use Rattle.session.specs.Acts.{Now}
 use Rattle.session.specs.Beats.{concluded}
@@ -59,7 +59,8 @@ program_in w s = (w.see s).now.debuggee.program
 
 pub record Follows {S : Type 0} (w : World S) : Type 0 where
   pub becomes : (now : Now) (q : Program) (s : S) → program_in w (w.perform (becomes now q) s) ≡ Some q
-  pub tells : (s : S) (p : Program) (tick : Tick) → program_in w (performed w (telling (w.see s).now p tick) s) ≡ Some (concluded tick.outcome (told p))
+  pub tells : (s : S) (p : Program) (tick : Tick)
+      → program_in w (performed w (telling (w.see s).now p tick) s) ≡ Some (concluded tick.outcome (told p))
 
 module _ {S : Type 0} (w : World S) (h : Follows w) where
   -- ---- a beat that goes on lowers it
@@ -67,48 +68,58 @@ module _ {S : Type 0} (w : World S) (h : Follows w) where
   abbrev Falls : ℕ → ℕ → S → Option Program → Beat → Type 0
   Falls n m k program b = b.ending ≡ None → rank n (m + b.moved) (program_in w (after_beat w b k)) < rank n m program
 
-  tells_fall : (n m : ℕ) (s : S) (p : Program) (tick : Tick) → p.owed ≡ Some tick → Falls n m s (Some p) (record { acts = telling (w.see s).now p tick; moved = 0; ending = ending_of tick.outcome })
+  tells_fall : (n m : ℕ) (s : S) (p : Program) (tick : Tick) → p.owed ≡ Some tick
+      → Falls n m s (Some p) (record { acts = telling (w.see s).now p tick; moved = 0; ending = ending_of tick.outcome })
   unfolding rank rank_of owed_rank
   tells_fall n m s p tick owes on = by tick.outcome refl on where
-    by : (outcome : Outcome) → tick.outcome ≡ outcome → ending_of outcome ≡ None → rank n (m + 0) (program_in w (after_beat w (record { acts = telling (w.see s).now p tick; moved = 0; ending = ending_of tick.outcome }) s)) < rank n m (Some p)
+    by : (outcome : Outcome) → tick.outcome ≡ outcome → ending_of outcome ≡ None
+        → rank n (m + 0) (program_in w (after_beat w (record { acts = telling (w.see s).now p tick; moved = 0; ending = ending_of tick.outcome }) s)) < rank n m (Some p)
     by (Stopped reason) e x = absurd (cc)
     by (Ended code) e x = absurd (cc)
     by Went e x =
-        let after : program_in w (performed w (telling (w.see s).now p tick) s) ≡ Some (told p) = h.tells s p tick ∙ ap (λ (o : Outcome). let r : Option Program = Some (concluded o (told p)) in r) e in
+        let after : program_in w (performed w (telling (w.see s).now p tick) s) ≡ Some (told p) = h.tells s p tick ∙ ap
+        (λ (o : Outcome). let r : Option Program = Some (concluded o (told p)) in r) e in
         let one : owed_rank p.owed ≡ 1 = ap owed_rank owes in
         let goal : rank n (m + 0) (Some (told p)) < rank n m (Some p) = omega (arith, one) in
         subst (λ (q : Option Program). rank n (m + 0) q < rank n m (Some p)) (sym after) goal
 
   -- a beat after which the program is this
-  becomes_fall : (n m moved : ℕ) (s : S) (p q : Program) → rank n (m + moved) (Some q) < rank n m (Some p) → Falls n m s (Some p) (record { acts = becomes (w.see s).now q ∷ []; moved = moved; ending = None })
-  becomes_fall n m moved s p q less on = subst (λ (r : Option Program). rank n (m + moved) r < rank n m (Some p)) (sym (h.becomes (w.see s).now q s)) less
+  becomes_fall : (n m moved : ℕ) (s : S) (p q : Program) → rank n (m + moved) (Some q) < rank n m (Some p)
+      → Falls n m s (Some p) (record { acts = becomes (w.see s).now q ∷ []; moved = moved; ending = None })
+  becomes_fall n m moved s p q less on =
+      subst (λ (r : Option Program). rank n (m + moved) r < rank n m (Some p)) (sym (h.becomes (w.see s).now q s)) less
 
-  checks_fall : (n m : ℕ) (k : S) (p : Program) → p.machine.check_due ≡ true → Falls n m k (Some p) (record { acts = becomes (w.see k).now (entered p) ∷ []; moved = 0; ending = None })
+  checks_fall : (n m : ℕ) (k : S) (p : Program) → p.machine.check_due ≡ true
+      → Falls n m k (Some p) (record { acts = becomes (w.see k).now (entered p) ∷ []; moved = 0; ending = None })
   unfolding rank rank_of due_rank
   checks_fall n m k p due =
       let two : due_rank p.machine.check_due ≡ 2 = ap due_rank due in
       let few = owed_few (entered p).owed in
       becomes_fall n m 0 k p (entered p) (omega (arith, two, few))
 
-  retires_fall : (n m : ℕ) (k : S) (p : Program) → p.machine.check_due ≡ false → m < n → stays (next_tick p).outcome ≡ false → Falls n m k (Some p) (retires (w.see k).now p)
+  retires_fall : (n m : ℕ) (k : S) (p : Program) → p.machine.check_due ≡ false → m < n → stays (next_tick p).outcome ≡ false
+      → Falls n m k (Some p) (retires (w.see k).now p)
   unfolding rank rank_of due_rank
   retires_fall n m k p due lt e =
       let none : due_rank (moved p).machine.check_due ≡ 0 = ap due_rank ((move_retires p due e).0 ∙ due) in
       let few = owed_few (moved p).owed in
       becomes_fall n m 1 k p (moved p) (omega (arith, none, few, lt))
 
-  moves_fall : (n m : ℕ) (k : S) (p : Program) (outcome : Outcome) → (next_tick p).outcome ≡ outcome → p.machine.check_due ≡ false → m < n → Falls n m k (Some p) (moves_by (w.see k).now p outcome)
+  moves_fall : (n m : ℕ) (k : S) (p : Program) (outcome : Outcome) → (next_tick p).outcome ≡ outcome → p.machine.check_due ≡ false → m < n
+      → Falls n m k (Some p) (moves_by (w.see k).now p outcome)
   moves_fall n m k p outcome e due lt =
-      by_move (λ o b. (next_tick p).outcome ≡ o → Falls n m k (Some p) b) (w.see k).now p outcome (λ o goes e. retires_fall n m k p due lt (ap stays e ∙ goes)) (λ _ _ x. absurd (cc)) (λ _ _ x. absurd (cc)) e
+      by_move (λ o b. (next_tick p).outcome ≡ o → Falls n m k (Some p) b) (w.see k).now p outcome
+      (λ o goes e. retires_fall n m k p due lt (ap stays e ∙ goes)) (λ _ _ x. absurd (cc)) (λ _ _ x. absurd (cc)) e
 
-  ends_fall : (n m : ℕ) (k : S) (program : Option Program) (b : Beat) (e : Ending) → b.ending ≡ Some e → Falls n m k program b
+  ends_fall : (n m : ℕ) (k : S) (program : Option Program) (b : Beat) (e : SliceEnd) → b.ending ≡ Some e → Falls n m k program b
   ends_fall n m k program b e h x = absurd (cc)
 
   goes_fall : (n m : ℕ) (k : S) (p : Program) → Falls n m k (Some p) (goes (w.see k).now p (ltb m n))
   goes_fall n m k p =
       if_keeps (Falls n m k (Some p)) p.machine.check_due _ _ (λ due. checks_fall n m k p due)
       (λ due. if_keeps (Falls n m k (Some p)) (not (ltb m n)) _ _ (λ _. ends_fall n m k (Some p) (ends ending.Spent) ending.Spent refl)
-      (λ more. if_keeps (Falls n m k (Some p)) (leb (w.see k).now.limits.last_retired p.machine.retired) _ _ (λ _. ends_fall n m k (Some p) (stops (w.see k).now p why.Limit) ending.Stopped refl)
+      (λ more. if_keeps (Falls n m k (Some p)) (leb (w.see k).now.limits.last_retired p.machine.retired) _ _
+      (λ _. ends_fall n m k (Some p) (stops (w.see k).now p why.Limit) ending.Stopped refl)
       (λ _. moves_fall n m k p (next_tick p).outcome refl due (let lt : m < n = grind (arith, nat_tests) in lt))))
 
   unless_falls : (n m : ℕ) (k : S) (p : Program) (mark : Option Mark) → Falls n m k (Some p) (goes_unless mark (w.see k).now p (ltb m n))
@@ -117,11 +128,14 @@ module _ {S : Type 0} (w : World S) (h : Follows w) where
 
   runs_fall : (n m : ℕ) (k : S) (p : Program) → Falls n m k (Some p) (runs (w.see k) p (ltb m n))
   runs_fall n m k p =
-      if_keeps (Falls n m k (Some p)) (not (is_runnable_by (w.see k).now.link p.run)) _ _ (λ _. ends_fall n m k (Some p) (ends ending.Idle) ending.Idle refl)
-      (λ _. if_keeps (Falls n m k (Some p)) (ltb FULL (w.see k).waits) _ _ (λ _. ends_fall n m k (Some p) (ends ending.Full) ending.Full refl)
+      if_keeps (Falls n m k (Some p)) (not (is_runnable_by (w.see k).now.link p.run)) _ _
+      (λ _. ends_fall n m k (Some p) (ends ending.Idle) ending.Idle refl)
+      (λ _. if_keeps (Falls n m k (Some p)) (ltb FULL (w.see k).waits) _ _
+      (λ _. ends_fall n m k (Some p) (ends ending.Full) ending.Full refl)
       (λ _. unless_falls n m k p p.mark))
 
-  owed_falls : (n m : ℕ) (k : S) (p : Program) (owed : Option Tick) → p.owed ≡ owed → Falls n m k (Some p) (beat_by owed (w.see k) p (ltb m n))
+  owed_falls : (n m : ℕ) (k : S) (p : Program) (owed : Option Tick) → p.owed ≡ owed
+      → Falls n m k (Some p) (beat_by owed (w.see k) p (ltb m n))
   owed_falls n m k p (Some tick) e = tells_fall n m k p tick e
   owed_falls n m k p None e = runs_fall n m k p
 
@@ -137,7 +151,8 @@ module _ {S : Type 0} (w : World S) (h : Follows w) where
   abbrev Lowered : ℕ → ℕ → S → Slicing S → Type 0
   Lowered n i s d = d.ending ≡ None → rank n d.moved (program_in w d.state) + i ≤ 2 * n + 3
 
-  next_lowers : (n i : ℕ) (s : S) (d : Slicing S) (e : Option Ending) → d.ending ≡ e → Lowered n i s d → Lowered n (suc i) s (next_by w n e d)
+  next_lowers : (n i : ℕ) (s : S) (d : Slicing S) (e : Option SliceEnd) → d.ending ≡ e → Lowered n i s d
+      → Lowered n (suc i) s (next_by w n e d)
   next_lowers n i s d (Some e) is h on = absurd (let never : Some e ≡ None = sym is ∙ on in cc)
   next_lowers n i s d None is h on =
       let less = beat_falls n d.moved d.state on in
@@ -149,24 +164,24 @@ module _ {S : Type 0} (w : World S) (h : Follows w) where
   lowered n zero s on = let a = few (program_in w s) in omega (arith, a)
   lowered n (suc i) s on = next_lowers n i s (beats w n i s) (beats w n i s).ending refl (lowered n i s) on
 
-  some_of : (e : Option Ending) → (e ≡ None → ⊥) → (x : Ending) × (e ≡ Some x)
+  some_of : (e : Option SliceEnd) → (e ≡ None → ⊥) → (x : SliceEnd) × (e ≡ Some x)
   some_of None h = absurd (h refl)
   some_of (Some x) h = (x, refl)
 
-  pub each_ends : (n : ℕ) (s : S) → (e : Ending) × ((sliced w n s).ending ≡ Some e)
+  pub each_ends : (n : ℕ) (s : S) → (e : SliceEnd) × ((sliced w n s).ending ≡ Some e)
   each_ends n s = some_of (sliced w n s).ending (λ on. let h = lowered n (enough n) s on in omega (arith, h))
 
   -- ---- and stays so
 
-  stays_ended : (n i more : ℕ) (s : S) (e : Ending) → (beats w n i s).ending ≡ Some e → beats w n (i + more) s ≡ beats w n i s
+  stays_ended : (n i more : ℕ) (s : S) (e : SliceEnd) → (beats w n i s).ending ≡ Some e → beats w n (i + more) s ≡ beats w n i s
   stays_ended n i zero s e h = let none : i + zero ≡ i = omega arith in ap (λ (x : ℕ). beats w n x s) none
   stays_ended n i (suc more) s e h =
       let one : i + suc more ≡ suc (i + more) = omega arith in
       ap (λ (x : ℕ). beats w n x s) one
       ∙ ap (next_beat w n) (stays_ended n i more s e h)
-      ∙ ap (λ (x : Option Ending). next_by w n x (beats w n i s)) h
+      ∙ ap (λ (x : Option SliceEnd). next_by w n x (beats w n i s)) h
 
-  pub is_sliced : (n i : ℕ) (s : S) (e : Ending) → (beats w n i s).ending ≡ Some e → beats w n i s ≡ sliced w n s
+  pub is_sliced : (n i : ℕ) (s : S) (e : SliceEnd) → (beats w n i s).ending ≡ Some e → beats w n i s ≡ sliced w n s
   is_sliced n i s e h =
       let there = each_ends n s in
       let both : i + enough n ≡ enough n + i = omega arith in

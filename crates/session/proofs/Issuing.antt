@@ -21,19 +21,23 @@ use Rattle.variables.proofs.Standing.{all_stand, ended_stands, nothing_stands}
 
 -- ---- without the connections, it is the same
 
-one_as : (number : Option ℕ) (connection : ℕ) (all : References) (target : Target) → past_of (unless_issued number connection all target) ≡ variables.unless_issued number (past_of all) target
+one_as : (number : Option ℕ) (connection : ℕ) (all : References) (target : Target)
+    → past_of (unless_issued number connection all target) ≡ variables.unless_issued number (past_of all) target
 one_as None connection all target = refl
 one_as (Some number) connection all target = refl
 
-all_as : (connection : ℕ) (all : References) (targets : List Target) → past_of (issued_all connection all targets) ≡ variables.issued_all (past_of all) targets
+all_as : (connection : ℕ) (all : References) (targets : List Target)
+    → past_of (issued_all connection all targets) ≡ variables.issued_all (past_of all) targets
 all_as connection all [] = refl
 all_as connection all (target ∷ others) =
     all_as connection (issued_one connection all target) others
     ∙ ap (λ (past : Past). variables.issued_all past others) (one_as (number_of (past_of all) target) connection all target)
 
-stands_after : (call : Option Call) (connection : ℕ) (numbers : Numbers) (all : References) → StandsFor numbers (past_of all) → StandsFor (referred call numbers) (past_of (past_referred connection call all))
+stands_after : (call : Option Call) (connection : ℕ) (numbers : Numbers) (all : References) → StandsFor numbers (past_of all)
+    → StandsFor (referred call numbers) (past_of (past_referred connection call all))
 stands_after None connection numbers all h = h
-stands_after (Some (Issue targets)) connection numbers all h = subst (StandsFor _) (sym (all_as connection all targets)) (all_stand numbers (past_of all) targets h)
+stands_after (Some (Issue targets)) connection numbers all h =
+    subst (StandsFor _) (sym (all_as connection all targets)) (all_stand numbers (past_of all) targets h)
 stands_after (Some EndStop) connection numbers all h = ended_stands numbers (past_of all) h
 
 -- ---- what is issued in a stop is issued on its connection
@@ -49,30 +53,40 @@ IsMade link connection stop r = (r.stop ≤ stop) × (r.stop ≡ stop → Here l
 abbrev pub AreMade : Option Link → ℕ → References → Type 0
 AreMade link connection all = All (IsMade link connection all.stop) all.issued
 
-made_one : (number : Option ℕ) (link : Link) (connection : ℕ) (all : References) (target : Target) → AreMade (Some link) connection all → AreMade (Some link) connection (unless_issued number connection all target)
+made_one : (number : Option ℕ) (link : Link) (connection : ℕ) (all : References) (target : Target) → AreMade (Some link) connection all
+    → AreMade (Some link) connection (unless_issued number connection all target)
 made_one None link connection all target h =
     let made : Reference → Type 0 = IsMade (Some link) connection all.stop in
-    All-cons made (record { number = next_number (past_of all); target = target; stop = all.stop; connection = connection }) all.issued (let same : all.stop ≤ all.stop = omega arith in same, λ same. (tt, refl)) h
+    All-cons made (record { number = next_number (past_of all); target = target; stop = all.stop; connection = connection }) all.issued
+    (let same : all.stop ≤ all.stop = omega arith in same, λ same. (tt, refl)) h
 made_one (Some number) link connection all target h = h
 
-made_all : (link : Link) (connection : ℕ) (all : References) (targets : List Target) → AreMade (Some link) connection all → AreMade (Some link) connection (issued_all connection all targets)
+made_all : (link : Link) (connection : ℕ) (all : References) (targets : List Target) → AreMade (Some link) connection all
+    → AreMade (Some link) connection (issued_all connection all targets)
 made_all link connection all [] h = h
-made_all link connection all (target ∷ others) h = made_all link connection (issued_one connection all target) others (made_one (number_of (past_of all) target) link connection all target h)
+made_all link connection all (target ∷ others) h =
+    made_all link connection (issued_one connection all target) others
+    (made_one (number_of (past_of all) target) link connection all target h)
 
-made_ended : (link other : Option Link) (connection : ℕ) (all : References) → AreMade link connection all → AreMade other connection (ended all)
+made_ended : (link other : Option Link) (connection : ℕ) (all : References) → AreMade link connection all
+    → AreMade other connection (ended all)
 made_ended link other connection all h =
     All-weaker (IsMade link connection all.stop) (IsMade other connection (all.stop + 1))
     (λ r made. (let least = made.0 in omega (arith, least), λ same. absurd (let least = made.0 in omega (arith, least, same)))) all.issued h
 
-made_after : (call : Option Call) (link : Link) (connection : ℕ) (all : References) → AreMade (Some link) connection all → AreMade (Some link) connection (past_referred connection call all)
+made_after : (call : Option Call) (link : Link) (connection : ℕ) (all : References) → AreMade (Some link) connection all
+    → AreMade (Some link) connection (past_referred connection call all)
 made_after None link connection all h = h
 made_after (Some (Issue targets)) link connection all h = made_all link connection all targets h
 made_after (Some EndStop) link connection all h = made_ended (Some link) (Some link) connection all h
 
 -- on a connection that begins, nothing was issued
-made_opened : (here : Type 0) (connection other : ℕ) (all : References) → AreMade None connection all → All (λ (r : Reference). (r.stop ≤ all.stop) × (r.stop ≡ all.stop → here × (r.connection ≡ other))) all.issued
+made_opened : (here : Type 0) (connection other : ℕ) (all : References) → AreMade None connection all
+    → All (λ (r : Reference). (r.stop ≤ all.stop) × (r.stop ≡ all.stop → here × (r.connection ≡ other))) all.issued
 made_opened here connection other all h =
-    All-weaker (IsMade None connection all.stop) (λ (r : Reference). (r.stop ≤ all.stop) × (r.stop ≡ all.stop → here × (r.connection ≡ other))) (λ r made. (made.0, λ same. absurd (made.1 same).0)) all.issued h
+    All-weaker (IsMade None connection all.stop)
+    (λ (r : Reference). (r.stop ≤ all.stop) × (r.stop ≡ all.stop → here × (r.connection ≡ other)))
+    (λ r made. (made.0, λ same. absurd (made.1 same).0)) all.issued h
 
 -- ---- every session
 
@@ -83,7 +97,11 @@ pub record Refers (s : Session) : Type 0 where
 refers : KeptByOthers Refers
 refers = record {
   opens = λ s h. record { stands = h.stands; made = made_opened ⊤ s.now.connections (s.now.connections + 1) s.references h.made };
-  closes = λ s h. record { stands = ended_stands s.now.numbers (past_of s.references) h.stands; made = made_ended s.now.link None s.now.connections s.references h.made };
+  closes =
+      λ s h. record {
+        stands = ended_stands s.now.numbers (past_of s.references) h.stands;
+        made = made_ended s.now.link None s.now.connections s.references h.made;
+      };
   accepts = λ l piece s e h. record { stands = h.stands; made = h.made };
   agrees = λ l terms s h. record { stands = h.stands; made = h.made };
   refers = λ l call s h. record {
@@ -100,11 +118,14 @@ refers_answers : KeptByAnswers Refers
 refers_answers = λ l p rest outcome s few h. record { stands = h.stands; made = h.made }
 
 pub always_refers : (from : Beginning) (events : List Event) → Refers (After from events)
-always_refers from events = reached_by_acts Refers (by_forms Refers refers refers_answers) from (record { stands = nothing_stands from.limits.last_ref; made = All-nil (IsMade None 0 0) }) events
+always_refers from events =
+    reached_by_acts Refers (by_forms Refers refers refers_answers) from
+    (record { stands = nothing_stands from.limits.last_ref; made = All-nil (IsMade None 0 0) }) events
 
 -- ---- numbers rise
 
-same_numbers : (issued : List Reference) → map (λ (i : Issued). i.number) (map without_connection issued) ≡ map (λ (r : Reference). r.number) issued
+same_numbers : (issued : List Reference)
+    → map (λ (i : Issued). i.number) (map without_connection issued) ≡ map (λ (r : Reference). r.number) issued
 same_numbers [] = refl
 same_numbers (r ∷ issued) = ap (λ (l : List ℕ). r.number ∷ l) (same_numbers issued)
 
@@ -112,5 +133,6 @@ pub references_rise : (from : Beginning) (events : List Event) → ReferencesRis
 references_rise from events =
     let s = After from events in
     let issued = s.references.issued in
-    let h : Falls (map without_connection issued) = falls s.references.stop (map without_connection issued) (always_refers from events).stands.order in
+    let h : Falls (map without_connection issued) = falls s.references.stop (map without_connection issued)
+    (always_refers from events).stands.order in
     sym (same_numbers issued) ∙ h.numbers ∙ ap down_from (length-map issued without_connection)

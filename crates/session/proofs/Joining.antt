@@ -13,25 +13,33 @@ seen_as f pending = map (λ p. f p.ask) pending
 
 same_asks : {X : Type 0} (f : Ask → X) (id : ℤ) (pending : List Pending) → seen_as f (map (cancelled_by id) pending) ≡ seen_as f pending
 same_asks f id [] = refl
-same_asks f id (p ∷ pending) = ap (λ x. x ∷ seen_as f (map (cancelled_by id) pending)) (same (is_named id p)) ∙ ap (λ l. f p.ask ∷ l) (same_asks f id pending) where
-  same : (b : Bool) → f (let q : Pending = if b then record p { fate = Cancelled } else p in q).ask ≡ f p.ask
-  same true = refl
-  same false = refl
+same_asks f id (p ∷ pending) =
+    ap (λ x. x ∷ seen_as f (map (cancelled_by id) pending)) (same (is_named id p)) ∙ ap (λ l. f p.ask ∷ l) (same_asks f id pending) where
+      same : (b : Bool) → f (let q : Pending = if b then record p { fate = Cancelled } else p in q).ask ≡ f p.ask
+      same true = refl
+      same false = refl
 
 seen_as-append : {X : Type 0} (f : Ask → X) (xs ys : List Pending) → seen_as f (xs ++ ys) ≡ seen_as f xs ++ seen_as f ys
 seen_as-append f xs ys = map-append (λ (p : Pending). f p.ask) xs ys
 
-pending_with_as : {X : Type 0} (f : Ask → X) (id : Option ℤ) (pending : List Pending) (ask : Ask) → seen_as f (pending_with id pending ask) ≡ seen_as f pending ++ f ask ∷ []
+pending_with_as : {X : Type 0} (f : Ask → X) (id : Option ℤ) (pending : List Pending) (ask : Ask)
+    → seen_as f (pending_with id pending ask) ≡ seen_as f pending ++ f ask ∷ []
 pending_with_as f None pending ask = seen_as-append f pending (record { ask = ask; fate = Waits } ∷ [])
-pending_with_as f (Some id) pending ask = seen_as-append f (map (cancelled_by id) pending) _ ∙ ap (λ l. l ++ f ask ∷ []) (same_asks f id pending)
+pending_with_as f (Some id) pending ask =
+    seen_as-append f (map (cancelled_by id) pending) _ ∙ ap (λ l. l ++ f ask ∷ []) (same_asks f id pending)
 
-joined_as : {X : Type 0} (f : Ask → X) (came : Arrivals) (ask : Ask) → seen_as f (joined came ask).pending ≡ seen_as f came.pending ++ f ask ∷ []
+joined_as : {X : Type 0} (f : Ask → X) (came : Arrivals) (ask : Ask)
+    → seen_as f (joined came ask).pending ≡ seen_as f came.pending ++ f ask ∷ []
 joined_as f came ask = by_test (is_above came.highest (number_of ask)) where
-  by_test : (b : Bool) → seen_as f (let a : Arrivals = if b then record { highest = Some (number_of ask); pending = pending_with (cancels ask) came.pending ask } else record { highest = came.highest; pending = came.pending ++ record { ask = ask; fate = Repeated } ∷ [] } in a).pending
+  by_test : (b : Bool)
+      → seen_as f (let a : Arrivals = if b then record { highest = Some (number_of ask); pending = pending_with (cancels ask) came.pending ask } else record { highest = came.highest; pending = came.pending ++ record { ask = ask; fate = Repeated } ∷ [] } in a).pending
       ≡ seen_as f came.pending ++ f ask ∷ []
   by_test true = pending_with_as f (cancels ask) came.pending ask
   by_test false = seen_as-append f came.pending (record { ask = ask; fate = Repeated } ∷ [])
 
-pub all_joined_as : {X : Type 0} (f : Ask → X) (asks : List Ask) (came : Arrivals) → seen_as f (all_joined came asks).pending ≡ seen_as f came.pending ++ map f asks
+pub all_joined_as : {X : Type 0} (f : Ask → X) (asks : List Ask) (came : Arrivals)
+    → seen_as f (all_joined came asks).pending ≡ seen_as f came.pending ++ map f asks
 all_joined_as f [] came = sym (append-nil (seen_as f came.pending))
-all_joined_as f (ask ∷ asks) came = all_joined_as f asks (joined came ask) ∙ ap (λ l. l ++ map f asks) (joined_as f came ask) ∙ append_assoc (seen_as f came.pending) (f ask ∷ []) (map f asks)
+all_joined_as f (ask ∷ asks) came =
+    all_joined_as f asks (joined came ask) ∙ ap (λ l. l ++ map f asks) (joined_as f came ask) ∙ append_assoc (seen_as f came.pending)
+    (f ask ∷ []) (map f asks)

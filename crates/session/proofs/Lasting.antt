@@ -27,21 +27,23 @@ use Rattle.session.specs.declared.event.Event.{Event}
 use Rattle.session.specs.declared.link.Link.{Link}
 use Rattle.session.specs.declared.pending.Ask.TheVariants.{Request}
 use Rattle.session.specs.declared.pending.Fate.{Fate}
-use Rattle.session.specs.declared.phase.Phase.{Phase}
-use Rattle.session.specs.declared.terms.Terms.{Terms}
-use Rattle.session.specs.Acts.{Answering, Now}
+use Rattle.handlers.specs.declared.phase.Phase.{Phase}
+use Rattle.handlers.specs.declared.terms.Terms.{Terms}
+use Rattle.handlers.specs.Given.{Answering, Given}
+use Rattle.session.specs.Acts.{Now, given_of}
 use Rattle.debuggee.specs.declared.run.Run.{Run}
 use Rattle.expressions.specs.Trees.{Tree}
 use Rattle.expressions.specs.Values.{value_of}
 use Rattle.expressions.specs.declared.error.ExprFault.{ExprFault}
 use Rattle.rv32i.specs.declared.hart.Hart.{Hart}
-use Rattle.session.specs.declared.demand.Demand.{Demand}
+use Rattle.handlers.specs.declared.demand.Demand.{Demand}
 use Rattle.session.specs.Arrivals.{is_repeat}
-use Rattle.session.specs.Demands.{asks_stopped, goes_on, has_ended, has_none, is_no_thread, run_of}
-use Rattle.session.specs.Looking.{looks_on, shows_by}
-use Rattle.session.specs.SetVariable.{sets_by, sets_on}
+use Rattle.handlers.specs.Looking.{demand}
+use Rattle.handlers.specs.Demands.{goes_on, has_ended, has_none, is_no_thread, run_of}
+use Rattle.handlers.specs.Looking.{looks_on, shows_by}
+use Rattle.handlers.specs.SetVariable.{sets_by, sets_on}
 use Rattle.session.specs.Refusals.{answer_by, first_refusal, is_cancelled, names_none, refusals, unmet, where_so}
-use Rattle.session.specs.Requests.{demand_of, is_taken_in, success_of}
+use Rattle.handlers.specs.Requests.{demand_of, is_taken_in, success_of}
 use Rattle.stepping.specs.Ticks.{Debugged}
 use Rattle.variables.specs.Registers.{name_answer, number_of, unless_zero}
 use Rattle.variables.specs.Stack.{stack_words}
@@ -82,7 +84,8 @@ nat_eq m n e = grind (arith, nat_tests, e)
 nat_differ : (m n : ℕ) → eqb m n ≡ false → m ≡ n → ⊥
 nat_differ m n e f = absurd (grind (arith, nat_tests, e, f))
 
-says_more : (stop number : ℕ) (r : Reference) (issued : List Reference) (x : Result Target FindError) → (r.number ≡ number → ⊥) → Says stop number issued x → Says stop number (r ∷ issued) x
+says_more : (stop number : ℕ) (r : Reference) (issued : List Reference) (x : Result Target FindError) → (r.number ≡ number → ⊥)
+    → Says stop number issued x → Says stop number (r ∷ issued) x
 says_more stop number r issued (Ok t) other h = later (λ r. (r.number ≡ number) × ((r.stop ≡ stop) × (r.target ≡ t))) r issued h
 says_more stop number r issued (Err Stale) other h = later (λ r. (r.number ≡ number) × (r.stop ≡ stop → ⊥)) r issued h
 says_more stop number r issued (Err Unknown) other h = λ a. not_here a where
@@ -100,21 +103,26 @@ finds_so stop number (r ∷ issued) = by (finds_so stop number issued) (eqb r.nu
   here true is e = (r, 0, (refl, (is, (nat_eq r.stop stop e, refl))))
   here false is e = (r, 0, (refl, (is, nat_differ r.stop stop e)))
 
-  by : Says stop number issued (found_among stop number (map without_connection issued)) → (b : Bool) → eqb r.number number ≡ b → Says stop number (r ∷ issued) (cond b (cond (eqb r.stop stop) (Ok r.target) (Err Stale)) (found_among stop number (map without_connection issued)))
+  by : Says stop number issued (found_among stop number (map without_connection issued)) → (b : Bool) → eqb r.number number ≡ b
+      → Says stop number (r ∷ issued) (cond b (cond (eqb r.stop stop) (Ok r.target) (Err Stale)) (found_among stop number (map without_connection issued)))
   by rest true e = here (eqb r.stop stop) (nat_eq r.number number e) refl
-  by rest false e = says_more stop number r issued (found_among stop number (map without_connection issued)) (nat_differ r.number number e) rest
+  by rest false e =
+      says_more stop number r issued (found_among stop number (map without_connection issued)) (nat_differ r.number number e) rest
 
 -- ---- no two references have one number
 
-below : (stop : ℕ) (issued : List Reference) → InOrder stop (map without_connection issued) → (place : ℕ) (r : Reference) → slice_get issued place ≡ Some r → r.number < next_after (map without_connection issued)
+below : (stop : ℕ) (issued : List Reference) → InOrder stop (map without_connection issued) → (place : ℕ) (r : Reference)
+    → slice_get issued place ≡ Some r → r.number < next_after (map without_connection issued)
 below stop [] o place r e = absurd (let no : None ≡ Some r = e in cc)
-below stop (i ∷ issued) o zero r e = let same : i.number ≡ r.number = ap (λ (x : Reference). x.number) (let it : i ≡ r = cc in it) in omega (arith, same)
+below stop (i ∷ issued) o zero r e =
+    let same : i.number ≡ r.number = ap (λ (x : Reference). x.number) (let it : i ≡ r = cc in it) in omega (arith, same)
 below stop (i ∷ issued) o (suc place) r e =
     let less = below i.stop issued o.1.1 place r e in
     let next : i.number ≡ next_after (map without_connection issued) = o.0 in
     omega (arith, less, next)
 
-same_reference : (stop : ℕ) (issued : List Reference) → InOrder stop (map without_connection issued) → (j k : ℕ) (q r : Reference) → slice_get issued j ≡ Some q → slice_get issued k ≡ Some r → q.number ≡ r.number → q ≡ r
+same_reference : (stop : ℕ) (issued : List Reference) → InOrder stop (map without_connection issued) → (j k : ℕ) (q r : Reference)
+    → slice_get issued j ≡ Some q → slice_get issued k ≡ Some r → q.number ≡ r.number → q ≡ r
 same_reference stop [] o j k q r e f same = absurd (let no : None ≡ Some q = e in cc)
 same_reference stop (i ∷ issued) o zero zero q r e f same = cc
 same_reference stop (i ∷ issued) o zero (suc k) q r e f same =
@@ -143,13 +151,18 @@ Knows s number (Err refusal.StaleReference) = IsStale s number
 Knows s number (Err refusal.UnknownReference) = WasIssued s (λ r. number ≡ pos r.number) → ⊥
 Knows s number (Err other) = ⊥
 
-known : (s : Session) → Refers s → (number : ℕ) (x : Result Target FindError) → Says s.references.stop number s.references.issued x → Knows s (pos number) (refused x)
+known : (s : Session) → Refers s → (number : ℕ) (x : Result Target FindError) → Says s.references.stop number s.references.issued x
+    → Knows s (pos number) (refused x)
 known s h number (Ok t) a = record { reference = a.0; place = a.1; there = a.2.0; so = (ap pos (sym a.2.1.0), a.2.1.1) }
 known s h number (Err Stale) a = record {
   reference = a.0;
   place = a.1;
   there = a.2.0;
-  so = (ap pos (sym a.2.1.0), earlier a.0.stop s.references.stop (all_at (IsMade s.now.link s.now.connections s.references.stop) s.references.issued h.made a.1 a.0 a.2.0).0 a.2.1.1);
+  so = (
+    ap pos (sym a.2.1.0),
+    earlier a.0.stop s.references.stop
+        (all_at (IsMade s.now.link s.now.connections s.references.stop) s.references.issued h.made a.1 a.0 a.2.0).0 a.2.1.1,
+  );
 } where
   earlier : (m n : ℕ) → m ≤ n → (m ≡ n → ⊥) → m < n
   earlier m n least differ = by (eqb m n) refl where
@@ -163,7 +176,8 @@ known s h number (Err Unknown) a = λ w. a (w.reference, w.place, (w.there, same
 knows : (s : Session) → Refers s → (number : ℤ) → Knows s number (target_of s.now.numbers number)
 knows s h (pos number) =
     known s h number (found_in s.now.numbers number)
-    (subst (Says s.references.stop number s.references.issued) (sym (h.stands.finds number)) (finds_so s.references.stop number s.references.issued))
+    (subst (Says s.references.stop number s.references.issued) (sym (h.stands.finds number))
+    (finds_so s.references.stop number s.references.issued))
 knows s h (negsuc number) = λ w. absurd (let no : negsuc number ≡ pos w.reference.number = w.so in cc)
 
 -- a number that is good refers to something
@@ -171,12 +185,14 @@ same_number : (m n : ℕ) (number : ℤ) → number ≡ pos m → number ≡ pos
 same_number m n number e f = let same : pos m ≡ pos n = sym e ∙ f in cc
 
 -- two that were issued under one number are one
-one_reference : (s : Session) → Refers s → (number : ℤ) (P Q : Reference → Type 0) (a : WasIssued s P) (b : WasIssued s Q) → number ≡ pos a.reference.number → number ≡ pos b.reference.number → a.reference ≡ b.reference
+one_reference : (s : Session) → Refers s → (number : ℤ) (P Q : Reference → Type 0) (a : WasIssued s P) (b : WasIssued s Q)
+    → number ≡ pos a.reference.number → number ≡ pos b.reference.number → a.reference ≡ b.reference
 one_reference s h number P Q a b e f =
     same_reference s.references.stop s.references.issued h.stands.order a.place b.place a.reference b.reference a.there b.there
     (same_number a.reference.number b.reference.number number e f)
 
-not_both : (s : Session) → Refers s → (number : ℤ) (P : Reference → Type 0) (good : WasIssued s P) → number ≡ pos good.reference.number → good.reference.stop ≡ s.references.stop → IsStale s number → ⊥
+not_both : (s : Session) → Refers s → (number : ℤ) (P : Reference → Type 0) (good : WasIssued s P) → number ≡ pos good.reference.number
+    → good.reference.stop ≡ s.references.stop → IsStale s number → ⊥
 not_both s h number P good is now stale =
     let one = one_reference s h number P _ good stale is stale.so.0 in
     let same : good.reference.stop ≡ stale.reference.stop = ap (λ (r : Reference). r.stop) one in
@@ -205,9 +221,11 @@ abbrev IsOtherResult : Result ResponseBody Refusal → Type 0
 IsOtherResult (Ok body) = ⊤
 IsOtherResult (Err why) = is_about why ≡ false
 
-shows_other : (now : Now) (terms : Terms) (result : Result ResponseBody Refusal) (targets : List Target) → IsOtherResult result → IsOther (shows_by now terms result targets).outcome
+shows_other : (now : Now) (terms : Terms) (result : Result ResponseBody Refusal) (targets : List Target) → IsOtherResult result
+    → IsOther (shows_by (given_of now) terms result targets).outcome
 shows_other now terms (Err why) targets h = h
-shows_other now terms (Ok body) targets h = if_keeps (λ (a : Answering). IsOther a.outcome) (has_room now.numbers targets) _ _ (λ _. tt) (λ _. refl)
+shows_other now terms (Ok body) targets h =
+    if_keeps (λ (a : Answering). IsOther a.outcome) (has_room now.numbers targets) _ _ (λ _. tt) (λ _. refl)
 
 valued_other : (tree : Option Tree) (hart : Hart) (memory : List ℕ) → IsOtherResult (valued tree hart memory)
 valued_other None hart memory = refl
@@ -216,23 +234,30 @@ valued_other (Some tree) hart memory = by (value_of tree hart memory) where
   by (Ok value) = tt
   by (Err fault) = refl
 
-scopes_speak : (now : Now) (terms : Terms) (arguments : ScopesArguments) (found : Result Target Refusal) → Speaks (Scopes arguments) found (shows_by now terms (scopes_by now.numbers (if_frame found)) (given_by (if_frame found))).outcome
+scopes_speak : (now : Now) (terms : Terms) (arguments : ScopesArguments) (found : Result Target Refusal)
+    → Speaks (Scopes arguments) found (shows_by (given_of now) terms (scopes_by now.numbers (if_frame found)) (given_by (if_frame found))).outcome
 scopes_speak now terms arguments (Err why) = refl
-scopes_speak now terms arguments (Ok (target.Frame index)) = shows_other now terms (scopes_by now.numbers (Ok index)) (given_by (Ok index)) tt
+scopes_speak now terms arguments (Ok (target.Frame index)) =
+    shows_other now terms (scopes_by now.numbers (Ok index)) (given_by (Ok index)) tt
 scopes_speak now terms arguments (Ok target.Registers) = refl
 scopes_speak now terms arguments (Ok target.Stack) = refl
 
-evaluate_speaks : (now : Now) (terms : Terms) (arguments : EvaluateArguments) (answer : Result ResponseBody Refusal) (found : Result Target Refusal) → IsOtherResult answer → Speaks (Evaluate arguments) found (shows_by now terms (unless_refused (result_err (if_frame found)) answer) []).outcome
+evaluate_speaks : (now : Now) (terms : Terms) (arguments : EvaluateArguments) (answer : Result ResponseBody Refusal) (found : Result Target Refusal)
+    → IsOtherResult answer
+    → Speaks (Evaluate arguments) found (shows_by (given_of now) terms (unless_refused (result_err (if_frame found)) answer) []).outcome
 evaluate_speaks now terms arguments answer (Err why) h = refl
 evaluate_speaks now terms arguments answer (Ok (target.Frame index)) h = shows_other now terms answer [] h
 evaluate_speaks now terms arguments answer (Ok target.Registers) h = refl
 evaluate_speaks now terms arguments answer (Ok target.Stack) h = refl
 
-variables_speak : (now : Now) (terms : Terms) (machine : Debugged) (arguments : VariablesArguments) (found : Result Target Refusal) → Speaks (Variables arguments) found (shows_by now terms (variables_by arguments (variables_in machine found)) []).outcome
+variables_speak : (now : Now) (terms : Terms) (machine : Debugged) (arguments : VariablesArguments) (found : Result Target Refusal)
+    → Speaks (Variables arguments) found (shows_by (given_of now) terms (variables_by arguments (variables_in machine found)) []).outcome
 variables_speak now terms machine arguments (Err why) = refl
 variables_speak now terms machine arguments (Ok (target.Frame index)) = refl
-variables_speak now terms machine arguments (Ok target.Registers) = shows_other now terms (variables_by arguments (variables_in machine (Ok target.Registers))) [] tt
-variables_speak now terms machine arguments (Ok target.Stack) = shows_other now terms (variables_by arguments (variables_in machine (Ok target.Stack))) [] tt
+variables_speak now terms machine arguments (Ok target.Registers) =
+    shows_other now terms (variables_by arguments (variables_in machine (Ok target.Registers))) [] tt
+variables_speak now terms machine arguments (Ok target.Stack) =
+    shows_other now terms (variables_by arguments (variables_in machine (Ok target.Stack))) [] tt
 
 -- ---- setting
 
@@ -247,16 +272,21 @@ unless_zero_other (Some number) = if_keeps IsOtherNumber (number == 0) _ _ (λ _
 name_other : (name : List ℕ) → IsOtherNumber (name_answer name)
 name_other name = if_keeps IsOtherNumber (bytes_eq name (codes "pc")) _ _ (λ _. refl) (λ _. unless_zero_other (number_of name))
 
-setting_other : (now : Now) (terms : Terms) (hart : Hart) (number : Result ℕ Refusal) (value : Option ℕ) → IsOtherNumber number → IsOther (sets_by now terms (setting_of hart number value)).outcome
+setting_other : (now : Now) (terms : Terms) (hart : Hart) (number : Result ℕ Refusal) (value : Option ℕ) → IsOtherNumber number
+    → IsOther (sets_by (given_of now) terms (setting_of hart number value)).outcome
 setting_other now terms hart (Err why) value h = h
 setting_other now terms hart (Ok number) None h = refl
 setting_other now terms hart (Ok number) (Some value) h = tt
 
-set_speaks : (now : Now) (terms : Terms) (machine : Debugged) (arguments : SetVariableArguments) (found : Result Target Refusal) → Speaks (SetVariable arguments) found (sets_by now terms (set_in arguments machine found)).outcome
+set_speaks : (now : Now) (terms : Terms) (machine : Debugged) (arguments : SetVariableArguments) (found : Result Target Refusal)
+    → Speaks (SetVariable arguments) found (sets_by (given_of now) terms (set_in arguments machine found)).outcome
 set_speaks now terms machine arguments (Err why) = refl
 set_speaks now terms machine arguments (Ok (target.Frame index)) = refl
-set_speaks now terms machine arguments (Ok target.Registers) = setting_other now terms machine.hart (name_answer arguments.name) (value_in arguments.value) (name_other arguments.name)
-set_speaks now terms machine arguments (Ok target.Stack) = if_keeps (λ (why : Refusal). is_about why ≡ false) (has_name arguments.name (stack_words machine.hart machine.memory)) refusal.NotWritable refusal.UnknownName (λ _. refl) (λ _. refl)
+set_speaks now terms machine arguments (Ok target.Registers) =
+    setting_other now terms machine.hart (name_answer arguments.name) (value_in arguments.value) (name_other arguments.name)
+set_speaks now terms machine arguments (Ok target.Stack) =
+    if_keeps (λ (why : Refusal). is_about why ≡ false)
+    (has_name arguments.name (stack_words machine.hart machine.memory)) refusal.NotWritable refusal.UnknownName (λ _. refl) (λ _. refl)
 
 -- ---- every such request
 
@@ -264,28 +294,35 @@ some_is : (a b : ℤ) → Some a ≡ Some b → a ≡ b
 some_is a b e = cc
 
 -- what comes of one, by the program
-success_on : Option Program → Now → Terms → Command → Outcome
-success_on program now terms (SetVariable arguments) = (sets_on program now terms arguments).outcome
-success_on program now terms other = (looks_on program now terms other).outcome
+success_on : Option Program → Given → Terms → Command → Outcome
+success_on program given terms (SetVariable arguments) = (sets_on program given terms arguments).outcome
+success_on program given terms other = (looks_on program given terms other).outcome
 
-speaks_on : (p : Program) (now : Now) (terms : Terms) (command : Command) (number : ℤ) → reference_in command ≡ Some number → Speaks command (target_of now.numbers number) (success_on (Some p) now terms command)
+speaks_on : (p : Program) (now : Now) (terms : Terms) (command : Command) (number : ℤ) → reference_in command ≡ Some number
+    → Speaks command (target_of now.numbers number) (success_on (Some p) (given_of now) terms command)
 unfolding success_on
 speaks_on p now terms (Scopes arguments) number e =
-    subst (λ (n : ℤ). Speaks (Scopes arguments) (target_of now.numbers n) (success_on (Some p) now terms (Scopes arguments))) (some_is arguments.frame_id number e)
+    subst (λ (n : ℤ). Speaks (Scopes arguments) (target_of now.numbers n) (success_on (Some p) (given_of now) terms (Scopes arguments)))
+    (some_is arguments.frame_id number e)
     (scopes_speak now terms arguments (target_of now.numbers arguments.frame_id))
 speaks_on p now terms (Variables arguments) number e =
-    subst (λ (n : ℤ). Speaks (Variables arguments) (target_of now.numbers n) (success_on (Some p) now terms (Variables arguments))) (some_is arguments.variables_reference number e)
+    subst (λ (n : ℤ). Speaks (Variables arguments) (target_of now.numbers n)
+    (success_on (Some p) (given_of now) terms (Variables arguments))) (some_is arguments.variables_reference number e)
     (variables_speak now terms p.machine arguments (target_of now.numbers arguments.variables_reference))
 speaks_on p now terms (SetVariable arguments) number e =
-    subst (λ (n : ℤ). Speaks (SetVariable arguments) (target_of now.numbers n) (success_on (Some p) now terms (SetVariable arguments))) (some_is arguments.variables_reference number e)
+    subst (λ (n : ℤ). Speaks (SetVariable arguments) (target_of now.numbers n)
+    (success_on (Some p) (given_of now) terms (SetVariable arguments))) (some_is arguments.variables_reference number e)
     (set_speaks now terms p.machine arguments (target_of now.numbers arguments.variables_reference))
 speaks_on p now terms (Evaluate arguments) number e =
     let answer = valued (expression_of arguments.expression) p.machine.hart p.machine.memory in
-    subst (λ (id : Option ℤ). Speaks (Evaluate arguments) (target_of now.numbers number) (shows_by now terms (unless_refused (frame_refusal now.numbers id) answer) []).outcome) (sym e)
-    (evaluate_speaks now terms arguments answer (target_of now.numbers number) (valued_other (expression_of arguments.expression) p.machine.hart p.machine.memory))
+    subst (λ (id : Option ℤ). Speaks (Evaluate arguments) (target_of now.numbers number)
+    (shows_by (given_of now) terms (unless_refused (frame_refusal now.numbers id) answer) []).outcome) (sym e)
+    (evaluate_speaks now terms arguments answer (target_of now.numbers number)
+    (valued_other (expression_of arguments.expression) p.machine.hart p.machine.memory))
 speaks_on p now terms other number e = absurd (let no : None ≡ Some number = e in cc)
 
-success_as : (now : Now) (terms : Terms) (file : Option (List ℕ)) (command : Command) (number : ℤ) → reference_in command ≡ Some number → (success_of now terms file command).outcome ≡ success_on now.debuggee.program now terms command
+success_as : (now : Now) (terms : Terms) (file : Option (List ℕ)) (command : Command) (number : ℤ) → reference_in command ≡ Some number
+    → (success_of (given_of now) terms file command).outcome ≡ success_on now.debuggee.program (given_of now) terms command
 unfolding success_on
 success_as now terms file (Scopes arguments) number e = refl
 success_as now terms file (Variables arguments) number e = refl
@@ -293,7 +330,7 @@ success_as now terms file (SetVariable arguments) number e = refl
 success_as now terms file (Evaluate arguments) number e = refl
 success_as now terms file other number e = absurd (let no : None ≡ Some number = e in cc)
 
-stops_first : (command : Command) (number : ℤ) → reference_in command ≡ Some number → demand_of command ≡ asks_stopped
+stops_first : (command : Command) (number : ℤ) → reference_in command ≡ Some number → demand_of command ≡ demand
 stops_first (Scopes arguments) number e = refl
 stops_first (Variables arguments) number e = refl
 stops_first (SetVariable arguments) number e = refl
@@ -306,11 +343,13 @@ abbrev FirstIsOther : Option Refusal → Type 0
 FirstIsOther None = ⊤
 FirstIsOther (Some why) = is_about why ≡ false
 
-other_first : (reason : Bool) (why : Refusal) (rest : List (Option Refusal)) → is_about why ≡ false → FirstIsOther (first_refusal rest) → FirstIsOther (first_refusal (where_so reason why ∷ rest))
+other_first : (reason : Bool) (why : Refusal) (rest : List (Option Refusal)) → is_about why ≡ false → FirstIsOther (first_refusal rest)
+    → FirstIsOther (first_refusal (where_so reason why ∷ rest))
 other_first true why rest here there = here
 other_first false why rest here there = there
 
-before_is_other : (run : Option Run) (phase : Phase) (r : ARequest) (fate : Fate) → FirstIsOther (first_refusal (refusals run phase (record { ask = Request r; fate = fate })))
+before_is_other : (run : Option Run) (phase : Phase) (r : ARequest) (fate : Fate)
+    → FirstIsOther (first_refusal (refusals run phase (record { ask = Request r; fate = fate })))
 before_is_other run phase r fate =
     let demand = demand_of r.command in
     other_first (is_repeat fate) refusal.RepeatedSequence _ refl
@@ -322,16 +361,20 @@ before_is_other run phase r fate =
     (other_first (demand.still && goes_on run) refusal.NotStopped _ refl
     (other_first (names_none fate) refusal.RequestGone [] refl tt)))))))
 
-skip : (reason : Bool) (why : Refusal) (rest : List (Option Refusal)) → first_refusal (where_so reason why ∷ rest) ≡ None → first_refusal rest ≡ None
+skip : (reason : Bool) (why : Refusal) (rest : List (Option Refusal)) → first_refusal (where_so reason why ∷ rest) ≡ None
+    → first_refusal rest ≡ None
 skip true why rest e = absurd (let no : Some why ≡ None = e in cc)
 skip false why rest e = e
 
 -- where none applies, there is a program
-has_program : (program : Option Program) (phase : Phase) (r : ARequest) (fate : Fate) → demand_of r.command ≡ asks_stopped → first_refusal (refusals (run_of program) phase (record { ask = Request r; fate = fate })) ≡ None → (p : Program) × (program ≡ Some p)
+has_program : (program : Option Program) (phase : Phase) (r : ARequest) (fate : Fate) → demand_of r.command ≡ demand
+    → first_refusal (refusals (run_of program) phase (record { ask = Request r; fate = fate })) ≡ None → (p : Program) × (program ≡ Some p)
 has_program (Some p) phase r fate stops e = (p, refl)
 has_program None phase r fate stops e =
-    let three = skip (not (is_taken_in phase r.command)) refusal.WrongPhase _ (skip (is_cancelled fate) refusal.Cancelled _ (skip (is_repeat fate) refusal.RepeatedSequence _ e)) in
-    let asked = subst (λ (d : Demand). first_refusal (unmet None d ++ where_so (names_none fate) refusal.RequestGone ∷ []) ≡ None) stops three in
+    let three = skip (not (is_taken_in phase r.command)) refusal.WrongPhase _
+    (skip (is_cancelled fate) refusal.Cancelled _ (skip (is_repeat fate) refusal.RepeatedSequence _ e)) in
+    let asked = subst (λ (d : Demand). first_refusal (unmet None d ++ where_so (names_none fate) refusal.RequestGone ∷ [])
+    ≡ None) stops three in
     absurd (let no : Some refusal.NoMachine ≡ None = asked in cc)
 
 -- ---- the law
@@ -345,7 +388,8 @@ module _ (s : Session) (h : Refers s) (link : Link) (file : Option (List ℕ)) (
   before = first_refusal (refusals (run_of s.now.debuggee.program) link.terms.phase (record { ask = Request r; fate = fate }))
 
   -- where a reason comes before
-  good_before : (why : Refusal) → before ≡ Some why → outcome_next s link file r fate ≡ Refused why None → is_about why ≡ false → ReferencesAreGood s link file r fate number
+  good_before : (why : Refusal) → before ≡ Some why → outcome_next s link file r fate ≡ Refused why None → is_about why ≡ false
+      → ReferencesAreGood s link file r fate number
   good_before why first out other = record {
     good = λ body e. absurd (let no : Refused why None ≡ Done body = sym out ∙ e in cc);
     stale = (
@@ -358,12 +402,14 @@ module _ (s : Session) (h : Refers s) (link : Link) (file : Option (List ℕ)) (
     );
   }
 
-  about : {A : Type 0} (x y : Refusal) → outcome_next s link file r fate ≡ Refused x None → outcome_next s link file r fate ≡ Refused y None → (x ≡ y → A) → A
+  about : {A : Type 0} (x y : Refusal) → outcome_next s link file r fate ≡ Refused x None → outcome_next s link file r fate ≡ Refused y None
+      → (x ≡ y → A) → A
   about x y e f differ = differ (same_refusal x y (sym e ∙ f))
 
   -- where none comes before, by what the number refers to
   good_of : (other_kind : Bool) (t : Target) → is_of_other_kind r.command t ≡ other_kind → before ≡ None → Knows s number (Ok t)
-      → MatchBool other_kind (outcome_next s link file r fate ≡ Refused refusal.UnknownReference None) (IsOther (outcome_next s link file r fate)) → ReferencesAreGood s link file r fate number
+      → MatchBool other_kind (outcome_next s link file r fate ≡ Refused refusal.UnknownReference None) (IsOther (outcome_next s link file r fate))
+      → ReferencesAreGood s link file r fate number
   good_of true t kind first good out = record {
     good = λ body e. absurd (let no : Refused refusal.UnknownReference None ≡ Done body = sym out ∙ e in cc);
     stale = (
@@ -371,7 +417,16 @@ module _ (s : Session) (h : Refers s) (link : Link) (file : Option (List ℕ)) (
       λ both. absurd (not_both s h number _ good good.so.0 good.so.1.0 both.1),
     );
     unknown = (
-      λ e. (first, inr (record { reference = good.reference; place = good.place; there = good.there; so = (good.so.0, (good.so.1.0, ap (is_of_other_kind r.command) good.so.1.1 ∙ kind)) })),
+      λ e. (
+        first,
+        inr (record {
+          reference = good.reference;
+          place = good.place;
+          there = good.there;
+          so =
+              (good.so.0, (good.so.1.0, ap (is_of_other_kind r.command) good.so.1.1 ∙ kind));
+        }),
+      ),
       λ both. out,
     );
   }
@@ -401,10 +456,12 @@ module _ (s : Session) (h : Refers s) (link : Link) (file : Option (List ℕ)) (
     unknown_not (inl never) = never (record { reference = good.reference; place = good.place; there = good.there; so = good.so.0 })
     unknown_not (inr other) =
         let one = one_reference s h number _ _ good other good.so.0 other.so.0 in
-        let no : false ≡ true = sym kind ∙ ap (is_of_other_kind r.command) (sym good.so.1.1 ∙ ap (λ (x : Reference). x.target) one) ∙ other.so.1.1 in
+        let no : false ≡ true = sym kind ∙ ap (is_of_other_kind r.command) (sym good.so.1.1 ∙ ap (λ (x : Reference). x.target) one)
+        ∙ other.so.1.1 in
         cc
 
-  good_by : (found : Result Target Refusal) → Knows s number found → before ≡ None → Speaks r.command found (outcome_next s link file r fate) → ReferencesAreGood s link file r fate number
+  good_by : (found : Result Target Refusal) → Knows s number found → before ≡ None
+      → Speaks r.command found (outcome_next s link file r fate) → ReferencesAreGood s link file r fate number
   good_by (Ok t) k first out = good_of (is_of_other_kind r.command t) t refl first k out
   good_by (Err refusal.StaleReference) k first out = record {
     good = λ body e. absurd (let no : Refused refusal.StaleReference None ≡ Done body = sym out ∙ e in cc);
@@ -429,16 +486,18 @@ module _ (s : Session) (h : Refers s) (link : Link) (file : Option (List ℕ)) (
 
   good_next : reference_in r.command ≡ Some number → (x : Option Refusal) → before ≡ x → ReferencesAreGood s link file r fate number
   good_next named (Some why) e =
-      good_before why e (ap (λ (x : Option Refusal). (answer_by s.now link.terms file x (Request r)).outcome) e)
+      good_before why e (ap
+      (λ (x : Option Refusal). (answer_by (record { given = given_of s.now; terms = link.terms; file = file }) x (Request r)).outcome) e)
       (subst FirstIsOther e (before_is_other (run_of s.now.debuggee.program) link.terms.phase r fate))
   good_next named None e =
       let there = has_program s.now.debuggee.program link.terms.phase r fate (stops_first r.command number named) e in
-      let out : outcome_next s link file r fate ≡ success_on (Some there.0) s.now link.terms r.command =
-      ap (λ (x : Option Refusal). (answer_by s.now link.terms file x (Request r)).outcome) e
+      let out : outcome_next s link file r fate ≡ success_on (Some there.0) (given_of s.now) link.terms r.command =
+      ap (λ (x : Option Refusal). (answer_by (record { given = given_of s.now; terms = link.terms; file = file }) x (Request r)).outcome) e
       ∙ success_as s.now link.terms file r.command number named
-      ∙ ap (λ (x : Option Program). success_on x s.now link.terms r.command) there.1 in
+      ∙ ap (λ (x : Option Program). success_on x (given_of s.now) link.terms r.command) there.1 in
       good_by (target_of s.now.numbers number) (knows s h number) e
       (subst (Speaks r.command (target_of s.now.numbers number)) (sym out) (speaks_on there.0 s.now link.terms r.command number named))
 
 pub references_last : (from : Beginning) (events : List Event) → ReferencesLast (After from events)
-references_last from events link file r fate number is_link named = good_next (After from events) (always_refers from events) link file r fate number named _ refl
+references_last from events link file r fate number is_link named =
+    good_next (After from events) (always_refers from events) link file r fate number named _ refl

@@ -1,5 +1,4 @@
 pub mod Firsts
-pub mod Launching
 pub mod Told
 pub mod Deciding
 pub mod Stretching

@@ -6,7 +6,8 @@ use Rattle.answers.specs.Disassemble.{disassembled, start_by as place_by}
 use Rattle.answers.specs.Evaluate.{if_valued, unless_refused, valued}
 use Rattle.answers.specs.Looking.{looks_in}
 use Rattle.answers.specs.ReadMemory.{can_begin, read, start_at, start_by as read_from}
-use Rattle.answers.specs.References.{offset_by, reference_of}
+use Rattle.numerals.specs.MemoryReferences.{offset_by}
+use Rattle.numerals.specs.Words.{word_of}
 use Rattle.answers.specs.Expressions.{expression_of}
 use Rattle.answers.specs.Scopes.{body_by as scopes_by}
 use Rattle.answers.specs.SetVariable.{has_name, set_in, set_variable, setting_of}
@@ -32,14 +33,15 @@ use Rattle.protocol.specs.declared.write_memory.WriteMemoryArguments.{WriteMemor
 use Rattle.replies.specs.declared.response.ResponseBody.{ResponseBody}
 use Rattle.replies.specs.declared.response.ResponseBody.TheVariants as body
 use Rattle.rv32i.specs.declared.hart.Hart.{Hart}
-use Rattle.session.specs.declared.terms.Terms.{Terms}
-use Rattle.session.specs.Acts.{Answering, Now}
+use Rattle.handlers.specs.declared.terms.Terms.{Terms}
+use Rattle.handlers.specs.Given.{Answering}
+use Rattle.handlers.specs.Given.{Given}
 use Rattle.session.specs.Laws.{initializes}
 use Rattle.replies.specs.declared.response.Outcome.TheVariants.{Done}
-use Rattle.session.specs.Looking.{issues, looks_on, seen_in, shows_by}
-use Rattle.session.specs.SetVariable.{sets_by, sets_on}
-use Rattle.session.specs.WriteMemory.{writes_by, writes_on}
-use Rattle.session.specs.Successes.{agreeing, changing, refusing}
+use Rattle.handlers.specs.Looking.{issues, looks_on, seen_in, shows_by}
+use Rattle.handlers.specs.SetVariable.{sets_by, sets_on}
+use Rattle.handlers.specs.WriteMemory.{writes_by, writes_on}
+use Rattle.handlers.specs.Successes.{agreeing, changing, refusing}
 use Rattle.session.proofs.Breaking.{IsPlain}
 use Rattle.session.proofs.Reaching.{if_keeps}
 use Rattle.stepping.specs.Ticks.{Debugged}
@@ -85,7 +87,8 @@ in_plain machine (Ok target.Registers) h = tt
 in_plain machine (Ok target.Stack) h = tt
 in_plain machine (Err refusal) h = h
 
-variables_plain : (machine : Debugged) (arguments : VariablesArguments) (found : Result Target Refusal) → HasPlain (variables_in machine found) → IsPlain (variables_by arguments (variables_in machine found))
+variables_plain : (machine : Debugged) (arguments : VariablesArguments) (found : Result Target Refusal)
+    → HasPlain (variables_in machine found) → IsPlain (variables_by arguments (variables_in machine found))
 variables_plain machine arguments found h = by (variables_in machine found) h where
   by : (list : _) → HasPlain list → IsPlain (variables_by arguments list)
   by (Ok list) p = refl
@@ -107,58 +110,71 @@ valued_plain : (tree : Option Tree) (hart : Hart) (memory : List ℕ) → IsPlai
 valued_plain None hart memory = refl
 valued_plain (Some tree) hart memory = value_plain (value_of tree hart memory)
 
-unless_plain : (why : Option Refusal) (answer : Result ResponseBody Refusal) → MatchOption why ⊤ (λ refusal. has_text refusal ≡ false) → IsPlain answer → IsPlain (unless_refused why answer)
+unless_plain : (why : Option Refusal) (answer : Result ResponseBody Refusal) → MatchOption why ⊤ (λ refusal. has_text refusal ≡ false)
+    → IsPlain answer → IsPlain (unless_refused why answer)
 unless_plain None answer h p = p
 unless_plain (Some refusal) answer h p = h
 
-disassembled_plain : (memory : List ℕ) (arguments : DisassembleArguments) (reference : Option ℕ) → IsPlain (disassembled memory arguments.instruction_count (place_by arguments reference))
+disassembled_plain : (memory : List ℕ) (arguments : DisassembleArguments) (reference : Option ℕ)
+    → IsPlain (disassembled memory arguments.instruction_count (place_by arguments reference))
 disassembled_plain memory arguments None = refl
 disassembled_plain memory arguments (Some reference) =
-    if_keeps (λ (place : Result ℤ Refusal). IsPlain (disassembled memory arguments.instruction_count place)) (ltb 4096 arguments.instruction_count) _ _ (λ _. refl) (λ _. refl)
+    if_keeps (λ (place : Result ℤ Refusal). IsPlain (disassembled memory arguments.instruction_count place))
+    (ltb 4096 arguments.instruction_count) _ _ (λ _. refl) (λ _. refl)
 
 plain_start : (memory : List ℕ) (count : ℕ) (address : Option ℕ) → HasPlain (start_at memory count address)
 plain_start memory count None = refl
-plain_start memory count (Some address) = if_keeps (λ (start : Result ℕ Refusal). HasPlain start) (can_begin memory count address) _ _ (λ _. tt) (λ _. refl)
+plain_start memory count (Some address) =
+    if_keeps (λ (start : Result ℕ Refusal). HasPlain start) (can_begin memory count address) _ _ (λ _. tt) (λ _. refl)
 
 plain_read : (memory : List ℕ) (arguments : ReadMemoryArguments) (reference : Option ℕ) → HasPlain (read_from memory arguments reference)
 plain_read memory arguments None = refl
 plain_read memory arguments (Some reference) =
-    if_keeps (λ (start : Result ℕ Refusal). HasPlain start) (ltb 65536 arguments.count) _ _ (λ _. refl) (λ _. plain_start memory arguments.count (offset_by arguments.offset (Some reference)))
+    if_keeps (λ (start : Result ℕ Refusal). HasPlain start) (ltb 65536 arguments.count) _ _ (λ _. refl)
+    (λ _. plain_start memory arguments.count (offset_by arguments.offset (Some reference)))
 
 read_plain : (memory : List ℕ) (count : ℕ) (start : Result ℕ Refusal) → HasPlain start → IsPlain (read memory count start)
 read_plain memory count (Ok address) h = refl
 read_plain memory count (Err refusal) h = h
 
 -- a body is none of `initialize`, and a refusal has no text
-pub look_is_plain : (p : Program) (now : Now) (terms : Terms) (command : Command) → IsTrue (looks_in command) → IsPlain (seen_in p now terms command).result
-look_is_plain p now terms (StackTrace arguments) looks = refl
-look_is_plain p now terms (Scopes arguments) looks = scopes_plain now.numbers (frame_of now.numbers arguments.frame_id) (plain_frame now.numbers arguments.frame_id)
-look_is_plain p now terms (Variables arguments) looks =
-    let found = target_of now.numbers arguments.variables_reference in
-    variables_plain p.machine arguments found (in_plain p.machine found (plain_target now.numbers arguments.variables_reference))
-look_is_plain p now terms (Evaluate arguments) looks =
-    unless_plain (frame_refusal now.numbers arguments.frame_id) (valued (expression_of arguments.expression) p.machine.hart p.machine.memory) (plain_refusal now.numbers arguments.frame_id)
+pub look_is_plain : (p : Program) (given : Given) (terms : Terms) (command : Command) → IsTrue (looks_in command)
+    → IsPlain (seen_in p given terms command).result
+look_is_plain p given terms (StackTrace arguments) looks = refl
+look_is_plain p given terms (Scopes arguments) looks =
+    scopes_plain given.numbers (frame_of given.numbers arguments.frame_id) (plain_frame given.numbers arguments.frame_id)
+look_is_plain p given terms (Variables arguments) looks =
+    let found = target_of given.numbers arguments.variables_reference in
+    variables_plain p.machine arguments found (in_plain p.machine found (plain_target given.numbers arguments.variables_reference))
+look_is_plain p given terms (Evaluate arguments) looks =
+    unless_plain (frame_refusal given.numbers arguments.frame_id)
+    (valued (expression_of arguments.expression) p.machine.hart p.machine.memory) (plain_refusal given.numbers arguments.frame_id)
     (valued_plain (expression_of arguments.expression) p.machine.hart p.machine.memory)
-look_is_plain p now terms (Disassemble arguments) looks = disassembled_plain p.machine.memory arguments (reference_of arguments.memory_reference)
-look_is_plain p now terms (ReadMemory arguments) looks =
-    let start = read_from p.machine.memory arguments (reference_of arguments.memory_reference) in
-    read_plain p.machine.memory arguments.count start (plain_read p.machine.memory arguments (reference_of arguments.memory_reference))
-look_is_plain p now terms command looks = absurd (let no : false ≡ true = looks in cc)
+look_is_plain p given terms (Disassemble arguments) looks =
+    disassembled_plain p.machine.memory arguments (word_of arguments.memory_reference)
+look_is_plain p given terms (ReadMemory arguments) looks =
+    let start = read_from p.machine.memory arguments (word_of arguments.memory_reference) in
+    read_plain p.machine.memory arguments.count start (plain_read p.machine.memory arguments (word_of arguments.memory_reference))
+look_is_plain p given terms command looks = absurd (let no : false ≡ true = looks in cc)
 
 -- ---- looking
 
 -- What holds of each way in which such a request is answered holds of the answer.
-pub by_look : (P : Answering → Type 0) (program : Option Program) (now : Now) (terms : Terms) (command : Command) → IsTrue (looks_in command)
-    → (program ≡ None → P (agreeing now terms body.Empty))
-    → ((refusal : Refusal) → has_text refusal ≡ false → P (refusing now terms refusal None))
-    → ((p : Program) (b : ResponseBody) → program ≡ Some p → (seen_in p now terms command).result ≡ Ok b → initializes (Done b) ≡ 0 → has_room now.numbers (seen_in p now terms command).targets ≡ true
-    → P (issues now terms b (seen_in p now terms command).targets))
-    → P (looks_on program now terms command)
-by_look P None now terms command looks none refuses shown = none refl
-by_look P (Some p) now terms command looks none refuses shown = go (seen_in p now terms command).result refl where
-  go : (result : Result ResponseBody Refusal) → (seen_in p now terms command).result ≡ result → P (shows_by now terms result (seen_in p now terms command).targets)
-  go (Err refusal) e = refuses refusal (subst IsPlain e (look_is_plain p now terms command looks))
-  go (Ok b) e = if_keeps P (has_room now.numbers (seen_in p now terms command).targets) _ _ (λ room. shown p b refl e (subst IsPlain e (look_is_plain p now terms command looks)) room) (λ _. refuses ReferencesExhausted refl)
+pub by_look : (P : Answering → Type 0) (program : Option Program) (given : Given) (terms : Terms) (command : Command)
+    → IsTrue (looks_in command)
+    → (program ≡ None → P (agreeing given terms body.Empty))
+    → ((refusal : Refusal) → has_text refusal ≡ false → P (refusing given terms refusal None))
+    → ((p : Program) (b : ResponseBody) → program ≡ Some p → (seen_in p given terms command).result ≡ Ok b → initializes (Done b) ≡ 0 → has_room given.numbers (seen_in p given terms command).targets ≡ true
+    → P (issues given terms b (seen_in p given terms command).targets))
+    → P (looks_on program given terms command)
+by_look P None given terms command looks none refuses shown = none refl
+by_look P (Some p) given terms command looks none refuses shown = go (seen_in p given terms command).result refl where
+  go : (result : Result ResponseBody Refusal) → (seen_in p given terms command).result ≡ result
+      → P (shows_by given terms result (seen_in p given terms command).targets)
+  go (Err refusal) e = refuses refusal (subst IsPlain e (look_is_plain p given terms command looks))
+  go (Ok b) e =
+      if_keeps P (has_room given.numbers (seen_in p given terms command).targets) _ _
+      (λ room. shown p b refl e (subst IsPlain e (look_is_plain p given terms command looks)) room) (λ _. refuses ReferencesExhausted refl)
 
 -- ---- setting
 
@@ -167,65 +183,78 @@ plain_unless_zero None = refl
 plain_unless_zero (Some number) = if_keeps (λ (r : Result ℕ Refusal). HasPlain r) (number == 0) _ _ (λ _. refl) (λ _. tt)
 
 plain_name : (name : List ℕ) → HasPlain (name_answer name)
-plain_name name = if_keeps (λ (r : Result ℕ Refusal). HasPlain r) (bytes_eq name (codes "pc")) _ _ (λ _. refl) (λ _. plain_unless_zero (number_of name))
+plain_name name =
+    if_keeps (λ (r : Result ℕ Refusal). HasPlain r) (bytes_eq name (codes "pc")) _ _ (λ _. refl) (λ _. plain_unless_zero (number_of name))
 
 abbrev IsPlainSetting : Result Setting Refusal → Type 0
 IsPlainSetting result = MatchResult result (λ setting. initializes (Done setting.body) ≡ 0) (λ refusal. has_text refusal ≡ false)
 
-plain_setting : (hart : Hart) (number : Result ℕ Refusal) (value : Option ℕ) → HasPlain number → IsPlainSetting (setting_of hart number value)
+plain_setting : (hart : Hart) (number : Result ℕ Refusal) (value : Option ℕ) → HasPlain number
+    → IsPlainSetting (setting_of hart number value)
 plain_setting hart (Err refusal) value h = h
 plain_setting hart (Ok number) None h = refl
 plain_setting hart (Ok number) (Some value) h = refl
 
-plain_set : (arguments : SetVariableArguments) (machine : Debugged) (found : Result Target Refusal) → HasPlain found → IsPlainSetting (set_in arguments machine found)
+plain_set : (arguments : SetVariableArguments) (machine : Debugged) (found : Result Target Refusal) → HasPlain found
+    → IsPlainSetting (set_in arguments machine found)
 plain_set arguments machine (Ok (target.Frame index)) h = refl
-plain_set arguments machine (Ok target.Registers) h = plain_setting machine.hart (name_answer arguments.name) (value_in arguments.value) (plain_name arguments.name)
-plain_set arguments machine (Ok target.Stack) h = if_keeps (λ (r : Refusal). has_text r ≡ false) (has_name arguments.name (stack_words machine.hart machine.memory)) NotWritable UnknownName (λ _. refl) (λ _. refl)
+plain_set arguments machine (Ok target.Registers) h =
+    plain_setting machine.hart (name_answer arguments.name) (value_in arguments.value) (plain_name arguments.name)
+plain_set arguments machine (Ok target.Stack) h =
+    if_keeps (λ (r : Refusal). has_text r ≡ false)
+    (has_name arguments.name (stack_words machine.hart machine.memory)) NotWritable UnknownName (λ _. refl) (λ _. refl)
 plain_set arguments machine (Err refusal) h = h
 
 -- What holds of each way in which `setVariable` is answered holds of the answer.
-pub by_setting : (P : Answering → Type 0) (program : Option Program) (now : Now) (terms : Terms) (arguments : SetVariableArguments)
-    → (program ≡ None → P (agreeing now terms body.Empty))
-    → ((refusal : Refusal) → has_text refusal ≡ false → P (refusing now terms refusal None))
-    → ((p : Program) (setting : Setting) → program ≡ Some p → set_variable arguments p.machine now.numbers ≡ Ok setting → initializes (Done setting.body) ≡ 0 → P (changing now terms (with_hart setting.hart) setting.body))
-    → P (sets_on program now terms arguments)
-by_setting P None now terms arguments none refuses set = none refl
-by_setting P (Some p) now terms arguments none refuses set = go (set_variable arguments p.machine now.numbers) refl where
-  plain : IsPlainSetting (set_variable arguments p.machine now.numbers)
-  plain = plain_set arguments p.machine (target_of now.numbers arguments.variables_reference) (plain_target now.numbers arguments.variables_reference)
+pub by_setting : (P : Answering → Type 0) (program : Option Program) (given : Given) (terms : Terms) (arguments : SetVariableArguments)
+    → (program ≡ None → P (agreeing given terms body.Empty))
+    → ((refusal : Refusal) → has_text refusal ≡ false → P (refusing given terms refusal None))
+    → ((p : Program) (setting : Setting) → program ≡ Some p → set_variable arguments p.machine given.numbers ≡ Ok setting → initializes (Done setting.body) ≡ 0 → P (changing given terms (with_hart setting.hart) setting.body))
+    → P (sets_on program given terms arguments)
+by_setting P None given terms arguments none refuses set = none refl
+by_setting P (Some p) given terms arguments none refuses set = go (set_variable arguments p.machine given.numbers) refl where
+  plain : IsPlainSetting (set_variable arguments p.machine given.numbers)
+  plain =
+      plain_set arguments p.machine (target_of given.numbers arguments.variables_reference)
+      (plain_target given.numbers arguments.variables_reference)
 
-  go : (result : Result Setting Refusal) → set_variable arguments p.machine now.numbers ≡ result → P (sets_by now terms result)
+  go : (result : Result Setting Refusal) → set_variable arguments p.machine given.numbers ≡ result → P (sets_by given terms result)
   go (Err refusal) e = refuses refusal (subst IsPlainSetting e plain)
   go (Ok setting) e = set p setting refl e (subst IsPlainSetting e plain)
 
-plain_written_from : (memory : List ℕ) (arguments : WriteMemoryArguments) (reference : Option ℕ) → HasPlain (written_from memory arguments reference)
+plain_written_from : (memory : List ℕ) (arguments : WriteMemoryArguments) (reference : Option ℕ)
+    → HasPlain (written_from memory arguments reference)
 plain_written_from memory arguments None = refl
 plain_written_from memory arguments (Some reference) =
-    if_keeps (λ (start : Result ℕ Refusal). HasPlain start) (ltb 65536 (length arguments.bytes)) _ _ (λ _. refl) (λ _. plain_start memory (length arguments.bytes) (offset_by arguments.offset (Some reference)))
+    if_keeps (λ (start : Result ℕ Refusal). HasPlain start) (ltb 65536 (length arguments.bytes)) _ _ (λ _. refl)
+    (λ _. plain_start memory (length arguments.bytes) (offset_by arguments.offset (Some reference)))
 
 abbrev IsPlainWriting : Result Writing Refusal → Type 0
 IsPlainWriting result = MatchResult result (λ writing. initializes (Done writing.body) ≡ 0) (λ refusal. has_text refusal ≡ false)
 
-plain_written : (memory : List ℕ) (arguments : WriteMemoryArguments) (start : Result ℕ Refusal) → HasPlain start → IsPlainWriting (written_by memory arguments start)
+plain_written : (memory : List ℕ) (arguments : WriteMemoryArguments) (start : Result ℕ Refusal) → HasPlain start
+    → IsPlainWriting (written_by memory arguments start)
 plain_written memory arguments (Err refusal) h = h
 plain_written memory arguments (Ok address) h =
     if_keeps IsPlainWriting (eqb (fitting memory (length arguments.bytes) address) (length arguments.bytes)) _ _ (λ _. refl)
     (λ _. if_keeps IsPlainWriting arguments.allow_partial _ _ (λ _. refl) (λ _. refl))
 
 -- and of `writeMemory`
-pub by_writing : (P : Answering → Type 0) (program : Option Program) (now : Now) (terms : Terms) (arguments : WriteMemoryArguments)
-    → (program ≡ None → P (agreeing now terms body.Empty))
-    → ((refusal : Refusal) → has_text refusal ≡ false → P (refusing now terms refusal None))
-    → ((p : Program) (writing : Writing) → program ≡ Some p → write_memory arguments p.machine.memory ≡ Ok writing → initializes (Done writing.body) ≡ 0 → P (changing now terms (written writing.address (take writing.count arguments.bytes)) writing.body))
-    → P (writes_on program now terms arguments)
-by_writing P None now terms arguments none refuses writes = none refl
-by_writing P (Some p) now terms arguments none refuses writes = go (write_memory arguments p.machine.memory) refl where
+pub by_writing : (P : Answering → Type 0) (program : Option Program) (given : Given) (terms : Terms) (arguments : WriteMemoryArguments)
+    → (program ≡ None → P (agreeing given terms body.Empty))
+    → ((refusal : Refusal) → has_text refusal ≡ false → P (refusing given terms refusal None))
+    → ((p : Program) (writing : Writing) → program ≡ Some p → write_memory arguments p.machine.memory ≡ Ok writing → initializes (Done writing.body) ≡ 0 → P (changing given terms (written writing.address (take writing.count arguments.bytes)) writing.body))
+    → P (writes_on program given terms arguments)
+by_writing P None given terms arguments none refuses writes = none refl
+by_writing P (Some p) given terms arguments none refuses writes = go (write_memory arguments p.machine.memory) refl where
   start : Result ℕ Refusal
-  start = written_from p.machine.memory arguments (reference_of arguments.memory_reference)
+  start = written_from p.machine.memory arguments (word_of arguments.memory_reference)
 
   plain : IsPlainWriting (write_memory arguments p.machine.memory)
-  plain = plain_written p.machine.memory arguments start (plain_written_from p.machine.memory arguments (reference_of arguments.memory_reference))
+  plain =
+      plain_written p.machine.memory arguments start (plain_written_from p.machine.memory arguments (word_of arguments.memory_reference))
 
-  go : (result : Result Writing Refusal) → write_memory arguments p.machine.memory ≡ result → P (writes_by now terms arguments.bytes result)
+  go : (result : Result Writing Refusal) → write_memory arguments p.machine.memory ≡ result
+      → P (writes_by given terms arguments.bytes result)
   go (Err refusal) e = refuses refusal (subst IsPlainWriting e plain)
   go (Ok writing) e = writes p writing refl e (subst IsPlainWriting e plain)

@@ -2,9 +2,11 @@
 use Rattle.std.proofs.Common.{ℕ, List, Option, sym, subst}
 use Rattle.session.specs.declared.pending.Pending.{Pending}
 use Rattle.session.specs.declared.prepared.Prepared.{Prepared}
-use Rattle.session.specs.declared.terms.Terms.{Terms}
-use Rattle.session.specs.Acts.{Answering, Now}
-use Rattle.session.specs.Kept.{HasNumbers, call_of}
+use Rattle.handlers.specs.declared.terms.Terms.{Terms}
+use Rattle.handlers.specs.Given.{Answering}
+use Rattle.session.specs.Acts.{Now, given_of}
+use Rattle.handlers.specs.Changes.{call_of}
+use Rattle.session.specs.Kept.{HasNumbers}
 use Rattle.session.specs.Preparing.{IsPrepared}
 use Rattle.session.specs.Refusals.{answer_to}
 use Rattle.variables.specs.Laws.{Call}
@@ -15,7 +17,7 @@ abbrev Numbered : Now → Answering → Type 0
 Numbered now a = HasNumbers a.references now.numbers
 
 -- numbers are issued by a look alone, which has room for them
-successes_numbered : (now : Now) (terms : Terms) → BySuccess now terms (λ c a. Numbered now a)
+successes_numbered : (now : Now) (terms : Terms) → BySuccess (given_of now) terms (λ c a. Numbered now a)
 successes_numbered now terms = record {
   initialized = λ _. tt;
   unreadable = λ _. tt;
@@ -41,7 +43,8 @@ successes_numbered now terms = record {
 
 answer_numbered : (now : Now) (terms : Terms) (file : Option (List ℕ)) (p : Pending) → Numbered now (answer_to now terms file p)
 answer_numbered now terms file p =
-    of_answer (λ ask a. Numbered now a) now terms file p.ask p.fate (λ refusal _. tt) (λ r taken meets. by_success now terms (λ c a. Numbered now a) (successes_numbered now terms) file r.command)
+    of_answer (λ ask a. Numbered now a) now terms file p.ask p.fate (λ refusal _. tt)
+    (λ r taken meets. by_success (given_of now) terms (λ c a. Numbered now a) (successes_numbered now terms) file r.command)
 
 -- an answer that was written issues what there are numbers for
 pub prepared_has_numbers : (now : Now) (terms : Terms) (file : Option (List ℕ)) (p : Pending) (r : Prepared)

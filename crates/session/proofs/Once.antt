@@ -12,17 +12,18 @@ use Rattle.replies.specs.declared.response.Outcome.{Outcome}
 use Rattle.session.specs.declared.event.Event.{Event as SessionEvent}
 use Rattle.session.specs.declared.link.Link.{Link}
 use Rattle.session.specs.declared.pending.Pending.{Pending}
-use Rattle.session.specs.declared.phase.Phase.{Phase}
-use Rattle.session.specs.declared.phase.Phase.TheVariants.{Fresh, Initialized, Configuring, Active, Left}
-use Rattle.session.specs.declared.terms.Terms.{Terms}
-use Rattle.session.specs.Acts.{Answering, Now, Tell, refers}
+use Rattle.handlers.specs.declared.phase.Phase.{Phase}
+use Rattle.handlers.specs.declared.phase.Phase.TheVariants.{Fresh, Initialized, Configuring, Active, Left}
+use Rattle.handlers.specs.declared.terms.Terms.{Terms}
+use Rattle.handlers.specs.Given.{Answering}
+use Rattle.session.specs.Acts.{Now, Tell, refers, given_of}
 use Rattle.session.specs.References.{past_referred}
 use Rattle.session.specs.Effects.{performed}
 use Rattle.session.specs.Laws.{initializes, initializes_by, times_initialized, InitializesOnce}
 use Rattle.session.specs.Outcomes.{answering, closing}
-use Rattle.session.specs.Phases.{is_fresh_in}
+use Rattle.handlers.specs.Phases.{is_fresh_in}
 use Rattle.session.specs.Refusals.{answer_to, response_to}
-use Rattle.session.specs.Requests.{is_taken_in}
+use Rattle.handlers.specs.Requests.{is_taken_in}
 use Rattle.session.specs.Sessions.{Beginning, Session, Life, Said, said_next, said_on, replied_on, hung_on, performed_on, histories, After}
 use Rattle.session.proofs.Breaking.{IsPlain, answer_on, is_plain}
 use Rattle.session.proofs.Serving.{of_answer}
@@ -30,7 +31,7 @@ use Rattle.session.proofs.Reaching.{if_keeps, each_life, performed_append}
 use Rattle.session.proofs.ByForms.{on, on_with}
 use Rattle.session.proofs.Turning.{KeptByEvents, reached_by_events}
 use Rattle.session.proofs.BySuccess.{BySuccess, by_success, SetsList, agreed_body, step_body}
-use Rattle.session.specs.Successes.{agreeing}
+use Rattle.handlers.specs.Successes.{agreeing}
 
 -- how often it can have succeeded by then
 abbrev Suits : Phase → ℕ → Type 0
@@ -64,7 +65,8 @@ times-append : (xs : List Said) (m : Said) → times_initialized (xs ++ m ∷ []
 times-append [] m = let e : initializes_by m.message + 0 ≡ 0 + initializes_by m.message = omega arith in e
 times-append (x ∷ xs) m =
     let rest = times-append xs m in
-    let e : initializes_by x.message + times_initialized (xs ++ m ∷ []) ≡ initializes_by x.message + times_initialized xs + initializes_by m.message = omega (arith, rest) in e
+    let e : initializes_by x.message + times_initialized (xs ++ m ∷ [])
+    ≡ initializes_by x.message + times_initialized xs + initializes_by m.message = omega (arith, rest) in e
 
 none_more : (n k : ℕ) → n + k ≤ 1 → n + 0 ≤ 1
 none_more n k h = omega (arith, h)
@@ -74,10 +76,17 @@ times_more xs m = let e = times-append xs m in omega (arith, e)
 
 not_said : (l : Option Link) (k : ℕ) (s : Session) → OnceWith k (on l s) → OnceWith 0 (on l s)
 not_said None k s h = record { before = h.before; present = none_more (times_initialized s.life.said) k h.present; suits = tt }
-not_said (Some l) k s h = record { before = h.before; present = none_more (times_initialized s.life.said) k h.present; suits = fewer l.terms.phase (times_initialized s.life.said) k h.suits }
+not_said (Some l) k s h =
+    record {
+      before = h.before;
+      present = none_more (times_initialized s.life.said) k h.present;
+      suits = fewer l.terms.phase
+          (times_initialized s.life.said) k h.suits;
+    }
 
 -- an answer
-replies : (l : Option Link) (pending : List Pending) (outcome : Outcome) (s : Session) → OnceWith (initializes outcome) (on_with l pending s) → OnceWith 0 (replied_on pending outcome (on_with l pending s))
+replies : (l : Option Link) (pending : List Pending) (outcome : Outcome) (s : Session)
+    → OnceWith (initializes outcome) (on_with l pending s) → OnceWith 0 (replied_on pending outcome (on_with l pending s))
 replies l [] outcome s h = not_said l (initializes outcome) (on_with l [] s) h
 replies None (p ∷ rest) outcome s h = not_said None (initializes outcome) (on_with None (p ∷ rest) s) h
 replies (Some l) (p ∷ rest) outcome s h =
@@ -106,7 +115,8 @@ abbrev Fits : ℕ → Answering → Type 0
 Fits n a = (n + initializes a.outcome ≤ 1) × Suits a.terms.phase (n + initializes a.outcome)
 
 -- something is told after it
-said_more : (l : Option Link) (event : Event) (s : Session) → OnceWith 0 (on l s) → OnceWith 0 (said_on l (IsEvent event) s.now.arrivals.pending (on l s))
+said_more : (l : Option Link) (event : Event) (s : Session) → OnceWith 0 (on l s)
+    → OnceWith 0 (said_on l (IsEvent event) s.now.arrivals.pending (on l s))
 said_more None event s h = h
 said_more (Some l) event s h =
     let m : Said = said_next s.now l (IsEvent event) in
@@ -126,11 +136,16 @@ closes_more : (closes : Bool) (s : Session) → OnceWith 0 s → OnceWith 0 (per
 closes_more true s h = hangs s.now.link s h
 closes_more false s h = h
 
-answer_keeps : (l : Link) (p : Pending) (rest : List Pending) (s : Session) (a : Answering) → Fits (times_initialized s.life.said) a → OnceWith 0 (on_with (Some l) (p ∷ rest) s) → OnceWith 0 (performed histories (answering a) (on_with (Some l) (p ∷ rest) s))
+answer_keeps : (l : Link) (p : Pending) (rest : List Pending) (s : Session) (a : Answering) → Fits (times_initialized s.life.said) a
+    → OnceWith 0 (on_with (Some l) (p ∷ rest) s) → OnceWith 0 (performed histories (answering a) (on_with (Some l) (p ∷ rest) s))
 answer_keeps l p rest s a fits h =
-    let t : Session = record s { now = refers (record s.now { debuggee = a.debuggee }) a.references; references = past_referred s.now.connections a.references s.references } in
+    let t : Session = record s {
+      now = refers (record s.now { debuggee = a.debuggee }) a.references;
+      references = past_referred s.now.connections a.references s.references;
+    } in
     let replied = replied_on (p ∷ rest) a.outcome (on_with (Some (record l { terms = a.terms })) (p ∷ rest) t) in
-    let after : OnceWith 0 replied = replies (Some (record l { terms = a.terms })) (p ∷ rest) a.outcome t (record { before = h.before; present = fits.0; suits = fits.1 }) in
+    let after : OnceWith 0 replied = replies (Some (record l { terms = a.terms })) (p ∷ rest) a.outcome t
+    (record { before = h.before; present = fits.0; suits = fits.1 }) in
     subst (OnceWith 0) (sym (performed_append (map Tell a.events) (closing a.closes) replied))
     (closes_more a.closes (performed histories (map Tell a.events) replied) (all_more a.events replied after))
 
@@ -141,10 +156,10 @@ of_none phase n k is few suits = subst (λ (i : ℕ). (n + i ≤ 1) × Suits pha
 
 module _ (now : Now) (terms : Terms) (n : ℕ) (few : n + 0 ≤ 1) (suits : Suits terms.phase (n + 0)) where
   -- a body that is none of `initialize`
-  other : (b : ResponseBody) → initializes (Done b) ≡ 0 → Fits n (agreeing now terms b)
+  other : (b : ResponseBody) → initializes (Done b) ≡ 0 → Fits n (agreeing (given_of now) terms b)
   other b none = of_none terms.phase n (initializes (Done b)) none few suits
 
-  successes_fit : BySuccess now terms (λ c a. is_taken_in terms.phase c ≡ true → Fits n a)
+  successes_fit : BySuccess (given_of now) terms (λ c a. is_taken_in terms.phase c ≡ true → Fits n a)
   successes_fit = record {
     initialized = λ _ taken. let one = first_time terms.phase n taken suits in (one, one);
     unreadable = λ _ _. (few, suits);
@@ -167,12 +182,18 @@ module _ (now : Now) (terms : Terms) (n : ℕ) (few : n + 0 ≤ 1) (suits : Suit
     sets_register = λ _ p setting is e none _. other setting.body none;
     writes = λ _ p writing is e none _. other writing.body none;
   } where
-    set_is_plain : (c : Command) → SetsList c → (p : Program) (b : ResponseBody) → (answer_on p now terms c).result ≡ Ok b → initializes (Done b) ≡ 0
-    set_is_plain c kind p b e = subst IsPlain e (is_plain p now terms c kind.sets)
+    set_is_plain : (c : Command) → SetsList c → (p : Program) (b : ResponseBody) → (answer_on p (given_of now) terms c).result ≡ Ok b
+        → initializes (Done b) ≡ 0
+    set_is_plain c kind p b e = subst IsPlain e (is_plain p (given_of now) terms c kind.sets)
 
 once : KeptByEvents (OnceWith 0)
 once = record {
-  opens = λ s h. record { before = All-push Once s.before s.life h.before (let few = h.present in omega (arith, few)); present = omega arith; suits = refl };
+  opens =
+      λ s h. record {
+        before = All-push Once s.before s.life h.before (let few = h.present in omega (arith, few));
+        present = omega arith;
+        suits = refl;
+      };
   closes = λ s h. record { before = h.before; present = h.present; suits = tt };
   accepts = λ l piece s e h. record { before = h.before; present = h.present; suits = h.suits };
   becomes = λ d s h. record { before = h.before; present = h.present; suits = h.suits };
@@ -184,13 +205,16 @@ once = record {
   answers = λ l p rest file s _ _ _ h. answer_keeps l p rest s (answer_to (on_with (Some l) (p ∷ rest) s).now l.terms file p)
       (of_answer (λ ask answer. Fits (times_initialized s.life.said) answer) (on_with (Some l) (p ∷ rest) s).now l.terms file p.ask p.fate
       (λ refusal _. (h.present, h.suits))
-      (λ r taken _. by_success (on_with (Some l) (p ∷ rest) s).now l.terms (λ c a. is_taken_in l.terms.phase c ≡ true → Fits (times_initialized s.life.said) a)
-      (successes_fit (on_with (Some l) (p ∷ rest) s).now l.terms (times_initialized s.life.said) h.present h.suits) file r.command taken)) h;
+      (λ r taken _. by_success (given_of (on_with (Some l) (p ∷ rest) s).now) l.terms
+      (λ c a. is_taken_in l.terms.phase c ≡ true → Fits (times_initialized s.life.said) a)
+      (successes_fit (on_with (Some l) (p ∷ rest) s).now l.terms
+      (times_initialized s.life.said) h.present h.suits) file r.command taken)) h;
   takes = λ n s h. record { before = h.before; present = h.present; suits = h.suits };
 }
 
 pub initializes_once : (from : Beginning) (events : List SessionEvent) → InitializesOnce (After from events)
 initializes_once from events =
     let s = After from events in
-    let h : OnceWith 0 s = reached_by_events (OnceWith 0) once from (record { before = All-nil Once; present = omega arith; suits = tt }) events in
+    let h : OnceWith 0 s = reached_by_events (OnceWith 0) once from
+    (record { before = All-nil Once; present = omega arith; suits = tt }) events in
     each_life Once s (omega arith) h.before (let few = h.present in omega (arith, few))

@@ -43,8 +43,11 @@ record Ordered (s : Session) : Type 0 where
 answered_more : (life : Life) (m : Said) → flat_map answered_as (life.said ++ m ∷ []) ≡ answered_in life ++ answered_as m
 answered_more life m = flat_map-append answered_as life.said (m ∷ []) ∙ ap (λ x. answered_in life ++ x) (append-nil (answered_as m))
 
-says : (life : Life) (m : Said) (rest : List Pending) → asked_in life ≡ answered_in life ++ (answered_as m ++ pending_as rest) → Rest life.heard (life.said ++ m ∷ []) rest
-says life m rest h = h ∙ sym (append_assoc (answered_in life) (answered_as m) (pending_as rest)) ∙ ap (λ x. x ++ pending_as rest) (sym (answered_more life m))
+says : (life : Life) (m : Said) (rest : List Pending) → asked_in life ≡ answered_in life ++ (answered_as m ++ pending_as rest)
+    → Rest life.heard (life.said ++ m ∷ []) rest
+says life m rest h =
+    h ∙ sym (append_assoc (answered_in life) (answered_as m) (pending_as rest)) ∙ ap (λ x. x ++ pending_as rest)
+    (sym (answered_more life m))
 
 -- what waits after it, by the test whether its number was the last
 still_wait : (n last : ℕ) (rest : List Pending) → n < last → (let none : List Pending = [] in cond (eqb n last) none rest) ≡ rest
@@ -59,8 +62,12 @@ ordered = record {
       let more : map asked_as (s.life.heard ++ asks) ≡ asked_in s.life ++ map asked_as asks = map-append asked_as s.life.heard asks in
       record {
         before = h.before;
-        present = subst (IsPrefixOf (answered_in s.life)) (sym more) (prefix_of_more (answered_in s.life) (asked_in s.life) (map asked_as asks) h.present);
-        rest = λ few. more ∙ ap (λ x. x ++ map asked_as asks) (h.rest few) ∙ append_assoc (answered_in s.life) (pending_as s.now.arrivals.pending) (map asked_as asks)
+        present =
+            subst (IsPrefixOf (answered_in s.life)) (sym more)
+            (prefix_of_more (answered_in s.life) (asked_in s.life) (map asked_as asks) h.present);
+        rest =
+            λ few. more ∙ ap (λ x. x ++ map asked_as asks) (h.rest few) ∙ append_assoc (answered_in s.life)
+            (pending_as s.now.arrivals.pending) (map asked_as asks)
             ∙ sym (ap (λ x. answered_in s.life ++ x) (all_joined_as asked_as asks s.now.arrivals));
       };
   agrees = λ l terms s h. record { before = h.before; present = h.present; rest = h.rest };
@@ -72,7 +79,9 @@ ordered = record {
       record {
         before = h.before;
         present = (pending_as pending, now);
-        rest = λ left. subst (Rest s.life.heard (s.life.said ++ said_next s.now l (IsEvent event) ∷ [])) (sym (still_wait (l.seq + 1) s.now.limits.last_seq pending left)) now;
+        rest =
+            λ left. subst (Rest s.life.heard (s.life.said ++ said_next s.now l (IsEvent event) ∷ []))
+            (sym (still_wait (l.seq + 1) s.now.limits.last_seq pending left)) now;
       };
   hangs = λ l s h. record { before = h.before; present = h.present; rest = h.rest };
   takes = λ n s h. record { before = h.before; present = h.present; rest = h.rest };
@@ -80,17 +89,21 @@ ordered = record {
 
 ordered_answers : KeptByAnswers Ordered
 ordered_answers = λ l p rest outcome s few h.
-    let now : Rest s.life.heard (s.life.said ++ said_next s.now l (Response (response_to p.ask outcome)) ∷ []) rest = says s.life _ rest (h.rest few) in
+    let now : Rest s.life.heard (s.life.said ++ said_next s.now l (Response (response_to p.ask outcome)) ∷ []) rest = says s.life _ rest
+    (h.rest few) in
     record {
       before = h.before;
       present = (pending_as rest, now);
-      rest = λ left. subst (Rest s.life.heard (s.life.said ++ said_next s.now l (Response (response_to p.ask outcome)) ∷ [])) (sym (still_wait (l.seq + 1) s.now.limits.last_seq rest left)) now;
+      rest =
+          λ left. subst (Rest s.life.heard (s.life.said ++ said_next s.now l (Response (response_to p.ask outcome)) ∷ []))
+          (sym (still_wait (l.seq + 1) s.now.limits.last_seq rest left)) now;
     }
 
 pub answers_in_order : (from : Beginning) (events : List Event) → AnswersInOrder (After from events)
 answers_in_order from events =
     let s = After from events in
-    let h : Ordered s = reached_by_acts Ordered (by_forms Ordered ordered ordered_answers) from (record { before = All-nil Prefix; present = ([], refl); rest = tt }) events in
+    let h : Ordered s = reached_by_acts Ordered (by_forms Ordered ordered ordered_answers) from
+    (record { before = All-nil Prefix; present = ([], refl); rest = tt }) events in
     record {
       prefixes = each_life Prefix s ([], refl) h.before h.present;
       rest = λ link e. subst (λ (x : Option Link). RestOn x s.now.limits.last_seq s.life.heard s.life.said s.now.arrivals.pending) e h.rest;
@@ -124,7 +137,9 @@ counted = record {
   becomes = λ d s h. record { before = h.before; present = h.present; last = h.last };
   tells = λ l event s few h. record {
     before = h.before;
-    present = numbered_more 1 s.life.said _ h.present (let e : l.seq ≡ length s.life.said = h.last in let f : l.seq + 1 ≡ 1 + length s.life.said = omega (arith, e) in f);
+    present =
+        numbered_more 1 s.life.said _ h.present
+        (let e : l.seq ≡ length s.life.said = h.last in let f : l.seq + 1 ≡ 1 + length s.life.said = omega (arith, e) in f);
     last = ap (λ n. n + 1) h.last ∙ sym (length-append s.life.said (_ ∷ []));
   };
   hangs = λ l s h. record { before = h.before; present = h.present; last = h.last };
@@ -134,12 +149,15 @@ counted = record {
 counted_answers : KeptByAnswers Counted
 counted_answers = λ l p rest outcome s few h. record {
   before = h.before;
-  present = numbered_more 1 s.life.said _ h.present (let e : l.seq ≡ length s.life.said = h.last in let f : l.seq + 1 ≡ 1 + length s.life.said = omega (arith, e) in f);
+  present =
+      numbered_more 1 s.life.said _ h.present
+      (let e : l.seq ≡ length s.life.said = h.last in let f : l.seq + 1 ≡ 1 + length s.life.said = omega (arith, e) in f);
   last = ap (λ n. n + 1) h.last ∙ sym (length-append s.life.said (_ ∷ []));
 }
 
 pub numbers_rise : (from : Beginning) (events : List Event) → NumbersRise (After from events)
 numbers_rise from events =
     let s = After from events in
-    let h : Counted s = reached_by_acts Counted (by_forms Counted counted counted_answers) from (record { before = All-nil Rising; present = tt; last = tt }) events in
+    let h : Counted s = reached_by_acts Counted (by_forms Counted counted counted_answers) from
+    (record { before = All-nil Rising; present = tt; last = tt }) events in
     each_life Rising s tt h.before h.present

@@ -37,9 +37,9 @@ use Rattle.stepping.specs.declared.tick.Outcome.TheVariants.{Went, Stopped, Ende
 use Rattle.stepping.specs.declared.tick.Tick.{Tick}
 use Rattle.stepping.proofs.Existing.{the_tick}
 use Rattle.stepping.proofs.Exiting.{ends_with_codes, no_end}
-use Rattle.session.specs.Breaks.{with_list}
-use Rattle.session.specs.Disconnect.{departed}
-use Rattle.session.specs.Telling.{output_event, stop_event, text_of, reason_of}
+use Rattle.handlers.specs.Breaks.{with_list}
+use Rattle.handlers.specs.Disconnect.{departed}
+use Rattle.handlers.specs.Telling.{output_event, stop_event, text_of, reason_of}
 use Rattle.session.proofs.Reaching.{if_keeps}
 
 -- ---- numbers
@@ -68,7 +68,9 @@ map_numbered f same (b ∷ list) h = (ap is_word (same b) ∙ h.0, map_numbered 
 
 filter_words : (f : Placed → Bool) (list : List Placed) → AreNumbered list → AreWords (map (λ b. b.id) (filter f list))
 filter_words f [] h = tt
-filter_words f (b ∷ list) h = if_keeps (λ (l : List Placed). AreWords (map (λ b. b.id) l)) (f b) _ _ (λ _. (h.0, filter_words f list h.1)) (λ _. filter_words f list h.1)
+filter_words f (b ∷ list) h =
+    if_keeps (λ (l : List Placed). AreWords (map (λ b. b.id) l)) (f b) _ _ (λ _. (h.0, filter_words f list h.1))
+    (λ _. filter_words f list h.1)
 
 counted_id : (pc : ℕ) (hart : Hart) (memory : List ℕ) (b : Placed) → (counted pc hart memory b).id ≡ b.id
 counted_id pc hart memory b = if_keeps (λ (x : Placed). x.id ≡ b.id) (is_hit pc hart memory b) _ _ (λ _. refl) (λ _. refl)
@@ -89,7 +91,8 @@ checked_orderly pc hart memory lists h = record {
 none_named : (lists : Lists) → AreOrderly lists → AreOrderly (record lists { ids = [] })
 none_named lists h = record { source = h.source; instructions = h.instructions; ids = tt }
 
-reset_orderly : (lists : Lists) → AreOrderly lists → AreOrderly (record lists { source = map reset lists.source; instructions = map reset lists.instructions })
+reset_orderly : (lists : Lists) → AreOrderly lists
+    → AreOrderly (record lists { source = map reset lists.source; instructions = map reset lists.instructions })
 reset_orderly lists h = record {
   source = map_numbered reset (λ b. refl) lists.source h.source;
   instructions = map_numbered reset (λ b. refl) lists.instructions h.instructions;
@@ -98,22 +101,27 @@ reset_orderly lists h = record {
 
 -- ---- a tick
 
-settled_orderly : (s : Stepped) (instr : Option Instr) (pc : ℕ) (d : Debugged) → AreOrderly d.lists → AreOrderly (settled s instr pc d).lists
+settled_orderly : (s : Stepped) (instr : Option Instr) (pc : ℕ) (d : Debugged) → AreOrderly d.lists
+    → AreOrderly (settled s instr pc d).lists
 settled_orderly stepped.Retired instr pc d h = checked_orderly d.hart.pc d.hart d.memory d.lists h
 settled_orderly (stepped.Printed number) instr pc d h = checked_orderly d.hart.pc d.hart d.memory d.lists h
 settled_orderly stepped.Break instr pc d h = checked_orderly d.hart.pc d.hart d.memory d.lists h
 settled_orderly (stepped.Exit code) instr pc d h = none_named d.lists h
 settled_orderly (stepped.Trap cause) instr pc d h = none_named d.lists h
 
-answer_orderly : (s : Result Stepped AllocError) (before after : Debugged) (instr : Option Instr) (answer : Result Tick AllocError) → Settles before instr s answer after → AreOrderly before.lists → AreOrderly after.lists
+answer_orderly : (s : Result Stepped AllocError) (before after : Debugged) (instr : Option Instr) (answer : Result Tick AllocError)
+    → Settles before instr s answer after → AreOrderly before.lists → AreOrderly after.lists
 answer_orderly (Ok s) before after instr answer e h =
     subst (λ (d : Debugged). AreOrderly d.lists) (sym e.1) (settled_orderly s instr before.hart.pc (moved_as before after) h)
 answer_orderly (Err error) before after instr answer e h = subst (λ (d : Debugged). AreOrderly d.lists) (sym e.1) h
 
-tick_orderly : (before after : Debugged) (answer : Result Tick AllocError) → IsTick before answer after → AreOrderly before.lists → AreOrderly after.lists
+tick_orderly : (before after : Debugged) (answer : Result Tick AllocError) → IsTick before answer after → AreOrderly before.lists
+    → AreOrderly after.lists
 tick_orderly before after answer t h = go before.check_due t where
-  go : (due : Bool) → MatchBool due ((answer ≡ Ok (entry_tick before)) × (after ≡ entry_checked before)) (Moves before answer after) → AreOrderly after.lists
-  go true e = subst (λ (d : Debugged). AreOrderly d.lists) (sym e.1) (checked_orderly before.hart.pc before.hart before.memory before.lists h)
+  go : (due : Bool) → MatchBool due ((answer ≡ Ok (entry_tick before)) × (after ≡ entry_checked before)) (Moves before answer after)
+      → AreOrderly after.lists
+  go true e =
+      subst (λ (d : Debugged). AreOrderly d.lists) (sym e.1) (checked_orderly before.hart.pc before.hart before.memory before.lists h)
   go false m = answer_orderly m.stepped before after m.instr answer m.settles h
 
 -- ---- the program
@@ -156,7 +164,8 @@ pub told_orderly : (p : Program) → Orderly p → Orderly (told p)
 told_orderly p h = record { image = h.image; lists = none_named p.machine.lists h.lists; owed = tt; range = told_in_range p h.range }
 
 pub left_orderly : (p : Program) → Orderly p → Orderly (left p)
-left_orderly p h = record { image = h.image; lists = record { source = tt; instructions = tt; ids = tt }; owed = tt; range = left_in_range p h.range }
+left_orderly p h =
+    record { image = h.image; lists = record { source = tt; instructions = tt; ids = tt }; owed = tt; range = left_in_range p h.range }
 
 owing_fits : (printed : Option ℤ) (outcome : Outcome) → HasSignedCode outcome → FitsOwed (owing_by printed outcome)
 owing_fits None Went h = tt
@@ -190,7 +199,8 @@ moved_orderly p h =
     }
 
 marked_by_orderly : (r : Run) (mark : Mark) (p : Program) → Orderly p → Orderly (marked_by r mark p)
-marked_by_orderly run.Running mark p h = record { image = h.image; lists = h.lists; owed = h.owed; range = record { image = h.range.image; machine = h.range.machine } }
+marked_by_orderly run.Running mark p h =
+    record { image = h.image; lists = h.lists; owed = h.owed; range = record { image = h.range.image; machine = h.range.machine } }
 marked_by_orderly (run.Stopped why) mark p h = h
 marked_by_orderly (run.Ended code) mark p h = h
 
@@ -204,7 +214,8 @@ pub first_run_orderly : (p : Program) → Orderly p → Orderly (first_run p)
 first_run_orderly p h = record { image = h.image; lists = h.lists; owed = h.owed; range = first_run_in_range p h.range }
 
 pub restarted_orderly : (p : Program) → Orderly p → Orderly (restarted p)
-restarted_orderly p h = record { image = h.image; lists = reset_orderly p.machine.lists h.lists; owed = h.owed; range = restarted_in_range p h.range }
+restarted_orderly p h =
+    record { image = h.image; lists = reset_orderly p.machine.lists h.lists; owed = h.owed; range = restarted_in_range p h.range }
 
 pub departed_orderly : (ends stands : Bool) (p : Program) → Orderly p → Orderly (departed ends stands p)
 departed_orderly ends stands p h =
@@ -215,19 +226,34 @@ pub hart_orderly : (hart : Hart) (p : Program) → HartInRange hart → Orderly 
 hart_orderly hart p fits h = record { image = h.image; lists = h.lists; owed = h.owed; range = with_hart_in_range hart fits p h.range }
 
 pub written_orderly : (address : ℕ) (bytes : List ℕ) (p : Program) → AreBytes bytes → Orderly p → Orderly (written address bytes p)
-written_orderly address bytes p fit h = record { image = h.image; lists = h.lists; owed = h.owed; range = written_in_range address bytes fit p h.range }
+written_orderly address bytes p fit h =
+    record { image = h.image; lists = h.lists; owed = h.owed; range = written_in_range address bytes fit p h.range }
 
 -- breakpoints that are set have their numbers, and none was hit
 set_numbered : (list : List Wanted) → AreWords (map (λ w. w.id) list) → AreNumbered (map fresh list)
 set_numbered [] h = tt
 set_numbered (w ∷ list) h = (h.0, set_numbered list h.1)
 
-pub listed_orderly : (command : Command) (list : List Wanted) → AreWords (map (λ w. w.id) list) → (p : Program) → Orderly p → Orderly (with_list command list p)
-listed_orderly (SetBreakpoints arguments) list ids p h = record { image = h.image; lists = record { source = set_numbered list ids; instructions = h.lists.instructions; ids = tt }; owed = h.owed; range = with_source_in_range list p h.range }
-listed_orderly (SetInstructionBreakpoints arguments) list ids p h = record { image = h.image; lists = record { source = h.lists.source; instructions = set_numbered list ids; ids = tt }; owed = h.owed; range = with_instructions_in_range list p h.range }
+pub listed_orderly : (command : Command) (list : List Wanted) → AreWords (map (λ w. w.id) list) → (p : Program) → Orderly p
+    → Orderly (with_list command list p)
+listed_orderly (SetBreakpoints arguments) list ids p h =
+    record {
+      image = h.image;
+      lists = record { source = set_numbered list ids; instructions = h.lists.instructions; ids = tt };
+      owed = h.owed;
+      range = with_source_in_range list p h.range;
+    }
+listed_orderly (SetInstructionBreakpoints arguments) list ids p h =
+    record {
+      image = h.image;
+      lists = record { source = h.lists.source; instructions = set_numbered list ids; ids = tt };
+      owed = h.owed;
+      range = with_instructions_in_range list p h.range;
+    }
 listed_orderly other list ids p h = h
 
-pub loaded_orderly : (image : Image) (path : List ℕ) (stop_on_entry : Bool) (size : ℕ) → IsNarrowImage image → ImageInRange image → first_address + size < 2 ^ 32 → Orderly (just_loaded image path stop_on_entry size)
+pub loaded_orderly : (image : Image) (path : List ℕ) (stop_on_entry : Bool) (size : ℕ) → IsNarrowImage image → ImageInRange image
+    → first_address + size < 2 ^ 32 → Orderly (just_loaded image path stop_on_entry size)
 loaded_orderly image path stop_on_entry size narrow fits ends = record {
   image = narrow;
   lists = record { source = tt; instructions = tt; ids = tt };
@@ -235,13 +261,15 @@ loaded_orderly image path stop_on_entry size narrow fits ends = record {
   range = just_loaded_in_range image path stop_on_entry size fits ends;
 }
 
-pub with_orderly : (f : Program → Program) → ((p : Program) → Orderly p → Orderly (f p)) → (program : Option Program) → OrderlyOf program → OrderlyOf (on_program f program)
+pub with_orderly : (f : Program → Program) → ((p : Program) → Orderly p → Orderly (f p)) → (program : Option Program) → OrderlyOf program
+    → OrderlyOf (on_program f program)
 with_orderly f keeps None h = tt
 with_orderly f keeps (Some p) h = keeps p h
 
 -- ---- events
 
-stop_with : (ids : List ℕ) (reason : AReason) (text : Option (List ℕ)) → AreWords ids → IsProperEvent (event.Stopped (record { hit_breakpoint_ids = ids; reason = reason; text = text }))
+stop_with : (ids : List ℕ) (reason : AReason) (text : Option (List ℕ)) → AreWords ids
+    → IsProperEvent (event.Stopped (record { hit_breakpoint_ids = ids; reason = reason; text = text }))
 stop_with ids reason None h = ap (λ b. b && true) (all_words ids h)
 stop_with ids reason (Some text) h = ap (λ b. b && true) (all_words ids h)
 
@@ -264,5 +292,6 @@ both_true false b x y = x
 
 pub exit_is_proper : (code : ℤ) → IsSignedWord code → IsProperEvent (event.Exited (record { exit_code = code }))
 exit_is_proper code h =
-    let fits : is_signed_word code ≡ true = both_true _ _ (at_most (neg_ℤ (pos 2147483648)) code h.least) (at_most code (pos 2147483647) h.greatest) in
+    let fits : is_signed_word code ≡ true = both_true _ _ (at_most (neg_ℤ (pos 2147483648)) code h.least)
+    (at_most code (pos 2147483647) h.greatest) in
     ap (λ b. b && true) fits

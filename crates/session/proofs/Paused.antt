@@ -17,26 +17,27 @@ use Rattle.protocol.specs.declared.disconnect.TheConstants.{NAME as DISCONNECT}
 use Rattle.replies.specs.declared.message.Message.TheVariants.{Response as IsResponse}
 use Rattle.replies.specs.declared.response.Outcome.{Outcome as Answered}
 use Rattle.session.specs.declared.state.TheConstants.{MOST_PIECE, MOST_PENDING, FULL, LAST_CONNECTION}
-use Rattle.session.specs.declared.event.Ending.{Ending}
-use Rattle.session.specs.declared.event.Ending.TheVariants as ending
+use Rattle.session.specs.declared.event.SliceEnd.{SliceEnd}
+use Rattle.session.specs.declared.event.SliceEnd.TheVariants as ending
 use Rattle.session.specs.declared.event.Event.{Event}
 use Rattle.session.specs.declared.event.Event.TheVariants.{Connect, Recv, Turn, Slice, Hold, Sent, DropConnection}
 use Rattle.session.specs.declared.link.Link.{Link}
 use Rattle.session.specs.declared.pending.Pending.{Pending}
-use Rattle.session.specs.declared.terms.Terms.{Terms}
-use Rattle.session.specs.Acts.{Answering, Now, Become, Refer, Agree, Reply, Tell}
+use Rattle.handlers.specs.declared.terms.Terms.{Terms}
+use Rattle.handlers.specs.Given.{Answering}
+use Rattle.session.specs.Acts.{Now, Become, Refer, Agree, Reply, Tell, given_of}
 use Rattle.session.specs.Arrivals.{name_asked}
 use Rattle.variables.specs.Laws.{Call}
-use Rattle.session.specs.Breaks.{with_list}
-use Rattle.session.specs.Demands.{goes_on, run_of}
+use Rattle.handlers.specs.Breaks.{with_list}
+use Rattle.handlers.specs.Demands.{goes_on, run_of}
 use Rattle.session.specs.Effects.{Slicing, beats, enough, next_by, performed}
 use Rattle.session.specs.Laws.{EditorLeaves, IsAtRest, IsMarked, MarkedRetiresNone, PauseMarks, RetiresNone, RetiresNoneIn}
 use Rattle.session.specs.Outcomes.{Outcome, answering, answers_next, closing, next_turn, outcome_at, turn_by, turn_of}
 use Rattle.session.specs.Refusals.{answer_to, response_to}
-use Rattle.session.specs.Requests.{demand_of}
+use Rattle.handlers.specs.Requests.{demand_of}
 use Rattle.session.specs.Sessions.{Session, Effect, agreed_on, histories, hung_on, performed_on, referred_on, replied_on, waiting_of}
 use Rattle.session.specs.Slices.{Beat, beat_by, beat_of, ending_of, ends, goes_unless, is_runnable_by, telling, tells}
-use Rattle.session.specs.Telling.{stop_event}
+use Rattle.handlers.specs.Telling.{stop_event}
 use Rattle.stepping.specs.declared.tick.Tick.{Tick}
 use Rattle.stepping.specs.declared.tick.Outcome.{Outcome as CameTo}
 use Rattle.stepping.specs.declared.tick.Outcome.TheVariants.{Went, Stopped, Ended}
@@ -50,7 +51,8 @@ use Rattle.session.specs.Beats.{concluded}
 
 -- it runs and is marked, or does not run
 Waits : Option Program → Type 0
-Waits program = MatchOption program ⊥ (λ p. (is_running p.run ≡ true) × (is_some p.mark ≡ true)) ⊎ MatchOption program ⊥ (λ p. is_running p.run ≡ false)
+Waits program =
+    MatchOption program ⊥ (λ p. (is_running p.run ≡ true) × (is_some p.mark ≡ true)) ⊎ MatchOption program ⊥ (λ p. is_running p.run ≡ false)
 
 marked_one : (p : Program) → is_running p.run ≡ true → is_some p.mark ≡ true → Waits (Some p)
 unfolding Waits
@@ -68,47 +70,66 @@ record Rests (s : Session) (b : Beat) : Type 0 where
   none : b.moved ≡ 0
   going : b.ending ≡ None → IsMarked (performed histories b.acts s).now.debuggee
 
-tick_rests : (s : Session) (p : Program) (tick : Tick) (r : is_running p.run ≡ true) (m : is_some p.mark ≡ true) → Rests s (record { acts = telling s.now p tick; moved = 0; ending = ending_of tick.outcome })
+tick_rests : (s : Session) (p : Program) (tick : Tick) (r : is_running p.run ≡ true) (m : is_some p.mark ≡ true)
+    → Rests s (record { acts = telling s.now p tick; moved = 0; ending = ending_of tick.outcome })
 tick_rests s p tick r m = by tick.outcome refl where
-  by : (outcome : CameTo) → tick.outcome ≡ outcome → Rests s (record { acts = telling s.now p tick; moved = 0; ending = ending_of tick.outcome })
+  by : (outcome : CameTo) → tick.outcome ≡ outcome
+      → Rests s (record { acts = telling s.now p tick; moved = 0; ending = ending_of tick.outcome })
   by Went same =
-      let is : program_of (performed histories (telling s.now p tick) s) ≡ Some (told p) = telling_program s.now p tick s ∙ ap (λ (o : CameTo). let q : Option Program = Some (concluded o (told p)) in q) same in
+      let is : program_of (performed histories (telling s.now p tick) s) ≡ Some (told p) = telling_program s.now p tick s ∙ ap
+      (λ (o : CameTo). let q : Option Program = Some (concluded o (told p)) in q) same in
       record {
         waits = subst Waits (sym is) (marked_one (told p) r m);
         none = refl;
-        going = λ _. subst (λ (q : Option Program). MatchOption q ⊥ (λ p. (is_running p.run ≡ true) × (is_some p.mark ≡ true))) (sym is) (r, m);
+        going =
+            λ _. subst (λ (q : Option Program). MatchOption q ⊥ (λ p. (is_running p.run ≡ true) × (is_some p.mark ≡ true))) (sym is) (r, m);
       }
   by (Stopped reason) same =
-      let is : program_of (performed histories (telling s.now p tick) s) ≡ Some (stopped (why.Met reason) (told p)) = telling_program s.now p tick s ∙ ap (λ (o : CameTo). let q : Option Program = Some (concluded o (told p)) in q) same in
+      let is : program_of (performed histories (telling s.now p tick) s) ≡ Some
+      (stopped (why.Met reason) (told p)) = telling_program s.now p tick s ∙ ap
+      (λ (o : CameTo). let q : Option Program = Some (concluded o (told p)) in q) same in
       record {
         waits = subst Waits (sym is) (rests_one (stopped (why.Met reason) (told p)) refl);
         none = refl;
         going = λ e. absurd (let no : ending_of tick.outcome ≡ None = e in let some = ap ending_of same in cc);
       }
   by (Ended code) same =
-      let is : program_of (performed histories (telling s.now p tick) s) ≡ Some (ended (Some code) (told p)) = telling_program s.now p tick s ∙ ap (λ (o : CameTo). let q : Option Program = Some (concluded o (told p)) in q) same in
+      let is : program_of (performed histories (telling s.now p tick) s) ≡ Some
+      (ended (Some code) (told p)) = telling_program s.now p tick s ∙ ap
+      (λ (o : CameTo). let q : Option Program = Some (concluded o (told p)) in q) same in
       record {
         waits = subst Waits (sym is) (rests_one (ended (Some code) (told p)) refl);
         none = refl;
         going = λ e. absurd (let no : ending_of tick.outcome ≡ None = e in let some = ap ending_of same in cc);
       }
 
-idle_rests : (s : Session) (p : Program) (e : Ending) → program_of s ≡ Some p → is_running p.run ≡ true → is_some p.mark ≡ true → Rests s (ends e)
-idle_rests s p e is r m = record { waits = subst Waits (sym is) (marked_one p r m); none = refl; going = λ x. absurd (let no : Some e ≡ None = x in cc) }
+idle_rests : (s : Session) (p : Program) (e : SliceEnd) → program_of s ≡ Some p → is_running p.run ≡ true → is_some p.mark ≡ true
+    → Rests s (ends e)
+idle_rests s p e is r m =
+    record { waits = subst Waits (sym is) (marked_one p r m); none = refl; going = λ x. absurd (let no : Some e ≡ None = x in cc) }
 
 mark_rests : (s : Session) (p : Program) (mark : Option Mark) (more : Bool) → is_some mark ≡ true → Rests s (goes_unless mark s.now p more)
 mark_rests s p None more m = absurd (let no : false ≡ true = m in cc)
 mark_rests s p (Some mark) more m =
-    let is = becomes_program s.now (stopped (why_marked mark) p) (tells s.now (stop_event (why_marked mark) [] ∷ [])) s (tells_only s.now (stop_event (why_marked mark) [] ∷ [])) in
-    record { waits = subst Waits (sym is) (rests_one (stopped (why_marked mark) p) refl); none = refl; going = λ x. absurd (let no : Some ending.Stopped ≡ None = x in cc) }
+    let is = becomes_program s.now (stopped (why_marked mark) p) (tells s.now (stop_event (why_marked mark) [] ∷ [])) s
+    (tells_only s.now (stop_event (why_marked mark) [] ∷ [])) in
+    record {
+      waits = subst Waits (sym is) (rests_one (stopped (why_marked mark) p) refl);
+      none = refl;
+      going = λ x. absurd
+          (let no : Some ending.Stopped ≡ None = x in cc);
+    }
 
-owed_rests : (owed : Option Tick) (s : Session) (p : Program) (more : Bool) → program_of s ≡ Some p → is_running p.run ≡ true → is_some p.mark ≡ true → Rests s (beat_by owed (histories.see s) p more)
+owed_rests : (owed : Option Tick) (s : Session) (p : Program) (more : Bool) → program_of s ≡ Some p → is_running p.run ≡ true
+    → is_some p.mark ≡ true → Rests s (beat_by owed (histories.see s) p more)
 owed_rests (Some tick) s p more is r m = tick_rests s p tick r m
 owed_rests None s p more is r m =
     if_keeps (Rests s) (not (is_runnable_by s.now.link p.run)) _ _ (λ _. idle_rests s p ending.Idle is r m)
-    (λ _. if_keeps (Rests s) (ltb FULL (length (waiting_of s))) _ _ (λ _. idle_rests s p ending.Full is r m) (λ _. mark_rests s p p.mark more m))
+    (λ _. if_keeps (Rests s) (ltb FULL (length (waiting_of s))) _ _ (λ _. idle_rests s p ending.Full is r m)
+    (λ _. mark_rests s p p.mark more m))
 
-program_rests : (program : Option Program) (s : Session) (more : Bool) → program_of s ≡ program → MatchOption program ⊥ (λ p. (is_running p.run ≡ true) × (is_some p.mark ≡ true)) → Rests s (beat_of program (histories.see s) more)
+program_rests : (program : Option Program) (s : Session) (more : Bool) → program_of s ≡ program
+    → MatchOption program ⊥ (λ p. (is_running p.run ≡ true) × (is_some p.mark ≡ true)) → Rests s (beat_of program (histories.see s) more)
 program_rests None s more is h = absurd h
 program_rests (Some p) s more is h = owed_rests p.owed s p more is h.0 h.1
 
@@ -119,7 +140,7 @@ record Slept (d : Slicing Session) : Type 0 where
   none : d.moved ≡ 0
   going : d.ending ≡ None → IsMarked d.state.now.debuggee
 
-next_slept : (n : ℕ) (d : Slicing Session) (e : Option Ending) → d.ending ≡ e → Slept d → Slept (next_by histories n e d)
+next_slept : (n : ℕ) (d : Slicing Session) (e : Option SliceEnd) → d.ending ≡ e → Slept d → Slept (next_by histories n e d)
 next_slept n d (Some e) is h = h
 next_slept n d None is h =
     let b = program_rests (program_of d.state) d.state (ltb d.moved n) refl (h.going is) in
@@ -141,7 +162,8 @@ referred_debuggee : (l : Option Link) (call : Option Call) (s : Session) → (re
 referred_debuggee None call s = refl
 referred_debuggee (Some l) call s = refl
 
-replied_debuggee : (pending : List Pending) (outcome : Answered) (s : Session) → (replied_on pending outcome s).now.debuggee ≡ s.now.debuggee
+replied_debuggee : (pending : List Pending) (outcome : Answered) (s : Session)
+    → (replied_on pending outcome s).now.debuggee ≡ s.now.debuggee
 replied_debuggee [] outcome s = refl
 replied_debuggee (p ∷ rest) outcome s = said_debuggee s.now.link (IsResponse (response_to p.ask outcome)) rest s
 
@@ -177,7 +199,8 @@ still_marked : (program : Option Program) → Marked program → Waits program
 unfolding Waits
 still_marked program h = inl h
 
-on_waits : (f : Program → Program) (program : Option Program) → Marked program → ((p : Program) → is_running p.run ≡ true → is_some p.mark ≡ true → Waits (Some (f p))) → Waits (on_program f program)
+on_waits : (f : Program → Program) (program : Option Program) → Marked program
+    → ((p : Program) → is_running p.run ≡ true → is_some p.mark ≡ true → Waits (Some (f p))) → Waits (on_program f program)
 on_waits f None h keeps = absurd h
 on_waits f (Some p) h keeps = keeps p h.0 h.1
 
@@ -185,8 +208,10 @@ keeps_mark : (mark : Option Mark) (other : Option Mark) → is_some mark ≡ tru
 keeps_mark None other h = absurd (let no : false ≡ true = h in cc)
 keeps_mark (Some mark) other h = refl
 
-marked_by_waits : (r : Run) (mark : Mark) (p : Program) → p.run ≡ r → is_running p.run ≡ true → is_some p.mark ≡ true → Waits (Some (marked_by r mark p))
-marked_by_waits run.Running mark p is r m = marked_one (record p { mark = first_mark p.mark (Some mark) }) r (keeps_mark p.mark (Some mark) m)
+marked_by_waits : (r : Run) (mark : Mark) (p : Program) → p.run ≡ r → is_running p.run ≡ true → is_some p.mark ≡ true
+    → Waits (Some (marked_by r mark p))
+marked_by_waits run.Running mark p is r m =
+    marked_one (record p { mark = first_mark p.mark (Some mark) }) r (keeps_mark p.mark (Some mark) m)
 marked_by_waits (run.Stopped why) mark p is r m = marked_one p r m
 marked_by_waits (run.Ended code) mark p is r m = marked_one p r m
 
@@ -201,7 +226,8 @@ no_step : {A : Type 0} (program : Option Program) → Marked program → goes_on
 no_step None h still = absurd h
 no_step (Some p) h still = absurd (let no : true ≡ false = sym h.0 ∙ still in cc)
 
-listed_waits : (command : Command) (list : List Wanted) (p : Program) → is_running p.run ≡ true → is_some p.mark ≡ true → Waits (Some (with_list command list p))
+listed_waits : (command : Command) (list : List Wanted) (p : Program) → is_running p.run ≡ true → is_some p.mark ≡ true
+    → Waits (Some (with_list command list p))
 listed_waits (SetBreakpoints arguments) list p r m = marked_one (with_source list p) r m
 listed_waits (SetInstructionBreakpoints arguments) list p r m = marked_one (with_instructions list p) r m
 listed_waits other list p r m = marked_one p r m
@@ -216,9 +242,10 @@ module _ (now : Now) (terms : Terms) (h : Marked now.debuggee.program) where
 
   -- it wants the program to stand still
   no_still : {A : Type 0} (c : Command) → (demand_of c).still ≡ true → Meets (run_of now.debuggee.program) (demand_of c) → A
-  no_still c still meets = no_step now.debuggee.program h (subst (λ (s : Bool). (s && goes_on (run_of now.debuggee.program)) ≡ false) still meets.still)
+  no_still c still meets =
+      no_step now.debuggee.program h (subst (λ (s : Bool). (s && goes_on (run_of now.debuggee.program)) ≡ false) still meets.still)
 
-  successes_wait : BySuccess now terms (WaitsTaken now)
+  successes_wait : BySuccess (given_of now) terms (WaitsTaken now)
   successes_wait = record {
     initialized = λ _ _. inl same;
     unreadable = λ _ _. inl same;
@@ -242,18 +269,20 @@ module _ (now : Now) (terms : Terms) (h : Marked now.debuggee.program) where
     writes = λ arguments _ _ _ _ _ meets. no_still (WriteMemory arguments) refl meets;
   }
 
-answer_waits : (now : Now) (terms : Terms) (file : Option (List ℕ)) (p : Pending) → Marked now.debuggee.program → Goes (name_asked p.ask) (answer_to now terms file p)
+answer_waits : (now : Now) (terms : Terms) (file : Option (List ℕ)) (p : Pending) → Marked now.debuggee.program
+    → Goes (name_asked p.ask) (answer_to now terms file p)
 answer_waits now terms file p h =
     of_answer (λ ask answer. Goes (name_asked ask) answer) now terms file p.ask p.fate
     (λ refusal _. inl (still_marked now.debuggee.program h))
-    (λ r taken meets. by_success now terms (WaitsTaken now) (successes_wait now terms h) file r.command meets)
+    (λ r taken meets. by_success (given_of now) terms (WaitsTaken now) (successes_wait now terms h) file r.command meets)
 
 -- ---- an event
 
 abbrev Passes : Session → Event → Outcome → Type 0
 Passes s e o = EditorLeaves s e ⊎ Waits (program_of (performed histories o.acts s))
 
-turn_passes : (l : Link) (file : Option (List ℕ)) (pending : List Pending) (s : Session) → let t = on_with (Some l) pending s in Marked (program_of t) → Passes t (Turn file) (next_turn t.now l.terms file pending)
+turn_passes : (l : Link) (file : Option (List ℕ)) (pending : List Pending) (s : Session) → let t =
+    on_with (Some l) pending s in Marked (program_of t) → Passes t (Turn file) (next_turn t.now l.terms file pending)
 turn_passes l file [] s h = inr (still_marked (program_of s) h)
 turn_passes l file (p ∷ rest) s h = by (answer_waits t.now l.terms file p h) where
   t : Session
@@ -266,30 +295,41 @@ turn_passes l file (p ∷ rest) s h = by (answer_waits t.now l.terms file p h) w
   by (inl w) = inr (subst (λ (d : Debuggee). Waits d.program) (sym (answering_debuggee a t)) w)
   by (inr leaves) = inl leaves
 
-answers_pass : (l : Link) (file : Option (List ℕ)) (s : Session) → Marked (program_of s) → Passes (on (Some l) s) (Turn file) (answers_next (histories.see (on (Some l) s)) l file)
-answers_pass l file s h = if_keeps (Passes (on (Some l) s) (Turn file)) (ltb FULL (length (waiting_of (on (Some l) s)))) _ _ (λ _. inr (still_marked (program_of s) h)) (λ _. turn_passes l file s.now.arrivals.pending s h)
+answers_pass : (l : Link) (file : Option (List ℕ)) (s : Session) → Marked (program_of s)
+    → Passes (on (Some l) s) (Turn file) (answers_next (histories.see (on (Some l) s)) l file)
+answers_pass l file s h =
+    if_keeps (Passes (on (Some l) s) (Turn file)) (ltb FULL (length (waiting_of (on (Some l) s)))) _ _
+    (λ _. inr (still_marked (program_of s) h)) (λ _. turn_passes l file s.now.arrivals.pending s h)
 
-owed_passes : (owed : Option Tick) (l : Link) (file : Option (List ℕ)) (p : Program) (s : Session) → is_running p.run ≡ true → is_some p.mark ≡ true → Marked (program_of s) → Passes (on (Some l) s) (Turn file) (turn_by owed (histories.see (on (Some l) s)) l p file)
+owed_passes : (owed : Option Tick) (l : Link) (file : Option (List ℕ)) (p : Program) (s : Session) → is_running p.run ≡ true
+    → is_some p.mark ≡ true → Marked (program_of s)
+    → Passes (on (Some l) s) (Turn file) (turn_by owed (histories.see (on (Some l) s)) l p file)
 owed_passes None l file p s r m h = answers_pass l file s h
 owed_passes (Some tick) l file p s r m h = inr (tick_rests (on (Some l) s) p tick r m).waits
 
-program_passes : (program : Option Program) (l : Link) (file : Option (List ℕ)) (s : Session) → Marked program → Marked (program_of s) → Passes (on (Some l) s) (Turn file) (turn_of program (histories.see (on (Some l) s)) l file)
+program_passes : (program : Option Program) (l : Link) (file : Option (List ℕ)) (s : Session) → Marked program → Marked (program_of s)
+    → Passes (on (Some l) s) (Turn file) (turn_of program (histories.see (on (Some l) s)) l file)
 program_passes None l file s h g = absurd h
 program_passes (Some p) l file s h g = owed_passes p.owed l file p s h.0 h.1 g
 
-piece_passes : (l : Link) (piece : List ℕ) (s : Session) → Marked (program_of s) → Passes (on (Some l) s) (Recv piece) (outcome_at (histories.see (on (Some l) s)) (Some l) (Recv piece))
+piece_passes : (l : Link) (piece : List ℕ) (s : Session) → Marked (program_of s)
+    → Passes (on (Some l) s) (Recv piece) (outcome_at (histories.see (on (Some l) s)) (Some l) (Recv piece))
 piece_passes l piece s h =
     let same = inr (still_marked (program_of s) h) in
     if_keeps (Passes (on (Some l) s) (Recv piece)) l.is_closing _ _ (λ _. same)
     (λ _. if_keeps (Passes (on (Some l) s) (Recv piece)) (ltb MOST_PIECE (length piece)) _ _ (λ _. same)
     (λ _. if_keeps (Passes (on (Some l) s) (Recv piece)) (leb MOST_PENDING (length s.now.arrivals.pending)) _ _ (λ _. same)
-    (λ _. if_keeps (λ (t : Session). EditorLeaves (on (Some l) s) (Recv piece) ⊎ Waits (program_of t)) l.is_closing _ _ (λ _. same) (λ _. same))))
+    (λ _. if_keeps (λ (t : Session). EditorLeaves (on (Some l) s) (Recv piece) ⊎ Waits (program_of t)) l.is_closing _ _ (λ _. same)
+    (λ _. same))))
 
 hold_waits : (program : Option Program) → Marked program → Waits (on_program (marked mark.Hold) program)
 hold_waits program h = on_waits (marked mark.Hold) program h (λ p r m. marked_waits mark.Hold p r m)
 
-outcome_passes : (l : Option Link) (e : Event) (s : Session) → Marked (program_of s) → Passes (on l s) e (outcome_at (histories.see (on l s)) l e)
-outcome_passes None Connect s h = if_keeps (Passes (on None s) Connect) (eqb s.now.connections LAST_CONNECTION) _ _ (λ _. inr (still_marked (program_of s) h)) (λ _. inr (still_marked (program_of s) h))
+outcome_passes : (l : Option Link) (e : Event) (s : Session) → Marked (program_of s)
+    → Passes (on l s) e (outcome_at (histories.see (on l s)) l e)
+outcome_passes None Connect s h =
+    if_keeps (Passes (on None s) Connect) (eqb s.now.connections LAST_CONNECTION) _ _ (λ _. inr (still_marked (program_of s) h))
+    (λ _. inr (still_marked (program_of s) h))
 outcome_passes None (Recv piece) s h = inr (still_marked (program_of s) h)
 outcome_passes None (Turn file) s h = inr (still_marked (program_of s) h)
 outcome_passes None (Slice n) s h = inr (still_marked (program_of s) h)
@@ -301,7 +341,9 @@ outcome_passes (Some l) (Recv piece) s h = piece_passes l piece s h
 outcome_passes (Some l) (Turn file) s h = program_passes (program_of s) l file s h h
 outcome_passes (Some l) (Slice n) s h = inr (still_marked (program_of s) h)
 outcome_passes (Some l) Hold s h = inr (hold_waits (program_of s) h)
-outcome_passes (Some l) (Sent n) s h = if_keeps (Passes (on (Some l) s) (Sent n)) (ltb (length (waiting_of (on (Some l) s))) n) _ _ (λ _. inr (still_marked (program_of s) h)) (λ _. inr (still_marked (program_of s) h))
+outcome_passes (Some l) (Sent n) s h =
+    if_keeps (Passes (on (Some l) s) (Sent n)) (ltb (length (waiting_of (on (Some l) s))) n) _ _ (λ _. inr (still_marked (program_of s) h))
+    (λ _. inr (still_marked (program_of s) h))
 outcome_passes (Some l) DropConnection s h = inl tt
 
 event_passes : (e : Event) (s : Session) → IsMarked s.now.debuggee → EditorLeaves s e ⊎ Waits (program_of (Effect s e))
@@ -322,7 +364,8 @@ retires_none Hold s h = tt
 retires_none (Sent n) s h = tt
 retires_none DropConnection s h = tt
 
-goes_on_none : (e : Event) (events : List Event) (s : Session) → (IsMarked (Effect s e).now.debuggee → RetiresNoneIn events (Effect s e)) → EditorLeaves s e ⊎ Waits (program_of (Effect s e))
+goes_on_none : (e : Event) (events : List Event) (s : Session) → (IsMarked (Effect s e).now.debuggee → RetiresNoneIn events (Effect s e))
+    → EditorLeaves s e ⊎ Waits (program_of (Effect s e))
     → IsAtRest (Effect s e).now.debuggee ⊎ (EditorLeaves s e ⊎ RetiresNoneIn events (Effect s e))
 unfolding Waits
 goes_on_none e events s rest (inl leaves) = inr (inl leaves)
@@ -338,7 +381,8 @@ marked_retires_none s h events = retires_none_in events s h
 
 pub pause_marks : (now : Now) → PauseMarks now
 pause_marks now terms file arguments runs = by now.debuggee.program runs where
-  one : (r : Run) (p : Program) → p.run ≡ r → is_running p.run ≡ true → (is_running (marked_by r mark.Pause p).run ≡ true) × (is_some (marked_by r mark.Pause p).mark ≡ true)
+  one : (r : Run) (p : Program) → p.run ≡ r → is_running p.run ≡ true
+      → (is_running (marked_by r mark.Pause p).run ≡ true) × (is_some (marked_by r mark.Pause p).mark ≡ true)
   one run.Running p is r = (r, first p.mark) where
     first : (m : Option Mark) → is_some (first_mark m (Some mark.Pause)) ≡ true
     first None = refl

@@ -8,7 +8,7 @@ use Rattle.breakpoints.specs.Stops.{Wanted}
 use Rattle.debuggee.specs.Programs.{Program}
 use Rattle.debuggee.specs.declared.run.Run.{Run}
 use Rattle.debuggee.specs.declared.run.Run.TheVariants.{Running, Stopped, Ended}
-use Rattle.session.specs.ConfigurationDone.{run_events}
+use Rattle.handlers.specs.ConfigurationDone.{run_events}
 use Rattle.image.specs.Lines.{line_in, start_of}
 use Rattle.std.proofs.lemmas.List.Elements.{All-push, All-nil, All-weaker}
 use Rattle.protocol.specs.declared.command.Command.{Command}
@@ -26,12 +26,13 @@ use Rattle.replies.specs.declared.response.ResponseBody.{ResponseBody}
 use Rattle.session.specs.declared.event.Event.{Event}
 use Rattle.session.specs.declared.link.Link.{Link}
 use Rattle.session.specs.declared.pending.Pending.{Pending}
-use Rattle.session.specs.declared.terms.Terms.{Terms}
-use Rattle.session.specs.Acts.{Answering, Now, Tell, refers}
+use Rattle.handlers.specs.declared.terms.Terms.{Terms}
+use Rattle.handlers.specs.Given.{Answering}
+use Rattle.session.specs.Acts.{Now, Tell, refers, given_of}
 use Rattle.session.specs.References.{past_referred}
 use Rattle.session.specs.Arrivals.{number_of, name_asked}
-use Rattle.session.specs.Breaks.{view_of}
-use Rattle.session.specs.Demands.{run_of}
+use Rattle.handlers.specs.Views.{view_of}
+use Rattle.handlers.specs.Demands.{run_of}
 use Rattle.session.specs.Effects.{performed}
 use Rattle.session.specs.Laws.{AnswersAreProper}
 use Rattle.session.specs.Outcomes.{answering, closing}
@@ -42,8 +43,8 @@ use Rattle.session.proofs.ByForms.{on, on_with, saying}
 use Rattle.session.proofs.Turning.{BoundsIn, KeptByEvents, reached_by_events}
 use Rattle.session.proofs.Asked.{AreRead, IsRead, asks_that_wait, has_no_text, number_is}
 use Rattle.session.proofs.Breaking.{answer_on}
-use Rattle.session.specs.Looking.{seen_in}
-use Rattle.session.specs.Phases.{base_of}
+use Rattle.handlers.specs.Looking.{seen_in}
+use Rattle.handlers.specs.Phases.{base_of}
 use Rattle.answers.specs.declared.set_variable.Setting.{Setting}
 use Rattle.answers.specs.declared.write_memory.Writing.{Writing}
 use Rattle.answers.proofs.ProperLooking.{looks_are_proper}
@@ -92,26 +93,30 @@ run_is_told (Some (Ended code)) = tt
 
 -- the body of a success is that of its request
 abbrev FitsTaken : Now → Command → Answering → Type 0
-FitsTaken now c a = Has now c → AsksLinesWithin c → Fits (name_of c) a
+FitsTaken now c a = Has (given_of now) c → AsksLinesWithin c → Fits (name_of c) a
 
 module _ (now : Now) (terms : Terms) (few : BoundsIn now) (h : OrderlyIn now.debuggee) where
   abbrev IsOf : Command → Result ResponseBody Refusal → Type 0
   IsOf c result = IfOk result (λ b. IsOutcomeOf (name_of c) (Done b))
 
-  set_is_of : (c : Command) → SetsList c → AsksLinesWithin c → (p : Program) (b : ResponseBody) (list : Option (List Wanted)) → now.debuggee.program ≡ Some p → (answer_on p now terms c).result ≡ Ok b
-      → (answer_on p now terms c).list ≡ list → NumbersFit (now.debuggee.last_break + 1) list → IsOutcomeOf (name_of c) (Done b)
+  set_is_of : (c : Command) → SetsList c → AsksLinesWithin c → (p : Program) (b : ResponseBody) (list : Option (List Wanted))
+      → now.debuggee.program ≡ Some p → (answer_on p (given_of now) terms c).result ≡ Ok b
+      → (answer_on p (given_of now) terms c).list ≡ list → NumbersFit (now.debuggee.last_break + 1) list → IsOutcomeOf (name_of c) (Done b)
   set_is_of c kind asks p b list is e f fit =
       subst (IsOf c) e
-      (breaks_are_proper c p.image.lines p.machine.size (view_of terms p) (now.debuggee.last_break + 1) kind.sets (narrow_table p (subst OrderlyOf is h)) asks
+      (breaks_are_proper c p.image.lines p.machine.size (view_of terms p) (now.debuggee.last_break + 1) kind.sets
+      (narrow_table p (subst OrderlyOf is h)) asks
       (subst (NumbersFit (now.debuggee.last_break + 1)) (sym f) fit))
 
-  shown_is_of : (c : Command) → Looks c → (p : Program) (b : ResponseBody) → now.debuggee.program ≡ Some p → (seen_in p now terms c).result ≡ Ok b → IsOutcomeOf (name_of c) (Done b)
+  shown_is_of : (c : Command) → Looks c → (p : Program) (b : ResponseBody) → now.debuggee.program ≡ Some p
+      → (seen_in p (given_of now) terms c).result ≡ Ok b → IsOutcomeOf (name_of c) (Done b)
   shown_is_of c kind p b is e =
       let o : Orderly p = subst OrderlyOf is h in
       subst (IsOf c) e
-      (looks_are_proper c p.machine p.image.lines now.numbers (view_of terms p) kind.looks (holds_words p o) (narrow_table p o) (record { within = few.numbers.0; last = few.numbers.1 }) (base_small terms.columns_start_at1))
+      (looks_are_proper c p.machine p.image.lines now.numbers (view_of terms p) kind.looks (holds_words p o) (narrow_table p o)
+      (record { within = few.numbers.0; last = few.numbers.1 }) (base_small terms.columns_start_at1))
 
-  successes_fit : BySuccess now terms (FitsTaken now)
+  successes_fit : BySuccess (given_of now) terms (FitsTaken now)
   successes_fit = record {
     initialized = λ _ _ _. record { outcome = (refl, refl); events = tt };
     unreadable = λ _ _ _. record { outcome = refl; events = tt };
@@ -126,26 +131,37 @@ module _ (now : Now) (terms : Terms) (few : BoundsIn now) (h : OrderlyIn now.deb
     leaves = λ _ _ _. record { outcome = (refl, refl); events = tt };
     pauses = λ _ _ _. record { outcome = (refl, refl); events = tt };
     stepped = λ _ kind _ _ _. record { outcome = kind.outcome; events = tt };
-    absent = λ c about none there _. not_absent now c about there none;
+    absent = λ c about none there _. not_absent (given_of now) c about there none;
     refused = λ _ _ refusal plain _ _. record { outcome = sym plain; events = tt };
     sets_none = λ c kind p b is e f _ asks. record { outcome = set_is_of c kind asks p b None is e f tt; events = tt };
-    sets_list = λ c kind p b list is e f within _ asks. record { outcome = set_is_of c kind asks p b (Some list) is e f (let least = few.references in omega (arith, within, least)); events = tt };
+    sets_list =
+        λ c kind p b list is e f within _ asks. record {
+          outcome = set_is_of c kind asks p b (Some list) is e f
+              (let least = few.references in omega (arith, within, least));
+          events = tt;
+        };
     shows = λ c kind p b is e _ _ _ _. record { outcome = shown_is_of c kind p b is e; events = tt };
     sets_register = λ arguments p setting is e _ _ _. record {
-      outcome = subst (λ (r : Result Setting Refusal). IfOk r (λ s. IsOutcomeOf (codes "setVariable") (Done s.body))) e (settings_are_proper arguments p.machine now.numbers);
+      outcome =
+          subst (λ (r : Result Setting Refusal). IfOk r (λ s. IsOutcomeOf (codes "setVariable") (Done s.body))) e
+          (settings_are_proper arguments p.machine now.numbers);
       events = tt;
     };
     writes = λ arguments p writing is e _ _ _. record {
-      outcome = subst (λ (r : Result Writing Refusal). IfOk r (λ w. IsOutcomeOf (codes "writeMemory") (Done w.body))) e (writings_are_proper arguments p.machine.memory);
+      outcome =
+          subst (λ (r : Result Writing Refusal). IfOk r (λ w. IsOutcomeOf (codes "writeMemory") (Done w.body))) e
+          (writings_are_proper arguments p.machine.memory);
       events = tt;
     };
   }
 
-answer_fits : (now : Now) (terms : Terms) (file : Option (List ℕ)) (p : Pending) → IsRead p.ask → BoundsIn now → OrderlyIn now.debuggee → Fits (name_asked p.ask) (answer_to now terms file p)
+answer_fits : (now : Now) (terms : Terms) (file : Option (List ℕ)) (p : Pending) → IsRead p.ask → BoundsIn now → OrderlyIn now.debuggee
+    → Fits (name_asked p.ask) (answer_to now terms file p)
 answer_fits now terms file p h bounds orderly =
     of_answer (λ ask answer. IsRead ask → Fits (name_asked ask) answer) now terms file p.ask p.fate
     (λ refusal is read. record { outcome = sym (has_no_text p.ask refusal read is); events = tt })
-    (λ r taken meets read. by_success now terms (FitsTaken now) (successes_fit now terms bounds orderly) file r.command meets.loaded read.1.0) h
+    (λ r taken meets read. by_success (given_of now) terms (FitsTaken now)
+    (successes_fit now terms bounds orderly) file r.command meets.loaded read.1.0) h
 
 -- ---- every session
 
@@ -162,7 +178,8 @@ record Proper (s : Session) : Type 0 where
   present : AllProper s.life
 
 -- an answer to the first that waits
-replies : (l : Option Link) (pending : List Pending) (outcome : Outcome) (s : Session) → AreRead (asks_that_wait pending) → FitsFirst pending outcome → Proper (on_with l pending s) → Proper (replied_on pending outcome (on_with l pending s))
+replies : (l : Option Link) (pending : List Pending) (outcome : Outcome) (s : Session) → AreRead (asks_that_wait pending)
+    → FitsFirst pending outcome → Proper (on_with l pending s) → Proper (replied_on pending outcome (on_with l pending s))
 replies l [] outcome s r fits h = h
 replies None (p ∷ rest) outcome s r fits h = h
 replies (Some l) (p ∷ rest) outcome s r fits h =
@@ -175,13 +192,15 @@ replies (Some l) (p ∷ rest) outcome s r fits h =
     (λ _. h)
 
 -- an event is told
-says : (l : Link) (event : Told) (s : Session) → IsProperEvent event → Proper (on (Some l) s) → Proper (saying l (IsEvent event) s.now.arrivals.pending (on (Some l) s))
+says : (l : Link) (event : Told) (s : Session) → IsProperEvent event → Proper (on (Some l) s)
+    → Proper (saying l (IsEvent event) s.now.arrivals.pending (on (Some l) s))
 says l event s proper h = record {
   before = h.before;
   present = All-push (λ (m : Said). IsProper m.message) s.life.said (said_next s.now l (IsEvent event)) h.present proper;
 }
 
-tells : (l : Option Link) (event : Told) (s : Session) → IsProperEvent event → Proper (on l s) → Proper (said_on l (IsEvent event) s.now.arrivals.pending (on l s))
+tells : (l : Option Link) (event : Told) (s : Session) → IsProperEvent event → Proper (on l s)
+    → Proper (said_on l (IsEvent event) s.now.arrivals.pending (on l s))
 tells None event s proper h = h
 tells (Some l) event s proper h = if_keeps Proper (ltb l.seq s.now.limits.last_seq) _ _ (λ _. says l event s proper h) (λ _. h)
 
@@ -197,17 +216,28 @@ closes_after : (closes : Bool) (s : Session) → Proper s → Proper (performed 
 closes_after true s h = hangs s.now.link s h
 closes_after false s h = h
 
-answer_keeps : (l : Link) (p : Pending) (rest : List Pending) (s : Session) (a : Answering) → AreRead (asks_that_wait (p ∷ rest)) → Fits (name_asked p.ask) a → Proper (on_with (Some l) (p ∷ rest) s) → Proper (performed histories (answering a) (on_with (Some l) (p ∷ rest) s))
+answer_keeps : (l : Link) (p : Pending) (rest : List Pending) (s : Session) (a : Answering) → AreRead (asks_that_wait (p ∷ rest))
+    → Fits (name_asked p.ask) a → Proper (on_with (Some l) (p ∷ rest) s)
+    → Proper (performed histories (answering a) (on_with (Some l) (p ∷ rest) s))
 answer_keeps l p rest s a read fits h =
-    let t : Session = record s { now = refers (record s.now { debuggee = a.debuggee }) a.references; references = past_referred s.now.connections a.references s.references } in
+    let t : Session = record s {
+      now = refers (record s.now { debuggee = a.debuggee }) a.references;
+      references = past_referred s.now.connections a.references s.references;
+    } in
     let replied = replied_on (p ∷ rest) a.outcome (on_with (Some (record l { terms = a.terms })) (p ∷ rest) t) in
-    let after : Proper replied = replies (Some (record l { terms = a.terms })) (p ∷ rest) a.outcome t read fits.outcome (record { before = h.before; present = h.present }) in
+    let after : Proper replied = replies (Some (record l { terms = a.terms })) (p ∷ rest) a.outcome t read fits.outcome
+    (record { before = h.before; present = h.present }) in
     subst Proper (sym (performed_append (map Tell a.events) (closing a.closes) replied))
     (closes_after a.closes (performed histories (map Tell a.events) replied) (tells_all a.events replied fits.events after))
 
 proper : KeptByEvents Proper
 proper = record {
-  opens = λ s h. record { before = All-push AllProper s.before s.life h.before h.present; present = All-nil (λ (m : Said). IsProper m.message) };
+  opens =
+      λ s h. record {
+        before = All-push AllProper s.before s.life h.before h.present;
+        present = All-nil
+            (λ (m : Said). IsProper m.message);
+      };
   closes = λ s h. record { before = h.before; present = h.present };
   accepts = λ l piece s e h. record { before = h.before; present = h.present };
   becomes = λ d s h. record { before = h.before; present = h.present };
@@ -221,5 +251,6 @@ proper = record {
 pub answers_are_proper : (from : Beginning) (events : List Event) → AnswersAreProper (After from events)
 answers_are_proper from events =
     let s = After from events in
-    let h : Proper s = reached_by_events Proper proper from (record { before = All-nil AllProper; present = All-nil (λ (m : Said). IsProper m.message) }) events in
+    let h : Proper s = reached_by_events Proper proper from
+    (record { before = All-nil AllProper; present = All-nil (λ (m : Said). IsProper m.message) }) events in
     each_life AllProper s (All-nil (λ (m : Said). IsProper m.message)) h.before h.present

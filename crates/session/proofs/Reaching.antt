@@ -4,7 +4,7 @@ use Rattle.std.specs.Prelude.{All}
 use Rattle.std.proofs.lemmas.List.Elements.{All-push, All-head, All-tail}
 use Rattle.session.specs.declared.event.Event.{Event}
 use Rattle.session.specs.Acts.{Act}
-use Rattle.session.specs.declared.event.Ending.{Ending}
+use Rattle.session.specs.declared.event.SliceEnd.{SliceEnd}
 use Rattle.session.specs.declared.event.Event.TheVariants.{Connect, Recv, Turn, Slice, Hold, Sent, DropConnection}
 use Rattle.session.specs.Slices.{beat}
 use Rattle.session.specs.Effects.{performed, after_all, beats, enough, next_by}
@@ -25,7 +25,8 @@ module _ (P : Session → Type 0) (by_event : (e : Event) (s : Session) → P s 
   reached from h events = all_keep events (start from) h
 
 -- acts, one after the other
-pub performed_append : (xs ys : List Act) (s : Session) → performed histories (xs ++ ys) s ≡ performed histories ys (performed histories xs s)
+pub performed_append : (xs ys : List Act) (s : Session)
+    → performed histories (xs ++ ys) s ≡ performed histories ys (performed histories xs s)
 performed_append [] ys s = refl
 performed_append (x ∷ xs) ys s = performed_append xs ys (performed_on x s)
 
@@ -42,9 +43,11 @@ module _ (P : Session → Type 0) (k : KeptByActs P) where
   beats_keep : (n i : ℕ) (s : Session) → P s → P (beats histories n i s).state
   beats_keep n zero s h = h
   beats_keep n (suc i) s h = by (beats histories n i s).ending (beats_keep n i s h) where
-    by : (e : Option Ending) → P (beats histories n i s).state → P (next_by histories n e (beats histories n i s)).state
+    by : (e : Option SliceEnd) → P (beats histories n i s).state → P (next_by histories n e (beats histories n i s)).state
     by (Some e) x = x
-    by None x = acts_keep (beat (histories.see (beats histories n i s).state) (ltb (beats histories n i s).moved n)).acts (beats histories n i s).state x
+    by None x =
+        acts_keep (beat (histories.see (beats histories n i s).state) (ltb (beats histories n i s).moved n)).acts
+        (beats histories n i s).state x
 
   pub event_keeps : (e : Event) (s : Session) → P s → P (Effect s e)
   event_keeps Connect s h = acts_keep (outcome (histories.see s) Connect).acts s h

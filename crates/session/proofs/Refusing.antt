@@ -9,7 +9,7 @@ use Rattle.session.specs.declared.link.Link.{Link}
 use Rattle.session.specs.declared.pending.Pending.{Pending}
 use Rattle.session.specs.Effects.{performed}
 use Rattle.session.specs.Acts.{Act, Now}
-use Rattle.session.specs.declared.terms.Terms.{Terms}
+use Rattle.handlers.specs.declared.terms.Terms.{Terms}
 use Rattle.debuggee.specs.Programs.{Program}
 use Rattle.stepping.specs.declared.tick.Tick.{Tick}
 use Rattle.session.specs.Outcomes.{Outcome, refused, done, outcome_at, next_turn, answers_next, turn_by, turn_of}
@@ -36,7 +36,8 @@ module _ (s : Session) (error : EventError) where
   turn_is now terms file (p ∷ rest) = done_is _ _
 
   answers_is : (l : Link) (file : Option (List ℕ)) → Unchanged (answers_next (histories.see s) l file)
-  answers_is l file = if_keeps Unchanged (ltb FULL (length (waiting_of s))) _ _ (λ _. done_is _ _) (λ _. turn_is s.now l.terms file s.now.arrivals.pending)
+  answers_is l file =
+      if_keeps Unchanged (ltb FULL (length (waiting_of s))) _ _ (λ _. done_is _ _) (λ _. turn_is s.now l.terms file s.now.arrivals.pending)
 
   owed_is : (l : Link) (file : Option (List ℕ)) (p : Program) (owed : Option Tick) → Unchanged (turn_by owed (histories.see s) l p file)
   owed_is l file p None = answers_is l file

@@ -5,8 +5,8 @@ use Rattle.std.proofs.lemmas.List.Elements.{All-push, All-nil}
 use Rattle.debuggee.specs.Programs.{Debuggee, Program, ended, first_run, is_ended, is_running, on_program, restarted, resumed}
 use Rattle.debuggee.specs.declared.run.Run.{Run}
 use Rattle.debuggee.specs.declared.run.Run.TheVariants.{Running, Stopped, Ended}
-use Rattle.session.specs.ConfigurationDone.{run_events}
-use Rattle.session.specs.Telling.{reason_of, text_of}
+use Rattle.handlers.specs.ConfigurationDone.{run_events}
+use Rattle.handlers.specs.Telling.{reason_of, text_of}
 use Rattle.protocol.specs.declared.command.Command.{Command}
 use Rattle.protocol.specs.declared.command.Command.TheVariants.{Restart}
 use Rattle.protocol.specs.Commands.{name_of}
@@ -18,16 +18,17 @@ use Rattle.replies.specs.declared.response.ResponseBody.TheVariants as body
 use Rattle.session.specs.declared.event.Event.{Event}
 use Rattle.session.specs.declared.link.Link.{Link}
 use Rattle.session.specs.declared.pending.Pending.{Pending}
-use Rattle.session.specs.declared.terms.Terms.{Terms}
-use Rattle.session.specs.Acts.{Answering, Now, Tell, refers}
+use Rattle.handlers.specs.declared.terms.Terms.{Terms}
+use Rattle.handlers.specs.Given.{Answering}
+use Rattle.session.specs.Acts.{Now, Tell, refers, given_of}
 use Rattle.session.specs.References.{past_referred}
 use Rattle.session.specs.Arrivals.{name_asked}
-use Rattle.session.specs.Demands.{has_none, run_of}
+use Rattle.handlers.specs.Demands.{has_none, run_of}
 use Rattle.session.specs.Effects.{performed}
 use Rattle.session.specs.Laws.{IsStop, RunsAreTold, RunsAs, SaysItsRun, is_resume, is_success}
 use Rattle.session.specs.Outcomes.{answering, closing}
 use Rattle.session.specs.Refusals.{answer_to, response_to}
-use Rattle.session.specs.Successes.{resuming, agreeing}
+use Rattle.handlers.specs.Successes.{resuming, agreeing}
 use Rattle.session.specs.Sessions.{Beginning, Session, Life, Said, said_next, said_on, hung_on, performed_on, histories, After}
 use Rattle.session.proofs.Reaching.{if_keeps, each_life, performed_append}
 use Rattle.session.proofs.ByForms.{on, on_with}
@@ -51,7 +52,8 @@ record Says (name : List ℕ) (a : Answering) : Type 0 where
   events : AllSay a.debuggee a.events
 
 -- a program that there is runs so once this is made of it
-runs_as : (P : Run → Type 0) (f : Program → Program) (program : Option Program) (last_break : ℕ) → has_none (run_of program) ≡ false → ((p : Program) → P (f p).run) → RunsAs P (record { program = on_program f program; last_break = last_break })
+runs_as : (P : Run → Type 0) (f : Program → Program) (program : Option Program) (last_break : ℕ) → has_none (run_of program) ≡ false
+    → ((p : Program) → P (f p).run) → RunsAs P (record { program = on_program f program; last_break = last_break })
 runs_as P f None last_break there h = absurd (let never : true ≡ false = there in cc)
 runs_as P f (Some p) last_break there h = h p
 
@@ -63,26 +65,35 @@ only_success true y e = e
 only_success false y e = refl
 
 -- an answer that lets the program go on, where there is one
-goes_on : (name : List ℕ) (now : Now) (terms : Terms) (f : Program → Program) (body : ResponseBody) → has_none (run_of now.debuggee.program) ≡ false → ((p : Program) → Goes (f p).run) → Says name (resuming now terms f body)
-goes_on name now terms f body there goes = record { response = λ _. runs_as Goes f now.debuggee.program now.debuggee.last_break there goes; events = tt }
+goes_on : (name : List ℕ) (now : Now) (terms : Terms) (f : Program → Program) (body : ResponseBody)
+    → has_none (run_of now.debuggee.program) ≡ false → ((p : Program) → Goes (f p).run) → Says name (resuming (given_of now) terms f body)
+goes_on name now terms f body there goes =
+    record { response = λ _. runs_as Goes f now.debuggee.program now.debuggee.last_break there goes; events = tt }
 
 -- how a program runs that was joined
-run_is_said : (program : Option Program) (last_break : ℕ) → AllSay (record { program = program; last_break = last_break }) (run_events (run_of program))
+run_is_said : (program : Option Program) (last_break : ℕ)
+    → AllSay (record { program = program; last_break = last_break }) (run_events (run_of program))
 run_is_said None last_break = tt
 run_is_said (Some p) last_break = by p.run refl where
   by : (r : Run) → p.run ≡ r → AllSay (record { program = Some p; last_break = last_break }) (run_events (Some r))
   by Running e = (ap is_running e, tt)
-  by (Stopped why) e = (subst (IsStop (record { hit_breakpoint_ids = []; reason = reason_of why; text = text_of why })) (sym e) (refl, refl), tt)
+  by (Stopped why) e =
+      (subst (IsStop (record { hit_breakpoint_ids = []; reason = reason_of why; text = text_of why })) (sym e) (refl, refl), tt)
   by (Ended code) e = tt
 
 -- a success that tells nothing, of a request that lets nothing go on
 quiet : (c : Command) (a : Answering) → is_resume (name_of c) ≡ false → a.events ≡ [] → Says (name_of c) a
-quiet c a stays none = record { response = λ e. never (sym (only_success (is_success a.outcome) (is_resume (name_of c)) stays) ∙ e); events = subst (AllSay a.debuggee) (sym none) tt }
+quiet c a stays none =
+    record {
+      response = λ e. never (sym (only_success (is_success a.outcome) (is_resume (name_of c)) stays) ∙ e);
+      events = subst
+          (AllSay a.debuggee) (sym none) tt;
+    }
 
 abbrev SaysTaken : Now → Command → Answering → Type 0
-SaysTaken now c a = Has now c → Says (name_of c) a
+SaysTaken now c a = Has (given_of now) c → Says (name_of c) a
 
-successes_say : (now : Now) (terms : Terms) → BySuccess now terms (SaysTaken now)
+successes_say : (now : Now) (terms : Terms) → BySuccess (given_of now) terms (SaysTaken now)
 successes_say now terms = record {
   initialized = λ _ _. record { response = never; events = tt };
   unreadable = λ _ _. record { response = never; events = tt };
@@ -91,7 +102,7 @@ successes_say now terms = record {
   attaches = λ _. record { response = never; events = (tt, tt) };
   begun = λ _ _. record { response = never; events = tt };
   joined = λ _ _. record { response = never; events = run_is_said now.debuggee.program now.debuggee.last_break };
-  agreed = λ c kind _. quiet c (agreeing now terms (agreed_body c)) kind.stays refl;
+  agreed = λ c kind _. quiet c (agreeing (given_of now) terms (agreed_body c)) kind.stays refl;
   restarts = λ there. goes_on (name_of Restart) now terms (λ p. first_run (restarted p)) body.Empty there (λ p. refl);
   terminates = λ there. record {
     response = never;
@@ -99,10 +110,12 @@ successes_say now terms = record {
   };
   leaves = λ _ _. record { response = never; events = tt };
   pauses = λ _ _. record { response = never; events = tt };
-  stepped = λ c kind goal there. goes_on (name_of c) now terms (resumed goal) (step_body c) (has_program now c kind.loaded there) (λ p. refl);
-  absent = λ c about _ _. quiet c (agreeing now terms body.Empty) about.stays refl;
+  stepped =
+      λ c kind goal there. goes_on (name_of c) now terms (resumed goal) (step_body c) (has_program (given_of now) c kind.loaded there)
+      (λ p. refl);
+  absent = λ c about _ _. quiet c (agreeing (given_of now) terms body.Empty) about.stays refl;
   refused = λ _ _ _ _ _. record { response = never; events = tt };
-  sets_none = λ c kind _ b _ _ _ _. quiet c (agreeing now terms b) kind.about.stays refl;
+  sets_none = λ c kind _ b _ _ _ _. quiet c (agreeing (given_of now) terms b) kind.about.stays refl;
   sets_list = λ c kind _ b list _ _ _ _ _. quiet c _ kind.about.stays refl;
   shows = λ c kind _ b _ _ _ _ _. quiet c _ kind.about.stays refl;
   sets_register = λ _ _ _ _ _ _ _. record { response = never; events = tt };
@@ -113,7 +126,7 @@ answer_says : (now : Now) (terms : Terms) (file : Option (List ℕ)) (p : Pendin
 answer_says now terms file p =
     of_answer (λ ask answer. Says (name_asked ask) answer) now terms file p.ask p.fate
     (λ refusal _. record { response = never; events = tt })
-    (λ r taken meets. by_success now terms (SaysTaken now) (successes_say now terms) file r.command meets.loaded)
+    (λ r taken meets. by_success (given_of now) terms (SaysTaken now) (successes_say now terms) file r.command meets.loaded)
 
 -- ---- every session
 
@@ -128,14 +141,16 @@ record Tells (s : Session) : Type 0 where
   present : AllSaid s.life
 
 -- a message is queued that says what is so of the program
-says : (l : Option Link) (m : Message) (rest : List Pending) (s : Session) → SaysItsRun m s.now.debuggee → Tells (on l s) → Tells (said_on l m rest (on l s))
+says : (l : Option Link) (m : Message) (rest : List Pending) (s : Session) → SaysItsRun m s.now.debuggee → Tells (on l s)
+    → Tells (said_on l m rest (on l s))
 says None m rest s so h = h
 says (Some l) m rest s so h =
     if_keeps Tells (ltb l.seq s.now.limits.last_seq) _ _
     (λ _. record { before = h.before; present = All-push IsSaid s.life.said (said_next s.now l m) h.present so })
     (λ _. h)
 
-says_all : (d : Debuggee) (events : List Told) (s : Session) → s.now.debuggee ≡ d → AllSay d events → Tells s → Tells (performed histories (map Tell events) s)
+says_all : (d : Debuggee) (events : List Told) (s : Session) → s.now.debuggee ≡ d → AllSay d events → Tells s
+    → Tells (performed histories (map Tell events) s)
 says_all d [] s is so h = h
 says_all d (e ∷ es) s is so h =
     says_all d es (performed_on (Tell e) s) (said_debuggee s.now.link (IsEvent e) s.now.arrivals.pending s ∙ is) so.1
@@ -149,10 +164,15 @@ closes_after : (closes : Bool) (s : Session) → Tells s → Tells (performed hi
 closes_after true s h = hangs s.now.link s h
 closes_after false s h = h
 
-answer_keeps : (l : Link) (p : Pending) (rest : List Pending) (s : Session) (a : Answering) → Says (name_asked p.ask) a → Tells (on_with (Some l) (p ∷ rest) s) → Tells (performed histories (answering a) (on_with (Some l) (p ∷ rest) s))
+answer_keeps : (l : Link) (p : Pending) (rest : List Pending) (s : Session) (a : Answering) → Says (name_asked p.ask) a
+    → Tells (on_with (Some l) (p ∷ rest) s) → Tells (performed histories (answering a) (on_with (Some l) (p ∷ rest) s))
 answer_keeps l p rest s a so h =
     let m : Message = IsResponse (response_to p.ask a.outcome) in
-    let t : Session = on_with (Some (record l { terms = a.terms })) (p ∷ rest) (record s { now = refers (record s.now { debuggee = a.debuggee }) a.references; references = past_referred s.now.connections a.references s.references }) in
+    let t : Session = on_with (Some (record l { terms = a.terms })) (p ∷ rest)
+    (record s {
+      now = refers (record s.now { debuggee = a.debuggee }) a.references;
+      references = past_referred s.now.connections a.references s.references;
+    }) in
     let replied : Session = said_on t.now.link m rest t in
     let after : Tells replied = says t.now.link m rest t so.response (record { before = h.before; present = h.present }) in
     subst Tells (sym (performed_append (map Tell a.events) (closing a.closes) replied))
@@ -165,7 +185,12 @@ tells = record {
   closes = λ s h. record { before = h.before; present = h.present };
   accepts = λ l piece s e h. record { before = h.before; present = h.present };
   becomes = λ d s h. record { before = h.before; present = h.present };
-  tells = λ l event s _ so few h. record { before = h.before; present = All-push IsSaid s.life.said (said_next s.now l (IsEvent event)) h.present so };
+  tells =
+      λ l event s _ so few h. record {
+        before = h.before;
+        present = All-push IsSaid s.life.said
+            (said_next s.now l (IsEvent event)) h.present so;
+      };
   answers = λ l p rest file s _ _ _ h.
       let t = on_with (Some l) (p ∷ rest) s in
       answer_keeps l p rest s (answer_to t.now l.terms file p) (answer_says t.now l.terms file p) h;

@@ -8,18 +8,20 @@ use Rattle.protocol.specs.declared.request.Request.{Request as ARequest}
 use Rattle.session.specs.declared.pending.Ask.{Ask}
 use Rattle.session.specs.declared.pending.Ask.TheVariants.{Request, Bad}
 use Rattle.session.specs.declared.pending.Fate.{Fate}
-use Rattle.session.specs.Acts.{Answering, Now}
+use Rattle.handlers.specs.Given.{Answering}
+use Rattle.session.specs.Acts.{Now, given_of}
 use Rattle.session.specs.Arrivals.{is_repeat}
 use Rattle.session.specs.Refusals.{is_cancelled, misread, names_none, where_so, first_refusal, answer_by, answer_to, unmet}
-use Rattle.session.specs.Requests.{demand_of, is_taken_in, success_of}
-use Rattle.session.specs.Successes.{refusing}
-use Rattle.session.specs.Demands.{goes_on, has_ended, has_none, is_no_thread, run_of}
-use Rattle.session.specs.declared.demand.Demand.{Demand}
-use Rattle.session.specs.declared.terms.Terms.{Terms}
+use Rattle.handlers.specs.Requests.{demand_of, is_taken_in, success_of}
+use Rattle.handlers.specs.Successes.{refusing}
+use Rattle.handlers.specs.Demands.{goes_on, has_ended, has_none, is_no_thread, run_of}
+use Rattle.handlers.specs.declared.demand.Demand.{Demand}
+use Rattle.handlers.specs.declared.terms.Terms.{Terms}
 use Rattle.debuggee.specs.declared.run.Run.{Run}
 
 -- what holds where a reason applies, and where the others decide, holds
-by_reason : (P : Option Refusal → Type 0) (reason : Bool) (refusal : Refusal) (rest : List (Option Refusal)) → P (Some refusal) → P (first_refusal rest) → P (first_refusal (where_so reason refusal ∷ rest))
+by_reason : (P : Option Refusal → Type 0) (reason : Bool) (refusal : Refusal) (rest : List (Option Refusal)) → P (Some refusal)
+    → P (first_refusal rest) → P (first_refusal (where_so reason refusal ∷ rest))
 by_reason P true refusal rest here there = here
 by_reason P false refusal rest here there = there
 
@@ -28,7 +30,8 @@ abbrev pub IsRefusalOf : Ask → Refusal → Type 0
 IsRefusalOf ask refusal = (misread ask ≡ Some refusal) ⊎ (has_text refusal ≡ false)
 
 -- the same, where it is known that the reason does not apply
-by_lack : (P : Option Refusal → Type 0) (reason : Bool) (refusal : Refusal) (rest : List (Option Refusal)) → P (Some refusal) → (reason ≡ false → P (first_refusal rest)) → P (first_refusal (where_so reason refusal ∷ rest))
+by_lack : (P : Option Refusal → Type 0) (reason : Bool) (refusal : Refusal) (rest : List (Option Refusal)) → P (Some refusal)
+    → (reason ≡ false → P (first_refusal rest)) → P (first_refusal (where_so reason refusal ∷ rest))
 by_lack P true refusal rest here there = here
 by_lack P false refusal rest here there = there refl
 
@@ -40,46 +43,50 @@ pub record Meets (run : Option Run) (demand : Demand) : Type 0 where
 
 -- the answer to a request that could be read
 of_request : (P : Answering → Type 0) (now : Now) (terms : Terms) (file : Option (List ℕ)) (r : ARequest) (fate : Fate)
-    → ((refusal : Refusal) → IsRefusalOf (Request r) refusal → P (refusing now terms refusal None))
-    → (is_taken_in terms.phase r.command ≡ true → Meets (run_of now.debuggee.program) (demand_of r.command) → P (success_of now terms file r.command))
+    → ((refusal : Refusal) → IsRefusalOf (Request r) refusal → P (refusing (given_of now) terms refusal None))
+    → (is_taken_in terms.phase r.command ≡ true → Meets (run_of now.debuggee.program) (demand_of r.command) → P (success_of (given_of now) terms file r.command))
     → P (answer_to now terms file (record { ask = Request r; fate = fate }))
 of_request P now terms file r fate refuses succeeds =
     by_reason Q (is_repeat fate) RepeatedSequence _ (refuses RepeatedSequence (inr refl))
     (by_reason Q (is_cancelled fate) IsCancelled _ (refuses IsCancelled (inr refl))
     (by_phase (is_taken_in terms.phase r.command) refl)) where
       Q : Option Refusal → Type 0
-      Q refusal = P (answer_by now terms file refusal (Request r))
+      Q refusal = P (answer_by (record { given = given_of now; terms = terms; file = file }) refusal (Request r))
 
-      by_demand : (demand : Demand) (run : Option Run) → (Meets run demand → P (success_of now terms file r.command)) → Q (first_refusal (unmet run demand ++ where_so (names_none fate) RequestGone ∷ []))
+      by_demand : (demand : Demand) (run : Option Run) → (Meets run demand → P (success_of (given_of now) terms file r.command))
+          → Q (first_refusal (unmet run demand ++ where_so (names_none fate) RequestGone ∷ []))
       by_demand demand run e =
           by_lack Q (demand.loaded && has_none run) NoMachine _ (refuses NoMachine (inr refl))
           (λ there. by_lack Q (demand.alive && has_ended run) Ended _ (refuses Ended (inr refl))
           (λ alive. by_reason Q (is_no_thread demand.thread) NoThread _ (refuses NoThread (inr refl))
           (by_lack Q (demand.still && goes_on run) NotStopped _ (refuses NotStopped (inr refl))
-          (λ still. by_reason Q (names_none fate) RequestGone [] (refuses RequestGone (inr refl)) (e (record { loaded = there; alive = alive; still = still }))))))
+          (λ still. by_reason Q (names_none fate) RequestGone [] (refuses RequestGone (inr refl))
+          (e (record { loaded = there; alive = alive; still = still }))))))
 
-      by_phase : (taken : Bool) → is_taken_in terms.phase r.command ≡ taken → Q (first_refusal (where_so (not taken) WrongPhase ∷ (unmet (run_of now.debuggee.program) (demand_of r.command) ++ where_so (names_none fate) RequestGone ∷ [])))
+      by_phase : (taken : Bool) → is_taken_in terms.phase r.command ≡ taken
+          → Q (first_refusal (where_so (not taken) WrongPhase ∷ (unmet (run_of now.debuggee.program) (demand_of r.command) ++ where_so (names_none fate) RequestGone ∷ [])))
       by_phase true e = by_demand (demand_of r.command) (run_of now.debuggee.program) (succeeds e)
       by_phase false e = refuses WrongPhase (inr refl)
 
 -- the answer to one that could not
 of_bad : (P : Answering → Type 0) (now : Now) (terms : Terms) (file : Option (List ℕ)) (seq : ℕ) (command : List ℕ) (refusal : Refusal) (fate : Fate)
-    → ((why : Refusal) → IsRefusalOf (Bad seq command refusal) why → P (refusing now terms why None))
+    → ((why : Refusal) → IsRefusalOf (Bad seq command refusal) why → P (refusing (given_of now) terms why None))
     → P (answer_to now terms file (record { ask = Bad seq command refusal; fate = fate }))
 of_bad P now terms file seq command refusal fate refuses =
     by_reason Q (is_repeat fate) RepeatedSequence _ (refuses RepeatedSequence (inr refl))
     (by_reason Q (is_cancelled fate) IsCancelled _ (refuses IsCancelled (inr refl))
     (refuses refusal (inl refl))) where
       Q : Option Refusal → Type 0
-      Q why = P (answer_by now terms file why (Bad seq command refusal))
+      Q why = P (answer_by (record { given = given_of now; terms = terms; file = file }) why (Bad seq command refusal))
 
 -- what holds of each refusal, and of the success of a request that the phase takes, holds of the answer
 pub of_answer : (P : Ask → Answering → Type 0) (now : Now) (terms : Terms) (file : Option (List ℕ)) (ask : Ask) (fate : Fate)
-    → ((refusal : Refusal) → IsRefusalOf ask refusal → P ask (refusing now terms refusal None))
-    → ((r : ARequest) → is_taken_in terms.phase r.command ≡ true → Meets (run_of now.debuggee.program) (demand_of r.command) → P (Request r) (success_of now terms file r.command))
+    → ((refusal : Refusal) → IsRefusalOf ask refusal → P ask (refusing (given_of now) terms refusal None))
+    → ((r : ARequest) → is_taken_in terms.phase r.command ≡ true → Meets (run_of now.debuggee.program) (demand_of r.command) → P (Request r) (success_of (given_of now) terms file r.command))
     → P ask (answer_to now terms file (record { ask = ask; fate = fate }))
 of_answer P now terms file (Request r) fate refuses succeeds = of_request (P (Request r)) now terms file r fate refuses (succeeds r)
-of_answer P now terms file (Bad seq command refusal) fate refuses succeeds = of_bad (P (Bad seq command refusal)) now terms file seq command refusal fate refuses
+of_answer P now terms file (Bad seq command refusal) fate refuses succeeds =
+    of_bad (P (Bad seq command refusal)) now terms file seq command refusal fate refuses
 
 -- a request that its phase does not take does not succeed
 pub not_taken : false ≡ true → ⊥
@@ -94,13 +101,15 @@ first_refusal-none (None ∷ reasons) = first_refusal-none reasons
 first_refusal-none (Some refusal ∷ reasons) = refl
 
 -- where one applies, those after it do not matter
-pub first_refusal-some : (reasons : List (Option Refusal)) (refusal : Refusal) (more : List (Option Refusal)) → first_refusal reasons ≡ Some refusal → first_refusal (reasons ++ more) ≡ Some refusal
+pub first_refusal-some : (reasons : List (Option Refusal)) (refusal : Refusal) (more : List (Option Refusal))
+    → first_refusal reasons ≡ Some refusal → first_refusal (reasons ++ more) ≡ Some refusal
 first_refusal-some [] refusal more e = absurd (cc)
 first_refusal-some (None ∷ reasons) refusal more e = first_refusal-some reasons refusal more e
 first_refusal-some (Some other ∷ reasons) refusal more e = e
 
 -- where none of some applies, the others decide
-pub first_refusal-later : (reasons more : List (Option Refusal)) → first_refusal reasons ≡ None → first_refusal (reasons ++ more) ≡ first_refusal more
+pub first_refusal-later : (reasons more : List (Option Refusal)) → first_refusal reasons ≡ None
+    → first_refusal (reasons ++ more) ≡ first_refusal more
 first_refusal-later [] more e = refl
 first_refusal-later (None ∷ reasons) more e = first_refusal-later reasons more e
 first_refusal-later (Some refusal ∷ reasons) more e = absurd (cc)

@@ -3,8 +3,8 @@ use Rattle.std.proofs.Common.{◌≡◌, ℕ, ◌+◌, Bool, true, false, ltb, [
 use Rattle.std.proofs.lemmas.Bool.Decides.{nat_tests}
 use Rattle.debuggee.specs.Programs.{Program, entered, next_tick, stays}
 use Rattle.debuggee.specs.declared.run.Why.{Why}
-use Rattle.session.specs.declared.event.Ending.{Ending}
-use Rattle.session.specs.declared.event.Ending.TheVariants as ending
+use Rattle.session.specs.declared.event.SliceEnd.{SliceEnd}
+use Rattle.session.specs.declared.event.SliceEnd.TheVariants as ending
 use Rattle.session.specs.declared.slices.Next.TheVariants as next
 use Rattle.session.specs.Beats.{Decides, IsFree, Stretches, going, owed_of, unless_memory}
 use Rattle.session.specs.Effects.{Slicing, after_beat, beats_on, performed}
@@ -19,18 +19,24 @@ use Rattle.session.proofs.ByMove.{by_move}
 -- ---- one beat
 
 -- no beat of the definition lacks memory
-abbrev Ends : Option Ending → Type 0
+abbrev Ends : Option SliceEnd → Type 0
 Ends e = unless_memory e ≡ e
 
 one_beat : (n m : ℕ) (k : Kept) → beats_on keepings n 1 (going k m)
-    ≡ record { state = after_beat keepings (beat (keepings.see k) (ltb m n)) k; moved = m + (beat (keepings.see k) (ltb m n)).moved; ending = (beat (keepings.see k) (ltb m n)).ending }
+    ≡ record {
+      state = after_beat keepings (beat (keepings.see k) (ltb m n)) k;
+      moved = m + (beat (keepings.see k) (ltb m n)).moved;
+      ending = (beat (keepings.see k) (ltb m n)).ending;
+    }
 one_beat n m k = refl
 
-pub stretches_by : (n m : ℕ) (more : Bool) (k new : Kept) (b : Beat) → ltb m n ≡ more → beat (keepings.see k) more ≡ b → Ends b.ending → new ≡ after_beat keepings b k → Stretches n m k (record { moved = b.moved; ending = b.ending }) new
+pub stretches_by : (n m : ℕ) (more : Bool) (k new : Kept) (b : Beat) → ltb m n ≡ more → beat (keepings.see k) more ≡ b → Ends b.ending
+    → new ≡ after_beat keepings b k → Stretches n m k (record { moved = b.moved; ending = b.ending }) new
 stretches_by n m more k new b lt is ends e = record {
   count = 1;
   goes = one_beat n m k
-      ∙ ap (λ (x : Bool). let c = beat (keepings.see k) x in let d : Slicing Kept = record { state = after_beat keepings c k; moved = m + c.moved; ending = c.ending } in d) lt
+      ∙ ap (λ (x : Bool). let c = beat (keepings.see k) x in
+      let d : Slicing Kept = record { state = after_beat keepings c k; moved = m + c.moved; ending = c.ending } in d) lt
       ∙ ap (λ (c : Beat). let d : Slicing Kept = record { state = after_beat keepings c k; moved = m + c.moved; ending = c.ending } in d) is
       ∙ (λ j. record { state = sym e j; moved = m + b.moved; ending = sym ends j });
   some = λ none. omega arith;
@@ -45,7 +51,8 @@ lacks_memory n m k new e = record {
 }
 
 -- the slice ends
-pub ends_there : (n m : ℕ) (more : Bool) (k : Kept) (e : Ending) → ltb m n ≡ more → Decides (next.End e) k more → Stretches n m k (record { moved = 0; ending = Some e }) k
+pub ends_there : (n m : ℕ) (more : Bool) (k : Kept) (e : SliceEnd) → ltb m n ≡ more → Decides (next.End e) k more
+    → Stretches n m k (record { moved = 0; ending = Some e }) k
 ends_there n m more k e lt d = stretches_by n m more k k (ends e) lt d.0 d.1 refl
 
 pub is_left : (m left : ℕ) → ltb m (m + left) ≡ ltb 0 left
@@ -53,7 +60,8 @@ is_left m left = grind (arith, nat_tests)
 
 -- ---- what is owed
 
-tells_beat : (k : Kept) (p : Program) (tick : Tick) (more : Bool) → k.now.debuggee.program ≡ Some p → p.owed ≡ Some tick → beat (keepings.see k) more ≡ record { acts = telling k.now p tick; moved = 0; ending = ending_of tick.outcome }
+tells_beat : (k : Kept) (p : Program) (tick : Tick) (more : Bool) → k.now.debuggee.program ≡ Some p → p.owed ≡ Some tick
+    → beat (keepings.see k) more ≡ record { acts = telling k.now p tick; moved = 0; ending = ending_of tick.outcome }
 tells_beat k p tick more is owes =
     ap (λ (x : Option Program). beat_of x (keepings.see k) more) is
     ∙ ap (λ (x : Option Tick). beat_by x (keepings.see k) p more) owes
@@ -63,23 +71,32 @@ outcome_ends Went = refl
 outcome_ends (Stopped reason) = refl
 outcome_ends (Ended code) = refl
 
-tells_by : (program : Option Program) (n m : ℕ) (k new : Kept) (tick : Tick) → k.now.debuggee.program ≡ program → owed_of program ≡ Some tick
-    → ((p : Program) → k.now.debuggee.program ≡ Some p → new ≡ performed keepings (telling k.now p tick) k) → Stretches n m k (record { moved = 0; ending = ending_of tick.outcome }) new
+tells_by : (program : Option Program) (n m : ℕ) (k new : Kept) (tick : Tick) → k.now.debuggee.program ≡ program
+    → owed_of program ≡ Some tick
+    → ((p : Program) → k.now.debuggee.program ≡ Some p → new ≡ performed keepings (telling k.now p tick) k)
+    → Stretches n m k (record { moved = 0; ending = ending_of tick.outcome }) new
 tells_by None n m k new tick is owes e = absurd (cc)
-tells_by (Some p) n m k new tick is owes e = stretches_by n m (ltb m n) k new (record { acts = telling k.now p tick; moved = 0; ending = ending_of tick.outcome }) refl (tells_beat k p tick (ltb m n) is owes) (outcome_ends tick.outcome) (e p is)
+tells_by (Some p) n m k new tick is owes e =
+    stretches_by n m (ltb m n) k new (record { acts = telling k.now p tick; moved = 0; ending = ending_of tick.outcome }) refl
+    (tells_beat k p tick (ltb m n) is owes) (outcome_ends tick.outcome) (e p is)
 
-pub tells : (n m : ℕ) (k new : Kept) (tick : Tick) → owed_of k.now.debuggee.program ≡ Some tick → ((p : Program) → k.now.debuggee.program ≡ Some p → new ≡ performed keepings (telling k.now p tick) k) → Stretches n m k (record { moved = 0; ending = ending_of tick.outcome }) new
+pub tells : (n m : ℕ) (k new : Kept) (tick : Tick) → owed_of k.now.debuggee.program ≡ Some tick
+    → ((p : Program) → k.now.debuggee.program ≡ Some p → new ≡ performed keepings (telling k.now p tick) k)
+    → Stretches n m k (record { moved = 0; ending = ending_of tick.outcome }) new
 tells n m k new tick owes e = tells_by k.now.debuggee.program n m k new tick refl owes e
 
 -- ---- the program stops, and the check at the entry
 
-pub stops_there : (n m : ℕ) (k new : Kept) (reason : Why) (more : Bool) → ltb m n ≡ more → Decides (next.Stop reason) k more → ((p : Program) → k.now.debuggee.program ≡ Some p → new ≡ performed keepings (halts k.now p reason []) k)
+pub stops_there : (n m : ℕ) (k new : Kept) (reason : Why) (more : Bool) → ltb m n ≡ more → Decides (next.Stop reason) k more
+    → ((p : Program) → k.now.debuggee.program ≡ Some p → new ≡ performed keepings (halts k.now p reason []) k)
     → Stretches n m k (record { moved = 0; ending = Some ending.Stopped }) new
 stops_there n m k new reason more lt d e = stretches_by n m more k new (stops k.now d.0 reason) lt d.1.1 refl (e d.0 d.1.0)
 
-pub checks_there : (n m : ℕ) (k new : Kept) (more : Bool) → ltb m n ≡ more → Decides next.Check k more → ((p : Program) → k.now.debuggee.program ≡ Some p → new ≡ performed keepings (becomes k.now (entered p) ∷ []) k)
+pub checks_there : (n m : ℕ) (k new : Kept) (more : Bool) → ltb m n ≡ more → Decides next.Check k more
+    → ((p : Program) → k.now.debuggee.program ≡ Some p → new ≡ performed keepings (becomes k.now (entered p) ∷ []) k)
     → Stretches n m k (record { moved = 0; ending = None }) new
-checks_there n m k new more lt d e = stretches_by n m more k new (record { acts = becomes k.now (entered d.0) ∷ []; moved = 0; ending = None }) lt d.1.1 refl (e d.0 d.1.0)
+checks_there n m k new more lt d e =
+    stretches_by n m more k new (record { acts = becomes k.now (entered d.0) ∷ []; moved = 0; ending = None }) lt d.1.1 refl (e d.0 d.1.0)
 
 -- ---- an instruction that stays
 
@@ -89,13 +106,17 @@ concluding k p outcome = record { acts = concludes k.now p outcome []; moved = 0
 stays_beat : (k : Kept) (p : Program) (outcome : Outcome) → stays outcome ≡ true → moves_by k.now p outcome ≡ concluding k p outcome
 unfolding concluding
 stays_beat k p outcome =
-    by_move (λ o b. stays o ≡ true → b ≡ concluding k p o) k.now p outcome (λ o goes e. absurd (let never : false ≡ true = sym goes ∙ e in cc)) (λ _ _. refl) (λ _ _. refl)
+    by_move (λ o b. stays o ≡ true → b ≡ concluding k p o) k.now p outcome
+    (λ o goes e. absurd (let never : false ≡ true = sym goes ∙ e in cc)) (λ _ _. refl) (λ _ _. refl)
 
-pub meets_next : (n m : ℕ) (k new : Kept) (tick : Tick) → ltb m n ≡ true → (p : Program) × (IsFree p k × ((next_tick p ≡ tick) × (stays tick.outcome ≡ true)))
-    → ((p : Program) → k.now.debuggee.program ≡ Some p → new ≡ performed keepings (concludes k.now p tick.outcome []) k) → Stretches n m k (record { moved = 0; ending = ending_of tick.outcome }) new
+pub meets_next : (n m : ℕ) (k new : Kept) (tick : Tick) → ltb m n ≡ true
+    → (p : Program) × (IsFree p k × ((next_tick p ≡ tick) × (stays tick.outcome ≡ true)))
+    → ((p : Program) → k.now.debuggee.program ≡ Some p → new ≡ performed keepings (concludes k.now p tick.outcome []) k)
+    → Stretches n m k (record { moved = 0; ending = ending_of tick.outcome }) new
 unfolding concluding
 meets_next n m k new tick lt d e =
     let p = d.0 in
     let free = d.1.0 in
     stretches_by n m true k new (concluding k p tick.outcome) lt
-    (free_beat p k free ∙ ap (λ (t : Tick). moves_by k.now p t.outcome) d.1.1.0 ∙ stays_beat k p tick.outcome d.1.1.1) (outcome_ends tick.outcome) (e p free.program)
+    (free_beat p k free ∙ ap (λ (t : Tick). moves_by k.now p t.outcome) d.1.1.0 ∙ stays_beat k p tick.outcome d.1.1.1)
+    (outcome_ends tick.outcome) (e p free.program)

@@ -1,5 +1,5 @@
 -- What a beat tells is written first, and numbered at once.
-use Rattle.std.proofs.Common.{◌≡◌, ℕ, ℤ, Bool, true, false, cond, ltb, List, [], ◌∷◌, ◌++◌, map, Option, Some, None, refl, sym, ap, ◌∙◌, append-nil}
+use Rattle.std.proofs.Common.{◌≡◌, ℕ, ℤ, Bool, true, false, cond, ltb, List, [], ◌∷◌, ◌++◌, map, Option, Some, None, Result, Ok, Err, OnOk, refl, sym, ap, ◌∙◌, append-nil}
 use Rattle.debuggee.specs.Programs.{Debuggee, Program, ended, stays, stopped, told}
 use Rattle.debuggee.specs.declared.run.Why.{Why}
 use Rattle.debuggee.specs.declared.run.Why.TheVariants as why
@@ -9,12 +9,12 @@ use Rattle.replies.specs.declared.message.Message.TheVariants.{Event as IsEvent}
 use Rattle.session.specs.declared.link.Link.{Link}
 use Rattle.session.specs.declared.pending.Pending.{Pending}
 use Rattle.session.specs.Acts.{Act, Become, Tell}
-use Rattle.session.specs.Beats.{concluded, outcome_events, printed_events, tick_events}
+use Rattle.session.specs.Beats.{concluded, outcome_events, printed_events, queued_with, tick_events}
 use Rattle.session.specs.Effects.{performed}
-use Rattle.session.specs.Kept.{Kept, draft_told, keepings, kept_said}
+use Rattle.session.specs.Kept.{Drafted, Kept, draft_told, keepings, kept_said}
 use Rattle.session.specs.Phases.{is_active}
 use Rattle.session.specs.Slices.{concludes, halts, prints, telling}
-use Rattle.session.specs.Telling.{exit_events, stop_event}
+use Rattle.handlers.specs.Telling.{exit_events, stop_event}
 use Rattle.stepping.specs.declared.tick.Outcome.{Outcome}
 use Rattle.stepping.specs.declared.tick.Outcome.TheVariants.{Went, Stopped, Ended}
 use Rattle.stepping.specs.declared.tick.Tick.{Tick}
@@ -32,13 +32,17 @@ either_way : (b : Bool) (d : Debuggee) (x y : Kept) → debugging d (cond b x y)
 either_way true d x y = refl
 either_way false d x y = refl
 
-said_before : (l : Option Link) (m : Message) (rest : List Pending) (d : Debuggee) (k : Kept) → debugging d (kept_said l m rest k) ≡ kept_said l m rest (debugging d k)
+said_before : (l : Option Link) (m : Message) (rest : List Pending) (d : Debuggee) (k : Kept)
+    → debugging d (kept_said l m rest k) ≡ kept_said l m rest (debugging d k)
 said_before None m rest d k = refl
 said_before (Some link) m rest d k = either_way (ltb link.seq k.now.limits.last_seq) d _ k
 
-all_before : (events : List Event) (d : Debuggee) (k : Kept) → debugging d (performed keepings (map Tell events) k) ≡ performed keepings (map Tell events) (debugging d k)
+all_before : (events : List Event) (d : Debuggee) (k : Kept)
+    → debugging d (performed keepings (map Tell events) k) ≡ performed keepings (map Tell events) (debugging d k)
 all_before [] d k = refl
-all_before (e ∷ es) d k = all_before es d (kept_said k.now.link (IsEvent e) k.now.arrivals.pending k) ∙ ap (performed keepings (map Tell es)) (said_before k.now.link (IsEvent e) k.now.arrivals.pending d k)
+all_before (e ∷ es) d k =
+    all_before es d (kept_said k.now.link (IsEvent e) k.now.arrivals.pending k) ∙ ap (performed keepings (map Tell es))
+    (said_before k.now.link (IsEvent e) k.now.arrivals.pending d k)
 
 performed_append : (xs ys : List Act) (k : Kept) → performed keepings (xs ++ ys) k ≡ performed keepings ys (performed keepings xs k)
 performed_append [] ys k = refl
@@ -58,19 +62,23 @@ told_twice true first more d k =
     ∙ sym (ap (λ acts. performed keepings acts (debugging d k)) (map_append first more))
 told_twice false first more d k = refl
 
-told_once : (b : Bool) (events : List Event) (k : Kept) → performed keepings (tells_if b events ++ []) k ≡ performed keepings (tells_if b (events ++ [])) k
+told_once : (b : Bool) (events : List Event) (k : Kept)
+    → performed keepings (tells_if b events ++ []) k ≡ performed keepings (tells_if b (events ++ [])) k
 told_once b events k = performed_append (tells_if b events) [] k ∙ ap (λ l. performed keepings (tells_if b l) k) (sym (append-nil events))
 
 -- ---- the acts of a beat
 
 abbrev pub Tells : List Act → Program → List Event → Kept → Type 0
-Tells acts p events k = performed keepings acts k ≡ settling k.now.link k.now.arrivals.pending (draft_told k.now.limits k.now.link events) (with_one p k)
+Tells acts p events k =
+    performed keepings acts k ≡ settling k.now.link k.now.arrivals.pending (draft_told k.now.limits k.now.link events) (with_one p k)
 
-pub stop_tells : (k : Kept) (p : Program) (reason : Why) (ids : List ℕ) → performed keepings (halts k.now p reason ids) k ≡ settling k.now.link k.now.arrivals.pending (draft_told k.now.limits k.now.link (stop_event reason ids ∷ [])) (with_one (stopped reason p) k)
+pub stop_tells : (k : Kept) (p : Program) (reason : Why) (ids : List ℕ)
+    → performed keepings (halts k.now p reason ids) k ≡ settling k.now.link k.now.arrivals.pending (draft_told k.now.limits k.now.link (stop_event reason ids ∷ [])) (with_one (stopped reason p) k)
 stop_tells k p reason ids = tells_told (stop_event reason ids ∷ []) (with_one (stopped reason p) k)
 
 -- what comes next, where it stays
-pub end_tells : (k : Kept) (p : Program) (outcome : Outcome) → stays outcome ≡ true → performed keepings (concludes k.now p outcome []) k ≡ settling k.now.link k.now.arrivals.pending (draft_told k.now.limits k.now.link (outcome_events outcome [])) (with_one (concluded outcome p) k)
+pub end_tells : (k : Kept) (p : Program) (outcome : Outcome) → stays outcome ≡ true
+    → performed keepings (concludes k.now p outcome []) k ≡ settling k.now.link k.now.arrivals.pending (draft_told k.now.limits k.now.link (outcome_events outcome [])) (with_one (concluded outcome p) k)
 end_tells k p Went e = absurd (let never : false ≡ true = e in cc)
 end_tells k p (Stopped reason) e = tells_told (stop_event (why.Met reason) [] ∷ []) (with_one (stopped (why.Met reason) p) k)
 end_tells k p (Ended code) e = tells_told (exit_events code) (with_one (ended (Some code) p) k)
@@ -86,11 +94,26 @@ by_outcome : (k : Kept) (p : Program) (printed : List Event) (outcome : Outcome)
     performed keepings (tells_if (is_active k.now.link) printed ++ concludes k.now p outcome ids) (with_one p k)
     ≡ performed keepings (tells_if (is_active k.now.link) (printed ++ outcome_events outcome ids)) (with_one (concluded outcome p) k)
 by_outcome k p printed Went ids = told_once (is_active k.now.link) printed (with_one p k)
-by_outcome k p printed (Stopped reason) ids = told_twice (is_active k.now.link) printed (stop_event (why.Met reason) ids ∷ []) (record k.now.debuggee { program = Some (stopped (why.Met reason) p) }) (with_one p k)
-by_outcome k p printed (Ended code) ids = told_twice (is_active k.now.link) printed (exit_events code) (record k.now.debuggee { program = Some (ended (Some code) p) }) (with_one p k)
+by_outcome k p printed (Stopped reason) ids =
+    told_twice (is_active k.now.link) printed (stop_event (why.Met reason) ids ∷ [])
+    (record k.now.debuggee { program = Some (stopped (why.Met reason) p) }) (with_one p k)
+by_outcome k p printed (Ended code) ids =
+    told_twice (is_active k.now.link) printed (exit_events code) (record k.now.debuggee { program = Some (ended (Some code) p) })
+    (with_one p k)
 
-pub tick_tells : (k : Kept) (p : Program) (tick : Tick) → performed keepings (telling k.now p tick) k ≡ settling k.now.link k.now.arrivals.pending (draft_told k.now.limits k.now.link (tick_events tick p.machine.lists.ids)) (with_one (concluded tick.outcome (told p)) k)
+pub tick_tells : (k : Kept) (p : Program) (tick : Tick)
+    → performed keepings (telling k.now p tick) k ≡ settling k.now.link k.now.arrivals.pending (draft_told k.now.limits k.now.link (tick_events tick p.machine.lists.ids)) (with_one (concluded tick.outcome (told p)) k)
 tick_tells k p tick =
-    ap (λ acts. performed keepings (acts ++ concludes k.now (told p) tick.outcome p.machine.lists.ids) (with_one (told p) k)) (printed_as k tick.printed)
+    ap (λ acts. performed keepings (acts ++ concludes k.now (told p) tick.outcome p.machine.lists.ids) (with_one (told p) k))
+    (printed_as k tick.printed)
     ∙ by_outcome k (told p) (printed_events tick.printed) tick.outcome p.machine.lists.ids
     ∙ tells_told (tick_events tick p.machine.lists.ids) (with_one (concluded tick.outcome (told p)) k)
+
+-- a stop that was drafted, and queued with its change, is told
+pub stop_so : {E : Type 0} (result : Result (Unit {0}) E) (old new : Kept) (reason : Why) (draft : Drafted)
+    → draft ≡ draft_told old.now.limits old.now.link (stop_event reason [] ∷ [])
+    → OnOk result ((p : Program) → old.now.debuggee.program ≡ Some p → new ≡ queued_with draft (stopped reason p) old)
+    → OnOk result ((p : Program) → old.now.debuggee.program ≡ Some p → new ≡ performed keepings (halts old.now p reason []) old)
+stop_so (Err e) old new reason draft drafts h = tt
+stop_so (Ok x) old new reason draft drafts h =
+    λ p there. h p there ∙ ap (λ (d : Drafted). queued_with d (stopped reason p) old) drafts ∙ sym (stop_tells old p reason [])

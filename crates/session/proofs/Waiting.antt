@@ -19,7 +19,8 @@ record Bytes (s : Session) : Type 0 where
   present : Taken s.life
 
 said_taken : (life : Life) (m : Said) → Taken life → IsPrefixOf life.taken (bytes_of (record life { said = life.said ++ m ∷ [] }))
-said_taken life m h = subst (IsPrefixOf life.taken) (sym (bytes_more life.said m)) (prefix_of_more life.taken (bytes_of life) (frame_said m) h)
+said_taken life m h =
+    subst (IsPrefixOf life.taken) (sym (bytes_more life.said m)) (prefix_of_more life.taken (bytes_of life) (frame_said m) h)
 
 bytes : KeptByOthers Bytes
 bytes = record {
@@ -40,10 +41,13 @@ answers = λ l p rest outcome s few h. record { before = h.before; present = sai
 pub every_byte_is_taken_or_waits : (from : Beginning) (events : List Event) → EveryByteIsTakenOrWaits (After from events)
 every_byte_is_taken_or_waits from events =
     let s = After from events in
-    let h : Bytes s = reached_by_acts Bytes (by_forms Bytes bytes answers) from (record { before = All-nil Taken; present = ([], refl) }) events in
+    let h : Bytes s = reached_by_acts Bytes (by_forms Bytes bytes answers) from
+    (record { before = All-nil Taken; present = ([], refl) }) events in
     record {
       prefixes = each_life Taken s ([], refl) h.before h.present;
-      rest = λ link e. h.present.1 ∙ ap (λ x. s.life.taken ++ x) (sym (ap (λ l. not_taken l (bytes_of s.life) s.life.taken) e ∙ rest_is s.life.taken (bytes_of s.life) h.present));
+      rest =
+          λ link e. h.present.1 ∙ ap (λ x. s.life.taken ++ x)
+          (sym (ap (λ l. not_taken l (bytes_of s.life) s.life.taken) e ∙ rest_is s.life.taken (bytes_of s.life) h.present));
     }
 
 -- ---- the lives are at their numbers
@@ -68,8 +72,11 @@ last_of : {X : Type 0} (xs : List X) (x d : X) → get_or (xs ++ x ∷ []) (leng
 last_of [] x d = refl
 last_of (y ∷ xs) x d = last_of xs x d
 
+pub all_counted : (from : Beginning) (events : List Event) → length (After from events).before ≡ (After from events).now.connections
+all_counted from events = reached_by_acts Numbered (by_forms Numbered lives (λ l p rest outcome s few h. h)) from refl events
+
 pub lives_are_numbered : (from : Beginning) (events : List Event) → LivesAreNumbered (After from events)
 lives_are_numbered from events =
     let s = After from events in
-    let h : Numbered s = reached_by_acts Numbered (by_forms Numbered lives (λ l p rest outcome s few h. h)) from refl events in
+    let h : Numbered s = all_counted from events in
     ap (λ c. get_or (s.before ++ s.life ∷ []) c no_life) (sym h) ∙ last_of s.before s.life no_life

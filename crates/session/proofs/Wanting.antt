@@ -3,13 +3,14 @@ use Rattle.std.proofs.Common.{◌≡◌, ℕ, List, [], ◌∷◌, Option, Some,
 use Rattle.debuggee.specs.declared.run.Run.{Run}
 use Rattle.session.specs.declared.link.Link.{Link}
 use Rattle.session.specs.declared.pending.Pending.{Pending}
-use Rattle.session.specs.declared.phase.Phase.{Phase}
+use Rattle.handlers.specs.declared.phase.Phase.{Phase}
 use Rattle.session.specs.Acts.{Now}
 use Rattle.session.specs.Arrivals.{first_pending}
-use Rattle.session.specs.Demands.{run_of}
+use Rattle.handlers.specs.Demands.{run_of}
 use Rattle.session.specs.Refusals.{first_refusal, path_in, refusals, wanted_by, wanted_on}
 
-by_first : (run : Option Run) (phase : Phase) (pending : List Pending) (p : Pending) → Some p ≡ first_pending pending → wanted_by run phase pending ≡ path_in (first_refusal (refusals run phase p)) p.ask
+by_first : (run : Option Run) (phase : Phase) (pending : List Pending) (p : Pending) → Some p ≡ first_pending pending
+    → wanted_by run phase pending ≡ path_in (first_refusal (refusals run phase p)) p.ask
 by_first run phase [] p e = absurd (cc)
 by_first run phase (q ∷ rest) p e = let same : q ≡ p = cc in ap (λ (x : Pending). path_in (first_refusal (refusals run phase x)) x.ask) same
 
@@ -17,14 +18,16 @@ by_none : (run : Option Run) (phase : Phase) (pending : List Pending) → None �
 by_none run phase [] e = refl
 by_none run phase (q ∷ rest) e = absurd (cc)
 
-pub wants_first : (now : Now) (link : Link) (run : Option Run) (p : Pending) (path : Option (List ℕ)) → now.link ≡ Some link → run ≡ run_of now.debuggee.program → Some p ≡ first_pending now.arrivals.pending
+pub wants_first : (now : Now) (link : Link) (run : Option Run) (p : Pending) (path : Option (List ℕ)) → now.link ≡ Some link
+    → run ≡ run_of now.debuggee.program → Some p ≡ first_pending now.arrivals.pending
     → path ≡ path_in (first_refusal (refusals run link.terms.phase p)) p.ask → path ≡ wanted_on now now.link
 wants_first now link run p path is_link is_run first e =
     e ∙ ap (λ (r : Option Run). path_in (first_refusal (refusals r link.terms.phase p)) p.ask) is_run
     ∙ sym (by_first (run_of now.debuggee.program) link.terms.phase now.arrivals.pending p first)
     ∙ sym (ap (wanted_on now) is_link)
 
-pub wants_none : (now : Now) (link : Link) → now.link ≡ Some link → None ≡ first_pending now.arrivals.pending → None ≡ wanted_on now now.link
+pub wants_none : (now : Now) (link : Link) → now.link ≡ Some link → None ≡ first_pending now.arrivals.pending
+    → None ≡ wanted_on now now.link
 wants_none now link is_link first =
     sym (by_none (run_of now.debuggee.program) link.terms.phase now.arrivals.pending first)
     ∙ sym (ap (wanted_on now) is_link)

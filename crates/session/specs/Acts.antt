@@ -18,8 +18,9 @@ use Rattle.session.specs.declared.event.LinkFault.TheVariants.{Frame, Message}
 use Rattle.session.specs.declared.limits.Limits.{Limits}
 use Rattle.session.specs.declared.link.Link.{Link}
 use Rattle.session.specs.declared.pending.Pending.{Pending}
-use Rattle.session.specs.declared.terms.Terms.{Terms}
-use Rattle.session.specs.Phases.{first_terms}
+use Rattle.handlers.specs.Given.{Given}
+use Rattle.handlers.specs.declared.terms.Terms.{Terms}
+use Rattle.handlers.specs.Phases.{first_terms}
 use Rattle.session.specs.References.{referred}
 use Rattle.variables.specs.Laws.{Call}
 use Rattle.variables.specs.Numbers.{Numbers, at_next_stop}
@@ -40,7 +41,12 @@ pub record Now : Type 0 where
   pub debuggee : Debuggee
   pub numbers : Numbers
 
--- all that an answer depends on: also how many bytes wait to be sent
+-- what is given of it to an answer
+abbrev pub given_of : Now → Given
+given_of now =
+    record { size = now.size; last_ref = now.limits.last_ref; debuggee = now.debuggee; numbers = now.numbers }
+
+-- all that an event depends on: also how many bytes wait to be sent
 pub record Seen : Type 0 where
   pub now : Now
   pub waits : ℕ
@@ -79,16 +85,6 @@ grows (Reply outcome) = true
 grows (Tell event) = true
 grows HangUp = false
 grows (Take n) = false
-
--- An answer: what the program that is debugged is first, what becomes of the references, and what is agreed then; what
--- became of the request; what the editor is told after it; and whether the connection takes nothing more then.
-pub record Answering : Type 0 where
-  pub debuggee : Debuggee
-  pub references : Option Call
-  pub terms : Terms
-  pub outcome : Outcome
-  pub events : List Event
-  pub closes : Bool
 
 -- ---- what acts make of what a session is now
 

@@ -1,21 +1,23 @@
 -- For private clauses alone: what comes next in a slice, and many beats at once.
 use Rattle.std.specs.Prelude.{◌≡◌, ℕ, ℤ, ◌+◌, ◌<◌, ◌≤◌, nat_lt, nat_le, Bool, true, false, List, [], ◌∷◌, ◌++◌, length, Option, Some, None}
-use Rattle.debuggee.specs.Programs.{Program, ended, entered, next_tick, stays, stopped}
+use Rattle.debuggee.specs.Programs.{Program, ended, entered, next_tick, stays, stopped, told}
 use Rattle.debuggee.specs.declared.program.Advanced.{Advanced}
 use Rattle.debuggee.specs.declared.program.Advanced.TheVariants as advanced
 use Rattle.debuggee.specs.declared.run.Why.TheVariants as why
 use Rattle.replies.specs.declared.event.Event.{Event}
-use Rattle.session.specs.declared.event.Ending.{Ending}
-use Rattle.session.specs.declared.event.Ending.TheVariants as ending
+use Rattle.session.specs.declared.event.SliceEnd.{SliceEnd}
+use Rattle.session.specs.declared.event.SliceEnd.TheVariants as ending
+use Rattle.session.specs.declared.slices.Made.{Made}
+use Rattle.session.specs.declared.slices.Made.TheVariants as made
 use Rattle.session.specs.declared.slices.Moves.{Moves}
 use Rattle.session.specs.declared.slices.Next.{Next}
 use Rattle.session.specs.declared.slices.Next.TheVariants as next
 use Rattle.session.specs.declared.slices.Step.{Step}
 use Rattle.session.specs.declared.state.TheConstants.{FULL}
 use Rattle.session.specs.Effects.{Slicing, beats, beats_on}
-use Rattle.session.specs.Kept.{Kept, keepings}
+use Rattle.session.specs.Kept.{Drafted, Kept, keepings, settled}
 use Rattle.session.specs.Slices.{beat, ends, is_runnable_by, stops, becomes}
-use Rattle.session.specs.Telling.{exit_events, output_event, stop_event}
+use Rattle.handlers.specs.Telling.{exit_events, output_event, stop_event}
 use Rattle.stepping.specs.declared.tick.Outcome.{Outcome}
 use Rattle.stepping.specs.declared.tick.Outcome.TheVariants.{Went, Stopped, Ended}
 use Rattle.stepping.specs.declared.tick.Tick.{Tick}
@@ -44,8 +46,21 @@ concluded Went p = p
 concluded (Stopped reason) p = stopped (why.Met reason) p
 concluded (Ended code) p = ended (Some code) p
 
+-- what is made of a program as the editor is told of it
+abbrev pub after_made : Made → Program → Program
+after_made (made.Told tick) p = concluded tick.outcome (told p)
+after_made (made.Stopped why) p = stopped why p
+after_made (made.Met outcome) p = concluded outcome p
+
+-- what is kept once a draft is queued, where the program is then this
+abbrev pub queued_with : Drafted → Program → Kept → Kept
+queued_with d p k = record k {
+  now = settled k.now.link d.seq k.now.arrivals.pending (record k.now { debuggee = record k.now.debuggee { program = Some p } });
+  waiting = k.waiting ++ d.bytes;
+}
+
 -- that no memory was left ends no beat
-abbrev pub unless_memory : Option Ending → Option Ending
+abbrev pub unless_memory : Option SliceEnd → Option SliceEnd
 unless_memory None = None
 unless_memory (Some ending.Spent) = Some ending.Spent
 unless_memory (Some ending.Full) = Some ending.Full

@@ -4,7 +4,8 @@ use Rattle.session.specs.declared.config.Config.{Config}
 use Rattle.session.specs.declared.config.ConfigError.{ConfigError}
 use Rattle.session.specs.declared.config.ConfigError.TheVariants.{BadMemorySize, BadLimit, Assembly, NoMemory}
 use Rattle.session.specs.declared.limits.Limits.{Limits}
-use Rattle.session.specs.Config.{HasError, HasImage, is_size}
+use Rattle.handlers.specs.Sizes.{is_size}
+use Rattle.session.specs.Config.{HasError, HasImage}
 use Rattle.session.specs.Kept.{Kept, Stands}
 use Rattle.session.specs.Limits.{are_limits}
 use Rattle.session.specs.Sessions.{start}

@@ -1,22 +1,11 @@
 -- What a session is made of: how much memory a machine gets, and the program that is there from the beginning.
-use Rattle.std.specs.Prelude.{◌≡◌, ℕ, ◌%◌, ◌==◌, ◌≤◌, nat_le, Bool, false, ◌&&◌, List, Option, Some, None, Result, Ok, Err, ⊤}
+use Rattle.std.specs.Prelude.{◌≡◌, ℕ, false, List, Option, Some, None, Result, Ok, Err, ⊤}
 use Rattle.assembler.specs.Assembled.{assembled}
 use Rattle.assembler.specs.Placed.{error_of}
 use Rattle.assembler.specs.declared.error.AsmError.{AsmError}
 use Rattle.debuggee.specs.Programs.{Program, just_loaded}
 use Rattle.session.specs.declared.config.ConfigError.{ConfigError}
 use Rattle.session.specs.declared.config.ConfigError.TheVariants.{BadMemorySize, BadLimit, Assembly, NoMemory}
-
--- a size that memory can have, in bytes
-pub record IsSize (size : ℕ) : Type 0 where
-  pub whole : size % 4096 ≡ 0
-  pub some : 4096 ≤ size
-  pub few : size ≤ 16777216
-
-abbrev pub is_size : ℕ → Bool
-is_size size = (size % 4096 == 0) && nat_le 4096 size && nat_le size 16777216
-
--- ---- the program that is there from the beginning
 
 -- it is loaded, and stands still at its entry: of the path of its file, and what that holds
 abbrev pub given : List ℕ → List ℕ → ℕ → Program

@@ -9,8 +9,8 @@ use Rattle.session.specs.declared.event.Applied.{Applied}
 use Rattle.session.specs.declared.event.Applied.TheVariants.{Connect as Connected, Recv as Received, Turn as DidTurn}
 use Rattle.session.specs.declared.event.Applied.TheVariants.{Slice as DidSlice, Hold as Held, Sent as DidSend}
 use Rattle.session.specs.declared.event.Applied.TheVariants.{DropConnection as Dropped}
-use Rattle.session.specs.declared.event.Ending.{Ending}
-use Rattle.session.specs.declared.event.Ending.TheVariants as ending
+use Rattle.session.specs.declared.event.SliceEnd.{SliceEnd}
+use Rattle.session.specs.declared.event.SliceEnd.TheVariants as ending
 use Rattle.session.specs.declared.event.Event.{Event}
 use Rattle.session.specs.declared.event.Event.TheVariants.{Connect, Recv, Turn, Slice, Hold, Sent, DropConnection}
 use Rattle.session.specs.declared.event.EventError.{EventError}
@@ -37,7 +37,7 @@ performed w (act ∷ acts) s = performed w acts (w.perform act s)
 pub record Slicing (S : Type 0) : Type 0 where
   pub state : S
   pub moved : ℕ
-  pub ending : Option Ending
+  pub ending : Option SliceEnd
 
 abbrev pub after_beat : {S : Type 0} → World S → Beat → S → S
 after_beat w b s = performed w b.acts s
@@ -45,7 +45,7 @@ after_beat w b s = performed w b.acts s
 abbrev pub with_beat : {S : Type 0} → World S → Beat → Slicing S → Slicing S
 with_beat w b d = record { state = after_beat w b d.state; moved = d.moved + b.moved; ending = b.ending }
 
-abbrev pub next_by : {S : Type 0} → World S → ℕ → Option Ending → Slicing S → Slicing S
+abbrev pub next_by : {S : Type 0} → World S → ℕ → Option SliceEnd → Slicing S → Slicing S
 next_by w n (Some e) d = d
 next_by w n None d = with_beat w (beat (w.see d.state) (nat_lt d.moved n)) d
 
@@ -73,7 +73,7 @@ abbrev pub sliced : {S : Type 0} → World S → ℕ → S → Slicing S
 sliced w n s = beats w n (enough n) s
 
 -- it has ended then
-abbrev pub ended_as : Option Ending → Ending
+abbrev pub ended_as : Option SliceEnd → SliceEnd
 ended_as None = ending.Spent
 ended_as (Some e) = e
 
@@ -110,7 +110,7 @@ after_all w (e ∷ es) s = after_all w es (effect w e s)
 -- ---- what a call answers and leaves
 
 -- how many moves were made by a slice that found no memory
-abbrev pub ran_out_at : ℕ → Ending → Option ℕ
+abbrev pub ran_out_at : ℕ → SliceEnd → Option ℕ
 ran_out_at moved ending.Spent = None
 ran_out_at moved ending.Full = None
 ran_out_at moved ending.Idle = None

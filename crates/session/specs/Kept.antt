@@ -1,5 +1,5 @@
 -- What the code of a session keeps, and which sessions with a past it stands for.
-use Rattle.std.specs.Prelude.{◌≡◌, ◌≤◌, ℕ, nat_lt, ◌+◌, ◌==◌, if◌then◌else◌, Bool, true, false, List, [], ◌∷◌, ◌++◌}
+use Rattle.std.specs.Prelude.{◌≡◌, ℕ, nat_lt, ◌+◌, ◌==◌, if◌then◌else◌, Bool, true, false, List, [], ◌∷◌, ◌++◌}
 use Rattle.std.specs.Prelude.{length, drop, Option, Some, None, Result, Ok, Err, ⊤}
 use Rattle.replies.specs.declared.message.Message.{Message}
 use Rattle.replies.specs.declared.message.Message.TheVariants.{Response, Event as IsEvent}
@@ -7,20 +7,15 @@ use Rattle.replies.specs.declared.response.Outcome.{Outcome}
 use Rattle.session.specs.declared.event.Applied.{Applied}
 use Rattle.session.specs.declared.event.Event.{Event}
 use Rattle.session.specs.declared.event.EventError.{EventError}
-use Rattle.session.specs.declared.lent.Lent.{Lent}
 use Rattle.session.specs.declared.limits.Limits.{Limits}
 use Rattle.session.specs.declared.link.Link.{Link}
 use Rattle.session.specs.declared.pending.Pending.{Pending}
-use Rattle.session.specs.declared.terms.Terms.{Terms}
-use Rattle.debuggee.specs.Programs.{Debuggee, Program, ended, first_run, left, marked, on_program, restarted, resumed, with_instructions}
-use Rattle.debuggee.specs.Programs.{with_hart, with_program, with_source, written}
+use Rattle.handlers.specs.declared.terms.Terms.{Terms}
+use Rattle.debuggee.specs.Programs.{Program}
 use Rattle.replies.specs.declared.event.Event.{Event as AnEvent}
-use Rattle.session.specs.declared.answer.Answer.{Answer as AnAnswer}
-use Rattle.session.specs.declared.answer.Change.{Change}
-use Rattle.session.specs.declared.answer.Change.TheVariants as change
-use Rattle.session.specs.Config.{IsSize}
-use Rattle.session.specs.Disconnect.{departed}
-use Rattle.session.specs.Acts.{Now, Seen, Act, Answering, Open, Close, Accept, Agree, Become, Refer, Reply, Tell, HangUp, Take}
+use Rattle.handlers.specs.declared.change.Change.{Change}
+use Rattle.handlers.specs.Changes.{call_of, changed}
+use Rattle.session.specs.Acts.{Now, Seen, Act, Open, Close, Accept, Agree, Become, Refer, Reply, Tell, HangUp, Take}
 use Rattle.session.specs.References.{referred}
 use Rattle.variables.specs.Laws.{Call}
 use Rattle.variables.specs.Laws.Call.{EndStop, Issue}
@@ -98,93 +93,11 @@ nothing_kept limits size program = record { now = nothing_with limits size progr
 
 -- ---- for private clauses alone: an answer, and messages that are written before any of them is queued
 
--- what a change makes of a program
-abbrev pub changed_one : Change → Program → Program
-changed_one change.Nothing p = p
-changed_one (change.Load program) p = program
-changed_one change.Begin p = first_run p
-changed_one (change.Resume goal) p = resumed goal p
-changed_one (change.Mark mark) p = marked mark p
-changed_one change.Restart p = first_run (restarted p)
-changed_one (change.SetSource breaks) p = with_source breaks.list p
-changed_one (change.SetInstructions breaks) p = with_instructions breaks.list p
-changed_one (change.SetHart hart) p = with_hart hart p
-changed_one (change.Write address bytes) p = written address bytes.items p
-changed_one (change.Issue targets) p = p
-changed_one change.End p = ended None p
-changed_one (change.Leave ends stands) p = departed ends stands (left p)
-
--- what it makes of the one that is debugged
-abbrev pub changed : Change → Debuggee → Debuggee
-changed change.Nothing d = d
-changed (change.Load program) d = record d { program = Some program }
-changed change.Begin d = with_program first_run d
-changed (change.Resume goal) d = with_program (resumed goal) d
-changed (change.Mark mark) d = with_program (marked mark) d
-changed change.Restart d = with_program (λ p. first_run (restarted p)) d
-changed (change.SetSource breaks) d =
-    record { program = on_program (with_source breaks.list) d.program; last_break = breaks.last }
-changed (change.SetInstructions breaks) d =
-    record { program = on_program (with_instructions breaks.list) d.program; last_break = breaks.last }
-changed (change.SetHart hart) d = with_program (with_hart hart) d
-changed (change.Write address bytes) d = with_program (written address bytes.items) d
-changed (change.Issue targets) d = d
-changed change.End d = with_program (ended None) d
-changed (change.Leave ends stands) d = with_program (λ p. departed ends stands (left p)) d
-
--- the events of an answer of the code
-abbrev pub events_of : Option AnEvent → List AnEvent
-events_of None = []
-events_of (Some event) = event ∷ []
-
--- whether it changes the program that there is, and no list of breakpoints
-abbrev pub IsOfProgram : Change → Type 0
-IsOfProgram change.Nothing = ⊥
-IsOfProgram (change.Load program) = ⊥
-IsOfProgram (change.SetSource breaks) = ⊥
-IsOfProgram (change.SetInstructions breaks) = ⊥
-IsOfProgram (change.Issue targets) = ⊥
-IsOfProgram (change.SetHart hart) = ⊤
-IsOfProgram (change.Write address bytes) = ⊤
-IsOfProgram change.Begin = ⊤
-IsOfProgram (change.Resume goal) = ⊤
-IsOfProgram (change.Mark mark) = ⊤
-IsOfProgram change.Restart = ⊤
-IsOfProgram change.End = ⊤
-IsOfProgram (change.Leave ends stands) = ⊤
-
--- what becomes of the references with a change
-abbrev pub call_of : Change → Option Call
-call_of change.Nothing = None
-call_of (change.Load program) = None
-call_of change.Begin = None
-call_of (change.Resume goal) = Some EndStop
-call_of (change.Mark mark) = None
-call_of change.Restart = Some EndStop
-call_of (change.SetSource breaks) = None
-call_of (change.SetInstructions breaks) = None
-call_of (change.SetHart hart) = None
-call_of (change.Write address bytes) = None
-call_of (change.Issue targets) = Some (Issue targets.items)
-call_of change.End = None
-call_of (change.Leave ends stands) = Some EndStop
-
 -- there are numbers for what is issued
 abbrev pub HasNumbers : Option Call → Numbers → Type 0
 HasNumbers None numbers = ⊤
 HasNumbers (Some (Issue targets)) numbers = has_room numbers targets ≡ true
 HasNumbers (Some EndStop) numbers = ⊤
-
--- the answer that the code's is, where this is debugged
-abbrev pub answering_as : Debuggee → AnAnswer → Answering
-answering_as d a = record {
-  debuggee = changed a.change d;
-  references = call_of a.change;
-  terms = a.terms;
-  outcome = a.outcome;
-  events = events_of a.event;
-  closes = a.closes;
-}
 
 -- what a session is after a change
 abbrev pub now_changed : Change → Now → Now
@@ -194,18 +107,6 @@ now_changed c now =
 -- what is kept after a change on a connection, and what is agreed with it
 abbrev pub kept_changed : Change → Terms → Kept → Kept
 kept_changed c terms k = kept_agreed k.now.link terms (record k { now = now_changed c k.now })
-
--- what an answer is lent is in its ranges
-pub record IsLendable (lent : Lent) : Type 0 where
-  pub size : IsSize lent.size
-  pub last_break : lent.last_break ≤ 2147483647
-  pub last_ref : lent.last_ref ≤ 2147483647
-
--- it is that of a session, which debugs this program
-pub record IsLent (lent : Lent) (program : Option Program) (now : Now) : Type 0 where
-  pub size : now.size ≡ lent.size
-  pub debuggee : now.debuggee ≡ record { program = program; last_break = lent.last_break }
-  pub last_ref : now.limits.last_ref ≡ lent.last_ref
 
 -- their bytes, and the last number given
 pub record Drafted : Type 0 where

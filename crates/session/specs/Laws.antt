@@ -20,7 +20,7 @@ use Rattle.replies.specs.declared.event.Event.TheVariants as event
 use Rattle.replies.specs.declared.exited.Exited.{Exited}
 use Rattle.replies.specs.declared.stopped.Stopped.{Stopped}
 use Rattle.replies.specs.declared.response.Response.{Response}
-use Rattle.session.specs.Telling.{reason_of, text_of}
+use Rattle.handlers.specs.Telling.{reason_of, text_of}
 use Rattle.framing.specs.Reading.{reading_of}
 use Rattle.replies.specs.declared.message.Message.{Message}
 use Rattle.replies.specs.declared.message.Message.TheVariants.{Response as IsResponse, Event as IsEvent}
@@ -37,9 +37,9 @@ use Rattle.session.specs.declared.event.EventError.TheVariants.{Closing}
 use Rattle.session.specs.declared.link.Link.{Link}
 use Rattle.session.specs.declared.pending.Ask.{Ask}
 use Rattle.session.specs.declared.pending.Pending.{Pending}
-use Rattle.session.specs.declared.terms.Terms.{Terms}
-use Rattle.session.specs.Acts.{Now, fault_of_reading}
-use Rattle.session.specs.Requests.{success_of}
+use Rattle.handlers.specs.declared.terms.Terms.{Terms}
+use Rattle.session.specs.Acts.{Now, fault_of_reading, given_of}
+use Rattle.handlers.specs.Requests.{success_of}
 use Rattle.session.specs.Arrivals.{number_of, name_asked, asks_of}
 use Rattle.session.specs.Prefixes.{IsPrefixOf}
 use Rattle.session.specs.Sessions.{Session, Life, Said, life_of, bytes_of, waiting_of, histories, Effect, Answer}
@@ -252,4 +252,4 @@ MarkedRetiresNone s = IsMarked s.now.debuggee → (events : List Event) → Reti
 -- A success of `pause` leaves it marked, where it ran (`PauseRequest`).
 abbrev pub PauseMarks : Now → Type 0
 PauseMarks now = (terms : Terms) (file : Option (List ℕ)) (arguments : PauseArguments)
-    → RunsAs (λ run. is_running run ≡ true) now.debuggee → IsMarked (success_of now terms file (Pause arguments)).debuggee
+    → RunsAs (λ run. is_running run ≡ true) now.debuggee → IsMarked (success_of (given_of now) terms file (Pause arguments)).debuggee

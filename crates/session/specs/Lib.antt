@@ -2,41 +2,12 @@
 
 -- the requests that wait: which join, which are repeats, what a `cancel` does
 pub mod Arrivals
--- how far a connection has come, and what was agreed on it
+-- how far the present connection has come
 pub mod Phases
 -- references to frames and variables: their numbers, and all that were ever issued
 pub mod References
 -- what a session is now, and the acts that events and answers are made of
 pub mod Acts
--- what a request asks of the program that is debugged
-pub mod Demands
--- the kinds of successes
-pub mod Successes
--- `initialize`: its phases, and what comes of it
-pub mod Initialize
--- `launch`, and the requests after it, likewise
-pub mod Launch
-pub mod Attach
-pub mod ConfigurationDone
-pub mod Threads
-pub mod Cancel
-pub mod Restart
-pub mod Terminate
-pub mod Disconnect
-pub mod SetExceptionBreakpoints
-pub mod Continue
-pub mod Stepping
-pub mod Pause
--- what sets breakpoints, and the two requests that do
-pub mod Breaks
-pub mod SetBreakpoints
-pub mod SetInstructionBreakpoints
--- what looks into the program, and the two requests that set something in it
-pub mod Looking
-pub mod SetVariable
-pub mod WriteMemory
--- the list of the requests
-pub mod Requests
 -- the answer to a request: the refusals in their order, or its success
 pub mod Refusals
 -- the frame of a message with its number
@@ -44,10 +15,8 @@ pub mod Writing
 -- ---- events
 -- the last numbers that a session gives
 pub mod Limits
--- how much memory a machine gets
+-- the program that is there from the beginning
 pub mod Config
--- what an editor is told of the program that it debugs
-pub mod Telling
 -- a slice, beat by beat
 pub mod Slices
 -- what an event answers, and the acts that it comes to
@@ -83,8 +52,9 @@ pub use Rattle.framing.specs.Frames
 pub use Rattle.framing.specs.Reading
 -- a stream that comes in pieces
 pub use Rattle.framing.specs.Streams
--- the table of the requests
+-- the table of the requests, and what comes of each
 pub use Rattle.protocol.specs.Commands
+pub use Rattle.handlers.specs.Requests
 -- a message with its number, as text
 pub use Rattle.replies.specs.Messages
 -- what can be known of a machine

@@ -13,7 +13,7 @@ use Rattle.replies.specs.declared.response.ResponseBody.{ResponseBody}
 use Rattle.session.specs.declared.link.Link.{Link}
 use Rattle.session.specs.declared.pending.Ask.TheVariants as ask
 use Rattle.session.specs.declared.pending.Fate.{Fate}
-use Rattle.session.specs.Demands.{run_of}
+use Rattle.handlers.specs.Demands.{run_of}
 use Rattle.session.specs.References.{Reference}
 use Rattle.session.specs.Refusals.{answer_to, first_refusal, refusals}
 use Rattle.session.specs.Sessions.{Session}

@@ -26,8 +26,9 @@ use Rattle.session.specs.declared.event.EventError.TheVariants.{PieceTooLong, Cl
 use Rattle.session.specs.declared.event.Turned.TheVariants.{Answered, Nothing, Full}
 use Rattle.session.specs.declared.link.Link.{Link}
 use Rattle.session.specs.declared.pending.Pending.{Pending}
-use Rattle.session.specs.declared.terms.Terms.{Terms}
-use Rattle.session.specs.Acts.{Now, Seen, Act, Answering, Open, Close, Accept, Agree, Become, Refer, Reply, Tell, HangUp, Take}
+use Rattle.handlers.specs.declared.terms.Terms.{Terms}
+use Rattle.handlers.specs.Given.{Answering}
+use Rattle.session.specs.Acts.{Now, Seen, Act, Open, Close, Accept, Agree, Become, Refer, Reply, Tell, HangUp, Take}
 use Rattle.session.specs.Acts.{grows}
 use Rattle.session.specs.Refusals.{answer_to}
 use Rattle.session.specs.Slices.{telling}

@@ -1,86 +1,14 @@
--- How far a connection has come, and what was agreed on it (DAP specification, "Initialization", "Launching and
--- attaching").
---
--- An editor begins with `initialize`, and says then how it counts lines and columns. It launches a program, and has its
--- breakpoints set; with `configurationDone` it has said all, and the program runs. `disconnect` is the end.
-use Rattle.std.specs.Prelude.{ℕ, Bool, true, false, if◌then◌else◌, Option, Some, None}
+-- How far the present connection has come.
+use Rattle.std.specs.Prelude.{Bool, false, Option, Some, None}
+use Rattle.handlers.specs.Phases.{is_active_in, is_configuring_in}
 use Rattle.session.specs.declared.link.Link.{Link}
-use Rattle.session.specs.declared.phase.Phase.{Phase}
-use Rattle.session.specs.declared.phase.Phase.TheVariants.{Fresh, Initialized, Configuring, Active, Left}
-use Rattle.session.specs.declared.terms.Terms.{Terms}
 
--- before anything was agreed, lines and columns are counted from 1
-abbrev pub first_terms : Terms
-first_terms = record { phase = Fresh; launched = false; lines_start_at1 = true; columns_start_at1 = true }
-
--- the number that a first line or column has
-abbrev pub base_of : Bool → ℕ
-base_of starts_at1 = if starts_at1 then 1 else 0
-
--- ---- phases
-
--- whether nothing was agreed yet
-abbrev pub is_fresh_in : Phase → Bool
-is_fresh_in Fresh = true
-is_fresh_in Initialized = false
-is_fresh_in Configuring = false
-is_fresh_in Active = false
-is_fresh_in Left = false
-
--- whether the editor may launch a program
-abbrev pub is_initialized_in : Phase → Bool
-is_initialized_in Fresh = false
-is_initialized_in Initialized = true
-is_initialized_in Configuring = false
-is_initialized_in Active = false
-is_initialized_in Left = false
-
--- whether `initialize` was answered, and it has not left
-abbrev pub is_listening_in : Phase → Bool
-is_listening_in Fresh = false
-is_listening_in Initialized = true
-is_listening_in Configuring = true
-is_listening_in Active = true
-is_listening_in Left = false
-
--- whether it debugs one
-abbrev pub is_debugging_in : Phase → Bool
-is_debugging_in Fresh = false
-is_debugging_in Initialized = false
-is_debugging_in Configuring = true
-is_debugging_in Active = true
-is_debugging_in Left = false
-
--- whether it has not left
-abbrev pub is_there_in : Phase → Bool
-is_there_in Fresh = true
-is_there_in Initialized = true
-is_there_in Configuring = true
-is_there_in Active = true
-is_there_in Left = false
-
--- whether the editor has said all, and is told what the program does
-abbrev pub is_active_in : Phase → Bool
-is_active_in Fresh = false
-is_active_in Initialized = false
-is_active_in Configuring = false
-is_active_in Active = true
-is_active_in Left = false
-
--- whether it has not said all yet
-abbrev pub is_configuring_in : Phase → Bool
-is_configuring_in Fresh = false
-is_configuring_in Initialized = false
-is_configuring_in Configuring = true
-is_configuring_in Active = false
-is_configuring_in Left = false
-
--- ---- connections
-
+-- whether its editor has said all, and is told what the program does
 abbrev pub is_active : Option Link → Bool
 is_active None = false
 is_active (Some link) = is_active_in link.terms.phase
 
+-- whether it has not said all yet
 abbrev pub is_configuring : Option Link → Bool
 is_configuring None = false
 is_configuring (Some link) = is_configuring_in link.terms.phase

@@ -5,8 +5,10 @@ use Rattle.session.specs.declared.limits.Limits.{Limits}
 use Rattle.session.specs.declared.link.Link.{Link}
 use Rattle.session.specs.declared.pending.Pending.{Pending}
 use Rattle.session.specs.declared.prepared.Prepared.{Prepared}
-use Rattle.session.specs.Acts.{Answering, Now}
-use Rattle.session.specs.Kept.{Drafted, call_of, changed, draft_on, drafted, drafted_all}
+use Rattle.handlers.specs.Given.{Answering}
+use Rattle.session.specs.Acts.{Now}
+use Rattle.handlers.specs.Changes.{call_of, changed}
+use Rattle.session.specs.Kept.{Drafted, draft_on, drafted, drafted_all}
 use Rattle.session.specs.Refusals.{response_to}
 
 -- an answer with what is told after it, by the answer to the first request

@@ -8,25 +8,26 @@ use Rattle.debuggee.specs.declared.run.Run.{Run}
 use Rattle.protocol.specs.declared.command.Command.{Command}
 use Rattle.protocol.specs.declared.command.Command.TheVariants.{Launch}
 use Rattle.protocol.specs.declared.refusal.Refusal.TheVariants.{NoMachine, Ended, NoThread, NotStopped}
-use Rattle.session.specs.declared.demand.Demand.{Demand}
+use Rattle.handlers.specs.declared.demand.Demand.{Demand}
 use Rattle.session.specs.declared.link.Link.{Link}
-use Rattle.session.specs.declared.terms.Terms.{Terms}
-use Rattle.session.specs.Demands.{asks_nothing, goes_on, has_ended, has_none, is_no_thread, run_of}
-use Rattle.session.specs.Successes.{refusing}
+use Rattle.handlers.specs.declared.terms.Terms.{Terms}
+use Rattle.handlers.specs.Demands.{asks_nothing, goes_on, has_ended, has_none, is_no_thread, run_of}
+use Rattle.handlers.specs.Successes.{refusing}
 use Rattle.protocol.specs.declared.refusal.Refusal.{Refusal}
 use Rattle.protocol.specs.declared.refusal.Refusal.TheVariants.{RepeatedSequence, Cancelled as IsCancelled, WrongPhase}
 use Rattle.protocol.specs.declared.refusal.Refusal.TheVariants.{RequestGone}
 use Rattle.replies.specs.declared.response.Outcome.{Outcome}
 use Rattle.replies.specs.declared.response.Response.{Response}
-use Rattle.session.specs.declared.phase.Phase.{Phase}
+use Rattle.handlers.specs.declared.phase.Phase.{Phase}
 use Rattle.session.specs.declared.pending.Ask.{Ask}
 use Rattle.session.specs.declared.pending.Ask.TheVariants.{Request, Bad}
 use Rattle.session.specs.declared.pending.Fate.{Fate}
 use Rattle.session.specs.declared.pending.Fate.TheVariants.{Waits, Repeated, Cancelled, NamesNone}
 use Rattle.session.specs.declared.pending.Pending.{Pending}
-use Rattle.session.specs.Acts.{Now, Answering}
+use Rattle.handlers.specs.Given.{Answering, Lent}
+use Rattle.session.specs.Acts.{Now, given_of}
 use Rattle.session.specs.Arrivals.{number_of, name_asked, is_repeat}
-use Rattle.session.specs.Requests.{demand_of, is_taken_in, success_of}
+use Rattle.handlers.specs.Requests.{demand_of, is_taken_in, success_of}
 
 -- whether a later `cancel` named the request
 abbrev pub is_cancelled : Fate → Bool
@@ -90,15 +91,19 @@ first_refusal (None ∷ rest) = first_refusal rest
 first_refusal (Some refusal ∷ rest) = Some refusal
 
 -- the answer, by the refusal that applies, if one does
-abbrev pub answer_by : Now → Terms → Option (List ℕ) → Option Refusal → Ask → Answering
-answer_by now terms file (Some refusal) ask = refusing now terms refusal None
-answer_by now terms file None (Request r) = success_of now terms file r.command
-answer_by now terms file None (Bad seq command refusal) = refusing now terms refusal None
+abbrev pub answer_by : Lent → Option Refusal → Ask → Answering
+answer_by lent (Some refusal) ask = refusing lent.given lent.terms refusal None
+answer_by lent None (Request r) = success_of lent.given lent.terms lent.file r.command
+answer_by lent None (Bad seq command refusal) = refusing lent.given lent.terms refusal None
+
+-- what a request is answered, by what is lent to the answer
+abbrev pub answer_of : Lent → Pending → Answering
+answer_of lent p =
+    answer_by lent (first_refusal (refusals (run_of lent.given.debuggee.program) lent.terms.phase p)) p.ask
 
 -- what a request is answered, with the file that it names
 abbrev pub answer_to : Now → Terms → Option (List ℕ) → Pending → Answering
-answer_to now terms file p =
-    answer_by now terms file (first_refusal (refusals (run_of now.debuggee.program) terms.phase p)) p.ask
+answer_to now terms file p = answer_of (record { given = given_of now; terms = terms; file = file }) p
 
 -- the response that says so: it names the request by its number and its name
 abbrev pub response_to : Ask → Outcome → Response

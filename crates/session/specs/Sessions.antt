@@ -19,7 +19,7 @@ use Rattle.session.specs.declared.limits.Limits.{Limits}
 use Rattle.session.specs.declared.link.Link.{Link}
 use Rattle.session.specs.declared.pending.Ask.{Ask}
 use Rattle.session.specs.declared.pending.Pending.{Pending}
-use Rattle.session.specs.declared.terms.Terms.{Terms}
+use Rattle.handlers.specs.declared.terms.Terms.{Terms}
 use Rattle.debuggee.specs.Programs.{Debuggee, Program}
 use Rattle.session.specs.Acts.{Now, Act, Open, Close, Accept, Agree, Become, Refer, Reply, Tell, HangUp, Take, opened, closed}
 use Rattle.session.specs.Acts.{agreed, hung, refers}
@@ -28,7 +28,8 @@ use Rattle.variables.specs.Laws.{Call}
 use Rattle.variables.specs.Numbers.{Numbers}
 use Rattle.session.specs.Acts.{numbered, accepted, read_on, fault_of_reading}
 use Rattle.session.specs.Arrivals.{no_arrivals, asks_of}
-use Rattle.session.specs.Config.{HasImage, first_program, is_size}
+use Rattle.handlers.specs.Sizes.{is_size}
+use Rattle.session.specs.Config.{HasImage, first_program}
 use Rattle.session.specs.Effects.{World, effect, answer, after_all}
 use Rattle.session.specs.Limits.{are_limits}
 use Rattle.session.specs.Refusals.{response_to}

@@ -19,13 +19,13 @@ use Rattle.debuggee.specs.declared.run.Run.{Run}
 use Rattle.debuggee.specs.declared.run.Why.{Why}
 use Rattle.debuggee.specs.declared.run.Why.TheVariants as why
 use Rattle.replies.specs.declared.event.Event.{Event}
-use Rattle.session.specs.declared.event.Ending.{Ending}
-use Rattle.session.specs.declared.event.Ending.TheVariants as ending
+use Rattle.session.specs.declared.event.SliceEnd.{SliceEnd}
+use Rattle.session.specs.declared.event.SliceEnd.TheVariants as ending
 use Rattle.session.specs.declared.link.Link.{Link}
 use Rattle.session.specs.declared.state.TheConstants.{FULL}
 use Rattle.session.specs.Acts.{Now, Seen, Act, Become, Tell}
 use Rattle.session.specs.Phases.{is_active, is_configuring}
-use Rattle.session.specs.Telling.{exit_events, output_event, stop_event}
+use Rattle.handlers.specs.Telling.{exit_events, output_event, stop_event}
 use Rattle.stepping.specs.declared.tick.Outcome.{Outcome}
 use Rattle.stepping.specs.declared.tick.Outcome.TheVariants.{Went, Stopped, Ended}
 use Rattle.stepping.specs.declared.tick.Reason.TheVariants as met
@@ -71,14 +71,14 @@ telling now p tick =
 pub record Beat : Type 0 where
   pub acts : List Act
   pub moved : ℕ
-  pub ending : Option Ending
+  pub ending : Option SliceEnd
 
 -- nothing but the end of the slice
-abbrev pub ends : Ending → Beat
+abbrev pub ends : SliceEnd → Beat
 ends e = record { acts = []; moved = 0; ending = Some e }
 
 -- how what a tick came to ends it
-abbrev pub ending_of : Outcome → Option Ending
+abbrev pub ending_of : Outcome → Option SliceEnd
 ending_of Went = None
 ending_of (Stopped reason) = Some ending.Stopped
 ending_of (Ended code) = Some ending.Ended

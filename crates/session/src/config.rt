@@ -4,14 +4,15 @@ ghost use Rattle.assembler.specs.Errors.{Reports};
 ghost use Rattle.assembler.specs.Placed.{Placed, error_of};
 ghost use Rattle.assembler.specs.Assembled.{assembled};
 ghost use Rattle.debuggee.specs.Programs.{just_loaded};
+ghost use Rattle.handlers.specs.Sizes.{IsSize, is_size};
 ghost use Rattle.session.specs.Config as spec;
 
 use assembler::{AsmError, AsmErrorKind, assemble};
 use byte_strings::Bytes;
 use debuggee::Program;
-use image::Image;
+use handlers::placed;
 use protocol::Text;
-use std::alloc::{AllocError, Global};
+use std::alloc::Global;
 use thiserror::Error;
 
 /// What a session is made of.
@@ -43,7 +44,7 @@ pub enum ConfigError {
 
 /// Whether memory can have this size.
 pub(crate) fn is_size(size: u32) -> bool
-    ensures { result ≡ spec.is_size size }
+    ensures { result ≡ is_size size }
 {
     size % 4096 == 0 && size >= 4096 && size <= 16_777_216
 }
@@ -55,7 +56,7 @@ pub(crate) fn first_program(
     program: Option<(Text, Bytes)>,
     size: u32,
 ) -> Result<Option<Program>, ConfigError>
-    requires { spec.IsSize size }
+    requires { IsSize size }
     ensures { spec.Loads program size result }
 {
     match program {
@@ -69,7 +70,7 @@ pub(crate) fn first_program(
 
 // A program, loaded.
 fn load(alloc: Global, path: Text, text: &[u8], size: u32) -> Result<Program, ConfigError>
-    requires { spec.IsSize size }
+    requires { IsSize size }
     ensures { spec.LoadsOne path text.now size result }
 {
     match assemble(alloc, text, size) {
@@ -82,21 +83,4 @@ fn load(alloc: Global, path: Text, text: &[u8], size: u32) -> Result<Program, Co
             _ => Err(ConfigError::Assembly(error)),
         },
     }
-}
-
-/// A program of which this is the image, loaded. It stands still at its entry.
-pub(crate) fn placed(
-    alloc: Global,
-    path: Text,
-    text: &[u8],
-    image: Image,
-    stop_on_entry: bool,
-    size: u32,
-) -> Result<Program, AllocError>
-    requires size { spec.IsSize size }
-    requires placed { Placed text.now size image }
-    ensures { IfOk result (λ p. p ≡ just_loaded (assembled text.now) path stop_on_entry size) }
-{
-    let _ = text;
-    Program::new(alloc, image, path, stop_on_entry, size)
 }

@@ -60,12 +60,12 @@ pub struct Sliced {
     /// How many instructions retired.
     pub moved: u32,
     /// What ended the slice.
-    pub ending: Ending,
+    pub ending: SliceEnd,
 }
 
 /// What ended a slice.
 #[derive(Clone, Copy, Debug, PartialEq, Eq)]
-pub enum Ending {
+pub enum SliceEnd {
     /// As many instructions retired as were asked for.
     Spent,
     /// More than 65,536 bytes wait to be sent.

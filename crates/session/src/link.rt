@@ -1,6 +1,6 @@
 //! The connection of an editor.
 
-use crate::terms::Terms;
+use handlers::Terms;
 
 /// The connection of an editor, as far as a few numbers say it.
 #[derive(Clone, Copy, Debug, PartialEq, Eq)]

@@ -1,8 +1,7 @@
 //! An answer that is written before anything is changed or queued.
 
-use crate::answer::Change;
 use crate::draft::Draft;
-use crate::terms::Terms;
+use handlers::{Change, Terms};
 
 /// An answer that is written before anything is changed or queued.
 #[derive(Drop)]

@@ -1,52 +1,23 @@
 //! Why a request is refused, and what it is answered else.
 ghost use Rattle.std.specs.Prelude.{◌≡◌, ◌++◌, IfOk, None, option_map};
-ghost use Rattle.std.specs.Option.{option_copied};
-ghost use Rattle.session.specs.Acts.{Now as ANow};
-ghost use Rattle.session.specs.Demands.{run_of};
-ghost use Rattle.session.specs.Kept.{IsLendable, IsLent, answering_as};
+ghost use Rattle.handlers.specs.Demands.{run_of};
+ghost use Rattle.handlers.specs.Changes.{answering_as};
 ghost use Rattle.session.specs.Refusals as spec;
 
-use crate::answer::{Answer, refusing};
-use crate::demand::Demand;
-use crate::lent::Lent;
 use crate::pending::{Ask, Fate, Pending};
-use crate::phase::Phase;
-use crate::requests::{demand_of, is_taken_in, success_of};
-use crate::terms::Terms;
-use debuggee::{Program, Run};
+use debuggee::Run;
+use handlers::{Answer, Demand, Lent, Phase, demand_of, refusing, success_of};
 use protocol::{Command, Refusal};
 use replies::{Outcome, Response};
 use std::alloc::{AllocError, Global};
-use variables::Handles;
 
-/// What a request is answered, by the program that is debugged, if there is one, and by the file that
-/// the request names, if it names one. `Err`: no memory was left.
-pub(crate) fn answer_to(
-    alloc: Global,
-    terms: Terms,
-    program: &Option<Program>,
-    handles: &Handles,
-    lent: Lent,
-    file: Option<&[u8]>,
-    pending: &Pending,
-) -> Result<Answer, AllocError>
-    requires { IsLendable lent }
-    ensures { IfOk result (λ a. (now : ANow) → IsLent lent program.now now → now.numbers ≡ handles.now
-        → answering_as now.debuggee a ≡ spec.answer_to now terms (option_copied file.entry) pending.now) }
+/// What a request is answered. It fails where no memory is left.
+pub(crate) fn answer_to(alloc: Global, lent: &Lent, pending: &Pending) -> Result<Answer, AllocError>
+    ensures { IfOk result (λ a. answering_as lent.now.given.debuggee a ≡ spec.answer_of lent.now pending.now) }
 {
-    match refusal_of(run_of(program), terms.phase, pending) {
-        Some(refusal) => Ok(refusing(terms, refusal, None)),
-        None => taken(alloc, terms, program, handles, lent, file, &pending.ask),
-    }
-}
-
-/// The run of the program that is debugged, if there is one.
-pub(crate) fn run_of(program: &Option<Program>) -> Option<Run>
-    ensures { result ≡ run_of program.now }
-{
-    match program {
-        Some(program) => Some(program.run()),
-        None => None,
+    match refusal_of(lent.run(), lent.terms().phase, pending) {
+        Some(refusal) => Ok(refusing(lent.terms(), refusal, None)),
+        None => taken(alloc, lent, &pending.ask),
     }
 }
 
@@ -84,7 +55,7 @@ fn refusal_as_it_stands(phase: Phase, ask: &Ask) -> Option<Refusal>
 {
     match ask {
         Ask::Request(request) => {
-            if is_taken_in(phase, &request.command) {
+            if demand_of(&request.command).phases.has(phase) {
                 None
             } else {
                 Some(Refusal::WrongPhase)
@@ -115,30 +86,13 @@ fn refusal_unmet(run: Option<Run>, demand: Demand) -> Option<Refusal>
     None
 }
 
-fn taken(
-    alloc: Global,
-    terms: Terms,
-    program: &Option<Program>,
-    handles: &Handles,
-    lent: Lent,
-    file: Option<&[u8]>,
-    ask: &Ask,
-) -> Result<Answer, AllocError>
-    requires { IsLendable lent }
-    ensures { IfOk result (λ a. (now : ANow) → IsLent lent program.now now → now.numbers ≡ handles.now
-        → answering_as now.debuggee a ≡ spec.answer_by now terms (option_copied file.entry) None ask.now) }
+// What is answered to one that is not refused.
+fn taken(alloc: Global, lent: &Lent, ask: &Ask) -> Result<Answer, AllocError>
+    ensures { IfOk result (λ a. answering_as lent.now.given.debuggee a ≡ spec.answer_by lent.now None ask.now) }
 {
     match ask {
-        Ask::Request(request) => success_of(
-            alloc,
-            terms,
-            program,
-            handles,
-            lent,
-            file,
-            &request.command,
-        ),
-        Ask::Bad { refusal, .. } => Ok(refusing(terms, *refusal, None)),
+        Ask::Request(request) => success_of(alloc, lent, &request.command),
+        Ask::Bad { refusal, .. } => Ok(refusing(lent.terms(), *refusal, None)),
     }
 }
 

@@ -8,15 +8,15 @@ ghost use Rattle.session.specs.Effects.{performed};
 ghost use Rattle.session.specs.Kept.{Goes, draft_told, drafted_all, keepings, see_kept};
 ghost use Rattle.session.specs.Phases.{is_active};
 ghost use Rattle.session.specs.Slices as spec;
-ghost use Rattle.session.specs.Telling.{exit_events, output_event, stop_event};
-ghost use Rattle.session.specs.Beats.{moves_of, outcome_events, Decides, IsFree, Moved, Stretches, concluded, owed_of, tick_events};
+ghost use Rattle.handlers.specs.Telling.{exit_events, output_event, stop_event};
+ghost use Rattle.session.specs.Beats.{moves_of, outcome_events, Decides, IsFree, Moved, Stretches, after_made, concluded, owed_of, queued_with, tick_events};
 
 use crate::draft::Draft;
-use crate::event::{Ending, Sliced};
+use crate::event::{SliceEnd, Sliced};
 use crate::limits::Limits;
 use crate::state::{FULL, State};
-use crate::telling;
 use debuggee::{Advanced, Program, Run, Why};
+use handlers::telling;
 use replies::{Event, Message};
 use std::alloc::AllocError;
 use stepping::{Outcome, Tick};
@@ -27,11 +27,11 @@ pub struct Step {
     /// How many instructions retired.
     pub moved: u32,
     /// What ended the slice, if something did.
-    pub ending: Option<Ending>,
+    pub ending: Option<SliceEnd>,
 }
 
 impl Step {
-    fn ends(ending: Ending) -> Step
+    fn ends(ending: SliceEnd) -> Step
         ensures { result ≡ record { moved = 0; ending = Some ending } }
     {
         Step {
@@ -50,13 +50,24 @@ pub struct Moves {
     pub meets: Option<Tick>,
 }
 
+/// What is made of a program as the editor is told of it.
+#[derive(Clone, Copy, Debug, PartialEq, Eq)]
+pub enum Made {
+    /// What it owes is told, and what that came to is made.
+    Told(Tick),
+    /// It stops.
+    Stopped(Why),
+    /// What the instruction that comes next came to is made.
+    Met(Outcome),
+}
+
 /// What comes next in a slice.
 #[derive(Clone, Copy, Debug, PartialEq, Eq)]
 pub enum Next {
     /// What is owed is told.
     Tell(Tick),
     /// The slice ends.
-    End(Ending),
+    End(SliceEnd),
     /// The program stops.
     Stop(Why),
     /// The check at the entry is made.
@@ -81,7 +92,7 @@ impl State {
         }
         Sliced {
             moved,
-            ending: Ending::Spent,
+            ending: SliceEnd::Spent,
         }
     }
 
@@ -105,16 +116,16 @@ impl State {
         ensures { Decides result self.now more }
     {
         let Some(program) = &self.program else {
-            return Next::End(Ending::Idle);
+            return Next::End(SliceEnd::Idle);
         };
         if let Some(tick) = program.owed() {
             return Next::Tell(tick);
         }
         if !self.is_given_time(program.run()) {
-            return Next::End(Ending::Idle);
+            return Next::End(SliceEnd::Idle);
         }
         if self.buffer.len() > FULL {
-            return Next::End(Ending::Full);
+            return Next::End(SliceEnd::Full);
         }
         if let Some(mark) = program.mark() {
             return Next::Stop(mark.why());
@@ -123,7 +134,7 @@ impl State {
             return Next::Check;
         }
         if !more {
-            return Next::End(Ending::Spent);
+            return Next::End(SliceEnd::Spent);
         }
         if program.machine().retired() >= self.limits.last_retired {
             return Next::Stop(Why::Limit);
@@ -143,7 +154,7 @@ impl State {
                 moved: 0,
                 ending: ending_of(tick.outcome),
             },
-            Err(_) => Step::ends(Ending::NoMemory),
+            Err(_) => Step::ends(SliceEnd::NoMemory),
         }
     }
 
@@ -155,8 +166,8 @@ impl State {
         ensures stretches { (n moved : ℕ) → nat_lt moved n ≡ more → Stretches n moved self.old result self.new }
     {
         match self.stop(why) {
-            Ok(()) => Step::ends(Ending::Stopped),
-            Err(_) => Step::ends(Ending::NoMemory),
+            Ok(()) => Step::ends(SliceEnd::Stopped),
+            Err(_) => Step::ends(SliceEnd::NoMemory),
         }
     }
 
@@ -224,7 +235,7 @@ impl State {
 
     // The instruction that comes next traps, or ends the program: that is made and told.
     #[tactic(auto, using(crate::proofs::Stretching::meets_next, crate::proofs::Stretching::lacks_memory))]
-    fn meet(&mut self, tick: Tick) -> Option<Ending>
+    fn meet(&mut self, tick: Tick) -> Option<SliceEnd>
         requires { (p : AProgram) × (IsFree p self.old × ((next_tick p ≡ tick) × (stays tick.outcome ≡ true))) }
         ensures stretches { (n moved : ℕ) → nat_lt moved n ≡ true
             → Stretches n moved self.old (record { moved = 0; ending = result }) self.new }
@@ -232,7 +243,7 @@ impl State {
     {
         match self.conclude(tick.outcome) {
             Ok(()) => ending_of(tick.outcome),
-            Err(_) => Some(Ending::NoMemory),
+            Err(_) => Some(SliceEnd::NoMemory),
         }
     }
 
@@ -274,12 +285,20 @@ impl State {
         ensures err { OnErr result (self.new ≡ self.old) }
     {
         let draft = self.draft_tick(tick)?;
+        self.queue_and(&draft, Made::Told(tick))
+    }
+
+    // What was drafted is queued, and this is made of the program: both or none.
+    fn queue_and(&mut self, draft: &Draft, made: Made) -> Result<(), AllocError>
+        ensures ok { OnOk result ((p : AProgram) → self.old.now.debuggee.program ≡ Some p
+            → self.new ≡ queued_with draft.now (after_made made p) self.old) }
+        ensures err { OnErr result (self.new ≡ self.old) }
+    {
         self.buffer.push(draft.bytes())?;
         if let Some(program) = &mut self.program {
-            program.tell();
-            conclude(program, tick.outcome);
+            make(program, made);
         }
-        self.settle_told(draft.seq());
+        let _ = self.settle_told(draft.seq());
         Ok(())
     }
 
@@ -327,12 +346,7 @@ impl State {
         ensures err { OnErr result (self.new ≡ self.old) }
     {
         let draft = self.draft_stop(why)?;
-        self.buffer.push(draft.bytes())?;
-        if let Some(program) = &mut self.program {
-            program.stop(why);
-        }
-        self.settle_told(draft.seq());
-        Ok(())
+        self.queue_and(&draft, Made::Stopped(why))
     }
 
     // A stop that no breakpoint made, written.
@@ -356,12 +370,7 @@ impl State {
         ensures err { OnErr result (self.new ≡ self.old) }
     {
         let draft = self.draft_outcome(outcome)?;
-        self.buffer.push(draft.bytes())?;
-        if let Some(program) = &mut self.program {
-            conclude(program, outcome);
-        }
-        self.settle_told(draft.seq());
-        Ok(())
+        self.queue_and(&draft, Made::Met(outcome))
     }
 
     // The events of what a tick came to that hit no breakpoint, written, where the editor is told.
@@ -426,13 +435,27 @@ fn moves_of(most: u32, advanced: Advanced) -> Moves
 }
 
 // How what a tick came to ends a slice.
-fn ending_of(outcome: Outcome) -> Option<Ending>
+fn ending_of(outcome: Outcome) -> Option<SliceEnd>
     ensures { result ≡ spec.ending_of outcome }
 {
     match outcome {
         Outcome::Went => None,
-        Outcome::Stopped(_) => Some(Ending::Stopped),
-        Outcome::Ended(_) => Some(Ending::Ended),
+        Outcome::Stopped(_) => Some(SliceEnd::Stopped),
+        Outcome::Ended(_) => Some(SliceEnd::Ended),
+    }
+}
+
+// This is made of a program.
+fn make(program: &mut Program, made: Made)
+    ensures { program.new ≡ after_made made program.old }
+{
+    match made {
+        Made::Told(tick) => {
+            program.tell();
+            conclude(program, tick.outcome);
+        }
+        Made::Stopped(why) => program.stop(why),
+        Made::Met(outcome) => conclude(program, outcome),
     }
 }
 

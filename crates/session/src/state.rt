@@ -2,51 +2,48 @@
 ghost use Rattle.std.specs.Prelude.{◌≡◌, ◌≤◌, ◌^◌, None, true, [], Option, Some, Ok, Err, IfOk, OnOk, OnErr, IsSome, ◌++◌, ◌∷◌, List, ℕ, length};
 ghost use Rattle.std.specs.Option.{option_map};
 ghost use Rattle.session.specs.declared.event.Event.TheVariants as event;
+ghost use Rattle.session.specs.declared.pending.Pending.{Pending as APending};
+ghost use Rattle.std.specs.Prelude.{if◌then◌else◌};
 ghost use Rattle.session.specs.declared.event.Applied.TheVariants as applied;
-ghost use Rattle.session.specs.Kept.{Drafted, Goes, HasNumbers, IsLendable, IsLent, answered, changed, changed_one, draft_on, drafted, drafted_all, events_of, kept_agreed, kept_changed, kept_closing, now_changed, call_of, IsOfProgram, nothing_kept, keepings, see_kept, settled};
-ghost use Rattle.session.specs.Breaks.{Numbered as ANumbered};
-ghost use Rattle.session.specs.Config.{IsSize};
-ghost use Rattle.session.specs.Demands.{run_of};
+ghost use Rattle.handlers.specs.Changes.{changed, events_of, call_of};
+ghost use Rattle.session.specs.Kept.{Drafted, Goes, HasNumbers, answered, draft_on, drafted, drafted_all, kept_agreed, kept_changed, kept_closing, now_changed, nothing_kept, keepings, see_kept, settled};
+ghost use Rattle.handlers.specs.Breaks.{Numbered as ANumbered};
+ghost use Rattle.handlers.specs.Sizes.{IsSize};
+ghost use Rattle.handlers.specs.Demands.{run_of};
 ghost use Rattle.std.specs.Option.{option_copied};
 ghost use Rattle.debuggee.specs.Programs.{left, marked, with_program};
 ghost use Rattle.debuggee.specs.declared.run.Mark.TheVariants as a_mark;
 ghost use Rattle.session.specs.Acts as acts;
-ghost use Rattle.session.specs.Acts.{refers};
+ghost use Rattle.session.specs.Acts.{given_of, refers};
 ghost use Rattle.session.specs.Arrivals.{no_arrivals, others_pending};
 ghost use Rattle.framing.specs.Reading.Tail.{Partial};
 ghost use Rattle.session.specs.Outcomes as spec;
 ghost use Rattle.session.specs.Refusals.{response_to, wanted_on};
 ghost use Rattle.session.specs.Refusals as spec_answer;
 ghost use Rattle.session.specs.Preparing.{IsPrepared};
-ghost use Rattle.session.specs.Disconnect.{departed};
-ghost use Rattle.session.specs.declared.answer.Change.TheVariants as a_change;
-ghost use Rattle.debuggee.specs.Programs.{Program as AProgram, first_run, restarted};
+ghost use Rattle.handlers.specs.declared.change.Change.TheVariants as a_change;
 ghost use Rattle.session.specs.Sessions.{snapshot_of};
 ghost use Rattle.session.specs.Slices.{is_runnable};
 ghost use Rattle.session.specs.Snapshots.{IsTaken};
 ghost use Rattle.session.specs.Effects.{performed};
-ghost use Rattle.variables.specs.Laws.Call.{EndStop, Issue};
+ghost use Rattle.variables.specs.Laws.Call.{Issue};
 ghost use Rattle.variables.specs.Numbers.{has_room};
-ghost use Rattle.std.specs.Prelude.{if◌then◌else◌};
 
 use crate::BODY_LIMIT;
-use crate::answer::{Answer, Change};
 use crate::arrivals::Arrivals;
 use crate::buffer::Buffer;
 use crate::draft::Draft;
 use crate::event::{EventError, LinkFault, Turned};
 use crate::feeding::feed;
-use crate::lent::Lent;
 use crate::limits::Limits;
 use crate::link::Link;
-use crate::numbered::Numbered;
 use crate::pending::Pending;
 use crate::prepared::Prepared;
-use crate::refusals::{answer_to, response_to, run_of, wanted_by};
+use crate::refusals::{answer_to, response_to, wanted_by};
 use crate::snapshot::Snapshot;
-use crate::terms::Terms;
-use debuggee::{Mark, Program, Run, Why};
+use debuggee::{Mark, Program};
 use framing::{FrameError, Unframer};
+use handlers::{Answer, Change, Lent, Numbered, ProgramChange, Terms, run_of};
 use protocol::MessageError;
 use replies::{Event, Message, Outcome};
 use std::alloc::{AllocError, Global};
@@ -85,8 +82,8 @@ impl Model for State {
     ghost use Rattle.std.specs.Prelude.{◌≡◌, ◌≤◌, ◌^◌, []};
     ghost use Rattle.session.specs.declared.TheConstants.{BODY_LIMIT};
     ghost use Rattle.session.specs.Kept.{Kept};
-    ghost use Rattle.session.specs.Breaks.{Numbered as ANumbered};
-    ghost use Rattle.session.specs.Config.{IsSize};
+    ghost use Rattle.handlers.specs.Breaks.{Numbered as ANumbered};
+    ghost use Rattle.handlers.specs.Sizes.{IsSize};
     ghost use Rattle.std.specs.Coded.{codes};
     ghost use Rattle.breakpoints.specs.Codes.{coded_tree};
 
@@ -269,15 +266,7 @@ impl State {
         ensures { IfOk result (λ r. IsPrepared self.now.now first.now
             (spec_answer.answer_to self.now.now link.terms (option_copied file.entry) first.now) r) }
     {
-        let answer = answer_to(
-            self.alloc,
-            link.terms,
-            &self.program,
-            &self.handles,
-            self.lent(),
-            file,
-            first,
-        )?;
+        let answer = answer_to(self.alloc, &self.lent(link.terms, file), first)?;
         let Answer {
             change,
             terms,
@@ -294,16 +283,19 @@ impl State {
         })
     }
 
-    // What an answer is lent, beside the program.
-    fn lent(&self) -> Lent
-        ensures lent { IsLent result self.now.now.debuggee.program self.now.now }
-        ensures lendable { IsLendable result }
+    // What an answer is lent.
+    fn lent<'s>(&'s self, terms: Terms, file: Option<&'s [u8]>) -> Lent<'s>
+        ensures { result ≡ record { given = given_of self.now.now; terms = terms; file = option_copied file.entry } }
     {
-        Lent {
-            size: self.size,
-            last_break: self.last_break,
-            last_ref: self.limits.last_ref,
-        }
+        Lent::new(
+            terms,
+            &self.program,
+            &self.handles,
+            file,
+            self.size,
+            self.last_break,
+            self.limits.last_ref,
+        )
     }
 
     // The answer to a request, written, with what the editor is told after it.
@@ -357,7 +349,7 @@ impl State {
             Change::SetSource(breaks) => return self.set_source(breaks),
             Change::SetInstructions(breaks) => return self.set_instructions(breaks),
             Change::Issue(targets) => return self.issue(&targets),
-            change => return self.change_loaded(change),
+            Change::OfProgram(change) => return self.change_program(change),
         }
         Ok(())
     }
@@ -376,14 +368,13 @@ impl State {
     }
 
     // What it makes of the program that there is, and what becomes of the references then.
-    fn change_loaded(&mut self, change: Change) -> Result<(), AllocError>
-        requires { IsOfProgram change }
-        ensures ok { OnOk result (self.new ≡ record self.old { now = now_changed change self.old.now }) }
+    fn change_program(&mut self, change: ProgramChange) -> Result<(), AllocError>
+        ensures ok { OnOk result (self.new ≡ record self.old { now = now_changed (a_change.OfProgram change) self.old.now }) }
         ensures err { OnErr result (self.new ≡ self.old) }
     {
-        let ends = ends_stop(&change);
+        let ends = change.ends_stop();
         if let Some(program) = &mut self.program {
-            change_program(program, change)?;
+            change.make(program)?;
         }
         if ends {
             self.handles.end_stop();
@@ -432,36 +423,24 @@ impl State {
           now = settled self.old.now.link seq (others_pending self.old.now.arrivals.pending) self.old.now;
         } }
     {
-        let Some(link) = self.link else {
-            return;
-        };
-        if link.seq >= seq {
-            return;
-        }
-        let is_last = seq == self.limits.last_seq;
-        if is_last {
-            self.arrivals.drop_all();
-        } else {
+        if self.settle_told(seq) {
             self.arrivals.pass();
         }
-        self.link = Some(Link {
-            seq,
-            terms: link.terms,
-            is_closing: is_last || link.is_closing,
-        });
     }
 
-    // Events up to this number were queued.
-    pub(crate) fn settle_told(&mut self, seq: u32)
-        ensures { self.new ≡ record self.old {
+    // Events up to this number were queued. Answers whether one was, and requests may still wait.
+    pub(crate) fn settle_told(&mut self, seq: u32) -> bool
+        ensures settled { self.new ≡ record self.old {
           now = settled self.old.now.link seq self.old.now.arrivals.pending self.old.now;
         } }
+        ensures wait { (rest : List APending) → settled self.old.now.link seq rest self.old.now
+            ≡ (if result then record self.new.now { arrivals = record self.new.now.arrivals { pending = rest } } else self.new.now) }
     {
         let Some(link) = self.link else {
-            return;
+            return false;
         };
         if link.seq >= seq {
-            return;
+            return false;
         }
         let is_last = seq == self.limits.last_seq;
         if is_last {
@@ -472,6 +451,7 @@ impl State {
             terms: link.terms,
             is_closing: is_last || link.is_closing,
         });
+        !is_last
     }
 
     // The connection takes nothing more, where it closes.
@@ -617,81 +597,6 @@ impl State {
         ensures { result ≡ self.now.now.fault }
     {
         self.fault
-    }
-}
-
-// What an answer makes of the program that is debugged, where there is one.
-fn change_program(program: &mut Program, change: Change) -> Result<(), AllocError>
-    requires { IsOfProgram change }
-    ensures ok { OnOk result (program.new ≡ changed_one change program.old) }
-    ensures err { OnErr result (program.new ≡ program.old) }
-{
-    match change {
-        Change::Nothing
-        | Change::Load(_)
-        | Change::SetSource(_)
-        | Change::SetInstructions(_)
-        | Change::Issue(_) => unreachable!(),
-        Change::SetHart(hart) => program.set_hart(hart),
-        Change::Write { address, bytes } => {
-            let _ = program.write(address, &bytes);
-        }
-        Change::Begin => program.begin(),
-        Change::Resume(goal) => program.resume(goal),
-        Change::Mark(mark) => program.set_mark(mark),
-        Change::Restart => return start_anew(program),
-        Change::End => program.end(None),
-        Change::Leave { ends, stands } => {
-            program.leave();
-            depart(program, ends, stands);
-        }
-    }
-    Ok(())
-}
-
-// Whether a change ends the stop for the references.
-fn ends_stop(change: &Change) -> bool
-    requires { IsOfProgram change.now }
-    ensures { call_of change.now ≡ (if result then Some EndStop else None) }
-{
-    matches!(
-        change,
-        Change::Resume(_) | Change::Restart | Change::Leave { .. }
-    )
-}
-
-// A program is loaded anew, and its first run begins.
-fn start_anew(program: &mut Program) -> Result<(), AllocError>
-    ensures ok { OnOk result (program.new ≡ first_run (restarted program.old)) }
-    ensures err { OnErr result (program.new ≡ program.old) }
-{
-    match program.restart() {
-        Ok(()) => {
-            program.begin();
-            Ok(())
-        }
-        Err(refused) => Err(refused),
-    }
-}
-
-// The editor has left a program: it ends, or is to stand still, or goes on.
-fn depart(program: &mut Program, ends: bool, stands: bool)
-    ensures { program.new ≡ departed ends stands program.old }
-{
-    match program.run() {
-        Run::Ended(_) => {}
-        Run::Stopped(_) => {
-            if ends {
-                program.end(None);
-            }
-        }
-        Run::Running => {
-            if ends {
-                program.end(None);
-            } else if stands {
-                program.stop(Why::Pause);
-            }
-        }
     }
 }
 

@@ -12,7 +12,7 @@ use Rattle.rv32i.specs.declared.stepped.Stepped.{Stepped}
 use Rattle.rv32i.specs.declared.stepped.Stepped.TheVariants as stepped
 use Rattle.stepping.specs.Running.{IsEnding, MovesOn}
 use Rattle.stepping.specs.Ticks.{Debugged, IsFetched, Moves, settled, tick_of}
-use Rattle.stepping.specs.declared.tick.Ending.{Ending}
+use Rattle.stepping.specs.declared.tick.RunEnd.{RunEnd}
 use Rattle.stepping.specs.declared.tick.Tick.{Tick}
 
 -- the machine whose hart and memory have moved
@@ -53,14 +53,14 @@ faults_so before after hart memory s pc tick at e m t a =
     no_word (Err fault) h = refl
 
 -- and how a run ends with it
-pub moves_on : (before after : Debugged) (hart : Hart) (memory : List ℕ) (instr : Option Instr) (s : Stepped) (pc : ℕ) (ending : Option Ending) → before.hart.pc ≡ pc → IsDecodedAtPc (machine_of before.hart before.memory) instr → IsMove (machine_of before.hart before.memory) (record { answer = Ok s; machine = machine_of hart memory }) → IsEnding (Ok (tick_of s instr pc (with_machine before hart memory))) ending → after ≡ settled s instr pc (with_machine before hart memory) → MovesOn before ending after
+pub moves_on : (before after : Debugged) (hart : Hart) (memory : List ℕ) (instr : Option Instr) (s : Stepped) (pc : ℕ) (ending : Option RunEnd) → before.hart.pc ≡ pc → IsDecodedAtPc (machine_of before.hart before.memory) instr → IsMove (machine_of before.hart before.memory) (record { answer = Ok s; machine = machine_of hart memory }) → IsEnding (Ok (tick_of s instr pc (with_machine before hart memory))) ending → after ≡ settled s instr pc (with_machine before hart memory) → MovesOn before ending after
 moves_on before after hart memory instr s pc ending at d m e a = record {
   answer = Ok (tick_of s instr pc (with_machine before hart memory));
   is_ending = e;
   moves = moves_so before after hart memory instr s pc (tick_of s instr pc (with_machine before hart memory)) at d m refl a;
 }
 
-faults_on : (before after : Debugged) (hart : Hart) (memory : List ℕ) (s : Stepped) (pc : ℕ) (ending : Option Ending) → before.hart.pc ≡ pc → IsErr (word_at before.memory pc) → IsMove (machine_of before.hart before.memory) (record { answer = Ok s; machine = machine_of hart memory }) → IsEnding (Ok (tick_of s None pc (with_machine before hart memory))) ending → after ≡ settled s None pc (with_machine before hart memory) → MovesOn before ending after
+faults_on : (before after : Debugged) (hart : Hart) (memory : List ℕ) (s : Stepped) (pc : ℕ) (ending : Option RunEnd) → before.hart.pc ≡ pc → IsErr (word_at before.memory pc) → IsMove (machine_of before.hart before.memory) (record { answer = Ok s; machine = machine_of hart memory }) → IsEnding (Ok (tick_of s None pc (with_machine before hart memory))) ending → after ≡ settled s None pc (with_machine before hart memory) → MovesOn before ending after
 faults_on before after hart memory s pc ending at f m e a = record {
   answer = Ok (tick_of s None pc (with_machine before hart memory));
   is_ending = e;
@@ -68,7 +68,7 @@ faults_on before after hart memory s pc ending at f m e a = record {
 }
 
 -- a trap where no word can be fetched
-pub trap_on : (before after : Debugged) (fault : MemFault) (cause : Cause) (ending : Option Ending) → word_at before.memory before.hart.pc ≡ Err fault → ((m : Machine) → trapped cause m ≡ fetch_fault fault m) → IsEnding (Ok (tick_of (stepped.Trap cause) None before.hart.pc before)) ending → after ≡ settled (stepped.Trap cause) None before.hart.pc before → MovesOn before ending after
+pub trap_on : (before after : Debugged) (fault : MemFault) (cause : Cause) (ending : Option RunEnd) → word_at before.memory before.hart.pc ≡ Err fault → ((m : Machine) → trapped cause m ≡ fetch_fault fault m) → IsEnding (Ok (tick_of (stepped.Trap cause) None before.hart.pc before)) ending → after ≡ settled (stepped.Trap cause) None before.hart.pc before → MovesOn before ending after
 trap_on before after fault cause ending w t e a =
     let none : IsErr (word_at before.memory before.hart.pc) = subst (λ (r : Result ℕ MemFault). IsErr r) (sym w) refl in
     faults_on before after before.hart before.memory (stepped.Trap cause) before.hart.pc ending refl none (rw w (t (machine_of before.hart before.memory))) e a

@@ -10,8 +10,8 @@ use Rattle.stepping.specs.Runs.{EndsRun, Goes}
 use Rattle.stepping.specs.Stopping.{After, Applies, AppliesAt, AppliesAtEntry, NoneBelow, StopsAt, place}
 use Rattle.stepping.specs.Ticks.{Debugged, IsTick, Moves, entry_checked, entry_tick, outcome_of}
 use Rattle.stepping.specs.RunLaws.{AnswersWith, EndingSays, GoOn, RunsSayWhere, RunsStopThere, Says, TicksSayWhere, number_after}
-use Rattle.stepping.specs.declared.tick.Ending.{Ending}
-use Rattle.stepping.specs.declared.tick.Ending.TheVariants.{Spent, Ticked, NoMemory}
+use Rattle.stepping.specs.declared.tick.RunEnd.{RunEnd}
+use Rattle.stepping.specs.declared.tick.RunEnd.TheVariants.{Spent, Ticked, NoMemory}
 use Rattle.stepping.specs.declared.tick.Outcome.{Outcome}
 use Rattle.stepping.specs.declared.tick.Outcome.TheVariants.{Went, Stopped, Ended}
 use Rattle.stepping.specs.declared.tick.Reason.TheVariants.{Exception, Ebreak, Source, Instruction, Goal}
@@ -190,7 +190,7 @@ runs_say_where most ran start after run = go ran.ending run.ends where
   none : NoneBelow (number_after ran.went start) start
   none = none_so_far start.check_due ran.went start run.middle refl (ready_after start.check_due ran.went start run.middle refl went)
 
-  go : (ending : Ending) → EndsRun most ran.went ending run.middle after → EndingSays ran.went ending start after
+  go : (ending : RunEnd) → EndsRun most ran.went ending run.middle after → EndingSays ran.went ending start after
   go Spent e = none
   go NoMemory e = let never : false ≡ true = each_tick_answers run.middle after (Err alloc_error) e.1 in cc
   go (Ticked tick) e = ticks_say_where ran.went start run.middle after tick went e.1.1

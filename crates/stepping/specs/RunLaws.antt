@@ -10,8 +10,8 @@ use Rattle.rv32i.specs.Laws.{IsSignedWord}
 use Rattle.stepping.specs.Runs.{IsRun}
 use Rattle.stepping.specs.Stopping.{After, AppliesAt, Leaves, NoneBelow, StopsAt, place}
 use Rattle.stepping.specs.Ticks.{Debugged, IsTick}
-use Rattle.stepping.specs.declared.tick.Ending.{Ending}
-use Rattle.stepping.specs.declared.tick.Ending.TheVariants.{Spent, Ticked, NoMemory}
+use Rattle.stepping.specs.declared.tick.RunEnd.{RunEnd}
+use Rattle.stepping.specs.declared.tick.RunEnd.TheVariants.{Spent, Ticked, NoMemory}
 use Rattle.stepping.specs.declared.tick.Outcome.{Outcome}
 use Rattle.stepping.specs.declared.tick.Outcome.TheVariants.{Went, Stopped, Ended}
 use Rattle.stepping.specs.declared.tick.Ran.{Ran}
@@ -101,7 +101,7 @@ RunsStopThere = (ticks n : ℕ) (outcome : Outcome) (start before after : Debugg
 -- ---- many ticks in one call
 
 -- what they say, by what ended them, which is never a lack of memory
-abbrev pub EndingSays : ℕ → Ending → Debugged → Debugged → Type 0
+abbrev pub EndingSays : ℕ → RunEnd → Debugged → Debugged → Type 0
 EndingSays went Spent start after = NoneBelow (number_after went start) start
 EndingSays went (Ticked tick) start after = Says (number_after went start) tick.outcome start after
 EndingSays went NoMemory start after = ⊥

@@ -11,8 +11,8 @@ use Rattle.rv32i.specs.declared.stepped.Stepped.TheVariants.{Retired}
 use Rattle.stepping.specs.Ticks.{Debugged, IsTick, Moves, hit_at_pc, noted_if, outcome_of, settled, stayed, tick_of}
 use Rattle.stepping.specs.Ticks.{with_check}
 use Rattle.stepping.specs.declared.goal.Goal.{Goal}
-use Rattle.stepping.specs.declared.tick.Ending.{Ending}
-use Rattle.stepping.specs.declared.tick.Ending.TheVariants.{Spent, Ticked, NoMemory}
+use Rattle.stepping.specs.declared.tick.RunEnd.{RunEnd}
+use Rattle.stepping.specs.declared.tick.RunEnd.TheVariants.{Spent, Ticked, NoMemory}
 use Rattle.stepping.specs.declared.tick.Outcome.{Outcome}
 use Rattle.stepping.specs.declared.tick.Outcome.TheVariants.{Went}
 use Rattle.stepping.specs.declared.tick.Tick.{Tick}
@@ -59,20 +59,20 @@ RetiresQuietly false instr pc before after =
 -- ---- a tick of a run
 
 -- how a run ends by what a tick answers; where there is nothing to report it goes on
-abbrev pub IsEnding : Result Tick AllocError → Option Ending → Type 0
+abbrev pub IsEnding : Result Tick AllocError → Option RunEnd → Type 0
 IsEnding answer None = answer ≡ Ok plain_tick
 IsEnding answer (Some Spent) = ⊥
 IsEnding answer (Some (Ticked tick)) = (answer ≡ Ok tick) × (tick ≢ plain_tick)
 IsEnding answer (Some NoMemory) = answer ≡ Err alloc_error
 
 -- the hart moves, and a run ends so, or goes on
-pub record MovesOn (before : Debugged) (ending : Option Ending) (after : Debugged) : Type 0 where
+pub record MovesOn (before : Debugged) (ending : Option RunEnd) (after : Debugged) : Type 0 where
   pub answer : Result Tick AllocError
   pub is_ending : IsEnding answer ending
   pub moves : Moves before answer after
 
 -- and so does a tick
-pub record Advances (before : Debugged) (ending : Option Ending) (after : Debugged) : Type 0 where
+pub record Advances (before : Debugged) (ending : Option RunEnd) (after : Debugged) : Type 0 where
   pub answer : Result Tick AllocError
   pub is_ending : IsEnding answer ending
   pub tick : IsTick before answer after

@@ -2,8 +2,8 @@
 use Rattle.std.specs.Prelude.{◌≡◌, ◌≢◌, ℕ, zero, suc, ◌<◌, Ok, Err, alloc_error}
 use Rattle.stepping.specs.Plain.{plain_tick}
 use Rattle.stepping.specs.Ticks.{Debugged, IsTick}
-use Rattle.stepping.specs.declared.tick.Ending.{Ending}
-use Rattle.stepping.specs.declared.tick.Ending.TheVariants.{Spent, Ticked, NoMemory}
+use Rattle.stepping.specs.declared.tick.RunEnd.{RunEnd}
+use Rattle.stepping.specs.declared.tick.RunEnd.TheVariants.{Spent, Ticked, NoMemory}
 use Rattle.stepping.specs.declared.tick.Ran.{Ran}
 
 -- so many such ticks, one after the other
@@ -13,7 +13,7 @@ Goes (suc n) before after = (middle : Debugged) × (Goes n before middle × IsTi
 
 -- and what ended them: that these were as many as were asked for, a tick of which there is something to report, or
 -- one for which no memory was left
-abbrev pub EndsRun : ℕ → ℕ → Ending → Debugged → Debugged → Type 0
+abbrev pub EndsRun : ℕ → ℕ → RunEnd → Debugged → Debugged → Type 0
 EndsRun most went Spent middle after = (went ≡ most) × (after ≡ middle)
 EndsRun most went (Ticked tick) middle after = (went < most) × ((tick ≢ plain_tick) × IsTick middle (Ok tick) after)
 EndsRun most went NoMemory middle after = (went < most) × IsTick middle (Err alloc_error) after

@@ -12,4 +12,4 @@ mod tick;
 pub use calls::Calls;
 pub use goal::{Goal, Granularity};
 pub use runner::Runner;
-pub use tick::{Ending, Outcome, Ran, Reason, Tick};
+pub use tick::{Outcome, Ran, Reason, RunEnd, Tick};

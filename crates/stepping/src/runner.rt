@@ -8,7 +8,7 @@ ghost use Rattle.stepping.specs.Ticks.{IsTick};
 
 use crate::calls::Calls;
 use crate::goal::Goal;
-use crate::tick::{Ending, Ran, Tick};
+use crate::tick::{Ran, RunEnd, Tick};
 use breakpoints::Breaks;
 use image::{FIRST_ADDRESS, Image, LineTable, MemFault, Memory};
 use rv32i::Hart;
@@ -118,9 +118,9 @@ impl Runner {
         ensures retired { self.new.retired ≤ self.old.retired + 1 }
     {
         match self.go(1).ending {
-            Ending::Spent => Ok(Tick::PLAIN),
-            Ending::Ticked(tick) => Ok(tick),
-            Ending::NoMemory => Err(AllocError),
+            RunEnd::Spent => Ok(Tick::PLAIN),
+            RunEnd::Ticked(tick) => Ok(tick),
+            RunEnd::NoMemory => Err(AllocError),
         }
     }
 

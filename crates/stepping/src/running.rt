@@ -9,7 +9,7 @@ ghost use Rattle.stepping.specs.Runs.{IsRun};
 ghost use Rattle.stepping.specs.Ticks.{entry_checked, entry_tick, gone_on, moved_as, noted_if, outcome_of, settled, tick_of, went_on, with_check};
 
 use crate::runner::Runner;
-use crate::tick::{Ending, Outcome, Ran, Reason, Tick};
+use crate::tick::{Outcome, Ran, Reason, RunEnd, Tick};
 use breakpoints::Hit;
 use image::MemFault;
 use rv32i::{Cause, Instr, Stepped, decode};
@@ -47,7 +47,7 @@ impl Runner {
                     self.look_closely()
                 }
                 Ok(stepped) => self.settle(stepped, &jump, pc),
-                Err(_) => Some(Ending::NoMemory),
+                Err(_) => Some(RunEnd::NoMemory),
             };
             if let Some(ending) = slow {
                 return Ran { went, ending };
@@ -55,7 +55,7 @@ impl Runner {
         }
         Ran {
             went: most,
-            ending: Ending::Spent,
+            ending: RunEnd::Spent,
         }
     }
 
@@ -74,7 +74,7 @@ impl Runner {
     // A move where no word can be fetched: the hart traps.
     #[cold]
     #[inline(never)]
-    fn fault(&mut self, fault: MemFault) -> Option<Ending>
+    fn fault(&mut self, fault: MemFault) -> Option<RunEnd>
         requires retired { self.old.retired < 2 ^ 62 }
         requires fault { word_at self.old.memory self.old.hart.pc ≡ Err fault }
         ensures moves { MovesOn self.old result self.new }
@@ -84,7 +84,7 @@ impl Runner {
         match fault {
             MemFault::Misaligned => self.settle(Stepped::Trap(Cause::JumpMisaligned), &None, pc),
             MemFault::Outside => self.settle(Stepped::Trap(Cause::FetchOutside), &None, pc),
-            MemFault::NoMemory => Some(Ending::NoMemory),
+            MemFault::NoMemory => Some(RunEnd::NoMemory),
         }
     }
 
@@ -104,7 +104,7 @@ impl Runner {
     // The same, and how a run ends with it.
     #[cold]
     #[inline(never)]
-    fn check_entry(&mut self) -> Option<Ending>
+    fn check_entry(&mut self) -> Option<RunEnd>
         ensures ending { IsEnding (Ok (entry_tick self.old)) result }
         ensures state { self.new ≡ entry_checked self.old }
     {
@@ -130,7 +130,7 @@ impl Runner {
     // What comes of a move that was made, from this pc.
     #[cold]
     #[inline(never)]
-    fn settle(&mut self, stepped: Stepped, instr: &Option<Instr>, pc: u32) -> Option<Ending>
+    fn settle(&mut self, stepped: Stepped, instr: &Option<Instr>, pc: u32) -> Option<RunEnd>
         requires { self.old.retired < 2 ^ 62 }
         ensures ending { IsEnding (Ok (tick_of stepped instr.now pc self.old)) result }
         ensures state { self.new ≡ settled stepped instr.now pc self.old }
@@ -215,7 +215,7 @@ impl Runner {
     // What there is to see at pc, and how a run ends with it.
     #[cold]
     #[inline(never)]
-    fn look_closely(&mut self) -> Option<Ending>
+    fn look_closely(&mut self) -> Option<RunEnd>
         ensures ending { IsEnding (Ok (record { printed = None; outcome = seen self.old })) result }
         ensures state { self.new ≡ with_check self.old }
     {
@@ -271,13 +271,13 @@ fn jump_of(instr: &Instr) -> Option<Instr>
 }
 
 // How a run ends by a tick; `None`: it goes on.
-fn ending_of(tick: Tick) -> Option<Ending>
+fn ending_of(tick: Tick) -> Option<RunEnd>
     ensures { IsEnding (Ok tick) result }
 {
     if tick.is_plain() {
         None
     } else {
-        Some(Ending::Ticked(tick))
+        Some(RunEnd::Ticked(tick))
     }
 }
 

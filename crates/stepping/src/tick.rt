@@ -68,12 +68,12 @@ pub struct Ran {
     /// How many ticks went, with nothing printed.
     pub went: u32,
     /// What ended the run.
-    pub ending: Ending,
+    pub ending: RunEnd,
 }
 
 /// What ended a run of ticks.
 #[derive(Clone, Copy, Debug, PartialEq, Eq)]
-pub enum Ending {
+pub enum RunEnd {
     /// As many ticks went as were asked for.
     Spent,
     /// One more tick: it printed a number, stopped the machine, or the program ended with it.

@@ -11,7 +11,7 @@ mod texts;
 
 use protocol::Text;
 use session::{
-    Applied, Bytes, Config, ConfigError, Ending, Event, EventError, Limits, LinkFault, Session,
+    Applied, Bytes, Config, ConfigError, Event, EventError, Limits, LinkFault, Session, SliceEnd,
 };
 use std::alloc::Global;
 use std::process::ExitCode;
@@ -143,7 +143,7 @@ impl Events {
     fn slice(&mut self, alloc: Global, moves: u32) -> Result<String, Fault> {
         let sliced = self.session.slice(moves.saturating_sub(self.moved));
         let moved = self.moved.saturating_add(sliced.moved);
-        if sliced.ending == Ending::NoMemory {
+        if sliced.ending == SliceEnd::NoMemory {
             self.moved = moved;
             return Err(Fault::NoMemoryInCall);
         }

@@ -14,7 +14,7 @@ use crate::breaks::list_of;
 use crate::goals::goal_of;
 use image::Image;
 use std::alloc::Global;
-use stepping::{Ending, Runner, Tick};
+use stepping::{RunEnd, Runner, Tick};
 use testing::{Fault, bytes_of, called, parsed, shown};
 
 /// How many instructions may have retired before a tick.
@@ -93,12 +93,12 @@ impl Machine {
         let ran = self.runner.run(count);
         let went = ran.went;
         match ran.ending {
-            Ending::Spent => Ok(format!(in alloc; "{went} Spent")?),
-            Ending::Ticked(tick) => {
+            RunEnd::Spent => Ok(format!(in alloc; "{went} Spent")?),
+            RunEnd::Ticked(tick) => {
                 let tick = tick_shown(alloc, tick)?;
                 Ok(format!(in alloc; "{went} {tick}")?)
             }
-            Ending::NoMemory => Ok(format!(in alloc; "{went} NoMemory")?),
+            RunEnd::NoMemory => Ok(format!(in alloc; "{went} NoMemory")?),
         }
     }
 

@@ -8,7 +8,7 @@ use Rattle.std.proofs.lemmas.Bool.Decides.{nat_tests}
 use Rattle.transport.specs.declared.end.DriveEnd.{DriveEnd}
 use Rattle.transport.specs.declared.end.DriveEnd.TheVariants.{Closed, Fault, Turns, NoMemory as OutOfMemory}
 use Rattle.session.specs.declared.event.Applied.TheVariants as applied
-use Rattle.session.specs.declared.event.Ending.TheVariants as ending
+use Rattle.session.specs.declared.event.SliceEnd.TheVariants as ending
 use Rattle.session.specs.declared.event.Event.TheVariants.{Recv, Turn, Slice, Sent, DropConnection}
 use Rattle.session.specs.declared.event.EventError.{EventError}
 use Rattle.session.specs.declared.event.EventError.TheVariants.{NoMemory}
@@ -34,7 +34,8 @@ pub still : (a : Line) → Moved a a [] [] a.faults a.idle
 still a = record { consumed = Consumes-nil a.remaining; appended = Appends-nil a.contents; faults = refl; idle = refl; polls = refl }
 
 -- first these bytes, and then those
-moved-trans : (a b c : Line) (read read' written written' : List ℕ) (f f' i i' : ℕ) → Moved a b read written f i → Moved b c read' written' f' i' → Moved a c (read ++ read') (written ++ written') f' i'
+moved-trans : (a b c : Line) (read read' written written' : List ℕ) (f f' i i' : ℕ) → Moved a b read written f i
+    → Moved b c read' written' f' i' → Moved a c (read ++ read') (written ++ written') f' i'
 moved-trans a b c read read' written written' f f' i i' m n = record {
   consumed = Consumes-trans a.remaining b.remaining c.remaining read read' m.consumed n.consumed;
   appended = Appends-trans a.contents b.contents c.contents written written' m.appended n.appended;
@@ -43,7 +44,8 @@ moved-trans a b c read read' written written' f f' i i' m n = record {
   polls = n.polls ∙ m.polls;
 }
 
-moved_as : (a c : Line) (read read' written written' : List ℕ) (f f' i i' : ℕ) → read ≡ read' → written ≡ written' → f ≡ f' → i ≡ i' → Moved a c read written f i → Moved a c read' written' f' i'
+moved_as : (a c : Line) (read read' written written' : List ℕ) (f f' i i' : ℕ) → read ≡ read' → written ≡ written' → f ≡ f' → i ≡ i'
+    → Moved a c read written f i → Moved a c read' written' f' i'
 moved_as a c read read' written written' f f' i i' p q e g m = record {
   consumed = subst (Consumes a.remaining c.remaining) p m.consumed;
   appended = subst (Appends a.contents c.contents) q m.appended;
@@ -56,12 +58,15 @@ moved_as a c read read' written written' f f' i i' p q e g m = record {
 
 bytes_wait : (k : Kept) → due (see_kept k) ≡ Send → 0 < length k.waiting
 bytes_wait k d =
-    let some : ltb 0 (length k.waiting) ≡ true = send_test (ltb 0 (length k.waiting)) (is_finished (see_kept k)) (ltb 0 (length k.now.arrivals.pending)) (is_runnable k.now) d in
+    let some : ltb 0 (length k.waiting) ≡ true = send_test (ltb 0 (length k.waiting)) (is_finished (see_kept k))
+    (ltb 0 (length k.now.arrivals.pending)) (is_runnable k.now) d in
     grind (arith, nat_tests)
 
 -- bytes were sent
-pub sends_over : {X : Type 0} (known : KnownFiles) (since : ℕ) (old new : Line) (k kept : Kept) (n : ℕ) (r : Result X EventError) (waiting : List ℕ) → waiting ≡ k.waiting → due (see_kept k) ≡ Send → Happens k (Sent n) (answered (λ _. applied.Sent) r) kept → (r ≡ Err NoMemory → ⊥)
-    → n ≤ length waiting → (0 < length waiting → 1 ≤ n) → Moved old new [] (take n waiting) old.faults old.idle → (s : Session) → Stands k s → GoesOn known since since old new s kept
+pub sends_over : {X : Type 0} (known : KnownFiles) (since : ℕ) (old new : Line) (k kept : Kept) (n : ℕ) (r : Result X EventError) (waiting : List ℕ)
+    → waiting ≡ k.waiting → due (see_kept k) ≡ Send → Happens k (Sent n) (answered (λ _. applied.Sent) r) kept → (r ≡ Err NoMemory → ⊥)
+    → n ≤ length waiting → (0 < length waiting → 1 ≤ n) → Moved old new [] (take n waiting) old.faults old.idle → (s : Session) → Stands k s
+    → GoesOn known since since old new s kept
 sends_over known since old new k kept n r waiting w d h ok most some m s st =
     let few : n ≤ length (waiting_of s) = subst (λ (l : List ℕ). n ≤ length l) (w ∙ st.waiting) most in
     let wait : 0 < length waiting = subst (λ (l : List ℕ). 0 < length l) (sym w) (bytes_wait k d) in record {
@@ -73,11 +78,13 @@ sends_over known since old new k kept n r waiting w d h ok most some m s st =
     }
 
 -- the wire failed, after it took some bytes
-pub sends_fail : (old new : Line) (k kept : Kept) (waiting : List ℕ) → waiting ≡ k.waiting → due (see_kept k) ≡ Send → (n : ℕ) × Moved old new [] (take n waiting) (one_more old.faults) old.idle
+pub sends_fail : (old new : Line) (k kept : Kept) (waiting : List ℕ) → waiting ≡ k.waiting → due (see_kept k) ≡ Send
+    → (n : ℕ) × Moved old new [] (take n waiting) (one_more old.faults) old.idle
     → ((s : Session) → Stands k s → Stands kept (Effect s DropConnection)) → (s : Session) → Stands k s → Stops Fault old new s kept
 sends_fail old new k kept waiting w d m dropped s st =
     let part : List ℕ = take m.0 waiting in
-    let prefix : IsPrefixOf part (waiting_of s) = subst (IsPrefixOf part) (w ∙ st.waiting) (drop m.0 waiting, sym (take-append-drop m.0 waiting)) in record {
+    let prefix : IsPrefixOf part (waiting_of s) = subst (IsPrefixOf part) (w ∙ st.waiting)
+    (drop m.0 waiting, sym (take-append-drop m.0 waiting)) in record {
       cause = CallFailed part;
       moved = m.1;
       is_end = refl;
@@ -86,7 +93,9 @@ sends_fail old new k kept waiting w d m dropped s st =
     }
 
 -- a request was answered
-pub answers_over : (known : KnownFiles) (since : ℕ) (line : Line) (k kept : Kept) (file : Option (List ℕ)) (r : Result Turned EventError) → due (see_kept k) ≡ Answer → IsGiven known (wanted_on k.now k.now.link) file → Happens k (Turn file) (answered applied.Turn r) kept → (r ≡ Err NoMemory → ⊥)
+pub answers_over : (known : KnownFiles) (since : ℕ) (line : Line) (k kept : Kept) (file : Option (List ℕ)) (r : Result Turned EventError)
+    → due (see_kept k) ≡ Answer → IsGiven known (wanted_on k.now k.now.link) file → Happens k (Turn file) (answered applied.Turn r) kept
+    → (r ≡ Err NoMemory → ⊥)
     → (s : Session) → Stands k s → GoesOn known since since line line s kept
 answers_over known since line k kept file r d g h ok s st = record {
   round = Did (Turn file);
@@ -98,17 +107,21 @@ answers_over known since line k kept file r d g h ok s st = record {
 
 -- no memory was left to answer, or to read what an answer wants
 pub answers_none : (line : Line) (k : Kept) → due (see_kept k) ≡ Answer → (s : Session) → Stands k s → Stops OutOfMemory line line s k
-answers_none line k d s st = record { cause = NoAnswer; moved = still line; is_end = refl; is_cause = λ turns made. due_there k s Answer st d; leaves = st }
+answers_none line k d s st =
+    record { cause = NoAnswer; moved = still line; is_end = refl; is_cause = λ turns made. due_there k s Answer st d; leaves = st }
 
 -- all was said
-pub leave_is_due : (k : Kept) (waiting : List ℕ) → waiting ≡ k.waiting → length waiting ≡ 0 → is_finished (see_kept k) ≡ true → due (see_kept k) ≡ Leave
+pub leave_is_due : (k : Kept) (waiting : List ℕ) → waiting ≡ k.waiting → length waiting ≡ 0 → is_finished (see_kept k) ≡ true
+    → due (see_kept k) ≡ Leave
 leave_is_due k waiting w none done =
     let n : length k.waiting ≡ 0 = subst (λ (l : List ℕ). length l ≡ 0) w none in
     let test : ltb 0 (length k.waiting) ≡ false = grind (arith, nat_tests) in
     rw (test, done) refl
 
-pub all_said : (line : Line) (k kept : Kept) → due (see_kept k) ≡ Leave → ((s : Session) → Stands k s → Stands kept (Effect s DropConnection)) → (s : Session) → Stands k s → Stops Closed line line s kept
-all_said line k kept d dropped s st = record { cause = AllSaid; moved = still line; is_end = refl; is_cause = λ turns made. due_there k s Leave st d; leaves = dropped s st }
+pub all_said : (line : Line) (k kept : Kept) → due (see_kept k) ≡ Leave
+    → ((s : Session) → Stands k s → Stands kept (Effect s DropConnection)) → (s : Session) → Stands k s → Stops Closed line line s kept
+all_said line k kept d dropped s st =
+    record { cause = AllSaid; moved = still line; is_end = refl; is_cause = λ turns made. due_there k s Leave st d; leaves = dropped s st }
 
 -- ---- slices of a program
 
@@ -119,29 +132,37 @@ passed_by line e = (e, still line)
 passed_in : (polls : Bool) (old new : Line) → Passed polls old new → Moved old new [] [] old.faults (idle_looked old.polls old.idle)
 passed_in polls old new p = subst (λ (b : Bool). Moved old new [] [] old.faults (idle_looked b old.idle)) (sym p.0) p.1
 
-runs_for : (n : ℕ) → n ≡ moves_granted → (known : KnownFiles) (since : ℕ) (polls : Bool) (old new : Line) (k mid kept : Kept) (moved next : ℕ) (s : Session) → Passed polls old new → Goes k mid n moved s → Stands k s → due (see_kept k) ≡ Run → next ≡ counted (since + moved)
+runs_for : (n : ℕ) → n ≡ moves_granted
+    → (known : KnownFiles) (since : ℕ) (polls : Bool) (old new : Line) (k mid kept : Kept) (moved next : ℕ) (s : Session)
+    → Passed polls old new → Goes k mid n moved s → Stands k s → due (see_kept k) ≡ Run → next ≡ counted (since + moved)
     → OfEach mid (λ t. Stands kept (held_after (is_held polls (since + moved)) t)) → GoesOn known since next old new s kept
 runs_for n e known since polls old new k mid kept moved next s p g st d c holds =
     let made : moves_made s ≡ moved = subst (λ m. (sliced histories m s).moved ≡ moved) e g.made in
     let stands : Stands mid (Effect s (Slice moves_granted)) = subst (λ m. Stands mid (Effect s (Slice m))) e g.stands in record {
       round = Ran (is_held polls (since + moved));
-      is_round = (due_there k s Run st d, ap (λ m. is_held polls (since + m)) (sym made) ∙ ap (λ b. is_held b (since + moves_made s)) (sym p.0));
+      is_round =
+          (due_there k s Run st d, ap (λ m. is_held polls (since + m)) (sym made) ∙ ap (λ b. is_held b (since + moves_made s)) (sym p.0));
       counts = ap (λ m. counted (since + m)) made ∙ sym c;
       moved = passed_in polls old new p;
       stands = holds (Effect s (Slice moves_granted)) stands;
     }
 
 -- the program made moves, and is held, or not
-pub runs_over : (n : ℕ) (known : KnownFiles) (since : ℕ) (polls : Bool) (old new : Line) (k mid kept : Kept) (r : Sliced) (next : ℕ) → n ≡ moves_granted → Passed polls old new → due (see_kept k) ≡ Run → Happens k (Slice n) (Ok (applied.Slice r)) mid → (r.ending ≡ ending.NoMemory → ⊥)
-    → next ≡ counted (since + r.moved) → OfEach mid (λ t. Stands kept (held_after (is_held polls (since + r.moved)) t)) → (s : Session) → Stands k s → GoesOn known since next old new s kept
+pub runs_over : (n : ℕ) (known : KnownFiles) (since : ℕ) (polls : Bool) (old new : Line) (k mid kept : Kept) (r : Sliced) (next : ℕ)
+    → n ≡ moves_granted → Passed polls old new → due (see_kept k) ≡ Run → Happens k (Slice n) (Ok (applied.Slice r)) mid
+    → (r.ending ≡ ending.NoMemory → ⊥)
+    → next ≡ counted (since + r.moved) → OfEach mid (λ t. Stands kept (held_after (is_held polls (since + r.moved)) t)) → (s : Session)
+    → Stands k s → GoesOn known since next old new s kept
 runs_over n known since polls old new k mid kept r next e p d h ok c holds s st =
     runs_for n e known since polls old new k mid kept r.moved next s p (goes_with k mid n r.moved r.ending s ok h st) st d c holds
 
 -- no memory was left to tell what it did
-pub time_is_cut : (n : ℕ) (polls : Bool) (old new : Line) (k mid : Kept) (r : Sliced) → n ≡ moves_granted → Passed polls old new → due (see_kept k) ≡ Run → Happens k (Slice n) (Ok (applied.Slice r)) mid → r.ending ≡ ending.NoMemory → (s : Session) → Stands k s
+pub time_is_cut : (n : ℕ) (polls : Bool) (old new : Line) (k mid : Kept) (r : Sliced) → n ≡ moves_granted → Passed polls old new
+    → due (see_kept k) ≡ Run → Happens k (Slice n) (Ok (applied.Slice r)) mid → r.ending ≡ ending.NoMemory → (s : Session) → Stands k s
     → Stops OutOfMemory old new s mid
 time_is_cut n polls old new k mid r e p d h out s st =
-    let broke : BreaksOff histories moves_granted r.moved s (λ t. Stands mid t) = subst (λ m. BreaksOff histories m r.moved s (λ t. Stands mid t)) e (breaks_off k mid n r.moved r.ending s out h st) in record {
+    let broke : BreaksOff histories moves_granted r.moved s (λ t. Stands mid t) = subst
+    (λ m. BreaksOff histories m r.moved s (λ t. Stands mid t)) e (breaks_off k mid n r.moved r.ending s out h st) in record {
       cause = TimeCut;
       moved = passed_in polls old new p;
       is_end = refl;
@@ -151,10 +172,12 @@ time_is_cut n polls old new k mid r e p d h out s st =
 
 -- ---- a piece
 
-may_come_there : (polls : Bool) (k : Kept) (s : Session) (d : Due) → Stands k s → due (see_kept k) ≡ d → MayCome polls d → MayCome polls (due_in s)
+may_come_there : (polls : Bool) (k : Kept) (s : Session) (d : Due) → Stands k s → due (see_kept k) ≡ d → MayCome polls d
+    → MayCome polls (due_in s)
 may_come_there polls k s d st e may = subst (MayCome polls) (sym (due_there k s d st e)) may
 
-takes_piece : (polls : Bool) (s : Session) (piece : List ℕ) (d : Due) → due_in s ≡ d → MayCome polls d → length piece ≤ 65536 → IsTaken s (Recv piece)
+takes_piece : (polls : Bool) (s : Session) (piece : List ℕ) (d : Due) → due_in s ≡ d → MayCome polls d → length piece ≤ 65536
+    → IsTaken s (Recv piece)
 takes_piece polls s piece Send e may few = absurd may
 takes_piece polls s piece Leave e may few = absurd may
 takes_piece polls s piece Answer e may few = absurd may
@@ -162,8 +185,10 @@ takes_piece polls s piece Run e may few = takes_running (histories.see s) piece 
 takes_piece polls s piece Receive e may few = takes_received (histories.see s) piece e few
 
 -- a piece came, and was taken; or no memory was left for it
-piece_came : (known : KnownFiles) (since : ℕ) (old new : Line) (k kept : Kept) (d : Due) (piece : List ℕ) (result : Result ℕ DriveEnd) → due (see_kept k) ≡ d → MayCome old.polls d → 1 ≤ length piece → length piece ≤ 65536 → Moved old new piece [] old.faults old.idle
-    → ((s : Session) → Stands k s → Took result piece s kept) → IfOk result (λ n. n ≡ 0) → (s : Session) → Stands k s → Went known since result old new s kept
+piece_came : (known : KnownFiles) (since : ℕ) (old new : Line) (k kept : Kept) (d : Due) (piece : List ℕ) (result : Result ℕ DriveEnd)
+    → due (see_kept k) ≡ d → MayCome old.polls d → 1 ≤ length piece → length piece ≤ 65536 → Moved old new piece [] old.faults old.idle
+    → ((s : Session) → Stands k s → Took result piece s kept) → IfOk result (λ n. n ≡ 0) → (s : Session) → Stands k s
+    → Went known since result old new s kept
 piece_came known since old new k kept d piece (Ok next) e may some few m took none s st = record {
   round = Did (Recv piece);
   is_round = ((may_come_there old.polls k s d st e may, some), takes_piece old.polls s piece d (due_there k s d st e) may few);
@@ -180,14 +205,20 @@ piece_came known since old new k kept d piece (Err end) e may some few m took no
 }
 
 -- what a look or a wait gave, of what there is room for
-pub bytes_came : (known : KnownFiles) (since : ℕ) (old new : Line) (k kept : Kept) (d : Due) (room : List ℕ) (n : ℕ) (result : Result ℕ DriveEnd) → due (see_kept k) ≡ d → MayCome old.polls d → 1 ≤ n → n ≤ length room → length room ≤ 65536 → Moved old new (take n room) [] old.faults old.idle
-    → ((s : Session) → Stands k s → Took result (take n room) s kept) → IfOk result (λ n. n ≡ 0) → (s : Session) → Stands k s → Went known since result old new s kept
+pub bytes_came : (known : KnownFiles) (since : ℕ) (old new : Line) (k kept : Kept) (d : Due) (room : List ℕ) (n : ℕ) (result : Result ℕ DriveEnd)
+    → due (see_kept k) ≡ d → MayCome old.polls d → 1 ≤ n → n ≤ length room → length room ≤ 65536
+    → Moved old new (take n room) [] old.faults old.idle
+    → ((s : Session) → Stands k s → Took result (take n room) s kept) → IfOk result (λ n. n ≡ 0) → (s : Session) → Stands k s
+    → Went known since result old new s kept
 bytes_came known since old new k kept d room n result e may some few most m took none =
     let long : length (take n room) ≡ n = length-take-le n room few in
-    piece_came known since old new k kept d (take n room) result e may (subst (λ (l : ℕ). 1 ≤ l) (sym long) some) (subst (λ (l : ℕ). l ≤ 65536) (sym long) (omega arith)) m took none
+    piece_came known since old new k kept d (take n room) result e may (subst (λ (l : ℕ). 1 ≤ l) (sym long) some)
+    (subst (λ (l : ℕ). l ≤ 65536) (sym long) (omega arith)) m took none
 
 -- no more will come
-pub input_ended : (old new : Line) (k kept : Kept) (d : Due) → due (see_kept k) ≡ d → MayCome old.polls d → Moved old new [] [] old.faults old.idle → IsAtEnd new.remaining → ((s : Session) → Stands k s → Stands kept (Effect s DropConnection)) → (s : Session) → Stands k s
+pub input_ended : (old new : Line) (k kept : Kept) (d : Due) → due (see_kept k) ≡ d → MayCome old.polls d
+    → Moved old new [] [] old.faults old.idle → IsAtEnd new.remaining → ((s : Session) → Stands k s → Stands kept (Effect s DropConnection))
+    → (s : Session) → Stands k s
     → Stops Closed old new s kept
 input_ended old new k kept d e may m at_end dropped s st = record {
   cause = InputEnded;
@@ -205,7 +236,9 @@ may_fail polls Run waiting may = (may, refl)
 may_fail polls Receive waiting may = refl
 
 -- a look or a wait failed
-pub comes_fail : (old new : Line) (k kept : Kept) (d : Due) → due (see_kept k) ≡ d → MayCome old.polls d → Moved old new [] [] (one_more old.faults) old.idle → ((s : Session) → Stands k s → Stands kept (Effect s DropConnection)) → (s : Session) → Stands k s
+pub comes_fail : (old new : Line) (k kept : Kept) (d : Due) → due (see_kept k) ≡ d → MayCome old.polls d
+    → Moved old new [] [] (one_more old.faults) old.idle → ((s : Session) → Stands k s → Stands kept (Effect s DropConnection))
+    → (s : Session) → Stands k s
     → Stops Fault old new s kept
 comes_fail old new k kept d e may m dropped s st = record {
   cause = CallFailed [];
@@ -217,13 +250,16 @@ comes_fail old new k kept d e may m dropped s st = record {
 
 -- ---- rounds after rounds
 
-idle_after_rounds-append : (polls : Bool) (count : ℕ) (xs ys : List Round) → idle_after_rounds polls count (xs ++ ys) ≡ idle_after_rounds polls (idle_after_rounds polls count xs) ys
+idle_after_rounds-append : (polls : Bool) (count : ℕ) (xs ys : List Round)
+    → idle_after_rounds polls count (xs ++ ys) ≡ idle_after_rounds polls (idle_after_rounds polls count xs) ys
 idle_after_rounds-append polls count [] ys = refl
 idle_after_rounds-append polls count (x ∷ xs) ys = idle_after_rounds-append polls (idle_after polls count x) xs ys
 
-are_rounds-append : (known : KnownFiles) (polls : Bool) (since : ℕ) (s : Session) (xs ys : List Round) → AreRounds known polls since s xs → AreRounds known polls (since_rounds since s xs) (after_rounds s xs) ys → AreRounds known polls since s (xs ++ ys)
+are_rounds-append : (known : KnownFiles) (polls : Bool) (since : ℕ) (s : Session) (xs ys : List Round) → AreRounds known polls since s xs
+    → AreRounds known polls (since_rounds since s xs) (after_rounds s xs) ys → AreRounds known polls since s (xs ++ ys)
 are_rounds-append known polls since s [] ys a b = b
-are_rounds-append known polls since s (x ∷ xs) ys a b = (a.0, are_rounds-append known polls (since_round since s x) (after_round s x) xs ys a.1 b)
+are_rounds-append known polls since s (x ∷ xs) ys a b =
+    (a.0, are_rounds-append known polls (since_round since s x) (after_round s x) xs ys a.1 b)
 
 -- ---- the loop
 
@@ -236,31 +272,40 @@ received_then xs x = sym (received-append xs (x ∷ []) ∙ ap (λ l. received x
 sent_then : (s : Session) (xs : List Round) (x : Round) → sent s xs ++ sent_in (after_rounds s xs) x ≡ sent s (xs ++ x ∷ [])
 sent_then s xs x = sym (sent-append s xs (x ∷ []) ∙ ap (λ l. sent s xs ++ l) (append-nil (sent_in (after_rounds s xs) x)))
 
-idle_then : (a b : Line) (xs : List Round) (x : Round) → b.polls ≡ a.polls → b.idle ≡ idle_after_rounds a.polls a.idle xs → idle_after b.polls b.idle x ≡ idle_after_rounds a.polls a.idle (xs ++ x ∷ [])
-idle_then a b xs x p i = ap (λ (p : Bool). idle_after p b.idle x) p ∙ ap (λ (n : ℕ). idle_after a.polls n x) i ∙ sym (idle_after_rounds-append a.polls a.idle xs (x ∷ []))
+idle_then : (a b : Line) (xs : List Round) (x : Round) → b.polls ≡ a.polls → b.idle ≡ idle_after_rounds a.polls a.idle xs
+    → idle_after b.polls b.idle x ≡ idle_after_rounds a.polls a.idle (xs ++ x ∷ [])
+idle_then a b xs x p i =
+    ap (λ (p : Bool). idle_after p b.idle x) p ∙ ap (λ (n : ℕ). idle_after a.polls n x) i ∙ sym
+    (idle_after_rounds-append a.polls a.idle xs (x ∷ []))
 
-goes_on_driving : (known : KnownFiles) (a b c : Line) (made since next : ℕ) (s : Session) (k new : Kept) (v : Driving known a b made since s k) → GoesOn known since next b c (after_rounds s v.rounds) new → Driving known a c (made + 1) next s new
+goes_on_driving : (known : KnownFiles) (a b c : Line) (made since next : ℕ) (s : Session) (k new : Kept) (v : Driving known a b made since s k)
+    → GoesOn known since next b c (after_rounds s v.rounds) new → Driving known a c (made + 1) next s new
 goes_on_driving known a b c made since next s k new v w =
     let t = after_rounds s v.rounds in
     let here : IsRound known a.polls since t w.round = subst (λ (p : Bool). IsRound known p since t w.round) v.moved.polls w.is_round in
-    let is_round : IsRound known a.polls (since_rounds 0 s v.rounds) t w.round = subst (λ (n : ℕ). IsRound known a.polls n t w.round) (sym v.counts) here in record {
+    let is_round : IsRound known a.polls (since_rounds 0 s v.rounds) t w.round = subst (λ (n : ℕ). IsRound known a.polls n t w.round)
+    (sym v.counts) here in record {
       rounds = v.rounds ++ w.round ∷ [];
       are_rounds = are_rounds-append known a.polls 0 s v.rounds (w.round ∷ []) v.are_rounds (is_round, tt);
       count = length-append v.rounds (w.round ∷ []) ∙ ap (λ n. n + 1) v.count;
       counts = since_rounds-append 0 s v.rounds (w.round ∷ []) ∙ ap (λ n. since_round n t w.round) v.counts ∙ w.counts;
-      moved = moved_as a c _ _ _ _ _ _ _ _ (received_then v.rounds w.round) (sent_then s v.rounds w.round) v.moved.faults (idle_then a b v.rounds w.round v.moved.polls v.moved.idle) (moved-trans a b c _ _ _ _ _ _ _ _ v.moved w.moved);
+      moved =
+          moved_as a c _ _ _ _ _ _ _ _ (received_then v.rounds w.round) (sent_then s v.rounds w.round) v.moved.faults
+          (idle_then a b v.rounds w.round v.moved.polls v.moved.idle) (moved-trans a b c _ _ _ _ _ _ _ _ v.moved w.moved);
       stands = subst (Stands new) (sym (after_rounds-append s v.rounds (w.round ∷ []))) w.stands;
     }
 
 -- where a turn answered how many moves there are
-pub goes_on_with : (known : KnownFiles) (a b c : Line) (made since : ℕ) (s : Session) (k new : Kept) (result : Result ℕ DriveEnd) (next : ℕ) → result ≡ Ok next → ((t : Session) → Stands k t → Went known since result b c t new) → Driving known a b made since s k
+pub goes_on_with : (known : KnownFiles) (a b c : Line) (made since : ℕ) (s : Session) (k new : Kept) (result : Result ℕ DriveEnd) (next : ℕ)
+    → result ≡ Ok next → ((t : Session) → Stands k t → Went known since result b c t new) → Driving known a b made since s k
     → Driving known a c (made + 1) next s new
 goes_on_with known a b c made since s k new result next e g v =
     let t = after_rounds s v.rounds in
     goes_on_driving known a b c made since next s k new v (subst (λ (r : Result ℕ DriveEnd). Went known since r b c t new) e (g t v.stands))
 
 -- what ends a turn is no cause of before it, nor one of the last
-begun : (polls : Bool) (cause : Cause) (left : Option (List ℕ)) (s : Session) → ((turns made : ℕ) → IsCause polls cause left turns made s) → HasBegun cause
+begun : (polls : Bool) (cause : Cause) (left : Option (List ℕ)) (s : Session) → ((turns made : ℕ) → IsCause polls cause left turns made s)
+    → HasBegun cause
 begun polls AllSaid left s h = tt
 begun polls InputEnded left s h = tt
 begun polls (CallFailed part) left s h = tt
@@ -272,7 +317,8 @@ begun polls (PieceLost piece) left s h = tt
 begun polls TimeCut left s h = tt
 begun polls TurnsMade left s h = tt
 
-one_turn_more : (polls : Bool) (cause : Cause) (left : Option (List ℕ)) (s : Session) (n : ℕ) → ((turns made : ℕ) → IsCause polls cause left turns made s) → turns_of cause n ≡ n + 1
+one_turn_more : (polls : Bool) (cause : Cause) (left : Option (List ℕ)) (s : Session) (n : ℕ)
+    → ((turns made : ℕ) → IsCause polls cause left turns made s) → turns_of cause n ≡ n + 1
 one_turn_more polls AllSaid left s n h = refl
 one_turn_more polls InputEnded left s n h = refl
 one_turn_more polls (CallFailed part) left s n h = refl
@@ -286,17 +332,24 @@ one_turn_more polls TurnsMade left s n h = absurd (one_is_none (h 0 1)) where
   one_is_none : (let n : ℕ = 1 in n) ≡ 0 → ⊥
   one_is_none e = omega arith
 
-ends_after : (known : KnownFiles) (a b c : Line) (made since turns taken : ℕ) (s : Session) (k new : Kept) (end : DriveEnd) → made < turns → taken ≡ made + 1 → (v : Driving known a b made since s k) → Stops end b c (after_rounds s v.rounds) new
+ends_after : (known : KnownFiles) (a b c : Line) (made since turns taken : ℕ) (s : Session) (k new : Kept) (end : DriveEnd) → made < turns
+    → taken ≡ made + 1 → (v : Driving known a b made since s k) → Stops end b c (after_rounds s v.rounds) new
     → DroveFor known a c turns taken s new end
 ends_after known a b c made since turns taken s k new end few more v w =
-    let counts : turns_of w.cause (length v.rounds) ≡ taken = one_turn_more b.polls w.cause c.remaining (after_rounds s v.rounds) (length v.rounds) w.is_cause ∙ ap (λ n. n + 1) v.count ∙ sym more in record {
+    let counts : turns_of w.cause (length v.rounds) ≡ taken = one_turn_more b.polls w.cause c.remaining (after_rounds s v.rounds)
+    (length v.rounds) w.is_cause ∙ ap (λ n. n + 1) v.count ∙ sym more in record {
       rounds = v.rounds;
       cause = w.cause;
       drove = record {
         are_rounds = v.are_rounds;
         few = subst (λ (n : ℕ). n ≤ turns) (sym counts) (omega arith);
-        moved = moved_as a c _ _ _ _ _ _ _ _ refl refl (ap (failed_by w.cause) v.moved.faults) (ap (λ (p : Bool). idle_by p w.cause b.idle) v.moved.polls ∙ ap (idle_by a.polls w.cause) v.moved.idle) (moved-trans a b c _ _ _ _ _ _ _ _ v.moved w.moved);
-        is_cause = subst (λ (p : Bool). IsCause p w.cause c.remaining turns (length v.rounds) (after_rounds s v.rounds)) v.moved.polls (w.is_cause turns (length v.rounds));
+        moved =
+            moved_as a c _ _ _ _ _ _ _ _ refl refl (ap (failed_by w.cause) v.moved.faults)
+            (ap (λ (p : Bool). idle_by p w.cause b.idle) v.moved.polls ∙ ap (idle_by a.polls w.cause) v.moved.idle)
+            (moved-trans a b c _ _ _ _ _ _ _ _ v.moved w.moved);
+        is_cause =
+            subst (λ (p : Bool). IsCause p w.cause c.remaining turns (length v.rounds) (after_rounds s v.rounds)) v.moved.polls
+            (w.is_cause turns (length v.rounds));
       };
       is_end = w.is_end;
       leaves = w.leaves;
@@ -304,12 +357,15 @@ ends_after known a b c made since turns taken s k new end few more v w =
       counts = counts;
     }
 
-pub ends_driving : (known : KnownFiles) (a b c : Line) (made since turns taken : ℕ) (s : Session) (k new : Kept) (end : DriveEnd) → made < turns → taken ≡ made + 1 → OfEach k (λ t. Stops end b c t new) → Driving known a b made since s k
+pub ends_driving : (known : KnownFiles) (a b c : Line) (made since turns taken : ℕ) (s : Session) (k new : Kept) (end : DriveEnd)
+    → made < turns → taken ≡ made + 1 → OfEach k (λ t. Stops end b c t new) → Driving known a b made since s k
     → DroveFor known a c turns taken s new end
-ends_driving known a b c made since turns taken s k new end few more g v = ends_after known a b c made since turns taken s k new end few more v (g (after_rounds s v.rounds) v.stands)
+ends_driving known a b c made since turns taken s k new end few more g v =
+    ends_after known a b c made since turns taken s k new end few more v (g (after_rounds s v.rounds) v.stands)
 
 -- all turns were made
-pub stops_driving : (known : KnownFiles) (a b : Line) (made since turns taken : ℕ) (s : Session) (k : Kept) → made ≡ turns → taken ≡ turns → Driving known a b made since s k → DroveFor known a b turns taken s k Turns
+pub stops_driving : (known : KnownFiles) (a b : Line) (made since turns taken : ℕ) (s : Session) (k : Kept) → made ≡ turns → taken ≡ turns
+    → Driving known a b made since s k → DroveFor known a b turns taken s k Turns
 stops_driving known a b made since turns taken s k all same v = record {
   rounds = v.rounds;
   cause = TurnsMade;
@@ -326,11 +382,14 @@ stops_driving known a b made since turns taken s k all same v = record {
 }
 
 -- where there was room
-pub driven_in : (known : KnownFiles) (a b : Line) (turns taken : ℕ) (s : Session) (k : Kept) (end : DriveEnd) → DroveFor known a b turns taken s k end → Driven known a b turns s k end
-driven_in known a b turns taken s k end v = record { rounds = v.rounds; cause = v.cause; drove = v.drove; is_end = v.is_end; leaves = v.leaves }
+pub driven_in : (known : KnownFiles) (a b : Line) (turns taken : ℕ) (s : Session) (k : Kept) (end : DriveEnd)
+    → DroveFor known a b turns taken s k end → Driven known a b turns s k end
+driven_in known a b turns taken s k end v =
+    record { rounds = v.rounds; cause = v.cause; drove = v.drove; is_end = v.is_end; leaves = v.leaves }
 
 -- without room for a piece no round is made
-pub no_room_to_drive : (known : KnownFiles) (line : Line) (turns : ℕ) (s : Session) (k : Kept) → Stands k s → Driven known line line turns s k OutOfMemory
+pub no_room_to_drive : (known : KnownFiles) (line : Line) (turns : ℕ) (s : Session) (k : Kept) → Stands k s
+    → Driven known line line turns s k OutOfMemory
 no_room_to_drive known line turns s k st = record {
   rounds = [];
   cause = NoRoom;

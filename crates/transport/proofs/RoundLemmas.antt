@@ -6,8 +6,8 @@ use Rattle.transport.specs.declared.end.DriveEnd.{DriveEnd}
 use Rattle.transport.specs.declared.end.DriveEnd.TheVariants.{NoMemory as OutOfMemory}
 use Rattle.session.specs.declared.event.Applied.{Applied}
 use Rattle.session.specs.declared.event.Applied.TheVariants as applied
-use Rattle.session.specs.declared.event.Ending.{Ending}
-use Rattle.session.specs.declared.event.Ending.TheVariants as ending
+use Rattle.session.specs.declared.event.SliceEnd.{SliceEnd}
+use Rattle.session.specs.declared.event.SliceEnd.TheVariants as ending
 use Rattle.session.specs.declared.event.Event.{Event}
 use Rattle.session.specs.declared.event.Event.TheVariants.{Recv, Slice, DropConnection}
 use Rattle.session.specs.declared.event.EventError.{EventError}
@@ -21,14 +21,16 @@ use Rattle.session.proofs.Standing.{standing}
 use Rattle.transport.specs.Rounds.{KnownFiles, IsGiven, Took, Due, due, due_in, Round, after_round, after_rounds, received_in, received, sent_in, sent, since_round, since_rounds, counted, moves_granted, wanted}
 
 -- where an event that is no slice is done, this is left
-left_by : (s : Session) (e : Event) (x : Applied) (moved : Option ℕ) (P : Session → Type 0) → moved ≡ None → EndsWell histories s e x moved P → P (Effect s e)
+left_by : (s : Session) (e : Event) (x : Applied) (moved : Option ℕ) (P : Session → Type 0) → moved ≡ None
+    → EndsWell histories s e x moved P → P (Effect s e)
 left_by s e x None P h w = w.1
 left_by s e x (Some moved) P h w = absurd (is_none h) where
   is_none : (let o : Option ℕ = Some moved in o) ≡ None → ⊥
   is_none h = cc
 
 -- an event that found memory happened, or was refused
-pub happened : {X : Type 0} (f : X → Applied) (old : Kept) (e : Event) (r : Result X EventError) (new : Kept) (s : Session) → ((x : X) → ran_out (f x) ≡ None) → Happens old e (answered f r) new → (r ≡ Err NoMemory → ⊥) → Stands old s
+pub happened : {X : Type 0} (f : X → Applied) (old : Kept) (e : Event) (r : Result X EventError) (new : Kept) (s : Session)
+    → ((x : X) → ran_out (f x) ≡ None) → Happens old e (answered f r) new → (r ≡ Err NoMemory → ⊥) → Stands old s
     → Stands new (Effect s e)
 happened f old e (Ok x) new s q h n st = left_by s e (f x) (ran_out (f x)) (λ t. Stands new t) (q x) (h.to_each s st)
 happened f old e (Err NoMemory) new s q h n st = absurd (n refl)
@@ -62,7 +64,8 @@ above_zero zero h = absurd (h refl)
 above_zero (suc n) h = omega arith
 
 -- what the next answer wants is the same for what is kept and for what it stands for
-pub given_there : (known : KnownFiles) (k : Kept) (s : Session) (file : Option (List ℕ)) → Stands k s → IsGiven known (wanted_on k.now k.now.link) file → IsGiven known (wanted s) file
+pub given_there : (known : KnownFiles) (k : Kept) (s : Session) (file : Option (List ℕ)) → Stands k s
+    → IsGiven known (wanted_on k.now k.now.link) file → IsGiven known (wanted s) file
 given_there known k s file st g = subst (λ n. IsGiven known (wanted_on n n.link) file) st.now g
 
 -- ---- slices of a program
@@ -75,10 +78,13 @@ pub record Goes (k mid : Kept) (n moved : ℕ) (s : Session) : Type 0 where
   pub made : (sliced histories n s).moved ≡ moved
   pub stands : Stands mid (Effect s (Slice n))
 
-goes_as : (k mid : Kept) (n : ℕ) (r : Sliced) (s : Session) → answer_of s (Slice n) ≡ Ok (applied.Slice r) → Stands mid (Effect s (Slice n)) → Goes k mid n r.moved s
-goes_as k mid n r s a st = record { made = ap (λ (x : Sliced). x.moved) (same_answer (slice_answer (sliced histories n s)) r a); stands = st }
+goes_as : (k mid : Kept) (n : ℕ) (r : Sliced) (s : Session) → answer_of s (Slice n) ≡ Ok (applied.Slice r) → Stands mid (Effect s (Slice n))
+    → Goes k mid n r.moved s
+goes_as k mid n r s a st =
+    record { made = ap (λ (x : Sliced). x.moved) (same_answer (slice_answer (sliced histories n s)) r a); stands = st }
 
-pub goes_with : (k mid : Kept) (n moved : ℕ) (e : Ending) (s : Session) → (e ≡ ending.NoMemory → ⊥) → Happens k (Slice n) (Ok (applied.Slice (record { moved = moved; ending = e }))) mid → Stands k s → Goes k mid n moved s
+pub goes_with : (k mid : Kept) (n moved : ℕ) (e : SliceEnd) (s : Session) → (e ≡ ending.NoMemory → ⊥)
+    → Happens k (Slice n) (Ok (applied.Slice (record { moved = moved; ending = e }))) mid → Stands k s → Goes k mid n moved s
 goes_with k mid n moved ending.Spent s ok h st = let x = h.to_each s st in goes_as k mid n _ s x.0 x.1
 goes_with k mid n moved ending.Full s ok h st = let x = h.to_each s st in goes_as k mid n _ s x.0 x.1
 goes_with k mid n moved ending.Idle s ok h st = let x = h.to_each s st in goes_as k mid n _ s x.0 x.1
@@ -86,9 +92,12 @@ goes_with k mid n moved ending.Stopped s ok h st = let x = h.to_each s st in goe
 goes_with k mid n moved ending.Ended s ok h st = let x = h.to_each s st in goes_as k mid n _ s x.0 x.1
 goes_with k mid n moved ending.NoMemory s ok h st = absurd (ok refl)
 
-pub breaks_off : (k mid : Kept) (n moved : ℕ) (e : Ending) (s : Session) → e ≡ ending.NoMemory → Happens k (Slice n) (Ok (applied.Slice (record { moved = moved; ending = e }))) mid → Stands k s → BreaksOff histories n moved s (λ t. Stands mid t)
+pub breaks_off : (k mid : Kept) (n moved : ℕ) (e : SliceEnd) (s : Session) → e ≡ ending.NoMemory
+    → Happens k (Slice n) (Ok (applied.Slice (record { moved = moved; ending = e }))) mid → Stands k s
+    → BreaksOff histories n moved s (λ t. Stands mid t)
 breaks_off k mid n moved e s h =
-    subst (λ (e : Ending). Happens k (Slice n) (Ok (applied.Slice (record { moved = moved; ending = e }))) mid → Stands k s → BreaksOff histories n moved s (λ t. Stands mid t)) (sym h) (λ happens st. happens.to_each s st)
+    subst (λ (e : SliceEnd). Happens k (Slice n) (Ok (applied.Slice (record { moved = moved; ending = e }))) mid → Stands k s
+    → BreaksOff histories n moved s (λ t. Stands mid t)) (sym h) (λ happens st. happens.to_each s st)
 
 few_by : (test : Bool) (n : ℕ) → leb 10000000 n ≡ test → cond test 10000000 n ≤ 10000000
 few_by true n h = omega arith
@@ -106,12 +115,16 @@ granted = refl
 -- ---- a piece
 
 -- a piece is taken
-pub taken : {X : Type 0} (k : Kept) (piece : List ℕ) (r : Result X EventError) (new : Kept) → Happens k (Recv piece) (answered (λ _. applied.Recv) r) new → (r ≡ Err NoMemory → ⊥) → (s : Session) → Stands k s → Took (Ok 0) piece s new
+pub taken : {X : Type 0} (k : Kept) (piece : List ℕ) (r : Result X EventError) (new : Kept)
+    → Happens k (Recv piece) (answered (λ _. applied.Recv) r) new → (r ≡ Err NoMemory → ⊥) → (s : Session) → Stands k s
+    → Took (Ok 0) piece s new
 taken k piece r new h ok s st = happened (λ _. applied.Recv) k (Recv piece) r new s (λ x. refl) h ok st
 
 -- no memory was left for a piece
-pub drops : (k old new : Kept) (piece : List ℕ) (result : Result ℕ DriveEnd) → result ≡ Err OutOfMemory → k ≡ old → ((s : Session) → Stands k s → Stands new (Effect s DropConnection)) → (s : Session) → Stands old s → Took result piece s new
-drops k old new piece result e same dropped s st = subst (λ (r : Result ℕ DriveEnd). Took r piece s new) (sym e) (refl, dropped s (subst (λ k. Stands k s) (sym same) st))
+pub drops : (k old new : Kept) (piece : List ℕ) (result : Result ℕ DriveEnd) → result ≡ Err OutOfMemory → k ≡ old
+    → ((s : Session) → Stands k s → Stands new (Effect s DropConnection)) → (s : Session) → Stands old s → Took result piece s new
+drops k old new piece result e same dropped s st =
+    subst (λ (r : Result ℕ DriveEnd). Took r piece s new) (sym e) (refl, dropped s (subst (λ k. Stands k s) (sym same) st))
 
 -- ---- rounds after rounds
 
@@ -121,13 +134,17 @@ after_rounds-append s (x ∷ xs) ys = after_rounds-append (after_round s x) xs y
 
 pub received-append : (xs ys : List Round) → received (xs ++ ys) ≡ received xs ++ received ys
 received-append [] ys = refl
-received-append (x ∷ xs) ys = ap (λ l. received_in x ++ l) (received-append xs ys) ∙ sym (append_assoc (received_in x) (received xs) (received ys))
+received-append (x ∷ xs) ys =
+    ap (λ l. received_in x ++ l) (received-append xs ys) ∙ sym (append_assoc (received_in x) (received xs) (received ys))
 
 pub sent-append : (s : Session) (xs ys : List Round) → sent s (xs ++ ys) ≡ sent s xs ++ sent (after_rounds s xs) ys
 sent-append s [] ys = refl
-sent-append s (x ∷ xs) ys = ap (λ l. sent_in s x ++ l) (sent-append (after_round s x) xs ys) ∙ sym (append_assoc (sent_in s x) (sent (after_round s x) xs) (sent (after_rounds (after_round s x) xs) ys))
+sent-append s (x ∷ xs) ys =
+    ap (λ l. sent_in s x ++ l) (sent-append (after_round s x) xs ys) ∙ sym
+    (append_assoc (sent_in s x) (sent (after_round s x) xs) (sent (after_rounds (after_round s x) xs) ys))
 
-pub since_rounds-append : (since : ℕ) (s : Session) (xs ys : List Round) → since_rounds since s (xs ++ ys) ≡ since_rounds (since_rounds since s xs) (after_rounds s xs) ys
+pub since_rounds-append : (since : ℕ) (s : Session) (xs ys : List Round)
+    → since_rounds since s (xs ++ ys) ≡ since_rounds (since_rounds since s xs) (after_rounds s xs) ys
 since_rounds-append since s [] ys = refl
 since_rounds-append since s (x ∷ xs) ys = since_rounds-append (since_round since s x) (after_round s x) xs ys
 

@@ -11,11 +11,14 @@ use Rattle.transport.specs.Outbox.{Queued, queued, Sends, SendsPrefix}
 use Rattle.session.specs.Writing.{frame_of}
 
 -- one write more
-pub sends_on : {E : Type 0} (held mid holds : Option (List ℕ)) (old now new : Queued) (r : Result ℕ E) → SendsPrefix held mid old now → Sends mid holds now r new → SendsPrefix held holds old new
+pub sends_on : {E : Type 0} (held mid holds : Option (List ℕ)) (old now new : Queued) (r : Result ℕ E) → SendsPrefix held mid old now
+    → Sends mid holds now r new → SendsPrefix held holds old new
 sends_on held mid holds old now new (Ok n) s w = record {
   sent = s.sent ++ take n now.waiting;
   appended = Appends-trans held mid holds s.sent (take n now.waiting) s.appended w.1;
-  rest = s.rest ∙ ap (λ l. s.sent ++ l) (sym (take-append-drop n now.waiting)) ∙ sym (append_assoc s.sent (take n now.waiting) (drop n now.waiting))
+  rest =
+      s.rest ∙ ap (λ l. s.sent ++ l) (sym (take-append-drop n now.waiting)) ∙ sym
+      (append_assoc s.sent (take n now.waiting) (drop n now.waiting))
       ∙ ap (λ (q : Queued). (s.sent ++ take n now.waiting) ++ q.waiting) (sym w.2);
   count = ap (λ (q : Queued). q.count) w.2 ∙ s.count;
 }
@@ -27,14 +30,18 @@ sends_on held mid holds old now new (Err e) s w = record {
 }
 
 made : (q : Queued) (n : ℕ) → q.count ≡ n → q.waiting ≡ [] → q ≡ record { count = n; waiting = [] }
-made q n e f = ap (λ k. let r : Queued = record { count = k; waiting = q.waiting } in r) e ∙ ap (λ w. let r : Queued = record { count = n; waiting = w } in r) f
+made q n e f =
+    ap (λ k. let r : Queued = record { count = k; waiting = q.waiting } in r) e ∙ ap
+    (λ w. let r : Queued = record { count = n; waiting = w } in r) f
 
 -- a message is written whole, where nothing waited before it
-pub sent_whole : (held holds : Option (List ℕ)) (old mid new : Queued) (m : Message) → old.waiting ≡ [] → mid ≡ queued old m → SendsPrefix held holds mid new → new.waiting ≡ []
+pub sent_whole : (held holds : Option (List ℕ)) (old mid new : Queued) (m : Message) → old.waiting ≡ [] → mid ≡ queued old m
+    → SendsPrefix held holds mid new → new.waiting ≡ []
     → Appends held holds (frame_of (old.count + 1) m) × (new ≡ record { count = old.count + 1; waiting = [] })
 sent_whole held holds old mid new m nothing e s all =
     let whole : s.sent ≡ frame_of (old.count + 1) m =
-    sym (append-nil s.sent) ∙ ap (λ l. s.sent ++ l) (sym all) ∙ sym s.rest ∙ ap (λ (q : Queued). q.waiting) e ∙ ap (λ l. l ++ frame_of (old.count + 1) m) nothing in
+    sym (append-nil s.sent) ∙ ap (λ l. s.sent ++ l) (sym all) ∙ sym s.rest ∙ ap (λ (q : Queued). q.waiting) e ∙ ap
+    (λ l. l ++ frame_of (old.count + 1) m) nothing in
     let count : new.count ≡ old.count + 1 = s.count ∙ ap (λ (q : Queued). q.count) e in
     (subst (Appends held holds) whole s.appended, made new (old.count + 1) count all)
 
@@ -48,7 +55,9 @@ unfolding frame_of
 frame_is n m body framed e f = e ∙ ap minimal_frame f
 
 -- one message more waits after the others
-pub queued_after : (old : Queued) (m : Message) (count start : ℕ) (bytes framed new : List ℕ) → record { count = count; waiting = drop start bytes } ≡ old → start ≤ length bytes → new ≡ bytes ++ framed → framed ≡ frame_of (count + 1) m
+pub queued_after : (old : Queued) (m : Message) (count start : ℕ) (bytes framed new : List ℕ)
+    → record { count = count; waiting = drop start bytes } ≡ old → start ≤ length bytes → new ≡ bytes ++ framed
+    → framed ≡ frame_of (count + 1) m
     → record { count = count + 1; waiting = drop start new } ≡ queued old m
 queued_after old m count start bytes framed new e within more framed_is =
     let moved : drop start new ≡ drop start bytes ++ frame_of (count + 1) m =

@@ -24,25 +24,31 @@ use Rattle.transport.specs.Inbox.{Takes, polled_of, Reads, Listens}
 use Rattle.session.proofs.Firsts.{first_some}
 
 messages_of-append : (xs ys : List (List ℕ)) → messages_of (xs ++ ys) ≡ messages_of xs ++ messages_of ys
-messages_of-append xs ys = ap (filter is_looked_at) (map-append incoming_of xs ys) ∙ filter-append is_looked_at (map incoming_of xs) (map incoming_of ys)
+messages_of-append xs ys =
+    ap (filter is_looked_at) (map-append incoming_of xs ys) ∙ filter-append is_looked_at (map incoming_of xs) (map incoming_of ys)
 
 -- what is given of one body
 abbrev looked_at : Result Incoming MessageError → List (Result Incoming MessageError)
 looked_at r = if is_looked_at r then r ∷ [] else []
 
 -- the next body is taken, and what is given of it follows what was given
-pub heard_next : (old new : Unframed) (heard : Heard) (b : List ℕ) (r : Result Incoming MessageError) (given : List (Result Incoming MessageError)) → Some b ≡ first_of old.waiting → new ≡ lent_from old → incoming_of b ≡ r
+pub heard_next : (old new : Unframed) (heard : Heard) (b : List ℕ) (r : Result Incoming MessageError) (given : List (Result Incoming MessageError))
+    → Some b ≡ first_of old.waiting → new ≡ lent_from old → incoming_of b ≡ r
     → given ≡ heard.given ++ looked_at r → HasHeard old heard → HasHeard new (record { read = heard.read; given = given })
 heard_next old new heard b r given e after is more s =
     record {
       taken = s.taken ++ b ∷ [];
       limit = ap (λ (k : Unframed). k.limit) after ∙ s.limit;
       stands = subst (λ k. StandsFor k (record { fed = heard.read; lent = s.taken ++ b ∷ [] })) (sym after)
-          (subst (λ o. StandsFor (lent_from old) (with_lent (record { fed = heard.read; lent = s.taken }) o)) (sym e) (lent_stands old (record { fed = heard.read; lent = s.taken }) s.stands));
-      given = more ∙ ap (λ l. l ++ looked_at r) s.given ∙ ap (λ x. messages_of s.taken ++ looked_at x) (sym is) ∙ sym (messages_of-append s.taken (b ∷ []));
+          (subst (λ o. StandsFor (lent_from old) (with_lent (record { fed = heard.read; lent = s.taken }) o)) (sym e)
+          (lent_stands old (record { fed = heard.read; lent = s.taken }) s.stands));
+      given =
+          more ∙ ap (λ l. l ++ looked_at r) s.given ∙ ap (λ x. messages_of s.taken ++ looked_at x) (sym is) ∙ sym
+          (messages_of-append s.taken (b ∷ []));
     }
 
-pub ignored : (old new : Unframed) (heard : Heard) (b : List ℕ) → Some b ≡ first_of old.waiting → new ≡ lent_from old → incoming_of b ≡ Ok Ignored → HasHeard old heard → HasHeard new heard
+pub ignored : (old new : Unframed) (heard : Heard) (b : List ℕ) → Some b ≡ first_of old.waiting → new ≡ lent_from old
+    → incoming_of b ≡ Ok Ignored → HasHeard old heard → HasHeard new heard
 ignored old new heard b e after is s = heard_next old new heard b (Ok Ignored) heard.given e after is (sym (append-nil heard.given)) s
 
 looked_at_unless_ignored : (i : Incoming) → (i ≡ Ignored → ⊥) → looked_at (Ok i) ≡ Ok i ∷ []
@@ -50,24 +56,32 @@ looked_at_unless_ignored (Request r) other = refl
 looked_at_unless_ignored (Bad seq command refusal) other = refl
 looked_at_unless_ignored Ignored other = absurd (other refl)
 
-pub gave : (old new : Unframed) (heard : Heard) (b : List ℕ) (i : Incoming) → (i ≡ Ignored → ⊥) → Some b ≡ first_of old.waiting → new ≡ lent_from old → incoming_of b ≡ Ok i → HasHeard old heard → HasHeard new (and_gave heard i)
-gave old new heard b i other e after is s = heard_next old new heard b (Ok i) (heard.given ++ Ok i ∷ []) e after is (ap (λ l. heard.given ++ l) (sym (looked_at_unless_ignored i other))) s
+pub gave : (old new : Unframed) (heard : Heard) (b : List ℕ) (i : Incoming) → (i ≡ Ignored → ⊥) → Some b ≡ first_of old.waiting
+    → new ≡ lent_from old → incoming_of b ≡ Ok i → HasHeard old heard → HasHeard new (and_gave heard i)
+gave old new heard b i other e after is s =
+    heard_next old new heard b (Ok i) (heard.given ++ Ok i ∷ []) e after is
+    (ap (λ l. heard.given ++ l) (sym (looked_at_unless_ignored i other))) s
 
 messages_at : (k : Unframed) (heard : Heard) (s : HasHeard k heard) → messages_in heard.read ≡ heard.given ++ messages_of k.waiting
 unfolding messages_in
 messages_at k heard s =
-    let read : reading_of BODY_LIMIT heard.read ≡ record { bodies = s.taken ++ k.waiting; tail = k.tail } = ap (λ limit. reading_of limit heard.read) (sym s.limit) ∙ s.stands.reads in
-    ap (λ (r : Reading). messages_of r.bodies) read ∙ messages_of-append s.taken k.waiting ∙ ap (λ l. l ++ messages_of k.waiting) (sym s.given)
+    let read : reading_of BODY_LIMIT heard.read ≡ record { bodies = s.taken ++ k.waiting; tail = k.tail } = ap
+    (λ limit. reading_of limit heard.read) (sym s.limit) ∙ s.stands.reads in
+    ap (λ (r : Reading). messages_of r.bodies) read ∙ messages_of-append s.taken k.waiting ∙ ap (λ l. l ++ messages_of k.waiting)
+    (sym s.given)
 
-pub next_fails : (k : Unframed) (heard : Heard) (b : List ℕ) (e : MessageError) → Some b ≡ first_of k.waiting → incoming_of b ≡ Err e → HasHeard k heard → NextFails heard e
+pub next_fails : (k : Unframed) (heard : Heard) (b : List ℕ) (e : MessageError) → Some b ≡ first_of k.waiting → incoming_of b ≡ Err e
+    → HasHeard k heard → NextFails heard e
 next_fails k heard b e first is s =
     let split = first_some k.waiting b first in (
       messages_of split.0,
-      messages_at k heard s ∙ ap (λ w. heard.given ++ messages_of w) split.1 ∙ ap (λ l. heard.given ++ l) (messages_of-append (b ∷ []) split.0)
+      messages_at k heard s ∙ ap (λ w. heard.given ++ messages_of w) split.1 ∙ ap (λ l. heard.given ++ l)
+          (messages_of-append (b ∷ []) split.0)
           ∙ ap (λ r. heard.given ++ (looked_at r ++ messages_of split.0)) is,
     )
 
-pub fails : (k : Unframed) (heard : Heard) (b : List ℕ) (e : MessageError) → Some b ≡ first_of k.waiting → Gives (Err e) (incoming_of b) → HasHeard k heard → Takes heard (Err e) k
+pub fails : (k : Unframed) (heard : Heard) (b : List ℕ) (e : MessageError) → Some b ≡ first_of k.waiting → Gives (Err e) (incoming_of b)
+    → HasHeard k heard → Takes heard (Err e) k
 fails k heard b NotJson first g s = (s, next_fails k heard b NotJson first (sym g) s)
 fails k heard b NotAMessage first g s = (s, next_fails k heard b NotAMessage first (sym g) s)
 fails k heard b BadSeq first g s = (s, next_fails k heard b BadSeq first (sym g) s)
@@ -75,7 +89,8 @@ fails k heard b NoMemory first g s = s
 
 -- ---- what was read and not yet fed
 
-pub begins_reading : (unframer : Unframed) → unframer ≡ record { limit = BODY_LIMIT; waiting = []; tail = Partial []; before = None } → HasRead (record { unframer = unframer; pending = [] }) (record { read = []; given = [] })
+pub begins_reading : (unframer : Unframed) → unframer ≡ record { limit = BODY_LIMIT; waiting = []; tail = Partial []; before = None }
+    → HasRead (record { unframer = unframer; pending = [] }) (record { read = []; given = [] })
 begins_reading unframer e = record {
   fed = [];
   has_heard = record {
@@ -88,7 +103,8 @@ begins_reading unframer e = record {
 }
 
 -- the pending piece is fed
-pub feeds : (old : Unread) (heard : Heard) (unframer : Unframed) → unframer ≡ fed old.unframer old.pending → HasRead old heard → HasRead (record { unframer = unframer; pending = [] }) heard
+pub feeds : (old : Unread) (heard : Heard) (unframer : Unframed) → unframer ≡ fed old.unframer old.pending → HasRead old heard
+    → HasRead (record { unframer = unframer; pending = [] }) heard
 feeds old heard unframer e s = record {
   fed = s.fed ++ old.pending;
   has_heard = record {
@@ -103,9 +119,12 @@ feeds old heard unframer e s = record {
 
 -- where no piece is pending, all that was read was fed
 all_fed : (old : Unread) (heard : Heard) → old.pending ≡ [] → HasRead old heard → HasHeard old.unframer heard
-all_fed old heard none s = subst (λ r. HasHeard old.unframer (record { read = r; given = heard.given })) (sym (s.read ∙ ap (λ l. s.fed ++ l) none ∙ append-nil s.fed)) s.has_heard
+all_fed old heard none s =
+    subst (λ r. HasHeard old.unframer (record { read = r; given = heard.given }))
+    (sym (s.read ∙ ap (λ l. s.fed ++ l) none ∙ append-nil s.fed)) s.has_heard
 
-reads_all : (unframer : Unframed) (pending : List ℕ) (heard : Heard) → pending ≡ [] → HasHeard unframer heard → HasRead (record { unframer = unframer; pending = pending }) heard
+reads_all : (unframer : Unframed) (pending : List ℕ) (heard : Heard) → pending ≡ [] → HasHeard unframer heard
+    → HasRead (record { unframer = unframer; pending = pending }) heard
 reads_all unframer pending heard none s = record {
   fed = heard.read;
   has_heard = s;
@@ -126,9 +145,12 @@ faulty : (tail : Tail) → true ≡ has_fault tail → IsUnfinished tail → ⊥
 faulty (Partial rest) e u = cc
 faulty (Faulty k) e u = u
 
-pub polls : (old : Unread) (heard : Heard) (taken : Result (Option Incoming) MessageError) (is_faulty : Bool) (unframer : Unframed) (pending : List ℕ) → old.pending ≡ [] → pending ≡ [] → unframer.tail ≡ old.unframer.tail
-    → is_faulty ≡ has_fault old.unframer.tail → ((h : Heard) → HasHeard old.unframer h → Takes h taken unframer) → HasRead old heard → Polled heard (polled_of taken is_faulty) (record { unframer = unframer; pending = pending })
-polls old heard (Ok (Some i)) is_faulty unframer pending none still tail flag takes s = reads_all unframer pending (and_gave heard i) still (takes heard (all_fed old heard none s))
+pub polls : (old : Unread) (heard : Heard) (taken : Result (Option Incoming) MessageError) (is_faulty : Bool) (unframer : Unframed) (pending : List ℕ)
+    → old.pending ≡ [] → pending ≡ [] → unframer.tail ≡ old.unframer.tail
+    → is_faulty ≡ has_fault old.unframer.tail → ((h : Heard) → HasHeard old.unframer h → Takes h taken unframer) → HasRead old heard
+    → Polled heard (polled_of taken is_faulty) (record { unframer = unframer; pending = pending })
+polls old heard (Ok (Some i)) is_faulty unframer pending none still tail flag takes s =
+    reads_all unframer pending (and_gave heard i) still (takes heard (all_fed old heard none s))
 polls old heard (Ok None) true unframer pending none still tail flag takes s =
     let t = takes heard (all_fed old heard none s) in (
       reads_all unframer pending heard still t.0,
@@ -147,7 +169,8 @@ polls old heard (Err NotAMessage) is_faulty unframer pending none still tail fla
     let t = takes heard (all_fed old heard none s) in (reads_all unframer pending heard still t.0, (NotAMessage, t.1))
 polls old heard (Err BadSeq) is_faulty unframer pending none still tail flag takes s =
     let t = takes heard (all_fed old heard none s) in (reads_all unframer pending heard still t.0, (BadSeq, t.1))
-polls old heard (Err NoMemory) is_faulty unframer pending none still tail flag takes s = reads_all unframer pending heard still (takes heard (all_fed old heard none s))
+polls old heard (Err NoMemory) is_faulty unframer pending none still tail flag takes s =
+    reads_all unframer pending heard still (takes heard (all_fed old heard none s))
 
 -- ---- polling
 
@@ -156,7 +179,8 @@ IsDecided (Ok (Some i)) = Unit {0}
 IsDecided (Ok None) = ⊥
 IsDecided (Err e) = Unit {0}
 
-gave_at : (left : Option (List ℕ)) (heard : Heard) (r : Result (Option Incoming) ServerError) (new : Unread) → IsDecided r → Polled heard r new → Gave left heard r new
+gave_at : (left : Option (List ℕ)) (heard : Heard) (r : Result (Option Incoming) ServerError) (new : Unread) → IsDecided r
+    → Polled heard r new → Gave left heard r new
 gave_at left heard (Ok (Some i)) new d p = p
 gave_at left heard (Ok None) new d p = absurd d
 gave_at left heard (Err Frame) new d p = p
@@ -167,7 +191,8 @@ gave_at left heard (Err TooManyReads) new d p = absurd p
 gave_at left heard (Err NoMemoryLeft) new d p = p
 gave_at left heard (Err SeqSpent) new d p = absurd p
 
-pub gives : (left_before left : Option (List ℕ)) (heard : Heard) (old new : Unread) (r : Result (Option Incoming) ServerError) → IsDecided r → Listens left_before left heard old → ((h : Heard) → HasRead old h → Polled h r new)
+pub gives : (left_before left : Option (List ℕ)) (heard : Heard) (old new : Unread) (r : Result (Option Incoming) ServerError) → IsDecided r
+    → Listens left_before left heard old → ((h : Heard) → HasRead old h → Polled h r new)
     → Polls left_before left heard r new
 gives left_before left heard old new r d l polled = record {
   read = l.read;
@@ -179,7 +204,8 @@ gives left_before left heard old new r d l polled = record {
 read_again : (heard : Heard) (a b : List ℕ) (u : Unread) → HasRead u (and_read (and_read heard a) b) → HasRead u (and_read heard (a ++ b))
 read_again heard a b u s = subst (λ r. HasRead u (record { read = r; given = heard.given })) (append_assoc heard.read a b) s
 
-pub listens_on : (left_before left left' : Option (List ℕ)) (heard : Heard) (old new : Unread) → Listens left_before left heard old → ((h : Heard) → HasRead old h → Reads left left' h (Ok true) new) → Listens left_before left' heard new
+pub listens_on : (left_before left left' : Option (List ℕ)) (heard : Heard) (old new : Unread) → Listens left_before left heard old
+    → ((h : Heard) → HasRead old h → Reads left left' h (Ok true) new) → Listens left_before left' heard new
 listens_on left_before left left' heard old new l reads =
     let r = reads (and_read heard l.read) l.has_read in
     record {
@@ -188,11 +214,14 @@ listens_on left_before left left' heard old new l reads =
       has_read = read_again heard l.read r.0 new r.2;
     }
 
-no_more_read : (left_before left left' : Option (List ℕ)) (piece : List ℕ) → Consumes left_before left piece → Consumes left left' [] → Consumes left_before left' piece
-no_more_read left_before left left' piece c d = subst (λ l. Consumes left_before left' l) (append-nil piece) (Consumes-trans left_before left left' piece [] c d)
+no_more_read : (left_before left left' : Option (List ℕ)) (piece : List ℕ) → Consumes left_before left piece → Consumes left left' []
+    → Consumes left_before left' piece
+no_more_read left_before left left' piece c d =
+    subst (λ l. Consumes left_before left' l) (append-nil piece) (Consumes-trans left_before left left' piece [] c d)
 
 -- the end of the input
-pub ends_reading : (left_before left left' : Option (List ℕ)) (heard : Heard) (old mid new : Unread) → Listens left_before left heard old → ((h : Heard) → HasRead old h → Polled h (Ok None) mid) → ((h : Heard) → HasRead mid h → Reads left left' h (Ok false) new)
+pub ends_reading : (left_before left left' : Option (List ℕ)) (heard : Heard) (old mid new : Unread) → Listens left_before left heard old
+    → ((h : Heard) → HasRead old h → Polled h (Ok None) mid) → ((h : Heard) → HasRead mid h → Reads left left' h (Ok false) new)
     → Polls left_before left' heard (Ok None) new
 ends_reading left_before left left' heard old mid new l polled reads =
     let p = polled (and_read heard l.read) l.has_read in
@@ -203,30 +232,38 @@ ends_reading left_before left left' heard old mid new l polled reads =
       gave = ((r.2, p.1, p.2), r.1);
     }
 
-read_fails_at : (left_before left left' : Option (List ℕ)) (heard : Heard) (new : Unread) (piece : List ℕ) (e : ServerError) → AllGiven (and_read heard piece) → IsUnfinished (reading_of BODY_LIMIT (and_read heard piece).read).tail → Consumes left_before left piece → Reads left left' (and_read heard piece) (Err e) new → Polls left_before left' heard (Err e) new
+read_fails_at : (left_before left left' : Option (List ℕ)) (heard : Heard) (new : Unread) (piece : List ℕ) (e : ServerError)
+    → AllGiven (and_read heard piece) → IsUnfinished (reading_of BODY_LIMIT (and_read heard piece).read).tail
+    → Consumes left_before left piece → Reads left left' (and_read heard piece) (Err e) new → Polls left_before left' heard (Err e) new
 read_fails_at left_before left left' heard new piece Frame all unfinished c r = absurd r
 read_fails_at left_before left left' heard new piece Message all unfinished c r = absurd r
-read_fails_at left_before left left' heard new piece Read all unfinished c r = record { read = piece; consumed = no_more_read left_before left left' piece c r.0; gave = (r.1, all, unfinished) }
+read_fails_at left_before left left' heard new piece Read all unfinished c r =
+    record { read = piece; consumed = no_more_read left_before left left' piece c r.0; gave = (r.1, all, unfinished) }
 read_fails_at left_before left left' heard new piece Write all unfinished c r = absurd r
 read_fails_at left_before left left' heard new piece TooManyReads all unfinished c r = absurd r
-read_fails_at left_before left left' heard new piece NoMemoryLeft all unfinished c r = record { read = piece; consumed = no_more_read left_before left left' piece c r.0; gave = r.1 }
+read_fails_at left_before left left' heard new piece NoMemoryLeft all unfinished c r =
+    record { read = piece; consumed = no_more_read left_before left left' piece c r.0; gave = r.1 }
 read_fails_at left_before left left' heard new piece SeqSpent all unfinished c r = absurd r
 
-pub read_fails : (left_before left left' : Option (List ℕ)) (heard : Heard) (old mid new : Unread) (e : ServerError) → Listens left_before left heard old → ((h : Heard) → HasRead old h → Polled h (Ok None) mid) → ((h : Heard) → HasRead mid h → Reads left left' h (Err e) new)
+pub read_fails : (left_before left left' : Option (List ℕ)) (heard : Heard) (old mid new : Unread) (e : ServerError)
+    → Listens left_before left heard old → ((h : Heard) → HasRead old h → Polled h (Ok None) mid)
+    → ((h : Heard) → HasRead mid h → Reads left left' h (Err e) new)
     → Polls left_before left' heard (Err e) new
 read_fails left_before left left' heard old mid new e l polled reads =
     let p = polled (and_read heard l.read) l.has_read in
     read_fails_at left_before left left' heard new l.read e p.1 p.2 l.consumed (reads (and_read heard l.read) p.0)
 
 -- nothing was given yet, and nothing is given of what is whole
-pub listens_still : (left_before left : Option (List ℕ)) (heard : Heard) (old new : Unread) → Listens left_before left heard old → ((h : Heard) → HasRead old h → Polled h (Ok None) new) → Listens left_before left heard new
+pub listens_still : (left_before left : Option (List ℕ)) (heard : Heard) (old new : Unread) → Listens left_before left heard old
+    → ((h : Heard) → HasRead old h → Polled h (Ok None) new) → Listens left_before left heard new
 listens_still left_before left heard old new l polled = record {
   read = l.read;
   consumed = l.consumed;
   has_read = (polled (and_read heard l.read) l.has_read).0;
 }
 
-pub reads_too_often : (left_before left : Option (List ℕ)) (heard : Heard) (old new : Unread) → Listens left_before left heard old → ((h : Heard) → HasRead old h → Polled h (Ok None) new) → Polls left_before left heard (Err TooManyReads) new
+pub reads_too_often : (left_before left : Option (List ℕ)) (heard : Heard) (old new : Unread) → Listens left_before left heard old
+    → ((h : Heard) → HasRead old h → Polled h (Ok None) new) → Polls left_before left heard (Err TooManyReads) new
 reads_too_often left_before left heard old new l polled =
     let p = polled (and_read heard l.read) l.has_read in
     record { read = l.read; consumed = l.consumed; gave = p }

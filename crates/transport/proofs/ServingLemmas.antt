@@ -4,7 +4,7 @@ use Rattle.std.specs.Prelude.{IsOk, IsErr, ◌⊎◌}
 use Rattle.transport.specs.declared.end.DriveEnd.{DriveEnd}
 use Rattle.transport.specs.declared.end.DriveEnd.TheVariants.{Closed, Fault, Turns, NoMemory as OutOfMemory}
 use Rattle.session.specs.declared.event.Applied.TheVariants as applied
-use Rattle.session.specs.declared.event.Ending.TheVariants as ending
+use Rattle.session.specs.declared.event.SliceEnd.TheVariants as ending
 use Rattle.session.specs.declared.event.Event.TheVariants.{Connect, Slice, DropConnection}
 use Rattle.session.specs.declared.event.EventError.{EventError}
 use Rattle.session.specs.declared.event.EventError.TheVariants.{NotConnected, AlreadyConnected, Busy, SentTooMuch, PieceTooLong, Closing, NoMemory, Spent}
@@ -38,21 +38,24 @@ opened-refl : (a : Doorway) → Opened a a [] a.faults a.idle
 opened-refl a = record { given = Loses-nil a.wires; faults = refl; idle = refl }
 
 opened-trans : (a b c : Doorway) (xs ys : List Line) (f f' i i' : ℕ) → Opened a b xs f i → Opened b c ys f' i' → Opened a c (xs ++ ys) f' i'
-opened-trans a b c xs ys f f' i i' m n = record { given = Loses-trans a.wires b.wires c.wires xs ys m.given n.given; faults = n.faults; idle = n.idle }
+opened-trans a b c xs ys f f' i i' m n =
+    record { given = Loses-trans a.wires b.wires c.wires xs ys m.given n.given; faults = n.faults; idle = n.idle }
 
 opened_as : (a c : Doorway) (xs ys : List Line) (f f' i i' : ℕ) → xs ≡ ys → f ≡ f' → i ≡ i' → Opened a c xs f i → Opened a c ys f' i'
 opened_as a c xs ys f f' i i' p e g m = record { given = subst (Loses a.wires c.wires) p m.given; faults = m.faults ∙ e; idle = m.idle ∙ g }
 
 -- ---- a program that runs while no editor is connected
 
-same_moves : (k mid : Kept) (n : ℕ) → n ≡ moves_granted → (s : Session) → Stands mid (Effect s (Slice n)) → Stands mid (Effect s (Slice moves_granted))
+same_moves : (k mid : Kept) (n : ℕ) → n ≡ moves_granted → (s : Session) → Stands mid (Effect s (Slice n))
+    → Stands mid (Effect s (Slice moves_granted))
 same_moves k mid n e s st = subst (λ m. Stands mid (Effect s (Slice m))) e st
 
 runnable_there : (k : Kept) (s : Session) → Stands k s → is_runnable k.now ≡ true → is_runnable s.now ≡ true
 runnable_there k s st e = subst (λ n. is_runnable n ≡ true) st.now e
 
 -- a slice in which the program made moves
-pub stays_unattended : (known : KnownFiles) (left : ℕ) (old new : Doorway) (k mid : Kept) (n : ℕ) (r : Sliced) → n ≡ moves_granted → is_runnable k.now ≡ true → Happens k (Slice n) (Ok (applied.Slice r)) mid → (r.ending ≡ ending.NoMemory → ⊥)
+pub stays_unattended : (known : KnownFiles) (left : ℕ) (old new : Doorway) (k mid : Kept) (n : ℕ) (r : Sliced) → n ≡ moves_granted
+    → is_runnable k.now ≡ true → Happens k (Slice n) (Ok (applied.Slice r)) mid → (r.ending ≡ ending.NoMemory → ⊥)
     → Opened old new [] old.faults (one_more old.idle) → (s : Session) → Stands k s → Iterated known left 1 old new s mid
 stays_unattended known left old new k mid n r e runs h ok m s st =
     let g : Goes k mid n r.moved s = goes_with k mid n r.moved r.ending s ok h st in record {
@@ -64,10 +67,12 @@ stays_unattended known left old new k mid n r e runs h ok m s st =
     }
 
 -- a slice in which no memory was left to tell what the program did
-pub unattended_is_cut : (known : KnownFiles) (left : ℕ) (old new : Doorway) (k mid : Kept) (n : ℕ) (r : Sliced) → n ≡ moves_granted → is_runnable k.now ≡ true → Happens k (Slice n) (Ok (applied.Slice r)) mid → r.ending ≡ ending.NoMemory
+pub unattended_is_cut : (known : KnownFiles) (left : ℕ) (old new : Doorway) (k mid : Kept) (n : ℕ) (r : Sliced) → n ≡ moves_granted
+    → is_runnable k.now ≡ true → Happens k (Slice n) (Ok (applied.Slice r)) mid → r.ending ≡ ending.NoMemory
     → Opened old new [] old.faults (one_more old.idle) → (s : Session) → Stands k s → Ended known left OutOfMemory old new s mid
 unattended_is_cut known left old new k mid n r e runs h out m s st =
-    let broke : BreaksOff histories moves_granted r.moved s (λ t. Stands mid t) = subst (λ m. BreaksOff histories m r.moved s (λ t. Stands mid t)) e (breaks_off k mid n r.moved r.ending s out h st) in record {
+    let broke : BreaksOff histories moves_granted r.moved s (λ t. Stands mid t) = subst
+    (λ m. BreaksOff histories m r.moved s (λ t. Stands mid t)) e (breaks_off k mid n r.moved r.ending s out h st) in record {
       why = UnattendedCut;
       opened = m;
       is_end = refl;
@@ -78,11 +83,13 @@ unattended_is_cut known left old new k mid n r e runs h out m s st =
 -- ---- the door
 
 -- the door accepts no further connection
-pub door_closes : (known : KnownFiles) (left : ℕ) (old new : Doorway) (k : Kept) → Opened old new [] old.faults old.idle → IsEmpty new.wires → (s : Session) → Stands k s → Ended known left Closed old new s k
+pub door_closes : (known : KnownFiles) (left : ℕ) (old new : Doorway) (k : Kept) → Opened old new [] old.faults old.idle → IsEmpty new.wires
+    → (s : Session) → Stands k s → Ended known left Closed old new s k
 door_closes known left old new k m e s st = record { why = DoorClosed; opened = m; is_end = refl; is_why = λ taken. e; leaves = st }
 
 -- a call of the door fails
-pub door_fails : (known : KnownFiles) (left : ℕ) (old new : Doorway) (k : Kept) → Opened old new [] (one_more old.faults) old.idle → (s : Session) → Stands k s → Ended known left Fault old new s k
+pub door_fails : (known : KnownFiles) (left : ℕ) (old new : Doorway) (k : Kept) → Opened old new [] (one_more old.faults) old.idle
+    → (s : Session) → Stands k s → Ended known left Fault old new s k
 door_fails known left old new k m s st = record { why = DoorFailed; opened = m; is_end = refl; is_why = λ taken. tt; leaves = st }
 
 -- ---- a connection that was accepted
@@ -92,13 +99,16 @@ record Connects (s : Session) (mid : Kept) : Type 0 where
   is_taken : IsOk (answer_of s Connect)
   stands : Stands mid (Effect s Connect)
 
-connects : (k mid : Kept) (r : Result ℕ EventError) (n : ℕ) → r ≡ Ok n → Happens k Connect (answered applied.Connect r) mid → (s : Session) → Stands k s → Connects s mid
+connects : (k mid : Kept) (r : Result ℕ EventError) (n : ℕ) → r ≡ Ok n → Happens k Connect (answered applied.Connect r) mid → (s : Session)
+    → Stands k s → Connects s mid
 connects k mid r n e h s st =
-    let there : Happens k Connect (Ok (applied.Connect n)) mid = subst (λ (r : Result ℕ EventError). Happens k Connect (answered applied.Connect r) mid) e h in
+    let there : Happens k Connect (Ok (applied.Connect n)) mid = subst
+    (λ (r : Result ℕ EventError). Happens k Connect (answered applied.Connect r) mid) e h in
     let x = there.to_each s st in record { is_taken = rw x.0 refl; stands = x.1 }
 
 -- the session refuses to connect the editor whose wire was accepted
-refuses : (k mid : Kept) (error : EventError) → (error ≡ NoMemory → ⊥) → Happens k Connect (Err error) mid → (s : Session) → Stands k s → IsErr (answer_of s Connect)
+refuses : (k mid : Kept) (error : EventError) → (error ≡ NoMemory → ⊥) → Happens k Connect (Err error) mid → (s : Session) → Stands k s
+    → IsErr (answer_of s Connect)
 refuses k mid NoMemory n h s st = absurd (n refl)
 refuses k mid NotConnected n h s st = rw (h.to_each s st).0 refl
 refuses k mid AlreadyConnected n h s st = rw (h.to_each s st).0 refl
@@ -108,10 +118,12 @@ refuses k mid PieceTooLong n h s st = rw (h.to_each s st).0 refl
 refuses k mid Closing n h s st = rw (h.to_each s st).0 refl
 refuses k mid Spent n h s st = rw (h.to_each s st).0 refl
 
-pub is_refused : (known : KnownFiles) (left : ℕ) (old new : Doorway) (line : Line) (k mid kept : Kept) (r : Result ℕ EventError) (error : EventError) → r ≡ Err error → (r ≡ Err NoMemory → ⊥) → Happens k Connect (answered applied.Connect r) mid → kept ≡ k
+pub is_refused : (known : KnownFiles) (left : ℕ) (old new : Doorway) (line : Line) (k mid kept : Kept) (r : Result ℕ EventError) (error : EventError)
+    → r ≡ Err error → (r ≡ Err NoMemory → ⊥) → Happens k Connect (answered applied.Connect r) mid → kept ≡ k
     → Opened old new (line ∷ []) old.faults old.idle → (s : Session) → Stands k s → Ended known left Closed old new s kept
 is_refused known left old new line k mid kept r error e n h same m s st =
-    let there : Happens k Connect (Err error) mid = subst (λ (r : Result ℕ EventError). Happens k Connect (answered applied.Connect r) mid) e h in record {
+    let there : Happens k Connect (Err error) mid = subst
+    (λ (r : Result ℕ EventError). Happens k Connect (answered applied.Connect r) mid) e h in record {
       why = Refused line;
       opened = m;
       is_end = refl;
@@ -122,7 +134,8 @@ is_refused known left old new line k mid kept r error e n h same m s st =
 -- a connection that has ended is not ended again
 no_link : (s : Session) → (Effect s DropConnection).now.link ≡ None
 no_link s =
-    let P : Option Link → Type 0 = λ l. s.now.link ≡ l → (performed histories (outcome_at (histories.see s) l DropConnection).acts s).now.link ≡ None in
+    let P : Option Link → Type 0 = λ l. s.now.link ≡ l →
+    (performed histories (outcome_at (histories.see s) l DropConnection).acts s).now.link ≡ None in
     let go : P s.now.link = elim s.now.link as P [
       | None ↦ λ e. e
       | Some link ↦ λ e. refl
@@ -137,7 +150,8 @@ drops_none s e =
 dropped_twice : (s : Session) → Effect (Effect s DropConnection) DropConnection ≡ Effect s DropConnection
 dropped_twice s = drops_none (Effect s DropConnection) (no_link s)
 
-cuts : (cause : Cause) (t : Session) (mid kept : Kept) → IsCut cause → Leaves cause t mid → OfEach mid (λ u. Stands kept (Effect u DropConnection)) → LeavesCut cause t kept
+cuts : (cause : Cause) (t : Session) (mid kept : Kept) → IsCut cause → Leaves cause t mid
+    → OfEach mid (λ u. Stands kept (Effect u DropConnection)) → LeavesCut cause t kept
 cuts AllSaid t mid kept c l d = absurd c
 cuts InputEnded t mid kept c l d = absurd c
 cuts (CallFailed part) t mid kept c l d = absurd c
@@ -188,8 +202,10 @@ stays Turns a b h = h
 stays OutOfMemory a b h = h
 
 -- the connection ended, and serving continues
-pub is_connection : (known : KnownFiles) (left : ℕ) (old new : Doorway) (a b : Line) (k mid kept : Kept) (r : Result ℕ EventError) (n : ℕ) (end : DriveEnd) (taken : ℕ) → r ≡ Ok n → Happens k Connect (answered applied.Connect r) mid
-    → OfEach mid (λ t. DroveFor known a b (left - 1) taken t kept end) → IsLeaving end → Opened old new (a ∷ []) old.faults old.idle → (s : Session) → Stands k s → Iterated known left (taken + 1) old new s kept
+pub is_connection : (known : KnownFiles) (left : ℕ) (old new : Doorway) (a b : Line) (k mid kept : Kept) (r : Result ℕ EventError) (n : ℕ) (end : DriveEnd) (taken : ℕ)
+    → r ≡ Ok n → Happens k Connect (answered applied.Connect r) mid
+    → OfEach mid (λ t. DroveFor known a b (left - 1) taken t kept end) → IsLeaving end → Opened old new (a ∷ []) old.faults old.idle
+    → (s : Session) → Stands k s → Iterated known left (taken + 1) old new s kept
 is_connection known left old new a b k mid kept r n end taken e h drove gone m s st =
     let c = connects k mid r n e h s st in
     let v : DroveFor known a b (left - 1) taken (Effect s Connect) kept end = drove (Effect s Connect) c.stands in
@@ -202,8 +218,10 @@ is_connection known left old new a b k mid kept r n end taken e h drove gone m s
     }
 
 -- turns or memory end the connection, and serving with it
-pub is_cut : (known : KnownFiles) (left : ℕ) (old new : Doorway) (a b : Line) (k mid driven kept : Kept) (r : Result ℕ EventError) (n : ℕ) (end : DriveEnd) (taken : ℕ) → r ≡ Ok n → Happens k Connect (answered applied.Connect r) mid
-    → OfEach mid (λ t. DroveFor known a b (left - 1) taken t driven end) → (IsLeaving end → ⊥) → OfEach driven (λ u. Stands kept (Effect u DropConnection)) → Opened old new (a ∷ []) old.faults old.idle → (s : Session) → Stands k s
+pub is_cut : (known : KnownFiles) (left : ℕ) (old new : Doorway) (a b : Line) (k mid driven kept : Kept) (r : Result ℕ EventError) (n : ℕ) (end : DriveEnd) (taken : ℕ)
+    → r ≡ Ok n → Happens k Connect (answered applied.Connect r) mid
+    → OfEach mid (λ t. DroveFor known a b (left - 1) taken t driven end) → (IsLeaving end → ⊥)
+    → OfEach driven (λ u. Stands kept (Effect u DropConnection)) → Opened old new (a ∷ []) old.faults old.idle → (s : Session) → Stands k s
     → Ended known left end old new s kept
 is_cut known left old new a b k mid driven kept r n end taken e h drove stays dropped m s st =
     let c = connects k mid r n e h s st in
@@ -224,75 +242,99 @@ less-none n = omega arith
 less-less : (n a b : ℕ) → n - (a + b) ≡ (n - a) - b
 less-less n a b = omega arith
 
-are_iterations-append : (known : KnownFiles) (n : ℕ) (s : Session) (xs ys : List Iteration) → AreIterations known n s xs → AreIterations known (n - turns_taken xs) (after_iterations s xs) ys → AreIterations known n s (xs ++ ys)
+are_iterations-append : (known : KnownFiles) (n : ℕ) (s : Session) (xs ys : List Iteration) → AreIterations known n s xs
+    → AreIterations known (n - turns_taken xs) (after_iterations s xs) ys → AreIterations known n s (xs ++ ys)
 are_iterations-append known n s [] ys a b = subst (λ (m : ℕ). AreIterations known m s ys) (less-none n) b
-are_iterations-append known n s (x ∷ xs) ys a b =
-    (a.0, are_iterations-append known (n - turns_in x) (after_iteration s x) xs ys a.1 (subst (λ (m : ℕ). AreIterations known m (after_iterations (after_iteration s x) xs) ys) (less-less n (turns_in x) (turns_taken xs)) b))
+are_iterations-append known n s (x ∷ xs) ys a b = (
+  a.0,
+  are_iterations-append known (n - turns_in x) (after_iteration s x) xs ys a.1
+      (subst (λ (m : ℕ). AreIterations known m (after_iterations (after_iteration s x) xs) ys) (less-less n (turns_in x) (turns_taken xs)) b),
+)
 
 turns_taken-append : (xs ys : List Iteration) → turns_taken (xs ++ ys) ≡ turns_taken xs + turns_taken ys
 turns_taken-append [] ys = omega arith
 turns_taken-append (x ∷ xs) ys = ap (λ n. turns_in x + n) (turns_taken-append xs ys) ∙ omega arith
 
-after_iterations-append : (s : Session) (xs ys : List Iteration) → after_iterations s (xs ++ ys) ≡ after_iterations (after_iterations s xs) ys
+after_iterations-append : (s : Session) (xs ys : List Iteration)
+    → after_iterations s (xs ++ ys) ≡ after_iterations (after_iterations s xs) ys
 after_iterations-append s [] ys = refl
 after_iterations-append s (x ∷ xs) ys = after_iterations-append (after_iteration s x) xs ys
 
 lines_of-append : (xs ys : List Iteration) → lines_of (xs ++ ys) ≡ lines_of xs ++ lines_of ys
 lines_of-append [] ys = refl
-lines_of-append (x ∷ xs) ys = ap (λ l. lines_in x ++ l) (lines_of-append xs ys) ∙ sym (append_assoc (lines_in x) (lines_of xs) (lines_of ys))
+lines_of-append (x ∷ xs) ys =
+    ap (λ l. lines_in x ++ l) (lines_of-append xs ys) ∙ sym (append_assoc (lines_in x) (lines_of xs) (lines_of ys))
 
-idle_after_iterations-append : (count : ℕ) (xs ys : List Iteration) → idle_after_iterations count (xs ++ ys) ≡ idle_after_iterations (idle_after_iterations count xs) ys
+idle_after_iterations-append : (count : ℕ) (xs ys : List Iteration)
+    → idle_after_iterations count (xs ++ ys) ≡ idle_after_iterations (idle_after_iterations count xs) ys
 idle_after_iterations-append count [] ys = refl
 idle_after_iterations-append count (x ∷ xs) ys = idle_after_iterations-append (idle_in count x) xs ys
 
 -- ---- the loop
 
-pub begins_serving : (known : KnownFiles) (door : Doorway) (turns : ℕ) (k : Kept) (s : Session) → Stands k s → ServedSoFar known door door turns 0 s k
-begins_serving known door turns k s st = record { iterations = []; are_iterations = tt; count = refl; opened = opened-refl door; stands = st }
+pub begins_serving : (known : KnownFiles) (door : Doorway) (turns : ℕ) (k : Kept) (s : Session) → Stands k s
+    → ServedSoFar known door door turns 0 s k
+begins_serving known door turns k s st =
+    record { iterations = []; are_iterations = tt; count = refl; opened = opened-refl door; stands = st }
 
 lines_then : (xs : List Iteration) (x : Iteration) → lines_of xs ++ lines_in x ≡ lines_of (xs ++ x ∷ [])
 lines_then xs x = sym (lines_of-append xs (x ∷ []) ∙ ap (λ l. lines_of xs ++ l) (append-nil (lines_in x)))
 
-idle_then : (a b : Doorway) (xs : List Iteration) (x : Iteration) → b.idle ≡ idle_after_iterations a.idle xs → idle_in b.idle x ≡ idle_after_iterations a.idle (xs ++ x ∷ [])
+idle_then : (a b : Doorway) (xs : List Iteration) (x : Iteration) → b.idle ≡ idle_after_iterations a.idle xs
+    → idle_in b.idle x ≡ idle_after_iterations a.idle (xs ++ x ∷ [])
 idle_then a b xs x i = ap (λ (n : ℕ). idle_in n x) i ∙ sym (idle_after_iterations-append a.idle xs (x ∷ []))
 
-continues_serving : (known : KnownFiles) (a b c : Doorway) (turns taken count : ℕ) (s : Session) (k new : Kept) (v : ServedSoFar known a b turns taken s k) → Iterated known (turns - taken) count b c (after_iterations s v.iterations) new → ServedSoFar known a c turns (taken + count) s new
+continues_serving : (known : KnownFiles) (a b c : Doorway) (turns taken count : ℕ) (s : Session) (k new : Kept) (v : ServedSoFar known a b turns taken s k)
+    → Iterated known (turns - taken) count b c (after_iterations s v.iterations) new → ServedSoFar known a c turns (taken + count) s new
 continues_serving known a b c turns taken count s k new v w =
-    let is_iteration : IsIteration known (turns - turns_taken v.iterations) (after_iterations s v.iterations) w.iteration = subst (λ (n : ℕ). IsIteration known (turns - n) (after_iterations s v.iterations) w.iteration) (sym v.count) w.is_iteration in
+    let is_iteration : IsIteration known (turns - turns_taken v.iterations) (after_iterations s v.iterations) w.iteration = subst
+    (λ (n : ℕ). IsIteration known (turns - n) (after_iterations s v.iterations) w.iteration) (sym v.count) w.is_iteration in
     let counts : turns_in w.iteration ≡ count = w.counts in
     let taken_is : turns_taken v.iterations ≡ taken = v.count in record {
       iterations = v.iterations ++ w.iteration ∷ [];
       are_iterations = are_iterations-append known turns s v.iterations (w.iteration ∷ []) v.are_iterations (is_iteration, tt);
       count = turns_taken-append v.iterations (w.iteration ∷ []) ∙ omega arith;
-      opened = opened_as a c _ _ _ _ _ _ (lines_then v.iterations w.iteration) v.opened.faults (idle_then a b v.iterations w.iteration v.opened.idle) (opened-trans a b c _ _ _ _ _ _ v.opened w.opened);
+      opened =
+          opened_as a c _ _ _ _ _ _ (lines_then v.iterations w.iteration) v.opened.faults
+          (idle_then a b v.iterations w.iteration v.opened.idle) (opened-trans a b c _ _ _ _ _ _ v.opened w.opened);
       stands = subst (Stands new) (sym (after_iterations-append s v.iterations (w.iteration ∷ []))) w.stands;
     }
 
 -- after one more pass of the loop serving continues
-pub serving_continues : (known : KnownFiles) (a b c : Doorway) (turns taken : ℕ) (s : Session) (k new : Kept) (result : Result ℕ DriveEnd) (count : ℕ) → result ≡ Ok count → OfEach k (λ t. IteratedOrEnded known (turns - taken) result b c t new) → ServedSoFar known a b turns taken s k
+pub serving_continues : (known : KnownFiles) (a b c : Doorway) (turns taken : ℕ) (s : Session) (k new : Kept) (result : Result ℕ DriveEnd) (count : ℕ)
+    → result ≡ Ok count → OfEach k (λ t. IteratedOrEnded known (turns - taken) result b c t new) → ServedSoFar known a b turns taken s k
     → ServedSoFar known a c turns (taken + count) s new
 serving_continues known a b c turns taken s k new result count e g v =
     let t = after_iterations s v.iterations in
-    continues_serving known a b c turns taken count s k new v (subst (λ (r : Result ℕ DriveEnd). IteratedOrEnded known (turns - taken) r b c t new) e (g t v.stands))
+    continues_serving known a b c turns taken count s k new v
+    (subst (λ (r : Result ℕ DriveEnd). IteratedOrEnded known (turns - taken) r b c t new) e (g t v.stands))
 
-ends_after : (known : KnownFiles) (a b c : Doorway) (turns taken : ℕ) (s : Session) (k new : Kept) (end : DriveEnd) → taken ≤ turns → (v : ServedSoFar known a b turns taken s k) → Ended known (turns - taken) end b c (after_iterations s v.iterations) new
+ends_after : (known : KnownFiles) (a b c : Doorway) (turns taken : ℕ) (s : Session) (k new : Kept) (end : DriveEnd) → taken ≤ turns
+    → (v : ServedSoFar known a b turns taken s k) → Ended known (turns - taken) end b c (after_iterations s v.iterations) new
     → Served known a c turns s new end
 ends_after known a b c turns taken s k new end few v w = record {
   iterations = v.iterations;
   why = w.why;
   are_iterations = v.are_iterations;
   few = subst (λ (n : ℕ). n ≤ turns) (sym v.count) few;
-  opened = opened_as a c _ _ _ _ _ _ refl (ap (failed_at w.why) v.opened.faults) (ap (idle_at w.why) v.opened.idle) (opened-trans a b c _ _ _ _ _ _ v.opened w.opened);
+  opened =
+      opened_as a c _ _ _ _ _ _ refl (ap (failed_at w.why) v.opened.faults) (ap (idle_at w.why) v.opened.idle)
+      (opened-trans a b c _ _ _ _ _ _ v.opened w.opened);
   is_end = w.is_end;
-  is_why = subst (λ (n : ℕ). IsWhy known w.why c.wires (turns - n) (turns_taken v.iterations) (after_iterations s v.iterations)) (sym v.count) (w.is_why (turns_taken v.iterations));
+  is_why =
+      subst (λ (n : ℕ). IsWhy known w.why c.wires (turns - n) (turns_taken v.iterations) (after_iterations s v.iterations)) (sym v.count)
+      (w.is_why (turns_taken v.iterations));
   leaves = w.leaves;
 }
 
-pub serving_ends : (known : KnownFiles) (a b c : Doorway) (turns taken : ℕ) (s : Session) (k new : Kept) (end : DriveEnd) → taken ≤ turns → OfEach k (λ t. Ended known (turns - taken) end b c t new) → ServedSoFar known a b turns taken s k → Served known a c turns s new end
-serving_ends known a b c turns taken s k new end few g v = ends_after known a b c turns taken s k new end few v (g (after_iterations s v.iterations) v.stands)
+pub serving_ends : (known : KnownFiles) (a b c : Doorway) (turns taken : ℕ) (s : Session) (k new : Kept) (end : DriveEnd) → taken ≤ turns
+    → OfEach k (λ t. Ended known (turns - taken) end b c t new) → ServedSoFar known a b turns taken s k → Served known a c turns s new end
+serving_ends known a b c turns taken s k new end few g v =
+    ends_after known a b c turns taken s k new end few v (g (after_iterations s v.iterations) v.stands)
 
 -- all turns were taken
-pub all_taken : (known : KnownFiles) (a b : Doorway) (turns taken : ℕ) (s : Session) (k : Kept) → taken ≡ turns → ServedSoFar known a b turns taken s k → Served known a b turns s k Turns
+pub all_taken : (known : KnownFiles) (a b : Doorway) (turns taken : ℕ) (s : Session) (k : Kept) → taken ≡ turns
+    → ServedSoFar known a b turns taken s k → Served known a b turns s k Turns
 all_taken known a b turns taken s k all v =
     let made : turns_taken v.iterations ≡ turns = v.count ∙ all in record {
       iterations = v.iterations;
@@ -306,5 +348,16 @@ all_taken known a b turns taken s k all v =
     }
 
 -- without memory for a piece the door is not called
-pub no_room_to_serve : (known : KnownFiles) (door : Doorway) (turns : ℕ) (s : Session) (k : Kept) → Stands k s → Served known door door turns s k OutOfMemory
-no_room_to_serve known door turns s k st = record { iterations = []; why = NoRoomYet; are_iterations = tt; few = omega arith; opened = opened-refl door; is_end = refl; is_why = refl; leaves = st }
+pub no_room_to_serve : (known : KnownFiles) (door : Doorway) (turns : ℕ) (s : Session) (k : Kept) → Stands k s
+    → Served known door door turns s k OutOfMemory
+no_room_to_serve known door turns s k st =
+    record {
+      iterations = [];
+      why = NoRoomYet;
+      are_iterations = tt;
+      few = omega arith;
+      opened = opened-refl door;
+      is_end = refl;
+      is_why = refl;
+      leaves = st;
+    }

@@ -20,14 +20,16 @@ send_test false false true d h = cc
 send_test false false false true h = cc
 send_test false false false false h = cc
 
-receive_tests : (a b c d : Bool) → cond a Send (cond b Leave (cond c Answer (cond d Run Receive))) ≡ Receive → (a ≡ false) × (b ≡ false) × (c ≡ false)
+receive_tests : (a b c d : Bool) → cond a Send (cond b Leave (cond c Answer (cond d Run Receive))) ≡ Receive
+    → (a ≡ false) × (b ≡ false) × (c ≡ false)
 receive_tests true b c d h = cc
 receive_tests false true c d h = cc
 receive_tests false false true d h = cc
 receive_tests false false false true h = cc
 receive_tests false false false false h = (refl, refl, refl)
 
-run_tests : (a b c d : Bool) → cond a Send (cond b Leave (cond c Answer (cond d Run Receive))) ≡ Run → (a ≡ false) × (b ≡ false) × (c ≡ false)
+run_tests : (a b c d : Bool) → cond a Send (cond b Leave (cond c Answer (cond d Run Receive))) ≡ Run
+    → (a ≡ false) × (b ≡ false) × (c ≡ false)
 run_tests true b c d h = cc
 run_tests false true c d h = cc
 run_tests false false true d h = cc
@@ -51,13 +53,15 @@ takes_sent seen n few =
     ]
 
 -- a request that waits is answered, or what is owed is told
-turns : (seen : Seen) (link : Link) (file : Option (List ℕ)) (pending : List Pending) → IsOk (next_turn seen.now link.terms file pending).answer
+turns : (seen : Seen) (link : Link) (file : Option (List ℕ)) (pending : List Pending)
+    → IsOk (next_turn seen.now link.terms file pending).answer
 turns seen link file [] = refl
 turns seen link file (p ∷ rest) = refl
 
 next_answered : (seen : Seen) (link : Link) (file : Option (List ℕ)) → IsOk (answers_next seen link file).answer
 next_answered seen link file =
-    let P : Bool → Type 0 = λ t. IsOk (cond t (done (DidTurn Full) []) (next_turn seen.now link.terms file seen.now.arrivals.pending)).answer in
+    let P : Bool → Type 0 = λ t. IsOk
+    (cond t (done (DidTurn Full) []) (next_turn seen.now link.terms file seen.now.arrivals.pending)).answer in
     elim (ltb 65536 seen.waits) as P [
       | true ↦ refl
       | false ↦ turns seen link file seen.now.arrivals.pending
@@ -81,7 +85,9 @@ takes_turn seen file =
     ]
 
 -- a piece is received where nothing waits, so the session takes it
-takes_where_none_wait : (seen : Seen) (piece : List ℕ) → (ltb 0 seen.waits ≡ false) × (is_finished seen ≡ false) × (ltb 0 (length seen.now.arrivals.pending) ≡ false) → length piece ≤ 65536 → (seen.now.link ≡ None) ⊎ IsOk (outcome seen (Recv piece)).answer
+takes_where_none_wait : (seen : Seen) (piece : List ℕ)
+    → (ltb 0 seen.waits ≡ false) × (is_finished seen ≡ false) × (ltb 0 (length seen.now.arrivals.pending) ≡ false) → length piece ≤ 65536
+    → (seen.now.link ≡ None) ⊎ IsOk (outcome seen (Recv piece)).answer
 takes_where_none_wait seen piece t few =
     let pending : List Pending = seen.now.arrivals.pending in
     let waits : ltb 0 seen.waits ≡ false = t.0 in
@@ -90,17 +96,23 @@ takes_where_none_wait seen piece t few =
     let nothing : eqb seen.waits 0 ≡ true = grind (arith, nat_tests) in
     let short : ltb 65536 (length piece) ≡ false = grind (arith, nat_tests) in
     let free : leb 256 (length pending) ≡ false = grind (arith, nat_tests) in
-    let P : Option Link → Type 0 = λ l. is_finished_on l pending seen.waits ≡ false → (l ≡ None) ⊎ IsOk (outcome_at seen l (Recv piece)).answer in
+    let P : Option Link → Type 0 = λ l. is_finished_on l pending seen.waits ≡ false → (l ≡ None) ⊎ IsOk
+    (outcome_at seen l (Recv piece)).answer in
     let go : P seen.now.link = elim seen.now.link as P [
       | None ↦ λ h. inl refl
-      | Some link ↦ λ h. (let taking : link.is_closing ≡ false = open_still link.is_closing _ _ h none nothing in inr (rw (taking, short, free) refl))
+      | Some link ↦ λ h. (let taking : link.is_closing ≡ false = open_still link.is_closing _ _ h none nothing in inr
+          (rw (taking, short, free) refl))
     ] in go t.1
 
-pub takes_received : (seen : Seen) (piece : List ℕ) → due seen ≡ Receive → length piece ≤ 65536 → (seen.now.link ≡ None) ⊎ IsOk (outcome seen (Recv piece)).answer
+pub takes_received : (seen : Seen) (piece : List ℕ) → due seen ≡ Receive → length piece ≤ 65536
+    → (seen.now.link ≡ None) ⊎ IsOk (outcome seen (Recv piece)).answer
 takes_received seen piece d few =
-    takes_where_none_wait seen piece (receive_tests (ltb 0 seen.waits) (is_finished seen) (ltb 0 (length seen.now.arrivals.pending)) (is_runnable seen.now) d) few
+    takes_where_none_wait seen piece
+    (receive_tests (ltb 0 seen.waits) (is_finished seen) (ltb 0 (length seen.now.arrivals.pending)) (is_runnable seen.now) d) few
 
 -- a piece is received also while a program runs
-pub takes_running : (seen : Seen) (piece : List ℕ) → due seen ≡ Run → length piece ≤ 65536 → (seen.now.link ≡ None) ⊎ IsOk (outcome seen (Recv piece)).answer
+pub takes_running : (seen : Seen) (piece : List ℕ) → due seen ≡ Run → length piece ≤ 65536
+    → (seen.now.link ≡ None) ⊎ IsOk (outcome seen (Recv piece)).answer
 takes_running seen piece d few =
-    takes_where_none_wait seen piece (run_tests (ltb 0 seen.waits) (is_finished seen) (ltb 0 (length seen.now.arrivals.pending)) (is_runnable seen.now) d) few
+    takes_where_none_wait seen piece
+    (run_tests (ltb 0 seen.waits) (is_finished seen) (ltb 0 (length seen.now.arrivals.pending)) (is_runnable seen.now) d) few

@@ -10,7 +10,7 @@ use crate::end::DriveEnd;
 use crate::files::Files;
 use crate::room::room_of;
 use crate::rounds::{MOVES_GRANTED, file_wanted, leave, take, turn_with};
-use session::{Ending, EventError, Session};
+use session::{EventError, Session, SliceEnd};
 use std::alloc::Global;
 use std::cmp;
 use wires::{Received, Wire};
@@ -197,7 +197,7 @@ fn run(session: &mut Session, moves: u32, since: u64, polls: bool) -> Result<u64
 {
     let sliced = session.slice(moves);
     match sliced.ending {
-        Ending::NoMemory => Err(DriveEnd::NoMemory),
+        SliceEnd::NoMemory => Err(DriveEnd::NoMemory),
         _ => Ok(hold_after(session, since, sliced.moved, polls)),
     }
 }

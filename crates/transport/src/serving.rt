@@ -12,7 +12,7 @@ use crate::end::DriveEnd;
 use crate::files::Files;
 use crate::room::room_of;
 use crate::rounds::{MOVES_GRANTED, leave};
-use session::{Ending, Session};
+use session::{Session, SliceEnd};
 use std::alloc::Global;
 use wires::{Came, Door, Wire};
 
@@ -114,7 +114,7 @@ fn run_unattended(session: &mut Session, moves: u32) -> Result<u64, DriveEnd>
     ensures one { IfOk result (λ count. count ≡ 1) }
 {
     match session.slice(moves).ending {
-        Ending::NoMemory => Err(DriveEnd::NoMemory),
+        SliceEnd::NoMemory => Err(DriveEnd::NoMemory),
         _ => Ok(1),
     }
 }

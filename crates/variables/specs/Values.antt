@@ -6,7 +6,8 @@
 use Rattle.std.specs.Prelude.{◌≡◌, ℕ, ◌==◌, nat_le, ◌^◌, if◌then◌else◌, List, [], ◌∷◌, length, Option, Some, None}
 use Rattle.std.specs.Prelude.{codes, refl}
 use Rattle.std.specs.Result.{result_ok}
-use Rattle.numerals.specs.Numerals.{numeral, prefixed}
+use Rattle.numerals.specs.Numerals.{numeral}
+use Rattle.numerals.specs.Words.{word_of}
 use Rattle.rv32i.specs.Machine.{difference}
 
 -- the word of a negative number, by its magnitude
@@ -18,18 +19,10 @@ if_signed (Some n) = if nat_le n (2 ^ 31) then Some (difference 0 n) else None
 abbrev pub negated : List ℕ → Option ℕ
 negated digits = if_signed (result_ok (numeral 10 digits))
 
--- the word that a text without a sign writes
-abbrev pub magnitude_by : List ℕ → Option (List ℕ) → Option ℕ
-magnitude_by text (Some digits) = if nat_le (length digits) 8 then result_ok (numeral 16 digits) else None
-magnitude_by text None = result_ok (numeral 10 text)
-
-abbrev pub magnitude_of : List ℕ → Option ℕ
-magnitude_of text = magnitude_by text (prefixed text)
-
 -- the word that a text writes, if it writes one
 abbrev pub value_of : List ℕ → Option ℕ
 value_of [] = None
-value_of (sign ∷ digits) = if sign == 45 then negated digits else magnitude_of (sign ∷ digits)
+value_of (sign ∷ digits) = if sign == 45 then negated digits else word_of (sign ∷ digits)
 
 minus_one : value_of (codes "-1") ≡ Some 0xffffffff
 minus_one = refl

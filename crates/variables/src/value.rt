@@ -1,13 +1,9 @@
 //! Values as an editor writes them.
 
-ghost use Rattle.std.specs.Prelude.{◌≡◌, option_copied};
-ghost use Rattle.numerals.specs.Numerals.{prefixed};
-ghost use Rattle.variables.specs.Values.{magnitude_by, magnitude_of, negated, value_of};
+ghost use Rattle.std.specs.Prelude.{◌≡◌};
+ghost use Rattle.variables.specs.Values.{negated, value_of};
 
-use numerals::numeral;
-
-/// The most hexadecimal digits of a value.
-const MOST_DIGITS: usize = 8;
+use numerals::{numeral, word};
 
 /// The greatest number of which the negative has 32 bits.
 const MOST_NEGATED: u32 = 0x8000_0000;
@@ -19,7 +15,7 @@ pub(crate) fn value_of(text: &[u8]) -> Option<u32>
 {
     match text {
         [b'-', digits @ ..] => negated(digits),
-        _ => magnitude_of(text),
+        _ => word(text),
     }
 }
 
@@ -31,34 +27,4 @@ fn negated(digits: &[u8]) -> Option<u32>
         return None;
     }
     Some(number.wrapping_neg())
-}
-
-fn magnitude_of(text: &[u8]) -> Option<u32>
-    ensures { result ≡ magnitude_of text.now }
-{
-    magnitude_by(text, prefixed(text))
-}
-
-fn magnitude_by(text: &[u8], prefixed: Option<&[u8]>) -> Option<u32>
-    ensures { result ≡ magnitude_by text.now (option_copied prefixed.entry) }
-{
-    match prefixed {
-        None => numeral(10, text).ok(),
-        Some(digits) => {
-            if digits.len() > MOST_DIGITS {
-                return None;
-            }
-            numeral(16, digits).ok()
-        }
-    }
-}
-
-// The digits after `0x`, if a text begins so.
-fn prefixed(text: &[u8]) -> Option<&[u8]>
-    ensures { option_copied result ≡ prefixed text.now }
-{
-    match text {
-        [b'0', b'x', digits @ ..] => Some(digits),
-        _ => None,
-    }
 }

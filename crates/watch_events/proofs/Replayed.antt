@@ -38,13 +38,15 @@ use Rattle.watch_events.specs.declared.watching.Watched.{Watched}
 -- ---- events after events
 
 abbrev pub AllTracked : Config → Limits → List Event → ℕ → ℕ → Tracked → Type 0
-AllTracked c limits events connection count t = Begun c limits (λ from. Tracks t (After from events)) × (t.connection ≡ connection) × (t.count ≡ count)
+AllTracked c limits events connection count t =
+    Begun c limits (λ from. Tracks t (After from events)) × (t.connection ≡ connection) × (t.count ≡ count)
 
 no_life_yet : (from : Beginning) (c : ℕ) → life_of c (start from) ≡ no_life
 no_life_yet from zero = refl
 no_life_yet from (suc c) = refl
 
-begins : (from : Beginning) (k : SessionKept) (connection count : ℕ) → Stands k (start from) → Tracks (untouched k connection count) (start from)
+begins : (from : Beginning) (k : SessionKept) (connection count : ℕ) → Stands k (start from)
+    → Tracks (untouched k connection count) (start from)
 begins from k connection count stands =
     let none = no_life_yet from connection in
     record {
@@ -67,12 +69,25 @@ the_beginning c limits right image = record {
   image = image;
 }
 
-pub begins_tracked : (c : Config) (limits : Limits) (k : SessionKept) (connection count : ℕ) → HasBegun c limits k → AllTracked c limits [] connection count (untouched k connection count)
-begins_tracked c limits k connection count h = (record { right = h.right; image = h.image; so = begins (the_beginning c limits h.right h.image) k connection count h.stands }, refl, refl)
+pub begins_tracked : (c : Config) (limits : Limits) (k : SessionKept) (connection count : ℕ) → HasBegun c limits k
+    → AllTracked c limits [] connection count (untouched k connection count)
+begins_tracked c limits k connection count h = (
+  record {
+    right = h.right;
+    image = h.image;
+    so = begins
+        (the_beginning c limits h.right h.image) k connection count h.stands;
+  },
+  refl,
+  refl,
+)
 
-next : (from : Beginning) (events : List Event) (e : Event) (old new : Tracked) → Keeps e old (let r : Result (Unit {0}) (Unit {0}) = Ok tt in r) new → Tracks old (After from events) → Tracks new (After from (events ++ e ∷ []))
+next : (from : Beginning) (events : List Event) (e : Event) (old new : Tracked)
+    → Keeps e old (let r : Result (Unit {0}) (Unit {0}) = Ok tt in r) new → Tracks old (After from events)
+    → Tracks new (After from (events ++ e ∷ []))
 next from events e old new keeps h =
-    subst (Tracks new) (sym (after_more events e (start from))) (keeps (After from events) (record { from = from; events = events; is = refl }) h)
+    subst (Tracks new) (sym (after_more events e (start from)))
+    (keeps (After from events) (record { from = from; events = events; is = refl }) h)
 
 -- ---- what is watched of them
 
@@ -90,9 +105,11 @@ not_made_by s t h e made =
     let yes : is_made t ≡ true = ap (λ (b : Bool). b && leb t.connection t.current) some ∙ few in
     absurd (let both_are : true ≡ false = sym yes ∙ e in cc)
 
-heard_by : (from : Beginning) (events : List Event) (t : Tracked) → Tracks t (After from events) → requests_in (life_of t.connection (After from events)).heard ≡ requests_of t.accepted
+heard_by : (from : Beginning) (events : List Event) (t : Tracked) → Tracks t (After from events)
+    → requests_in (life_of t.connection (After from events)).heard ≡ requests_of t.accepted
 heard_by from events t h =
-    ap requests_in (requests_are_read from events t.connection ∙ ap (λ (l : List ℕ). asks_of (reading_of 1048576 l).bodies) h.accepted ∙ asks_up_to [] t.accepted)
+    ap requests_in (requests_are_read from events t.connection ∙ ap (λ (l : List ℕ). asks_of (reading_of 1048576 l).bodies) h.accepted
+    ∙ asks_up_to [] t.accepted)
 
 never_none : (before : Snapshot) (said : List Said) → last_seen (Some before) said ≡ None → ⊥
 never_none before [] e = cc
@@ -102,7 +119,8 @@ none_told : (said : List Said) → last_seen None said ≡ None → said ≡ []
 none_told [] e = refl
 none_told (m ∷ said) e = absurd (never_none m.snapshot said e)
 
-holds_of : (asked : ℕ → Option Asked) (known : Facts) (said : List Said) (taken : Option (Option Captured)) (last : Option Snapshot) → last_seen None said ≡ last → known ≡ known_after asked nothing_known said → option_map seen_of taken ≡ option_map shown last
+holds_of : (asked : ℕ → Option Asked) (known : Facts) (said : List Said) (taken : Option (Option Captured)) (last : Option Snapshot)
+    → last_seen None said ≡ last → known ≡ known_after asked nothing_known said → option_map seen_of taken ≡ option_map shown last
     → WasSo known last → HoldsOf known taken
 holds_of asked known said None None is knows same so = knows ∙ ap (known_after asked nothing_known) (none_told said is)
 holds_of asked known said None (Some seen) is knows same so = absurd (apart same) where
@@ -115,7 +133,8 @@ holds_of asked known said (Some taken) (Some seen) is knows same so = subst (Hol
   inner : (let o : Option Facts = Some (seen_of taken) in o) ≡ Some (shown seen) → seen_of taken ≡ shown seen
   inner e = cc
 
-module _ (from : Beginning) (events : List Event) (t : Tracked) (h : Tracks t (After from events)) (mirror : Kept) (told : IsTold t.accepted (take t.count t.queued) mirror) where
+module _ (from : Beginning) (events : List Event) (t : Tracked) (h : Tracks t (After from events)) (mirror : Kept)
+    (told : IsTold t.accepted (take t.count t.queued) mirror) where
   abbrev life : Life
   life = life_of t.connection (After from events)
 
@@ -126,21 +145,25 @@ module _ (from : Beginning) (events : List Event) (t : Tracked) (h : Tracks t (A
       ap (λ (l : List ARequest). map Sent l ++ Fed (take t.count t.queued) ∷ []) (sym (heard_by from events t h))
       ∙ ap (λ (l : List ℕ). map Sent (requests_in life.heard) ++ Fed l ∷ []) bytes in
       told.stands.facts ∙ ap (λ (l : List Input). (after l).facts) same
-      ∙ mirrors_know from events t.connection t.count (subst (λ (l : List ℕ). length l ≤ 4294967295) h.queued h.few) (ap stream_fault (sym bytes) ∙ told.readable)
+      ∙ mirrors_know from events t.connection t.count (subst (λ (l : List ℕ). length l ≤ 4294967295) h.queued h.few)
+      (ap stream_fault (sym bytes) ∙ told.readable)
 
-  watched_by : is_made t ≡ true → t.count ≤ length t.queued → IsWatched (After from events) t.connection t.count (record { mirror = mirror; snapshot = t.snapshot })
+  watched_by : is_made t ≡ true → t.count ≤ length t.queued
+      → IsWatched (After from events) t.connection t.count (record { mirror = mirror; snapshot = t.snapshot })
   watched_by made few = record {
     made = made_by (After from events) t h made;
     within = subst (λ (l : List ℕ). t.count ≤ length l) h.queued few;
     knows = knows;
     seen = h.snapshot;
     holds = holds_of (remembered life.heard) (facts_of mirror.known) (told_within t.count life.said) t.snapshot _ refl knows h.snapshot
-        (subst (λ (f : Facts). WasSo f (last_seen None (told_within t.count life.said))) (sym knows) (headline commands_lead commands_owe from events t.connection t.count));
+        (subst (λ (f : Facts). WasSo f (last_seen None (told_within t.count life.said))) (sym knows)
+        (headline commands_lead commands_owe from events t.connection t.count));
   }
 
 -- ---- of a session that has begun
 
-next_tracked : (c : Config) (limits : Limits) (events : List Event) (e : Event) (connection count : ℕ) (old new : Tracked) → Keeps e old (let r : Result (Unit {0}) (Unit {0}) = Ok tt in r) new → SameWatched old new
+next_tracked : (c : Config) (limits : Limits) (events : List Event) (e : Event) (connection count : ℕ) (old new : Tracked)
+    → Keeps e old (let r : Result (Unit {0}) (Unit {0}) = Ok tt in r) new → SameWatched old new
     → AllTracked c limits events connection count old → AllTracked c limits (events ++ e ∷ []) connection count new
 next_tracked c limits events e connection count old new keeps same h = (
   record { right = h.0.right; image = h.0.image; so = next (the_beginning c limits h.0.right h.0.image) events e old new keeps h.0.so },
@@ -156,15 +179,22 @@ take_next (x ∷ l) (suc i) e few is =
     let more : suc i + 1 ≡ suc (i + 1) = omega arith in
     ap (λ (n : ℕ). take n (x ∷ l)) more ∙ ap (λ (r : List Event). x ∷ r) (take_next l i e less is)
 
-pub next_taken : (c : Config) (limits : Limits) (events : List Event) (i : ℕ) (e : Event) (connection count : ℕ) (old new : Tracked) → Keeps e old (let r : Result (Unit {0}) (Unit {0}) = Ok tt in r) new → SameWatched old new
-    → i < length events → e ≡ get_or events i e → AllTracked c limits (take i events) connection count old → AllTracked c limits (take (i + 1) events) connection count new
+pub next_taken : (c : Config) (limits : Limits) (events : List Event) (i : ℕ) (e : Event) (connection count : ℕ) (old new : Tracked)
+    → Keeps e old (let r : Result (Unit {0}) (Unit {0}) = Ok tt in r) new → SameWatched old new
+    → i < length events → e ≡ get_or events i e → AllTracked c limits (take i events) connection count old
+    → AllTracked c limits (take (i + 1) events) connection count new
 next_taken c limits events i e connection count old new keeps same few is h =
-    subst (λ (l : List Event). AllTracked c limits l connection count new) (sym (take_next events i e few is)) (next_tracked c limits (take i events) e connection count old new keeps same h)
+    subst (λ (l : List Event). AllTracked c limits l connection count new) (sym (take_next events i e few is))
+    (next_tracked c limits (take i events) e connection count old new keeps same h)
 
-pub told_of : (a b q r : List ℕ) (count : ℕ) (mirror : Kept) → a ≡ b → q ≡ r → IsTold a (take count q) mirror → IsTold b (take count r) mirror
-told_of a b q r count mirror e f told = subst (λ (x : List ℕ). IsTold b (take count x) mirror) f (subst (λ (x : List ℕ). IsTold x (take count q) mirror) e told)
+pub told_of : (a b q r : List ℕ) (count : ℕ) (mirror : Kept) → a ≡ b → q ≡ r → IsTold a (take count q) mirror
+    → IsTold b (take count r) mirror
+told_of a b q r count mirror e f told =
+    subst (λ (x : List ℕ). IsTold b (take count x) mirror) f (subst (λ (x : List ℕ). IsTold x (take count q) mirror) e told)
 
-pub is_watched : (c : Config) (limits : Limits) (events : List Event) (connection count : ℕ) (t : Tracked) (mirror : Kept) → AllTracked c limits events connection count t → is_made t ≡ true → count ≤ length t.queued → IsTold t.accepted (take count t.queued) mirror
+pub is_watched : (c : Config) (limits : Limits) (events : List Event) (connection count : ℕ) (t : Tracked) (mirror : Kept)
+    → AllTracked c limits events connection count t → is_made t ≡ true → count ≤ length t.queued
+    → IsTold t.accepted (take count t.queued) mirror
     → Begun c limits (λ from. IsWatched (After from events) connection count (record { mirror = mirror; snapshot = t.snapshot }))
 is_watched c limits events connection count t mirror h made few told = record {
   right = h.0.right;
@@ -173,43 +203,62 @@ is_watched c limits events connection count t mirror h made few told = record {
       let told' = subst (λ (n : ℕ). IsTold t.accepted (take n t.queued) mirror) (sym h.2) told in
       let few' = subst (λ (n : ℕ). n ≤ length t.queued) (sym h.2) few in
       let w = watched_by (the_beginning c limits h.0.right h.0.image) events t h.0.so mirror told' made few' in
-      subst (λ (n : ℕ). IsWatched (After (the_beginning c limits h.0.right h.0.image) events) n count (record { mirror = mirror; snapshot = t.snapshot })) h.1
-      (subst (λ (n : ℕ). IsWatched (After (the_beginning c limits h.0.right h.0.image) events) t.connection n (record { mirror = mirror; snapshot = t.snapshot })) h.2 w);
+      subst (λ (n : ℕ). IsWatched (After (the_beginning c limits h.0.right h.0.image) events) n count
+      (record { mirror = mirror; snapshot = t.snapshot })) h.1
+      (subst (λ (n : ℕ). IsWatched (After (the_beginning c limits h.0.right h.0.image) events) t.connection n
+      (record { mirror = mirror; snapshot = t.snapshot })) h.2 w);
 }
 
-pub not_made : (c : Config) (limits : Limits) (events : List Event) (connection count : ℕ) (t : Tracked) → AllTracked c limits events connection count t → is_made t ≡ false → Begun c limits (λ from. IsMade (After from events) connection → ⊥)
+pub not_made : (c : Config) (limits : Limits) (events : List Event) (connection count : ℕ) (t : Tracked)
+    → AllTracked c limits events connection count t → is_made t ≡ false → Begun c limits (λ from. IsMade (After from events) connection → ⊥)
 not_made c limits events connection count t h isnt = record {
   right = h.0.right;
   image = h.0.image;
-  so = λ made. not_made_by (After (the_beginning c limits h.0.right h.0.image) events) t h.0.so isnt (subst (λ (n : ℕ). IsMade (After (the_beginning c limits h.0.right h.0.image) events) n) (sym h.1) made);
+  so =
+      λ made. not_made_by (After (the_beginning c limits h.0.right h.0.image) events) t h.0.so isnt
+      (subst (λ (n : ℕ). IsMade (After (the_beginning c limits h.0.right h.0.image) events) n) (sym h.1) made);
 }
 
-made_of : (from : Beginning) (events : List Event) (connection : ℕ) (t : Tracked) → Tracks t (After from events) → t.connection ≡ connection → is_made t ≡ true
+made_of : (from : Beginning) (events : List Event) (connection : ℕ) (t : Tracked) → Tracks t (After from events) → t.connection ≡ connection
+    → is_made t ≡ true
     → IsMade (After from events) connection × (length t.queued ≡ queued_for connection (After from events))
 made_of from events connection t h e made = (
   subst (IsMade (After from events)) e (made_by (After from events) t h made),
   ap length h.queued ∙ ap (λ (n : ℕ). queued_for n (After from events)) e,
 )
 
-pub is_too_long : (c : Config) (limits : Limits) (events : List Event) (connection count : ℕ) (t : Tracked) → AllTracked c limits events connection count t → is_made t ≡ true → length t.queued < count
+pub is_too_long : (c : Config) (limits : Limits) (events : List Event) (connection count : ℕ) (t : Tracked)
+    → AllTracked c limits events connection count t → is_made t ≡ true → length t.queued < count
     → Begun c limits (λ from. IsMade (After from events) connection × (queued_for connection (After from events) < count))
 is_too_long c limits events connection count t h made long = record {
   right = h.0.right;
   image = h.0.image;
-  so = let m = made_of (the_beginning c limits h.0.right h.0.image) events connection t h.0.so h.1 made in (m.0, subst (λ (n : ℕ). n < count) m.1 long);
+  so =
+      let m = made_of (the_beginning c limits h.0.right h.0.image) events connection t h.0.so h.1 made in
+      (m.0, subst (λ (n : ℕ). n < count) m.1 long);
 }
 
-pub is_queued : (c : Config) (limits : Limits) (events : List Event) (connection count : ℕ) (t : Tracked) → AllTracked c limits events connection count t → is_made t ≡ true
+pub is_queued : (c : Config) (limits : Limits) (events : List Event) (connection count : ℕ) (t : Tracked)
+    → AllTracked c limits events connection count t → is_made t ≡ true
     → Begun c limits (λ from. IsMade (After from events) connection × (length t.queued ≡ queued_for connection (After from events)))
-is_queued c limits events connection count t h made = record { right = h.0.right; image = h.0.image; so = made_of (the_beginning c limits h.0.right h.0.image) events connection t h.0.so h.1 made }
+is_queued c limits events connection count t h made =
+    record {
+      right = h.0.right;
+      image = h.0.image;
+      so = made_of
+          (the_beginning c limits h.0.right h.0.image) events connection t h.0.so h.1 made;
+    }
 
 -- what is shown of the connection that was watched is what is to be watched of the events
-pub shows_watched : (c : Config) (limits : Limits) (events : List Event) (connection count : ℕ) (t : Tracked) (result : Result Watched WatchError) → AllTracked c limits events connection count t → Shows t count result
+pub shows_watched : (c : Config) (limits : Limits) (events : List Event) (connection count : ℕ) (t : Tracked) (result : Result Watched WatchError)
+    → AllTracked c limits events connection count t → Shows t count result
     → Watches c limits events connection count result
 shows_watched c limits events connection count t (Ok watched) h shows =
-    subst (λ (seen : Option (Option Captured)). Begun c limits (λ from. IsWatched (After from events) connection count (record { mirror = watched.mirror; snapshot = seen }))) (sym shows.1.1.1)
+    subst (λ (seen : Option (Option Captured)). Begun c limits
+    (λ from. IsWatched (After from events) connection count (record { mirror = watched.mirror; snapshot = seen }))) (sym shows.1.1.1)
     (is_watched c limits events connection count t watched.mirror h shows.0 shows.1.0 shows.1.1.0)
 shows_watched c limits events connection count t (Err watch.NoSuchConnection) h shows = not_made c limits events connection count t h shows
-shows_watched c limits events connection count t (Err watch.CutTooLong) h shows = is_too_long c limits events connection count t h shows.0 shows.1
+shows_watched c limits events connection count t (Err watch.CutTooLong) h shows =
+    is_too_long c limits events connection count t h shows.0 shows.1
 shows_watched c limits events connection count t (Err watch.NoMemory) h shows = h.0.right
 shows_watched c limits events connection count t (Err (watch.Config error)) h shows = absurd shows

@@ -11,8 +11,7 @@ use Rattle.mirror.specs.Streams.{messages_so_far, stream_fault}
 use Rattle.replies.specs.declared.event.Event.TheVariants as event
 use Rattle.replies.specs.declared.message.Message.{Message}
 use Rattle.replies.specs.declared.message.Message.TheVariants.{Response as IsResponse, Event as IsEvent}
-use Rattle.session.proofs.ByForms.{KeptByAnswers, KeptByOthers, by_forms}
-use Rattle.session.proofs.Reaching.{reached_by_acts}
+use Rattle.session.proofs.Waiting.{all_counted}
 use Rattle.session.proofs.Waiting.{every_byte_is_taken_or_waits}
 use Rattle.session.specs.Acts.{Now}
 use Rattle.session.specs.Kept.{Kept, Stands}
@@ -43,27 +42,9 @@ get_elsewhere (z ∷ xs) x y d (suc c) other = get_elsewhere xs x y d c (λ e. o
 Counted : Session → Type 0
 Counted s = length s.before ≡ s.now.connections
 
-counted_others : KeptByOthers Counted
-unfolding Counted
-counted_others = record {
-  opens = λ s h. length-append s.before (s.life ∷ []) ∙ ap (λ n. n + 1) h;
-  closes = λ s h. h;
-  accepts = λ l piece s e h. h;
-  agrees = λ l terms s h. h;
-  refers = λ l call s h. h;
-  becomes = λ d s h. h;
-  tells = λ l event s few h. h;
-  hangs = λ l s h. h;
-  takes = λ n s h. h;
-}
-
-counted_answers : KeptByAnswers Counted
-unfolding Counted
-counted_answers l p rest outcome s few h = h
-
 counted : (s : Session) → IsReached s → length s.before ≡ s.now.connections
 unfolding Counted
-counted s r = subst Counted (sym r.is) (reached_by_acts Counted (by_forms Counted counted_others counted_answers) r.from refl r.events)
+counted s r = subst Counted (sym r.is) (all_counted r.from r.events)
 
 -- the life of the connection that was made last
 pub ours : (s : Session) (c : ℕ) → IsReached s → c ≡ s.now.connections → life_of c s ≡ s.life
@@ -72,7 +53,8 @@ ours s c r e = get_there s.before s.life no_life c (e ∙ sym (counted s r))
 -- and of another
 pub others_same : (s t : Session) (c : ℕ) → IsReached s → t.before ≡ s.before → (c ≡ s.now.connections → ⊥) → life_of c t ≡ life_of c s
 others_same s t c r before other =
-    ap (λ (l : List Life). get_or (l ++ t.life ∷ []) c no_life) before ∙ get_elsewhere s.before t.life s.life no_life c (λ e. other (e ∙ counted s r))
+    ap (λ (l : List Life). get_or (l ++ t.life ∷ []) c no_life) before ∙ get_elsewhere s.before t.life s.life no_life c
+    (λ e. other (e ∙ counted s r))
 
 -- ---- bytes
 
@@ -82,13 +64,15 @@ frames said = flat_map frame_said said
 frames_more : (xs ys : List Said) → frames (xs ++ ys) ≡ frames xs ++ frames ys
 unfolding frames
 frames_more [] ys = refl
-frames_more (m ∷ xs) ys = ap (λ (l : List ℕ). frame_said m ++ l) (frames_more xs ys) ∙ sym (append_assoc (frame_said m) (frames xs) (frames ys))
+frames_more (m ∷ xs) ys =
+    ap (λ (l : List ℕ). frame_said m ++ l) (frames_more xs ys) ∙ sym (append_assoc (frame_said m) (frames xs) (frames ys))
 
 said_bytes : (s t : Session) (h : IsFollowed s t) → bytes_of t.life ≡ bytes_of s.life ++ frames h.news
 unfolding frames
 said_bytes s t h = ap (λ (l : Life). flat_map frame_said l.said) h.newly.life ∙ frames_more s.life.said h.news
 
-waits_by : (ls lt : Option Link) (s t : Session) → s.now.link ≡ ls → t.now.link ≡ lt → IsReached s → IsReached t → (h : IsFollowed s t) → drop (length (waiting_of s)) (waiting_of t) ≡ frames h.news
+waits_by : (ls lt : Option Link) (s t : Session) → s.now.link ≡ ls → t.now.link ≡ lt → IsReached s → IsReached t → (h : IsFollowed s t)
+    → drop (length (waiting_of s)) (waiting_of t) ≡ frames h.news
 unfolding frames
 waits_by None None s t es et rs rt h =
     let none : h.news ≡ [] = h.newly.silent (ap is_some es) in
@@ -98,12 +82,18 @@ waits_by None None s t es et rs rt h =
 waits_by None (Some lt) s t es et rs rt h = absurd (let no : true ≡ false = sym (ap is_some et) ∙ h.newly.linked ∙ ap is_some es in cc)
 waits_by (Some ls) None s t es et rs rt h = absurd (let no : false ≡ true = sym (ap is_some et) ∙ h.newly.linked ∙ ap is_some es in cc)
 waits_by (Some ls) (Some lt) s t es et rs rt h =
-    let s_rest : bytes_of s.life ≡ s.life.taken ++ waiting_of s = subst (λ (x : Session). (link : Link) → x.now.link ≡ Some link → bytes_of x.life ≡ x.life.taken ++ waiting_of x) (sym rs.is) (every_byte_is_taken_or_waits rs.from rs.events).rest ls es in
-    let t_rest : bytes_of t.life ≡ t.life.taken ++ waiting_of t = subst (λ (x : Session). (link : Link) → x.now.link ≡ Some link → bytes_of x.life ≡ x.life.taken ++ waiting_of x) (sym rt.is) (every_byte_is_taken_or_waits rt.from rt.events).rest lt et in
+    let s_rest : bytes_of s.life ≡ s.life.taken ++ waiting_of s = subst
+    (λ (x : Session). (link : Link) → x.now.link ≡ Some link → bytes_of x.life ≡ x.life.taken ++ waiting_of x) (sym rs.is)
+    (every_byte_is_taken_or_waits rs.from rs.events).rest ls es in
+    let t_rest : bytes_of t.life ≡ t.life.taken ++ waiting_of t = subst
+    (λ (x : Session). (link : Link) → x.now.link ≡ Some link → bytes_of x.life ≡ x.life.taken ++ waiting_of x) (sym rt.is)
+    (every_byte_is_taken_or_waits rt.from rt.events).rest lt et in
     let taken : t.life.taken ≡ s.life.taken = ap (λ (l : Life). l.taken) h.newly.life in
     let sum : s.life.taken ++ waiting_of t ≡ s.life.taken ++ (waiting_of s ++ frames h.news) =
-    ap (λ (l : List ℕ). l ++ waiting_of t) (sym taken) ∙ sym t_rest ∙ said_bytes s t h ∙ ap (λ (l : List ℕ). l ++ frames h.news) s_rest ∙ append_assoc s.life.taken (waiting_of s) (frames h.news) in
-    ap (drop (length (waiting_of s))) (append_cancel_left s.life.taken (waiting_of t) (waiting_of s ++ frames h.news) sum) ∙ drop_at (waiting_of s) (frames h.news) (length (waiting_of s)) refl
+    ap (λ (l : List ℕ). l ++ waiting_of t) (sym taken) ∙ sym t_rest ∙ said_bytes s t h ∙ ap (λ (l : List ℕ). l ++ frames h.news) s_rest
+    ∙ append_assoc s.life.taken (waiting_of s) (frames h.news) in
+    ap (drop (length (waiting_of s))) (append_cancel_left s.life.taken (waiting_of t) (waiting_of s ++ frames h.news) sum) ∙ drop_at
+    (waiting_of s) (frames h.news) (length (waiting_of s)) refl
 
 -- ---- what was told
 
@@ -112,9 +102,12 @@ some_bytes m = framed_some m
 
 told_zero : (said : List Said) → told_within 0 said ≡ []
 told_zero [] = refl
-told_zero (m ∷ said) = let some = some_bytes m in let no : leb (length (frame_said m)) 0 ≡ false = grind (arith, nat_tests, some) in ap (λ (b : Bool). cond b (m ∷ told_within (0 - length (frame_said m)) said) []) no
+told_zero (m ∷ said) =
+    let some = some_bytes m in let no : leb (length (frame_said m)) 0 ≡ false = grind (arith, nat_tests, some) in ap
+    (λ (b : Bool). cond b (m ∷ told_within (0 - length (frame_said m)) said) []) no
 
-told_more : (xs ys : List Said) (count : ℕ) → told_within count (xs ++ ys) ≡ told_within count xs ++ told_within (count - length (frames xs)) ys
+told_more : (xs ys : List Said) (count : ℕ)
+    → told_within count (xs ++ ys) ≡ told_within count xs ++ told_within (count - length (frames xs)) ys
 unfolding frames
 told_more [] ys count = let same : count - 0 ≡ count = omega arith in sym (ap (λ (n : ℕ). told_within n ys) same)
 told_more (m ∷ xs) ys count = by (leb (length (frame_said m)) count) refl (told_more xs ys (count - length (frame_said m))) where
@@ -124,10 +117,12 @@ told_more (m ∷ xs) ys count = by (leb (length (frame_said m)) count) refl (tol
   sum : length (frame_said m ++ flat_map frame_said xs) ≡ n + length (flat_map frame_said xs)
   sum = length-append (frame_said m) (flat_map frame_said xs)
 
-  by : (b : Bool) → leb n count ≡ b → told_within (count - n) (xs ++ ys) ≡ told_within (count - n) xs ++ told_within (count - n - length (flat_map frame_said xs)) ys
+  by : (b : Bool) → leb n count ≡ b
+      → told_within (count - n) (xs ++ ys) ≡ told_within (count - n) xs ++ told_within (count - n - length (flat_map frame_said xs)) ys
       → cond b (m ∷ told_within (count - n) (xs ++ ys)) [] ≡ cond b (m ∷ told_within (count - n) xs) [] ++ told_within (count - length (frame_said m ++ flat_map frame_said xs)) ys
   by true e rest =
-      let left : count - n - length (flat_map frame_said xs) ≡ count - length (frame_said m ++ flat_map frame_said xs) = omega (arith, sum) in
+      let left : count - n - length (flat_map frame_said xs) ≡ count - length (frame_said m ++ flat_map frame_said xs) = omega
+      (arith, sum) in
       ap (λ (l : List Said). m ∷ l) rest ∙ ap (λ (k : ℕ). m ∷ (told_within (count - n) xs ++ told_within k ys)) left
   by false e rest =
       let less : count < n = grind (arith, nat_tests) in
@@ -143,7 +138,8 @@ last_seen_more before (m ∷ xs) ys = last_seen_more (Some m.snapshot) xs ys
 prints : (m : Message) (d : Debuggee) → says_output m ≡ true → PrintsRunning m d → (p : Program) × (d.program ≡ Some p)
 prints (IsResponse r) d e h = absurd (let no : false ≡ true = e in cc)
 prints (IsEvent (event.Output o)) d e h = by d.program refl h where
-  by : (program : Option Program) → d.program ≡ program → MatchOption program ⊥ (λ p. is_running p.run ≡ true) → (p : Program) × (d.program ≡ Some p)
+  by : (program : Option Program) → d.program ≡ program → MatchOption program ⊥ (λ p. is_running p.run ≡ true)
+      → (p : Program) × (d.program ≡ Some p)
   by None is h = absurd h
   by (Some p) is h = (p, is)
 prints (IsEvent event.Initialized) d e h = absurd (let no : false ≡ true = e in cc)
@@ -152,15 +148,19 @@ prints (IsEvent event.Continued) d e h = absurd (let no : false ≡ true = e in 
 prints (IsEvent (event.Exited b)) d e h = absurd (let no : false ≡ true = e in cc)
 prints (IsEvent event.Terminated) d e h = absurd (let no : false ≡ true = e in cc)
 
-seen_output : (taken : Option Captured) (m : Said) (now : Facts) → says_output m.message ≡ true → PrintsRunning m.message m.snapshot.debuggee → seen_of taken ≡ now → shown m.snapshot ≡ as_running now → seen_of (captured_running taken) ≡ shown m.snapshot
+seen_output : (taken : Option Captured) (m : Said) (now : Facts) → says_output m.message ≡ true
+    → PrintsRunning m.message m.snapshot.debuggee → seen_of taken ≡ now → shown m.snapshot ≡ as_running now
+    → seen_of (captured_running taken) ≡ shown m.snapshot
 seen_output (Some c) m now e prints is fits = ap as_running is ∙ sym fits
 seen_output None m now e runs is fits =
     let p = prints m.message m.snapshot.debuggee e runs in
-    let here : (shown m.snapshot).register 32 ≡ Some p.0.machine.hart.pc = ap (λ (x : Option Program). (shown_by x m.snapshot.numbers).register 32) p.1 in
+    let here : (shown m.snapshot).register 32 ≡ Some p.0.machine.hart.pc = ap
+    (λ (x : Option Program). (shown_by x m.snapshot.numbers).register 32) p.1 in
     let none : (shown m.snapshot).register 32 ≡ None = ap (λ (f : Facts). f.register 32) (fits ∙ sym (ap as_running is)) in
     absurd (let no : Some p.0.machine.hart.pc ≡ None = sym here ∙ none in cc)
 
-seen_taken : (t : Session) (m : Said) (taken : Option Captured) → Fits t m → PrintsRunning m.message m.snapshot.debuggee → IsTaken taken (snapshot_of t.now) → seen_of (taken_at (says_output m.message) taken) ≡ shown m.snapshot
+seen_taken : (t : Session) (m : Said) (taken : Option Captured) → Fits t m → PrintsRunning m.message m.snapshot.debuggee
+    → IsTaken taken (snapshot_of t.now) → seen_of (taken_at (says_output m.message) taken) ≡ shown m.snapshot
 seen_taken t m taken fits runs is = by (says_output m.message) refl where
   by : (b : Bool) → says_output m.message ≡ b → seen_of (taken_at b taken) ≡ shown m.snapshot
   by true e = seen_output taken m (seen_now t) e runs is.facts (fits ∙ ap (λ (b : Bool). seen_at b (seen_now t)) e)
@@ -178,14 +178,18 @@ Suits : Session → Option Said → Type 0
 Suits t None = Unit {0}
 Suits t (Some m) = Fits t m × PrintsRunning m.message m.snapshot.debuggee
 
-seen_after : (t : Session) (before : Option Snapshot) (old new : Option (Option Captured)) (news : List Said) (last : Option Said) → option_map seen_of old ≡ option_map shown before
-    → All (Fits t) news → AllRun news → Suits t last → SeenAfter (last_from (option_map (λ (m : Said). m.message) last) (map (λ (m : Said). m.message) news)) t.now old new
+seen_after : (t : Session) (before : Option Snapshot) (old new : Option (Option Captured)) (news : List Said) (last : Option Said)
+    → option_map seen_of old ≡ option_map shown before
+    → All (Fits t) news → AllRun news → Suits t last
+    → SeenAfter (last_from (option_map (λ (m : Said). m.message) last) (map (λ (m : Said). m.message) news)) t.now old new
     → option_map seen_of new ≡ option_map shown (last_seen (so_far before last) news)
 unfolding AllRun so_far Suits
 seen_after t before old new [] None was fits runs suits h = ap (option_map seen_of) h ∙ was
-seen_after t before old new [] (Some m) was fits runs suits h = ap (option_map seen_of) h.1.1 ∙ ap (λ (f : Facts). Some f) (seen_taken t m h.0 suits.0 suits.1 h.1.0)
+seen_after t before old new [] (Some m) was fits runs suits h =
+    ap (option_map seen_of) h.1.1 ∙ ap (λ (f : Facts). Some f) (seen_taken t m h.0 suits.0 suits.1 h.1.0)
 seen_after t before old new (m ∷ news) last was fits runs suits h =
-    seen_after t before old new news (Some m) was (All-tail (Fits t) m news fits) (All-tail (λ (m : Said). PrintsRunning m.message m.snapshot.debuggee) m news runs)
+    seen_after t before old new news (Some m) was (All-tail (Fits t) m news fits)
+    (All-tail (λ (m : Said). PrintsRunning m.message m.snapshot.debuggee) m news runs)
     (All-head (Fits t) m news fits, All-head (λ (m : Said). PrintsRunning m.message m.snapshot.debuggee) m news runs) h
 
 -- ---- what an event queued is noted
@@ -194,7 +198,8 @@ seen_after t before old new (m ∷ news) last was fits runs suits h =
 abbrev pub with_session : Tracked → Kept → Tracked
 with_session t k = record t { session = k }
 
-pub seen_place : (a b : ℕ) (x y : Life) → b ≡ a → y ≡ x → option_map shown (last_seen None (told_within a x.said)) ≡ option_map shown (last_seen None (told_within b y.said))
+pub seen_place : (a b : ℕ) (x y : Life) → b ≡ a → y ≡ x
+    → option_map shown (last_seen None (told_within a x.said)) ≡ option_map shown (last_seen None (told_within b y.said))
 seen_place a b x y e f = sym (λ i. option_map shown (last_seen None (told_within (e i) (f i).said)))
 
 -- what holds of all holds of the last of them
@@ -202,7 +207,8 @@ of_last : (P : Said → Type 0) (xs ys : List Said) → All P (xs ++ ys) → All
 of_last P [] ys h = h
 of_last P (x ∷ xs) ys h = of_last P xs ys (All-tail P x (xs ++ ys) h)
 
-module _ (old new : Tracked) (s t : Session) (k : Kept) (rs : IsReached s) (rt : IsReached t) (h : Tracks old s) (told : IsFollowed s t) (stands : Stands k t) (same : SameBut (with_session old k) new) where
+module _ (old new : Tracked) (s t : Session) (k : Kept) (rs : IsReached s) (rt : IsReached t) (h : Tracks old s) (told : IsFollowed s t)
+    (stands : Stands k t) (same : SameBut (with_session old k) new) where
   abbrev pub waited : List ℕ
   waited = drop (length old.session.waiting) k.waiting
 
@@ -219,16 +225,21 @@ module _ (old new : Tracked) (s t : Session) (k : Kept) (rs : IsReached s) (rt :
   life_after e = ours t old.connection rt (e ∙ sym told.newly.connections)
 
   more_said : old.connection ≡ s.now.connections → (life_of old.connection t).said ≡ (life_of old.connection s).said ++ told.news
-  more_said e = ap (λ (l : Life). l.said) (life_after e) ∙ ap (λ (l : Life). l.said) told.newly.life ∙ ap (λ (l : Life). l.said ++ told.news) (sym (life_before e))
+  more_said e =
+      ap (λ (l : Life). l.said) (life_after e) ∙ ap (λ (l : Life). l.said) told.newly.life ∙ ap (λ (l : Life). l.said ++ told.news)
+      (sym (life_before e))
 
   more_bytes : old.connection ≡ s.now.connections → bytes_of (life_of old.connection t) ≡ old.queued ++ flat_map frame_said told.news
   unfolding frames
-  more_bytes e = ap bytes_of (life_after e) ∙ said_bytes s t told ∙ ap (λ (l : Life). bytes_of l ++ flat_map frame_said told.news) (sym (life_before e)) ∙ ap (λ (l : List ℕ). l ++ flat_map frame_said told.news) (sym h.queued)
+  more_bytes e =
+      ap bytes_of (life_after e) ∙ said_bytes s t told ∙ ap (λ (l : Life). bytes_of l ++ flat_map frame_said told.news)
+      (sym (life_before e)) ∙ ap (λ (l : List ℕ). l ++ flat_map frame_said told.news) (sym h.queued)
 
   -- of another connection
   elsewhere : (old.connection ≡ s.now.connections → ⊥) → new.queued ≡ old.queued → new.snapshot ≡ old.snapshot → Tracks new t
   elsewhere other queued snapshot =
-      let life : life_of new.connection t ≡ life_of old.connection s = ap (λ (n : ℕ). life_of n t) same.connection ∙ others_same s t old.connection rs told.newly.before other in
+      let life : life_of new.connection t ≡ life_of old.connection s = ap (λ (n : ℕ). life_of n t) same.connection
+      ∙ others_same s t old.connection rs told.newly.before other in
       record {
         stands = subst (λ (x : Kept). Stands x t) (sym same.session) stands;
         current = same.current ∙ h.current ∙ sym told.newly.connections;
@@ -239,7 +250,8 @@ module _ (old new : Tracked) (s t : Session) (k : Kept) (rs : IsReached s) (rt :
             ∙ seen_place old.count new.count (life_of old.connection s) (life_of new.connection t) same.count life;
       }
 
-  seen_here : old.connection ≡ s.now.connections → Noted waited (with_session old k) new → option_map seen_of new.snapshot ≡ option_map shown (last_seen None (told_within old.count (life_of old.connection t).said))
+  seen_here : old.connection ≡ s.now.connections → Noted waited (with_session old k) new
+      → option_map seen_of new.snapshot ≡ option_map shown (last_seen None (told_within old.count (life_of old.connection t).said))
   unfolding AllRun frames so_far Suits
   seen_here e noted =
       let news = told.news in
@@ -247,15 +259,20 @@ module _ (old new : Tracked) (s t : Session) (k : Kept) (rs : IsReached s) (rt :
       let room = old.count - length old.queued in
       let ys = told_within room news in
       let all : (life_of old.connection t).said ≡ said ++ news = more_said e in
-      let good : All Good news = of_last Good said news (subst (All Good) (ap (λ (x : Session). (life_of old.connection x).said) (sym rt.is) ∙ all) (all_are_good rt.from rt.events old.connection)) in
-      let run : AllRun news = of_last (λ (m : Said). PrintsRunning m.message m.snapshot.debuggee) said news (subst AllRun (ap (λ (x : Session). (life_of old.connection x).said) (sym rt.is) ∙ all) (what_is_printed_runs rt.from rt.events old.connection)) in
+      let good : All Good news = of_last Good said news
+      (subst (All Good) (ap (λ (x : Session). (life_of old.connection x).said) (sym rt.is) ∙ all)
+      (all_are_good rt.from rt.events old.connection)) in
+      let run : AllRun news = of_last (λ (m : Said). PrintsRunning m.message m.snapshot.debuggee) said news
+      (subst AllRun (ap (λ (x : Session). (life_of old.connection x).said) (sym rt.is) ∙ all)
+      (what_is_printed_runs rt.from rt.events old.connection)) in
       let sum : length new.queued ≡ length old.queued + length (flat_map frame_said news) =
       ap length (noted.queued ∙ ap (λ (l : List ℕ). old.queued ++ l) news_are) ∙ length-append old.queued (flat_map frame_said news) in
       let few : length (flat_map frame_said news) ≤ 4294967295 = let most = noted.few in omega (arith, sum, most) in
       let part : take room waited ≡ take room (flat_map frame_said news) = ap (take room) news_are in
       let read = messages_within news room few good (ap stream_fault (sym part) ∙ noted.readable) in
       let messages : messages_so_far (take room waited) ≡ map (λ (m : Said). m.message) ys = ap messages_so_far part ∙ read in
-      let after = seen_after t (last_seen None (told_within old.count said)) old.snapshot new.snapshot ys None h.snapshot (told_hold (Fits t) news room told.newly.fits)
+      let after = seen_after t (last_seen None (told_within old.count said)) old.snapshot new.snapshot ys None h.snapshot
+      (told_hold (Fits t) news room told.newly.fits)
       (told_hold (λ (m : Said). PrintsRunning m.message m.snapshot.debuggee) news room run) tt
       (subst (λ (now : Now). SeenAfter (last_from None (map (λ (m : Said). m.message) ys)) now old.snapshot new.snapshot) stands.now
       (subst (λ (l : List Message). SeenAfter (last_from None l) k.now old.snapshot new.snapshot) messages noted.snapshot)) in
@@ -268,9 +285,11 @@ module _ (old new : Tracked) (s t : Session) (k : Kept) (rs : IsReached s) (rt :
   here : old.connection ≡ s.now.connections → Noted waited (with_session old k) new → Tracks new t
   here e noted =
       let life : life_of new.connection t ≡ life_of old.connection t = ap (λ (n : ℕ). life_of n t) same.connection in
-      let bytes : new.queued ≡ bytes_of (life_of old.connection t) = noted.queued ∙ ap (λ (l : List ℕ). old.queued ++ l) news_are ∙ sym (more_bytes e) in
+      let bytes : new.queued ≡ bytes_of (life_of old.connection t) = noted.queued ∙ ap (λ (l : List ℕ). old.queued ++ l) news_are ∙ sym
+      (more_bytes e) in
       let accepted : (life_of old.connection t).accepted ≡ (life_of old.connection s).accepted =
-      ap (λ (l : Life). l.accepted) (life_after e) ∙ ap (λ (l : Life). l.accepted) told.newly.life ∙ ap (λ (l : Life). l.accepted) (sym (life_before e)) in
+      ap (λ (l : Life). l.accepted) (life_after e) ∙ ap (λ (l : Life). l.accepted) told.newly.life ∙ ap (λ (l : Life). l.accepted)
+      (sym (life_before e)) in
       record {
         stands = subst (λ (x : Kept). Stands x t) (sym same.session) stands;
         current = same.current ∙ h.current ∙ sym told.newly.connections;
@@ -286,5 +305,7 @@ module _ (old new : Tracked) (s t : Session) (k : Kept) (rs : IsReached s) (rt :
     by : (b : Bool) → eqb old.current old.connection ≡ b → NotedIf b waited (with_session old k) new → Tracks new t
     by true e noted = let is : old.current ≡ old.connection = grind (arith, nat_tests) in here (sym is ∙ h.current) noted
     by false e noted =
-        let other : old.connection ≡ s.now.connections → ⊥ = λ same. (let is : old.current ≡ old.connection = h.current ∙ sym same in let test : eqb old.current old.connection ≡ true = grind (arith, nat_tests, is) in let no : true ≡ false = sym test ∙ e in cc) in
+        let other : old.connection ≡ s.now.connections → ⊥ = λ same.
+        (let is : old.current ≡ old.connection = h.current ∙ sym same in let test : eqb old.current old.connection ≡ true = grind
+        (arith, nat_tests, is) in let no : true ≡ false = sym test ∙ e in cc) in
         elsewhere other noted.0 noted.1

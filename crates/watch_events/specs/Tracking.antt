@@ -9,7 +9,7 @@ use Rattle.session.specs.Effects.{ended_as, sliced}
 use Rattle.session.specs.Sessions.{After, Beginning, Effect, Session, bytes_of, histories, life_of, snapshot_of, up_to_fault}
 use Rattle.session.specs.Shown.{shown}
 use Rattle.session.specs.Snapshots.{Captured, IsTaken, as_running, seen_of}
-use Rattle.session.specs.declared.event.Ending.{Ending}
+use Rattle.session.specs.declared.event.SliceEnd.{SliceEnd}
 use Rattle.session.specs.declared.event.Event.{Event}
 use Rattle.session.specs.declared.event.Event.TheVariants.{Slice}
 use Rattle.headline.specs.Headline.{last_seen, told_within}
@@ -78,7 +78,7 @@ SameWatched old new = (new.connection ≡ old.connection) × (new.count ≡ old.
 
 -- where memory was left, it is so after a slice that is seen at its end as it was when each message was queued, and the answer is how it
 -- ended
-abbrev pub Steps : {E : Type 0} → ℕ → Tracked → Result Ending E → Tracked → Type 0
+abbrev pub Steps : {E : Type 0} → ℕ → Tracked → Result SliceEnd E → Tracked → Type 0
 Steps n old (Ok ending) new = (s : Session) → IsReached s → Tracks old s → IsFollowed s (Effect s (Slice n))
     → Tracks new (Effect s (Slice n)) × (ended_as (sliced histories n s).ending ≡ ending)
 Steps n old (Err why) new = ⊤

@@ -7,7 +7,7 @@ ghost use Rattle.watch_events.specs.Tracking as spec;
 ghost use Rattle.watch_events.specs.Tracking.{Keeps, NotedIf, SameBut, SameWatched, Steps};
 
 use crate::last::last_message;
-use session::{Ending, Event, EventError, Session, Snapshot};
+use session::{Event, EventError, Session, SliceEnd, Snapshot};
 use std::alloc::{AllocError, Global};
 use std::cmp;
 use std::marker::Model;
@@ -161,7 +161,7 @@ impl Track {
         let mut ending = self.step(0)?;
         for _made in 0..moves {
             match ending {
-                Ending::Spent => ending = self.step(1)?,
+                SliceEnd::Spent => ending = self.step(1)?,
                 _ => return Ok(()),
             }
         }
@@ -169,14 +169,14 @@ impl Track {
     }
 
     // A slice of so few moves that there is to see after it what there was at each message that it queued.
-    fn step(&mut self, moves: u32) -> Result<Ending, AllocError>
+    fn step(&mut self, moves: u32) -> Result<SliceEnd, AllocError>
         ensures keeps { Steps moves self.old result self.new }
         ensures same { SameWatched self.old self.new }
     {
         let before = self.session.waiting().len();
         let sliced = self.session.slice(moves);
         match sliced.ending {
-            Ending::NoMemory => Err(AllocError),
+            SliceEnd::NoMemory => Err(AllocError),
             ending => {
                 self.note(before)?;
                 Ok(ending)

@@ -1,7 +1,8 @@
 -- What is no name of the group is a name of the next, or unknown.
 use Rattle.std.proofs.Common.{◌≡◌, rules}
 use Rattle.std.specs.List.{AllByRecursion}
-use Rattle.protocol.specs.Commands.{Row, execution_requests, inspection_requests}
+use Rattle.protocol.specs.Commands.{execution_requests, inspection_requests}
+use Rattle.protocol.specs.Rows.{Row}
 use Rattle.protocol.proofs.Requests.{others_skipped}
 use Rattle.protocol.proofs.command.execution_command.Goals as goal
 

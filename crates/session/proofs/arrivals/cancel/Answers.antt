@@ -11,8 +11,11 @@ loop-i-preserved c =
     record {
       items = changes_next _ xs ys c.loop-i.i _ _ within c.loop-i.invariant.items c.index_mut.ensures.value c.mark.ensures.cancelled;
       fate = elim c.if-mark.branch [
-        | then-mark w ↦ w.fate-is ∙ fate_next _ xs ys _ c.loop-i.i _ true within c.loop-i.invariant.items c.index_mut.ensures.value (sym w.if-mark.true ∙ c.mark.ensures.named)
-        | else-mark w ↦ w.fate-is ∙ c.loop-i.invariant.fate ∙ fate_next _ xs ys _ c.loop-i.i _ false within c.loop-i.invariant.items c.index_mut.ensures.value (sym w.if-mark.false ∙ c.mark.ensures.named)
+        | then-mark w ↦ w.fate-is ∙ fate_next _ xs ys _ c.loop-i.i _ true within c.loop-i.invariant.items c.index_mut.ensures.value
+            (sym w.if-mark.true ∙ c.mark.ensures.named)
+        | else-mark w ↦ w.fate-is ∙ c.loop-i.invariant.fate
+            ∙ fate_next _ xs ys _ c.loop-i.i _ false within c.loop-i.invariant.items c.index_mut.ensures.value
+            (sym w.if-mark.false ∙ c.mark.ensures.named)
       ];
       len = c.loop-i.invariant.len;
       capacity = c.loop-i.invariant.capacity;

@@ -10,11 +10,16 @@ use Rattle.session.proofs.captured.frames.Goals as goal
 pub loop-index-preserved : goal.loop-index-preserved
 loop-index-preserved c =
     let places : List ℕ = addresses c.args.machine.now in
-    let calls : length c.calls.result.now.calls ≡ length c.args.machine.now.calls.calls = ap (λ (k : Kept). length k.calls) c.calls.ensures in
+    let calls : length c.calls.result.now.calls ≡ length c.args.machine.now.calls.calls = ap
+    (λ (k : Kept). length k.calls) c.calls.ensures in
     let within : c.loop-index.index < length places = omega (arith, c.loop-index-test.true, c.kept-total.ensures.kept, calls) in
-    let framed : c.in_ok-frame.field-0 ≡ frame_in c.args.lines.now c.args.handles.now c.loop-index.index (slice_index places c.loop-index.index) =
+    let framed : c.in_ok-frame.field-0 ≡ frame_in c.args.lines.now c.args.handles.now c.loop-index.index
+    (slice_index places c.loop-index.index) =
     c.in_ok-frame.ensures ∙ ap (frame_in c.args.lines.now c.args.handles.now c.loop-index.index) c.address_of-address.ensures in
-    let more : c.push.new.self.items ≡ c.loop-index.frames.items ++ frame_in c.args.lines.now c.args.handles.now c.loop-index.index (slice_index places c.loop-index.index) ∷ [] =
+    let more : c.push.new.self.items ≡ c.loop-index.frames.items ++ frame_in c.args.lines.now c.args.handles.now c.loop-index.index
+    (slice_index places c.loop-index.index) ∷ [] =
     c.in_ok-push.ensures.items ∙ ap (λ (f : FrameInfo). c.loop-index.frames.items ++ f ∷ []) framed in
-    ap (λ (l : List FrameInfo). l ++ frames_from c.args.lines.now c.args.handles.now (c.loop-index.index + 1) (drop (c.loop-index.index + 1) places)) more
-    ∙ one_more c.args.lines.now c.args.handles.now places c.loop-index.index c.loop-index.frames.items (frames_from c.args.lines.now c.args.handles.now 0 places) within c.loop-index.invariant
+    ap (λ (l : List FrameInfo). l ++ frames_from c.args.lines.now c.args.handles.now (c.loop-index.index + 1)
+    (drop (c.loop-index.index + 1) places)) more
+    ∙ one_more c.args.lines.now c.args.handles.now places c.loop-index.index c.loop-index.frames.items
+    (frames_from c.args.lines.now c.args.handles.now 0 places) within c.loop-index.invariant

@@ -7,5 +7,6 @@ pub returns-in_ok-program-in-Some : goal.returns-in_ok-program-in-Some
 returns-in_ok-program-in-Some c =
     let p = c.in_ok-program-in-Some.program in
     let size = c.args.size in
-    let h = subst (λ (text : List ℕ). (error_of text size ≡ None) × (p ≡ given c.in-Some.path text size)) c.as_slice.ensures c.in_ok-program-in-Some.ensures in
+    let h = subst (λ (text : List ℕ). (error_of text size ≡ None) ×
+    (p ≡ given c.in-Some.path text size)) c.as_slice.ensures c.in_ok-program-in-Some.ensures in
     subst (λ (x : Option (List ℕ × List ℕ)). Loads x size (Ok (Some p))) (sym c.in-Some.is) (h.0, ap (λ x. Some x) h.1)

@@ -17,7 +17,8 @@ returns-in-Ok-Bytes-clause-went g c known =
 pub returns-in-Ok-End-clause-went : goal.returns-in-Ok-End-clause-went
 returns-in-Ok-End-clause-went g c known =
     let ended = rw c.in-Ok-End.field-0-is at c.in-Ok-End.ensures.bytes in
-    rw c.leave.ensures.end (input_ended _ _ c.args.session.now c.leave.new.session Run c.requires.due c.requires.polls ended.0 ended.1 c.leave.ensures.dropped)
+    rw c.leave.ensures.end
+    (input_ended _ _ c.args.session.now c.leave.new.session Run c.requires.due c.requires.polls ended.0 ended.1 c.leave.ensures.dropped)
 
 pub returns-in-Err-clause-went : goal.returns-in-Err-clause-went
 returns-in-Err-clause-went g c known = rw c.leave-in-Err.ensures.end (comes_fail _ _ c.args.session.now c.leave-in-Err.new.session Run c.requires.due c.requires.polls c.in-Err.ensures.bytes c.leave-in-Err.ensures.dropped)

@@ -8,7 +8,8 @@ pub returns-in-Ok-eq0-clause-went : goal.returns-in-Ok-eq0-clause-went
 returns-in-Ok-eq0-clause-went g c known =
     let ended = rw c.in-Ok-eq0.field-0-test at c.in-Ok-eq0.ensures.bytes in
     let room : 0 < length c.recv_wait.new.room = search rules in
-    rw c.leave.ensures.end (input_ended _ _ c.args.session.now c.leave.new.session Receive c.requires.due tt ended.0 (ended.1 refl room) c.leave.ensures.dropped)
+    rw c.leave.ensures.end
+    (input_ended _ _ c.args.session.now c.leave.new.session Receive c.requires.due tt ended.0 (ended.1 refl room) c.leave.ensures.dropped)
 
 pub returns-in-Ok-clause-went : goal.returns-in-Ok-clause-went
 returns-in-Ok-clause-went g c known =

@@ -7,7 +7,10 @@ use Rattle.transport.proofs.drives.turn.Goals as goal
 pub returns-then-finished-clause-went : goal.returns-then-finished-clause-went
 returns-then-finished-clause-went g c =
     let none : length c.waiting.result.now ≡ 0 = grind (arith, nat_tests) in
-    rw c.leave.ensures.end (all_said _ c.args.session.now c.leave.new.session (leave_is_due c.args.session.now c.waiting.result.now c.waiting.ensures.now none (sym c.if-finished.ensures.now)) c.leave.ensures.dropped)
+    rw c.leave.ensures.end
+    (all_said _ c.args.session.now c.leave.new.session
+    (leave_is_due c.args.session.now c.waiting.result.now c.waiting.ensures.now none
+    (sym c.if-finished.ensures.now)) c.leave.ensures.dropped)
 
 pub run-requires-clause-moves : goal.run-requires-clause-moves
 run-requires-clause-moves g c = granted

@@ -5,13 +5,17 @@ use Rattle.transport.proofs.inbox.take_message.Goals as goal
 
 pub returns-in-Err : goal.returns-in-Err
 returns-in-Err c = record {
-  takes = λ heard s. fails c.loop-body.unframer heard c.in-Some.body.now c.in-Err.error c.in-Some.ensures c.in-Err.ensures.means (c.loop-body.invariant.heard heard s);
+  takes =
+      λ heard s. fails c.loop-body.unframer heard c.in-Some.body.now c.in-Err.error c.in-Some.ensures c.in-Err.ensures.means
+      (c.loop-body.invariant.heard heard s);
   tail = c.loop-body.invariant.tail;
 }
 
 pub loop-body-preserved : goal.loop-body-preserved
 loop-body-preserved c = record {
-  heard = λ heard s. ignored c.loop-body.unframer _ heard c.in-Some.body.now c.in-Some.ensures c.next_body.follows.holds-at-none (sym c.in-Ok.ensures.means ∙ ap (λ i. Ok i) c.in-Ignored.is) (c.loop-body.invariant.heard heard s);
+  heard =
+      λ heard s. ignored c.loop-body.unframer _ heard c.in-Some.body.now c.in-Some.ensures c.next_body.follows.holds-at-none
+      (sym c.in-Ok.ensures.means ∙ ap (λ i. Ok i) c.in-Ignored.is) (c.loop-body.invariant.heard heard s);
   tail = ap (λ (k : Unframed). k.tail) c.next_body.follows.holds-at-none ∙ c.loop-body.invariant.tail;
 }
 

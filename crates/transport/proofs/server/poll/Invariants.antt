@@ -7,5 +7,6 @@ use Rattle.transport.proofs.server.poll.Given as goal
 abbrev pub invariant-reading : goal.invariant-reading
 invariant-reading g l = record {
   counted : l.reads ≡ l.made;
-  listens : (heard : Heard) → HasRead l.fn.inbox heard → Listens (g.R.Read.remaining l.fn.reader) (g.R.Read.remaining l.reader) heard l.inbox;
+  listens : (heard : Heard) → HasRead l.fn.inbox heard
+      → Listens (g.R.Read.remaining l.fn.reader) (g.R.Read.remaining l.reader) heard l.inbox;
 }

@@ -17,4 +17,5 @@ loop-body-preserved c =
     }
 
 pub returns-clause-last : goal.returns-clause-last
-returns-clause-last c = at_last c.args.bytes.now c.loop-body.unframer.waiting c.loop-body.last c.in_default.ensures.body c.loop-body.invariant.last
+returns-clause-last c =
+    at_last c.args.bytes.now c.loop-body.unframer.waiting c.loop-body.last c.in_default.ensures.body c.loop-body.invariant.last

@@ -15,8 +15,10 @@ returns-in-Some-mark c =
     let is : k.now.debuggee.program ≡ Some p = sym (ap (λ (x : Kept). x.now.debuggee.program) c.self.view_is) ∙ c.in-Some.is in
     let owed = sym c.owed.ensures ∙ c.in_default-owed.is in
     let runnable = ap (is_runnable_by k.now.link) (sym c.run.ensures) ∙ sym c.is_given_time.ensures ∙ c.if-not-is_given_time.false in
-    let room = room_of k.waiting c.self.inside.buffer c.len.result (ap (λ (x : Kept). x.waiting) c.self.view_is) c.len.ensures c.if-len-gt-FULL.false in
-    subst (λ (w : Why). Decides (Stop w) k c.args.more) (sym c.why.ensures) (marks_there k p c.in-Some-mark.mark c.args.more is owed runnable room (sym c.mark.ensures ∙ c.in-Some-mark.is))
+    let room = room_of k.waiting c.self.inside.buffer c.len.result
+    (ap (λ (x : Kept). x.waiting) c.self.view_is) c.len.ensures c.if-len-gt-FULL.false in
+    subst (λ (w : Why). Decides (Stop w) k c.args.more) (sym c.why.ensures)
+    (marks_there k p c.in-Some-mark.mark c.args.more is owed runnable room (sym c.mark.ensures ∙ c.in-Some-mark.is))
 
 pub returns-then-is_check_due : goal.returns-then-is_check_due
 returns-then-is_check_due c =
@@ -25,7 +27,8 @@ returns-then-is_check_due c =
     let is : k.now.debuggee.program ≡ Some p = sym (ap (λ (x : Kept). x.now.debuggee.program) c.self.view_is) ∙ c.in-Some.is in
     let owed = sym c.owed.ensures ∙ c.in_default-owed.is in
     let runnable = ap (is_runnable_by k.now.link) (sym c.run.ensures) ∙ sym c.is_given_time.ensures ∙ c.if-not-is_given_time.false in
-    let room = room_of k.waiting c.self.inside.buffer c.len.result (ap (λ (x : Kept). x.waiting) c.self.view_is) c.len.ensures c.if-len-gt-FULL.false in
+    let room = room_of k.waiting c.self.inside.buffer c.len.result
+    (ap (λ (x : Kept). x.waiting) c.self.view_is) c.len.ensures c.if-len-gt-FULL.false in
     let none = sym c.mark.ensures ∙ c.in_default-mark.is in
     checks_there k p c.args.more is owed runnable room none (sym c.is_check_due.ensures ∙ c.if-is_check_due.true)
 
@@ -36,12 +39,14 @@ returns-then-retired-self c =
     let is : k.now.debuggee.program ≡ Some p = sym (ap (λ (x : Kept). x.now.debuggee.program) c.self.view_is) ∙ c.in-Some.is in
     let owed = sym c.owed.ensures ∙ c.in_default-owed.is in
     let runnable = ap (is_runnable_by k.now.link) (sym c.run.ensures) ∙ sym c.is_given_time.ensures ∙ c.if-not-is_given_time.false in
-    let room = room_of k.waiting c.self.inside.buffer c.len.result (ap (λ (x : Kept). x.waiting) c.self.view_is) c.len.ensures c.if-len-gt-FULL.false in
+    let room = room_of k.waiting c.self.inside.buffer c.len.result
+    (ap (λ (x : Kept). x.waiting) c.self.view_is) c.len.ensures c.if-len-gt-FULL.false in
     let none = sym c.mark.ensures ∙ c.in_default-mark.is in
     let due = sym c.is_check_due.ensures ∙ c.if-is_check_due.false in
     let retired = c.retired.ensures ∙ ap (λ (d : Debugged). d.retired) c.machine.ensures in
     let last = ap (λ (x : Kept). x.now.limits.last_retired) c.self.view_is in
-    limits_there k p c.args.more is owed runnable room none due c.if-not-more.false (many_of k.now.limits.last_retired _ p.machine.retired c.retired.result last retired c.if-retired-self.true)
+    limits_there k p c.args.more is owed runnable room none due c.if-not-more.false
+    (many_of k.now.limits.last_retired _ p.machine.retired c.retired.result last retired c.if-retired-self.true)
 
 pub returns : goal.returns
 returns c =
@@ -50,9 +55,11 @@ returns c =
     let is : k.now.debuggee.program ≡ Some p = sym (ap (λ (x : Kept). x.now.debuggee.program) c.self.view_is) ∙ c.in-Some.is in
     let owed = sym c.owed.ensures ∙ c.in_default-owed.is in
     let runnable = ap (is_runnable_by k.now.link) (sym c.run.ensures) ∙ sym c.is_given_time.ensures ∙ c.if-not-is_given_time.false in
-    let room = room_of k.waiting c.self.inside.buffer c.len.result (ap (λ (x : Kept). x.waiting) c.self.view_is) c.len.ensures c.if-len-gt-FULL.false in
+    let room = room_of k.waiting c.self.inside.buffer c.len.result
+    (ap (λ (x : Kept). x.waiting) c.self.view_is) c.len.ensures c.if-len-gt-FULL.false in
     let none = sym c.mark.ensures ∙ c.in_default-mark.is in
     let due = sym c.is_check_due.ensures ∙ c.if-is_check_due.false in
     let retired = c.retired.ensures ∙ ap (λ (d : Debugged). d.retired) c.machine.ensures in
     let last = ap (λ (x : Kept). x.now.limits.last_retired) c.self.view_is in
-    free_there k p c.args.more is owed runnable room none due c.if-not-more.false (few_of k.now.limits.last_retired _ p.machine.retired c.retired.result last retired c.if-retired-self.false)
+    free_there k p c.args.more is owed runnable room none due c.if-not-more.false
+    (few_of k.now.limits.last_retired _ p.machine.retired c.retired.result last retired c.if-retired-self.false)

@@ -8,4 +8,5 @@ returns-in-Some c = slice_ends c.args.moves c.loop.counter c.loop.moved c.args.s
 pub returns : goal.returns
 returns c =
     let counter = c.loop.counter in
-    absurd (has_ended c.args.moves counter c.loop.moved c.args.self.now c.loop.self c.loop.invariant (subst (λ (m : ℕ). 2 * m + 4 ≤ counter) c.from.ensures c.loop-test.false))
+    absurd (has_ended c.args.moves counter c.loop.moved c.args.self.now c.loop.self c.loop.invariant
+    (subst (λ (m : ℕ). 2 * m + 4 ≤ counter) c.from.ensures c.loop-test.false))

@@ -8,4 +8,5 @@ use Rattle.session.proofs.state.State.stretch.Goals as goal
 pub returns-in-End-clause-stretches : goal.returns-in-End-clause-stretches
 returns-in-End-clause-stretches c = λ m.
     let d = subst (λ (x : Next). Decides x c.args.self.now (ltb 0 c.args.left)) c.in-End.is c.next.ensures in
-    subst (λ (x : Step). Stretches (m + c.args.left) m c.args.self.now x c.args.self.now) (sym c.ends.ensures) (ends_there (m + c.args.left) m (ltb 0 c.args.left) c.args.self.now c.in-End.ending (is_left m c.args.left) d)
+    subst (λ (x : Step). Stretches (m + c.args.left) m c.args.self.now x c.args.self.now) (sym c.ends.ensures)
+    (ends_there (m + c.args.left) m (ltb 0 c.args.left) c.args.self.now c.in-End.ending (is_left m c.args.left) d)

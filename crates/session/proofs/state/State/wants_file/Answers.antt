@@ -1,7 +1,7 @@
 use Rattle.std.proofs.Common.{sym, ap, ◌∙◌}
 use Rattle.std.specs.Option.{option_copied}
 use Rattle.session.specs.Arrivals.{first_pending}
-use Rattle.session.specs.Demands.{run_of}
+use Rattle.handlers.specs.Demands.{run_of}
 use Rattle.session.specs.Kept.{Kept}
 use Rattle.session.proofs.Wanting.{wants_first}
 use Rattle.session.proofs.state.State.wants_file.Goals as goal
@@ -10,5 +10,7 @@ pub returns-in-Some-first : goal.returns-in-Some-first
 returns-in-Some-first c =
     let k : Kept = c.args.self.now in
     let link = sym (ap (λ (x : Kept). x.now.link) c.self.view_is) ∙ c.in-Some.is in
-    let first = sym (ap option_copied c.in-Some-first.is) ∙ c.first.ensures ∙ ap (λ (x : Kept). first_pending x.now.arrivals.pending) c.self.view_is in
-    wants_first k.now c.in-Some.link c.run_of-run.result c.in-Some-first.first.now _ link (c.run_of-run.ensures ∙ ap (λ (x : Kept). run_of x.now.debuggee.program) c.self.view_is) first c.wanted_by.ensures
+    let first = sym (ap option_copied c.in-Some-first.is) ∙ c.first.ensures ∙ ap
+    (λ (x : Kept). first_pending x.now.arrivals.pending) c.self.view_is in
+    wants_first k.now c.in-Some.link c.run_of-run.result c.in-Some-first.first.now _ link
+    (c.run_of-run.ensures ∙ ap (λ (x : Kept). run_of x.now.debuggee.program) c.self.view_is) first c.wanted_by.ensures

@@ -1,5 +1,5 @@
 use Rattle.std.proofs.Common.{◌∙◌, arith, subst}
-use Rattle.session.specs.declared.event.Ending.{Ending}
+use Rattle.session.specs.declared.event.SliceEnd.{SliceEnd}
 use Rattle.watch_events.proofs.Tracked.{SlicesOf, all_slices, few_slices, first_slice, next_slice}
 use Rattle.watch_events.proofs.track.Track.slice.Goals as goal
 
@@ -17,7 +17,7 @@ returns-in_default c = record {
 
 pub loop-made-preserved : goal.loop-made-preserved
 loop-made-preserved c =
-    let was = subst (λ (e : Ending). SlicesOf c.args.self.now c.loop-made._made e c.loop-made.self) c.in-Spent.is c.loop-made.invariant.slices in
+    let was = subst (λ (e : SliceEnd). SlicesOf c.args.self.now c.loop-made._made e c.loop-made.self) c.in-Spent.is c.loop-made.invariant.slices in
     let before = c.loop-made.invariant.same in
     let after = c.step-in-Spent.ensures.same in
     record {
@@ -29,4 +29,5 @@ pub returns-clause-keeps : goal.returns-clause-keeps
 returns-clause-keeps c =
     let least = c.loop-made-test.false in
     let most = c.loop-made.auto._made-end in
-    all_slices c.args.self.now c.loop-made.self c.loop-made._made c.args.moves c.loop-made.ending (omega (arith, least, most)) c.loop-made.invariant.slices
+    all_slices c.args.self.now c.loop-made.self c.loop-made._made c.args.moves c.loop-made.ending
+    (omega (arith, least, most)) c.loop-made.invariant.slices

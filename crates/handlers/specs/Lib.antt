@@ -1,0 +1,42 @@
+-- How requests are handled: in which phases each is taken, what it asks of the program, and what comes of it.
+
+-- how far a connection has come, and what was agreed on it
+pub mod Phases
+-- in which phases a request is taken, and what it asks of the program that is debugged
+pub mod Demands
+-- how much memory a machine gets
+pub mod Sizes
+-- what a request is answered by, and what an answer is
+pub mod Given
+-- the kinds of successes
+pub mod Successes
+-- what an editor is told of the program that it debugs
+pub mod Telling
+-- the source, and how the editor counts
+pub mod Views
+-- each request, in the file of its name: its phases, what it asks, and what comes of it
+pub mod Initialize
+pub mod Launch
+pub mod Attach
+pub mod ConfigurationDone
+pub mod Threads
+pub mod Cancel
+pub mod Restart
+pub mod Terminate
+pub mod Disconnect
+pub mod SetExceptionBreakpoints
+pub mod Continue
+pub mod Stepping
+pub mod Pause
+-- what sets breakpoints, and the two requests that do
+pub mod Breaks
+pub mod SetBreakpoints
+pub mod SetInstructionBreakpoints
+-- what looks into the program, and the two requests that set something in it
+pub mod Looking
+pub mod SetVariable
+pub mod WriteMemory
+-- the list of the requests
+pub mod Requests
+-- what the code of an answer changes, and which answer it stands for
+pub mod Changes

@@ -1,0 +1,17 @@
+-- `setBreakpoints`: the breakpoints of source lines are given these (DAP specification, `SetBreakpointsRequest`).
+use Rattle.protocol.specs.declared.command.Command.TheVariants.{SetBreakpoints}
+use Rattle.protocol.specs.declared.set_breakpoints.SetBreakpointsArguments.{SetBreakpointsArguments}
+use Rattle.handlers.specs.declared.terms.Terms.{Terms}
+use Rattle.handlers.specs.declared.demand.Demand.{Demand}
+use Rattle.handlers.specs.declared.phase.Phases.TheVariants.{Debugging}
+use Rattle.handlers.specs.Demands.{asks_program, taken_in}
+use Rattle.handlers.specs.Given.{Answering, Given}
+use Rattle.handlers.specs.Breaks as breaks
+
+-- in which phases it is taken, and what it asks of the program
+abbrev pub demand : Demand
+demand = taken_in Debugging asks_program
+
+-- what comes of it
+abbrev pub success : Given → Terms → SetBreakpointsArguments → Answering
+success given terms arguments = breaks.success given terms (SetBreakpoints arguments)

@@ -1,0 +1,31 @@
+//! `continue`: the program goes on.
+ghost use Rattle.std.specs.Prelude.{◌≡◌};
+ghost use Rattle.handlers.specs.Given.{Given as AGiven};
+ghost use Rattle.handlers.specs.Changes.{answering_as};
+ghost use Rattle.handlers.specs.Continue as spec;
+
+use crate::answer::{Answer, changing_program};
+use crate::change::ProgramChange;
+use crate::demand::Demand;
+use crate::phase::Phases;
+use crate::terms::Terms;
+use replies::ResponseBody;
+use stepping::Goal;
+
+/// In which phases it is taken, and what it asks of the program.
+pub(crate) fn demand(thread: i32) -> Demand
+    ensures { result ≡ spec.demand thread }
+{
+    Demand::still(thread).taken_in(Phases::Active)
+}
+
+/// What comes of it.
+pub(crate) fn success(terms: Terms) -> Answer
+    ensures { (given : AGiven) → answering_as given.debuggee result ≡ spec.success given terms }
+{
+    changing_program(
+        ProgramChange::Resume(Goal::Go),
+        terms,
+        ResponseBody::Continue,
+    )
+}

@@ -1,0 +1,25 @@
+//! `threads`: which threads there are.
+ghost use Rattle.std.specs.Prelude.{◌≡◌};
+ghost use Rattle.handlers.specs.Given.{Given as AGiven};
+ghost use Rattle.handlers.specs.Changes.{answering_as};
+ghost use Rattle.handlers.specs.Threads as spec;
+
+use crate::answer::{Answer, agreeing};
+use crate::demand::Demand;
+use crate::phase::Phases;
+use crate::terms::Terms;
+use replies::ResponseBody;
+
+/// In which phases it is taken, and what it asks of the program.
+pub(crate) fn demand() -> Demand
+    ensures { result ≡ spec.demand }
+{
+    Demand::nothing().taken_in(Phases::Listening)
+}
+
+/// What comes of it.
+pub(crate) fn success(terms: Terms) -> Answer
+    ensures { (given : AGiven) → answering_as given.debuggee result ≡ spec.success given terms }
+{
+    agreeing(terms, ResponseBody::Threads)
+}

@@ -1,0 +1,26 @@
+-- How the table of bodies has a body: in a form that is lawful, or always the same.
+use Rattle.std.proofs.Common.{◌≡◌, ℕ, ◌≤◌, List, true, false, Some}
+use Rattle.serde_json.specs.Data.{Data, depth}
+use Rattle.serde_json.specs.Written.{has_float}
+use Rattle.replies.specs.declared.response.ResponseBody.{ResponseBody}
+use Rattle.replies.specs.Bodies.{always, body_in, formed, in_form, row}
+use Rattle.replies.specs.Forms.{Form}
+use Rattle.replies.specs.Laws.{is_ordered}
+use Rattle.replies.proofs.Lawful.{Lawful}
+use Rattle.replies.proofs.Simple.{is_simple}
+
+-- the bodies that are made of such values, after a success of this command
+pub record HasForm (n : ℕ) (command : List ℕ) {A : Type 0} (form : Form A) (make : A → ResponseBody) : Type 0 where
+  pub lawful : Lawful n form
+  pub shallow : n ≤ 100
+  pub is_row : (x : A) → row (make x) ≡ in_form command form x
+  pub is_taken : (message : Data) → body_in command message ≡ (formed command form make).found message
+
+-- a body that has always this value
+pub record IsAlways (command : List ℕ) (value : Data) (body : ResponseBody) : Type 0 where
+  pub simple : is_simple value ≡ true
+  pub shallow : depth value ≤ 100
+  pub no_float : has_float value ≡ false
+  pub ordered : is_ordered value ≡ true
+  pub is_row : row body ≡ always command value
+  pub is_taken : (message : Data) → body_in command message ≡ Some body

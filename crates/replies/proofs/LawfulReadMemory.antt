@@ -1,0 +1,47 @@
+-- The body of `readMemory`: its form is lawful.
+use Rattle.std.proofs.Common.{◌≡◌, ℕ, ◌==◌, List, Option, None, Bool, true, false, refl, arith}
+use Rattle.std.specs.Prelude.{Some, codes, ◌&&◌, if◌then◌else◌}
+use Rattle.std.proofs.lemmas.Bool.{and_parts}
+use Rattle.std.proofs.lemmas.Bool.Decides.{nat_tests}
+use Rattle.replies.specs.Addresses as addresses
+use Rattle.replies.specs.EncodedBytes.{are_bytes, encoded_bytes}
+use Rattle.replies.specs.Forms.{field, is_in_if, is_word, none, optional, whole}
+use Rattle.replies.specs.declared.read_memory.ReadMemory.{ReadMemory}
+use Rattle.replies.specs.ReadMemory.{or_0, read_memory, unless_0}
+use Rattle.replies.proofs.Addresses.{lawful_address}
+use Rattle.replies.proofs.EncodedBytes.{lawful_encoded_bytes}
+use Rattle.replies.proofs.Lawful.{Lawful, LawfulFields, lawful_whole, lawful_none, lawful_field, lawful_optional, lawful_object, lawful_made_of}
+use Rattle.replies.specs.declared.response.ResponseBody.TheVariants as body
+use Rattle.replies.proofs.HasForm.{HasForm}
+
+or_0-unless_0 : (n : ℕ) → or_0 (unless_0 n) ≡ n
+or_0-unless_0 n = by_test (n == 0) refl where
+  by_test : (b : Bool) → (n == 0) ≡ b → or_0 (if b then None else Some n) ≡ n
+  by_test true e = grind (arith, nat_tests)
+  by_test false e = refl
+
+unless_0-or_0 : (o : Option ℕ) → is_in_if is_word o ≡ true → is_in_if is_word (unless_0 (or_0 o)) ≡ true
+unless_0-or_0 None h = refl
+unless_0-or_0 (Some n) h = by_test (n == 0) where
+  by_test : (b : Bool) → is_in_if is_word (if b then None else Some n) ≡ true
+  by_test true = refl
+  by_test false = h
+
+lawful_read_memory : Lawful 1 read_memory
+lawful_read_memory = lawful_made_of _ _ again stays (lawful_object fields) where
+  fields : LawfulFields 0 (field (codes "address") addresses.address (field (codes "data") encoded_bytes (optional (codes "unreadableBytes") whole none)))
+  fields = lawful_field refl refl lawful_address (lawful_field refl refl lawful_encoded_bytes (lawful_optional refl refl lawful_whole lawful_none))
+
+  again : (m : ReadMemory) → Some (record { address = m.address; bytes = m.bytes; unreadable_bytes = or_0 (unless_0 m.unreadable_bytes) }) ≡ Some m
+  again m = rw (or_0-unless_0 m.unreadable_bytes) refl
+
+  stays : (y : ℕ × (List ℕ × (Option ℕ × Unit {0}))) → is_word y.0 && (are_bytes y.1.0 && (is_in_if is_word y.1.1.0 && true)) ≡ true
+      → is_word y.0 && (are_bytes y.1.0 && (is_in_if is_word (unless_0 (or_0 y.1.1.0)) && true)) ≡ true
+  stays y h =
+      let p = and_parts (is_word y.0) _ h in
+      let q = and_parts (are_bytes y.1.0) _ p.1 in
+      let r = and_parts (is_in_if is_word y.1.1.0) true q.1 in
+      rw (p.0, q.0, unless_0-or_0 y.1.1.0 r.0) refl
+
+pub read_memory_is : HasForm 1 (codes "readMemory") read_memory (λ b. body.ReadMemory b)
+read_memory_is = record { lawful = lawful_read_memory; shallow = omega arith; is_row = λ x. refl; is_taken = λ message. refl }

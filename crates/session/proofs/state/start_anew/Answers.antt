@@ -1,6 +1,0 @@
-use Rattle.std.proofs.Common.{ap, ◌∙◌}
-use Rattle.debuggee.specs.Programs.{first_run}
-use Rattle.session.proofs.state.start_anew.Goals as goal
-
-pub returns-in-Ok-clause-ok : goal.returns-in-Ok-clause-ok
-returns-in-Ok-clause-ok c = c.begin.ensures ∙ ap first_run c.in-Ok.ensures.ok

@@ -1,0 +1,73 @@
+"""tools/wrap over files made here: where lines are broken, and that no word of any proof changes."""
+import glob
+import os
+import re
+import subprocess
+import tempfile
+
+from support.program import TOP, expect
+
+WRAP = os.path.join(TOP, "tools", "wrap")
+LONG = "a_long_name_of_a_fact"
+SIGNATURE = "  law : (n : ℕ) → " + " → ".join("(%s n ≡ n → %s)" % (LONG, LONG) for _ in range(4)) + " → n ≡ n"
+DEFINITION = "law n = " + " ∙ ".join("ap (λ x. %s x) (by %s n)" % (LONG, LONG) for _ in range(3))
+MODULE = "module _ " + " ".join("(%s%d : ℕ → ℕ → ℕ)" % (LONG, n) for n in range(5)) + " where"
+TEXT = "law = \"" + "( word " * 30 + "\""
+
+
+def wrapped(*texts):
+    """What the tool makes of texts, and what it says."""
+    with tempfile.TemporaryDirectory() as folder:
+        paths = [os.path.join(folder, "Proof%d.antt" % n) for n in range(len(texts))]
+        for path, text in zip(paths, texts):
+            with open(path, "w", encoding="utf-8") as file:
+                file.write(text)
+        ran = subprocess.run([WRAP, *paths], capture_output=True, text=True, timeout=60)
+        expect((ran.stderr, ran.returncode), ("", 0), "tools/wrap")
+        return [text_of(path) for path in paths], ran.stdout
+
+
+def text_of(path):
+    with open(path, encoding="utf-8") as file:
+        return file.read()
+
+
+def expect_broken(text, begins):
+    """Fails unless the text becomes lines within the columns that begin so, with the same words."""
+    (made,), said = wrapped(text)
+    lines = made.split("\n")
+    expect(said, "1 broken, 0 still longer than 140 columns\n", "what is said of %r" % text)
+    expect(made.split(), text.split(), "the words of %r" % text)
+    expect([line for line in lines if len(line) > 140], [], "long lines of %r" % text)
+    expect([re.match(r" *\S+", line)[0] for line in lines], begins, "how the lines of %r begin" % text)
+
+
+def lines_are_broken_at_arrows_definitions_and_arguments():
+    expect_broken(SIGNATURE, ["  law", "      →"])
+    expect_broken(DEFINITION, ["law", "    ap", "    ∙"])
+    expect_broken(MODULE, ["module", "    (%s3" % LONG])
+
+
+def a_line_without_a_place_stays():
+    for text in (TEXT, "-- " + "a word " * 30, "use Rattle.a.{" + "name, " * 30 + "name}"):
+        expect(wrapped(text)[0][0].split(), text.split(), "the words of a line that stays")
+    expect(wrapped("short = refl\n"), (["short = refl\n"], "0 broken, 0 still longer than 140 columns\n"), "a short line")
+
+
+def no_word_of_a_proof_changes():
+    paths = sorted(glob.glob(os.path.join(TOP, "crates", "*", "proofs", "*.antt")))
+    expect(len(paths) > 200, True, "there are proofs")
+    texts = [text_of(path) for path in paths]
+    made, _ = wrapped(*texts)
+    for path, text, new in zip(paths, texts, made):
+        expect(new.split(), text.split(), "the words of " + os.path.relpath(path, TOP))
+    expect(wrapped(*made)[0], made, "the same a second time")
+
+
+def checks():
+    """Each check with its name."""
+    return [(check.__name__.replace("_", " "), check) for check in (
+        lines_are_broken_at_arrows_definitions_and_arguments,
+        a_line_without_a_place_stays,
+        no_word_of_a_proof_changes,
+    )]
