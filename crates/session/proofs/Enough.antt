@@ -173,7 +173,7 @@ module _ {S : Type 0} (w : World S) (h : Follows w) where
 
   -- ---- and stays so
 
-  stays_ended : (n i more : ℕ) (s : S) (e : SliceEnd) → (beats w n i s).ending ≡ Some e → beats w n (i + more) s ≡ beats w n i s
+  pub stays_ended : (n i more : ℕ) (s : S) (e : SliceEnd) → (beats w n i s).ending ≡ Some e → beats w n (i + more) s ≡ beats w n i s
   stays_ended n i zero s e h = let none : i + zero ≡ i = omega arith in ap (λ (x : ℕ). beats w n x s) none
   stays_ended n i (suc more) s e h =
       let one : i + suc more ≡ suc (i + more) = omega arith in

@@ -5,7 +5,7 @@ use Rattle.std.proofs.lemmas.List.{length-map}
 use Rattle.std.proofs.lemmas.List.Elements.{All-cons, All-nil, All-weaker}
 use Rattle.session.specs.declared.event.Event.{Event}
 use Rattle.session.specs.declared.link.Link.{Link}
-use Rattle.session.specs.Lifetimes.{ReferencesRise}
+use Rattle.session.specs.Lifetimes.{ReferencesRise, ReferencesStand}
 use Rattle.session.specs.References.{Reference, References, ended, issued_all, issued_one, past_of, past_referred, referred, unless_issued, without_connection}
 use Rattle.session.specs.Sessions.{Beginning, Session, After}
 use Rattle.session.proofs.ByForms.{KeptByAnswers, KeptByOthers, by_forms}
@@ -136,3 +136,6 @@ references_rise from events =
     let h : Falls (map without_connection issued) = falls s.references.stop (map without_connection issued)
     (always_refers from events).stands.order in
     sym (same_numbers issued) ∙ h.numbers ∙ ap down_from (length-map issued without_connection)
+
+pub references_stand : (from : Beginning) (events : List Event) → ReferencesStand (After from events)
+references_stand from events = (always_refers from events).stands

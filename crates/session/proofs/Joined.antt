@@ -13,7 +13,7 @@ use Rattle.session.specs.declared.event.SliceEnd.TheVariants as ending
 use Rattle.session.specs.declared.state.TheConstants.{FULL}
 use Rattle.session.specs.Acts.{Act, Now, Seen, Tell}
 use Rattle.session.specs.Effects.{Slicing, after_beat, beats, beats_on, enough, from_here, next_beat, next_by, performed, sliced, with_beat}
-use Rattle.session.specs.Laws.{SlicesJoin}
+use Rattle.session.specs.Laws.{SlicesEnd, SlicesJoin}
 use Rattle.session.specs.Phases.{is_active, is_configuring}
 use Rattle.session.specs.Sessions.{Session, histories, performed_on, waiting_of}
 use Rattle.session.specs.Slices.{Beat, beat, beat_by, beat_of, becomes, concludes, ending_of, ends, exits, goes, goes_unless, halts, is_runnable_by, moves_by, prints, retires, runs, stops, telling, tells}
@@ -24,7 +24,7 @@ use Rattle.stepping.specs.declared.tick.Reason.TheVariants as met
 use Rattle.stepping.specs.declared.tick.Tick.{Tick}
 use Rattle.session.proofs.Reaching.{if_keeps, performed_append}
 use Rattle.session.proofs.Turning.{said_debuggee}
-use Rattle.session.proofs.Enough.{is_sliced, each_ends, Follows}
+use Rattle.session.proofs.Enough.{is_sliced, each_ends, stays_ended, Follows}
 use Rattle.session.specs.Beats.{concluded}
 use Rattle.session.proofs.ByMove.{by_move}
 
@@ -537,3 +537,10 @@ joins a b s = by (beside a b s (enough a)) where
 
 pub slices_join : (s : Session) → SlicesJoin s
 slices_join s a b = let j = joins a b s in (j.state, j.moved)
+
+pub slices_end : (s : Session) → SlicesEnd s
+slices_end s n =
+    let there = each_ends histories histories_follow n s in (
+      λ on. let never : Some there.0 ≡ None = sym there.1 ∙ on in cc,
+      λ more. stays_ended histories histories_follow n (enough n) more s there.0 there.1,
+    )

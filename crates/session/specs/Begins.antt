@@ -5,7 +5,7 @@ use Rattle.session.specs.declared.config.ConfigError.{ConfigError}
 use Rattle.session.specs.declared.config.ConfigError.TheVariants.{BadMemorySize, BadLimit, Assembly, NoMemory}
 use Rattle.session.specs.declared.limits.Limits.{Limits}
 use Rattle.handlers.specs.Sizes.{is_size}
-use Rattle.session.specs.Config.{HasError, HasImage}
+use Rattle.session.specs.Config.{HasError, HasImage, IsGiven}
 use Rattle.session.specs.Kept.{Kept, Stands}
 use Rattle.session.specs.Limits.{are_limits}
 use Rattle.session.specs.Sessions.{start}
@@ -28,11 +28,11 @@ pub record HasBegun (config : Config) (limits : Limits) (k : Kept) : Type 0 wher
     image = image;
   }))
 
--- A session is made of it, or the first error that applies is answered.
+-- A session is made of it, or the first error that applies is answered. Only a program takes memory.
 abbrev pub Begins : Config → Limits → Result Kept ConfigError → Type 0
 Begins config limits (Ok k) = HasBegun config limits k
 Begins config limits (Err BadMemorySize) = is_size config.memory_size ≡ false
 Begins config limits (Err BadLimit) = (is_size config.memory_size ≡ true) × (are_limits limits ≡ false)
 Begins config limits (Err (Assembly error)) =
     AreRight config limits × HasError config.program config.memory_size error
-Begins config limits (Err NoMemory) = AreRight config limits
+Begins config limits (Err NoMemory) = AreRight config limits × IsGiven config.program

@@ -26,6 +26,11 @@ abbrev pub HasError : Option (List ℕ × List ℕ) → ℕ → AsmError → Typ
 HasError None size error = ⊥
 HasError (Some program) size error = error_of program.1 size ≡ Some error
 
+-- one is given
+abbrev pub IsGiven : Option (List ℕ × List ℕ) → Type 0
+IsGiven None = ⊥
+IsGiven (Some program) = ⊤
+
 -- A program is loaded exactly where its text has no error; else the error is what is wrong with it, or that no memory
 -- was left.
 abbrev pub LoadsOne : List ℕ → List ℕ → ℕ → Result Program ConfigError → Type 0
@@ -39,6 +44,6 @@ LoadsOne path text size (Err BadLimit) = ⊥
 abbrev pub Loads : Option (List ℕ × List ℕ) → ℕ → Result (Option Program) ConfigError → Type 0
 Loads program size (Ok loaded) = HasImage program size × (loaded ≡ first_program program size)
 Loads program size (Err (Assembly error)) = HasError program size error
-Loads program size (Err NoMemory) = ⊤
+Loads program size (Err NoMemory) = IsGiven program
 Loads program size (Err BadMemorySize) = ⊥
 Loads program size (Err BadLimit) = ⊥

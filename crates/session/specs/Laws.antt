@@ -2,7 +2,7 @@
 --
 -- A list of events is any: requests cut anywhere, repeated or cancelled, turns and bytes taken in between, connections
 -- that end and others that follow, and events that are refused.
-use Rattle.std.specs.Prelude.{◌≡◌, ℕ, ◌+◌, ◌<◌, ◌≤◌, List, [], ◌∷◌, ◌++◌, map, flat_map, All, Some, Ok, Err}
+use Rattle.std.specs.Prelude.{◌≡◌, ◌≢◌, ℕ, ◌+◌, ◌<◌, ◌≤◌, List, [], ◌∷◌, ◌++◌, map, flat_map, All, Some, Ok, Err}
 use Rattle.std.specs.Prelude.{◌⊎◌, ◌&&◌, Bool, true, false, is_some, None, Option, MatchOption, bytes_eq, ⊤}
 use Rattle.std.specs.List.{list_any}
 use Rattle.debuggee.specs.Programs.{Debuggee, is_ended, is_running}
@@ -43,7 +43,7 @@ use Rattle.handlers.specs.Requests.{success_of}
 use Rattle.session.specs.Arrivals.{number_of, name_asked, asks_of}
 use Rattle.session.specs.Prefixes.{IsPrefixOf}
 use Rattle.session.specs.Sessions.{Session, Life, Said, life_of, bytes_of, waiting_of, histories, Effect, Answer}
-use Rattle.session.specs.Effects.{sliced}
+use Rattle.session.specs.Effects.{beats, enough, sliced}
 
 -- ---- connections
 
@@ -209,6 +209,11 @@ RunsAreTold s = (c : ℕ) → All (λ (m : Said). SaysItsRun m.message m.snapsho
 abbrev pub SlicesJoin : Session → Type 0
 SlicesJoin s = (a b : ℕ) → let first = sliced histories a s in let second = sliced histories b first.state in
     let whole = sliced histories (a + b) s in (second.state ≡ whole.state) × (first.moved + second.moved ≡ whole.moved)
+
+-- Each slice ends within the beats that are enough for its moves: more of them would change nothing.
+abbrev pub SlicesEnd : Session → Type 0
+SlicesEnd s = (n : ℕ) → ((sliced histories n s).ending ≢ None)
+    × ((more : ℕ) → beats histories n (enough n + more) s ≡ sliced histories n s)
 
 -- the program runs, and is marked to stop
 abbrev pub IsMarked : Debuggee → Type 0

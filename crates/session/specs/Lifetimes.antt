@@ -14,7 +14,8 @@ use Rattle.session.specs.declared.link.Link.{Link}
 use Rattle.session.specs.declared.pending.Ask.TheVariants as ask
 use Rattle.session.specs.declared.pending.Fate.{Fate}
 use Rattle.handlers.specs.Demands.{run_of}
-use Rattle.session.specs.References.{Reference}
+use Rattle.session.specs.References.{Reference, past_of}
+use Rattle.variables.specs.Numbers.{StandsFor}
 use Rattle.session.specs.Refusals.{answer_to, first_refusal, refusals}
 use Rattle.session.specs.Sessions.{Session}
 use Rattle.variables.specs.Laws.{down_from}
@@ -74,6 +75,11 @@ is_of_other_kind other target = is_no_scope target
 abbrev pub IsUnknown : Session → Command → ℤ → Type 0
 IsUnknown s command number = (WasIssued s (λ r. number ≡ pos r.number) → ⊥)
     ⊎ WasIssued s (λ r. (number ≡ pos r.number) × ((r.stop ≡ s.references.stop) × (is_of_other_kind command r.target ≡ true)))
+
+-- The numbers of the present stop are those of all references that were ever issued: the next number, what each number
+-- refers to, and the number of each target.
+abbrev pub ReferencesStand : Session → Type 0
+ReferencesStand s = StandsFor s.now.numbers (past_of s.references)
 
 -- ---- what they are answered
 

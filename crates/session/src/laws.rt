@@ -5,7 +5,7 @@ ghost use Rattle.session.specs.declared.event.Event.{Event as AnEvent};
 ghost use Rattle.session.specs.Acts.{Now as ANow};
 ghost use Rattle.session.specs.Sessions.{After, Beginning as ABeginning, Session as ASession};
 ghost use Rattle.session.specs.Laws as law;
-ghost use Rattle.session.specs.Lifetimes.{ReferencesLast, ReferencesRise};
+ghost use Rattle.session.specs.Lifetimes.{ReferencesLast, ReferencesRise, ReferencesStand};
 
 /// Whatever happens, the life of the last connection that was made is at the place that is its number.
 pub fn lives_are_numbered()
@@ -74,6 +74,11 @@ pub fn slices_join()
     ensures { (s : ASession) → law.SlicesJoin s }
 {}
 
+/// Each slice ends within the beats that are enough for its moves, so that more of them would change nothing.
+pub fn slices_end()
+    ensures { (s : ASession) → law.SlicesEnd s }
+{}
+
 /// A program that runs and is marked to stop, as after a success of `pause`, retires no instruction: whatever
 /// happens, until it does not run, or its editor leaves.
 pub fn marked_retires_none()
@@ -84,6 +89,11 @@ pub fn marked_retires_none()
 /// Whatever happens, references have the numbers 1, 2, 3 and so on: none is issued twice.
 pub fn references_rise()
     ensures { (from : ABeginning) (events : List AnEvent) → ReferencesRise (After from events) }
+{}
+
+/// Whatever happens, the numbers of the present stop are those of all references that were ever issued.
+pub fn references_stand()
+    ensures { (from : ABeginning) (events : List AnEvent) → ReferencesStand (After from events) }
 {}
 
 /// Whatever happened, a request that names a frame or a scope succeeds only with a number that was issued in this stop, on this

@@ -1,5 +1,5 @@
 //! A session: one event after another.
-ghost use Rattle.std.specs.Prelude.{◌≡◌, length, IfOk, OnErr, Result, Ok, Err, option_map};
+ghost use Rattle.std.specs.Prelude.{◌≡◌, ◌≢◌, None, length, IfOk, OnErr, Result, Ok, Err, option_map};
 ghost use Rattle.std.specs.Option.{option_copied};
 ghost use Rattle.session.specs.declared.event.Event.TheVariants as event;
 ghost use Rattle.session.specs.declared.event.Applied.TheVariants as applied;
@@ -47,7 +47,7 @@ impl Session {
     /// A session to which nothing happened, with these limits, in which a machine gets so much memory;
     /// and with a program, if one is given. The errors apply in this order: `BadMemorySize` where
     /// memory cannot have the size, `BadLimit` where a limit is 0 or above its greatest value,
-    /// `Assembly` where the program has no image, `NoMemory` where no memory was left.
+    /// `Assembly` where the program has no image, `NoMemory` where no memory was left for the program; without one it takes none.
     pub fn new(alloc: Global, config: Config, limits: Limits) -> Result<Session, ConfigError>
         ensures { Begins config limits result }
     {
@@ -214,10 +214,11 @@ impl Session {
 
     /// What there is to see now: a copy of all that an editor could be told of the program that is debugged.
     ///
-    /// `Err`: no memory was left.
+    /// `Err`: no memory was left. Where there is no program, it takes none.
     pub fn snapshot(&self) -> Result<Snapshot, AllocError>
         ensures now { IfOk result (λ taken. IsTaken taken (snapshot_of self.now.now)) }
         ensures stands { OfEach self.now (λ s. IfOk result (λ taken. IsTaken taken (snapshot_of s.now))) }
+        ensures err { OnErr result (self.now.now.debuggee.program ≢ None) }
     {
         self.state.snapshot()
     }

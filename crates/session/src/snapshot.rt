@@ -1,5 +1,5 @@
 //! What there is to see of a session at one time.
-ghost use Rattle.std.specs.Prelude.{◌≡◌, IfOk, option_copied, option_map, slice_get};
+ghost use Rattle.std.specs.Prelude.{◌≢◌, None, OnErr, ◌≡◌, IfOk, option_copied, option_map, slice_get};
 ghost use Rattle.session.specs.Snapshots.{as_running, captured_of, path_of, run_if, seen_of};
 
 use crate::captured::Captured;
@@ -26,13 +26,15 @@ impl Model for Snapshot {
 }
 
 impl Snapshot {
-    /// What there is to see where this is debugged, and frames have these numbers. It fails where no memory is left.
+    /// What there is to see where this is debugged, and frames have these numbers. It fails where no memory is left, and
+    /// never where there is no program.
     pub(crate) fn of(
         alloc: Global,
         program: &Option<Program>,
         handles: &Handles,
     ) -> Result<Snapshot, AllocError>
-        ensures { IfOk result (λ s. s ≡ option_map (λ p. captured_of p handles.now) program.now) }
+        ensures ok { IfOk result (λ s. s ≡ option_map (λ p. captured_of p handles.now) program.now) }
+        ensures err { OnErr result (program.now ≢ None) }
     {
         match program {
             None => Ok(Snapshot { program: None }),

@@ -1,5 +1,5 @@
 //! What a session keeps.
-ghost use Rattle.std.specs.Prelude.{◌≡◌, ◌≤◌, ◌^◌, None, true, [], Option, Some, Ok, Err, IfOk, OnOk, OnErr, IsSome, ◌++◌, ◌∷◌, List, ℕ, length};
+ghost use Rattle.std.specs.Prelude.{◌≡◌, ◌≢◌, ◌≤◌, ◌^◌, None, true, [], Option, Some, Ok, Err, IfOk, OnOk, OnErr, IsSome, ◌++◌, ◌∷◌, List, ℕ, length};
 ghost use Rattle.std.specs.Option.{option_map};
 ghost use Rattle.session.specs.declared.event.Event.TheVariants as event;
 ghost use Rattle.session.specs.declared.pending.Pending.{Pending as APending};
@@ -587,7 +587,8 @@ impl State {
     /// What there is to see. It fails where no memory is left.
     #[tactic(auto, using(crate::proofs::Seeing::is_taken))]
     pub(crate) fn snapshot(&self) -> Result<Snapshot, AllocError>
-        ensures { IfOk result (λ taken. IsTaken taken (snapshot_of self.now.now)) }
+        ensures ok { IfOk result (λ taken. IsTaken taken (snapshot_of self.now.now)) }
+        ensures err { OnErr result (self.now.now.debuggee.program ≢ None) }
     {
         Snapshot::of(self.alloc, &self.program, &self.handles)
     }
