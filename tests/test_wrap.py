@@ -12,6 +12,7 @@ LONG = "a_long_name_of_a_fact"
 SIGNATURE = "  law : (n : ℕ) → " + " → ".join("(%s n ≡ n → %s)" % (LONG, LONG) for _ in range(4)) + " → n ≡ n"
 DEFINITION = "law n = " + " ∙ ".join("ap (λ x. %s x) (by %s n)" % (LONG, LONG) for _ in range(3))
 MODULE = "module _ " + " ".join("(%s%d : ℕ → ℕ → ℕ)" % (LONG, n) for n in range(5)) + " where"
+RECORD = "pub record Held " + " ".join("(%s%d : ℕ)" % (LONG, n) for n in range(8)) + " : Type 0 where"
 TEXT = "law = \"" + "( word " * 30 + "\""
 
 
@@ -46,6 +47,7 @@ def lines_are_broken_at_arrows_definitions_and_arguments():
     expect_broken(SIGNATURE, ["  law", "      →"])
     expect_broken(DEFINITION, ["law", "    ap", "    ∙"])
     expect_broken(MODULE, ["module", "    (%s3" % LONG])
+    expect_broken(RECORD, ["pub", "    (%s4" % LONG])
 
 
 def a_line_without_a_place_stays():
