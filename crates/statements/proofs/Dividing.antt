@@ -27,7 +27,9 @@ some_or d None = d
 some_or d (Some x) = x
 
 -- a field before a colon that has a label
-has_label : (field label : List ℕ) (t : Bool) → is_name (without_leading_blanks field) ≡ t → cond t (Some (without_leading_blanks field)) None ≡ Some label → (is_name (without_leading_blanks field) ≡ true) × (without_leading_blanks field ≡ label)
+has_label : (field label : List ℕ) (t : Bool) → is_name (without_leading_blanks field) ≡ t
+    → cond t (Some (without_leading_blanks field)) None ≡ Some label
+    → (is_name (without_leading_blanks field) ≡ true) × (without_leading_blanks field ≡ label)
 has_label field label true e h = (e, ap (some_or []) h)
 has_label field label false e h = cc
 
@@ -47,10 +49,14 @@ labels_divide [] = refl
 labels_divide (field ∷ []) = refl
 labels_divide (field ∷ next ∷ list) =
     let text : List ℕ = field ++ 58 ∷ join_with_byte 58 (next ∷ list) in
-    let P : Option (List ℕ) → Type 0 = λ o. label_before field ≡ o → Labelled (labels_with o (labels_of (next ∷ list))) text (rest_with o text (rest_of (next ∷ list))) in
+    let P : Option (List ℕ) → Type 0 = λ o. label_before field ≡ o
+    → Labelled (labels_with o (labels_of (next ∷ list))) text (rest_with o text (rest_of (next ∷ list))) in
     let go : P (label_before field) = elim (label_before field) as P [
       | None ↦ λ e. refl
-      | Some label ↦ λ e. (join_with_byte 58 (next ∷ list), (label_begins field (join_with_byte 58 (next ∷ list)) label e, labels_divide (next ∷ list)))
+      | Some label ↦ λ e. (
+        join_with_byte 58 (next ∷ list),
+        (label_begins field (join_with_byte 58 (next ∷ list)) label e, labels_divide (next ∷ list)),
+      )
     ] in go refl
 
 -- a text of no length
@@ -71,7 +77,8 @@ both_tests : (x y : Bool) → (x && y) ≡ true → (x ≡ true) × (y ≡ true)
 both_tests x y h = (and_left x y h, and_right x y h)
 
 abbrev pub Divides : List ℕ → Type 0
-Divides rest = ((s : Option Spoken) × (IsSpoken s rest × (statement_in (trimmed rest) ≡ says s))) ⊎ (statement_in (trimmed rest) ≡ Err Syntax)
+Divides rest =
+    ((s : Option Spoken) × (IsSpoken s rest × (statement_in (trimmed rest) ≡ says s))) ⊎ (statement_in (trimmed rest) ≡ Err Syntax)
 
 mnemonic_only : (rest : List ℕ) → (length (trimmed rest) == 0) ≡ false → position is_blank (trimmed rest) ≡ None → Divides rest
 mnemonic_only rest some none =
@@ -97,7 +104,8 @@ mnemonic_only rest some none =
       | false ↦ λ n. let refused : said r [] ≡ Err Syntax = rw n refl in inr (stated ∙ ap stating refused)
     ] in go refl
 
-mnemonic_and_operands : (rest : List ℕ) (i : ℕ) → (length (trimmed rest) == 0) ≡ false → position is_blank (trimmed rest) ≡ Some i → Divides rest
+mnemonic_and_operands : (rest : List ℕ) (i : ℕ) → (length (trimmed rest) == 0) ≡ false → position is_blank (trimmed rest) ≡ Some i
+    → Divides rest
 mnemonic_and_operands rest i some at =
     let r = trimmed rest in
     let t = round rest in
@@ -136,7 +144,8 @@ spoken_divides rest =
     let go : P (length r == 0) = elim (length r == 0) as P [
       | true ↦ λ e.
           let none : r ≡ [] = no_length r e in
-          let whole : rest ≡ t.before ++ t.after = t.parted ∙ ap (λ (l : List ℕ). t.before ++ l ++ t.after) none ∙ ap (λ (l : List ℕ). l ++ t.after) (append-nil t.before) in
+          let whole : rest ≡ t.before ++ t.after = t.parted ∙ ap (λ (l : List ℕ). t.before ++ l ++ t.after) none
+          ∙ ap (λ (l : List ℕ). l ++ t.after) (append-nil t.before) in
           let blank : AllBlank rest = ap (list_all is_blank) whole ∙ all_append is_blank t.before t.after t.blank_before t.blank_after in
           inl (None, (blank, rw e refl))
       | false ↦ λ e.
@@ -152,9 +161,13 @@ unfolding read
 only_lines line right =
     let text = without_comment line in
     let list = fields 58 text in
-    let labelled : Labelled (labels_of list) text (rest_of list) = subst (λ x. Labelled (labels_of list) x (rest_of list)) (join_with_byte-slice_split 58 text) (labels_divide list) in
+    let labelled : Labelled (labels_of list) text (rest_of list) = subst (λ x. Labelled (labels_of list) x (rest_of list))
+    (join_with_byte-slice_split 58 text) (labels_divide list) in
     elim (spoken_divides (rest_of list)) as (λ _. (d : Division) × (IsLine text d × (read_content text ≡ means d))) [
-      | inl s ↦ (record { labels = labels_of list; spoken = s.0 }, (record { rest = rest_of list; labelled = labelled; spoken = s.1.0 }, ap (line_of (labels_of list)) s.1.1))
+      | inl s ↦ (
+        record { labels = labels_of list; spoken = s.0 },
+        (record { rest = rest_of list; labelled = labelled; spoken = s.1.0 }, ap (line_of (labels_of list)) s.1.1),
+      )
       | inr e ↦ absurd (right (ap (line_of (labels_of list)) e))
     ]
 
@@ -169,7 +182,8 @@ name_some [] h = cc
 name_some (b ∷ name) h = grind (arith, nat_tests)
 
 -- what stands after a mnemonic: nothing, or a blank first
-after_mnemonic : (gap operands after : List ℕ) → AllBlank gap → AllBlank after → (0 < length operands → 0 < length gap) → (gap ++ (operands ++ after) ≡ []) ⊎ (begins_blank (gap ++ (operands ++ after)) ≡ true)
+after_mnemonic : (gap operands after : List ℕ) → AllBlank gap → AllBlank after → (0 < length operands → 0 < length gap)
+    → (gap ++ (operands ++ after) ≡ []) ⊎ (begins_blank (gap ++ (operands ++ after)) ≡ true)
 after_mnemonic (g ∷ gap) operands after a b apart = inr (and_left (is_blank g) _ a)
 after_mnemonic [] [] [] a b apart = inl refl
 after_mnemonic [] [] (c ∷ after) a b apart = inr (and_left (is_blank c) _ b)
@@ -187,38 +201,49 @@ no_colon_first text after (inr t) h = let blank : is_blank 58 ≡ true = ap begi
 no_more : (rest label after : List ℕ) (s : Option Spoken) → IsSpoken s rest → BeginsWith label rest after → ⊥
 no_more rest label after None blank b =
     let all : list_all is_blank (b.before ++ label ++ 58 ∷ after) ≡ true = sym (ap (list_all is_blank) b.spelled) ∙ blank in
-    let colon : list_all is_blank (58 ∷ after) ≡ true = and_right (list_all is_blank (b.before ++ label)) _ (sym (list_all-append is_blank (b.before ++ label) (58 ∷ after)) ∙ all) in
+    let colon : list_all is_blank (58 ∷ after) ≡ true = and_right (list_all is_blank (b.before ++ label)) _
+    (sym (list_all-append is_blank (b.before ++ label) (58 ∷ after)) ∙ all) in
     let no : is_blank 58 ≡ true = and_left (is_blank 58) (list_all is_blank after) colon in cc
 no_more rest label after (Some (mnemonic, operands)) st b =
     let x : List ℕ = st.gap ++ (operands ++ st.after) in
     let ends = after_mnemonic st.gap operands st.after st.blank_gap st.blank_after st.apart in
-    let one : without_leading_blanks rest ≡ label ++ 58 ∷ after = ap without_leading_blanks (b.spelled ∙ append_assoc b.before label (58 ∷ after)) ∙ blanks_go b.before (label ++ 58 ∷ after) b.blank ∙ others_stay (label ++ 58 ∷ after) (name_begins label (58 ∷ after) b.name) in
+    let one : without_leading_blanks rest ≡ label ++ 58 ∷ after = ap without_leading_blanks
+    (b.spelled ∙ append_assoc b.before label (58 ∷ after)) ∙ blanks_go b.before (label ++ 58 ∷ after) b.blank
+    ∙ others_stay (label ++ 58 ∷ after) (name_begins label (58 ∷ after) b.name) in
     let turned : rest ≡ st.before ++ (mnemonic ++ x) = st.spelled ∙ joined st.before mnemonic st.gap operands st.after in
-    let other : without_leading_blanks rest ≡ mnemonic ++ x = ap without_leading_blanks turned ∙ blanks_go st.before (mnemonic ++ x) st.blank_before ∙ others_stay (mnemonic ++ x) (name_begins mnemonic x st.name) in
-    let r = runs label mnemonic (58 ∷ after) x (name_bytes label b.name) (name_bytes mnemonic st.name) refl (no_further x ends) (sym one ∙ other) in
+    let other : without_leading_blanks rest ≡ mnemonic ++ x = ap without_leading_blanks turned
+    ∙ blanks_go st.before (mnemonic ++ x) st.blank_before ∙ others_stay (mnemonic ++ x) (name_begins mnemonic x st.name) in
+    let r = runs label mnemonic (58 ∷ after) x (name_bytes label b.name) (name_bytes mnemonic st.name) refl (no_further x ends)
+    (sym one ∙ other) in
     no_colon_first x after ends r.1 where
       joined : (a w g o b : List ℕ) → a ++ w ++ g ++ o ++ b ≡ a ++ (w ++ (g ++ (o ++ b)))
       joined a w g o b = simp append_assoc refl
 
-pub labels_read : (labels : List (List ℕ)) (text rest : List ℕ) (s : Option Spoken) → Labelled labels text rest → IsSpoken s rest → (labels_of (fields 58 text) ≡ labels) × (rest_of (fields 58 text) ≡ rest)
+pub labels_read : (labels : List (List ℕ)) (text rest : List ℕ) (s : Option Spoken) → Labelled labels text rest → IsSpoken s rest
+    → (labels_of (fields 58 text) ≡ labels) × (rest_of (fields 58 text) ≡ rest)
 labels_read [] text rest s h spoken =
-    let P : Option (List ℕ × List ℕ) → Type 0 = λ o. parted 58 text ≡ o → (labels_of (fields 58 text) ≡ []) × (rest_of (fields 58 text) ≡ rest) in
+    let P : Option (List ℕ × List ℕ) → Type 0 = λ o. parted 58 text ≡ o
+    → (labels_of (fields 58 text) ≡ []) × (rest_of (fields 58 text) ≡ rest) in
     let go : P (parted 58 text) = elim (parted 58 text) as P [
       | None ↦ λ e. let n = no_colon text e in (n.0, n.1 ∙ h)
       | Some p ↦ λ e.
-          let Q : Option (List ℕ) → Type 0 = λ l. label_before p.0 ≡ l → (labels_of (fields 58 text) ≡ []) × (rest_of (fields 58 text) ≡ rest) in
+          let Q : Option (List ℕ) → Type 0 = λ l. label_before p.0 ≡ l
+          → (labels_of (fields 58 text) ≡ []) × (rest_of (fields 58 text) ≡ rest) in
           let at : Q (label_before p.0) = elim (label_before p.0) as Q [
             | None ↦ λ l. let n = no_label text p.0 p.1 e l in (n.0, n.1 ∙ h)
             | Some label ↦ λ l.
-                let begins : BeginsWith label text p.1 = subst (λ x. BeginsWith label x p.1) (sym (parted_joins 58 text p.0 p.1 e)) (label_begins p.0 p.1 label l) in
+                let begins : BeginsWith label text p.1 = subst (λ x. BeginsWith label x p.1) (sym (parted_joins 58 text p.0 p.1 e))
+                (label_begins p.0 p.1 label l) in
                 absurd (no_more rest label p.1 s spoken (subst (λ x. BeginsWith label x p.1) h begins))
           ] in at refl
     ] in go refl
 labels_read (label ∷ labels) text rest s (after, (b, others)) spoken =
     let prefix = b.before ++ label in
-    let no : list_all (λ c. not (c == 58)) prefix ≡ true = all_append (λ c. not (c == 58)) b.before label (blanks_not_colon b.before b.blank) (names_not_colon label (name_bytes label b.name)) in
+    let no : list_all (λ c. not (c == 58)) prefix ≡ true = all_append (λ c. not (c == 58)) b.before label
+    (blanks_not_colon b.before b.blank) (names_not_colon label (name_bytes label b.name)) in
     let parts : parted 58 text ≡ Some (prefix, after) = ap (parted 58) b.spelled ∙ parts_join 58 prefix after no in
-    let bare : without_leading_blanks prefix ≡ label = blanks_go b.before label b.blank ∙ others_stay label (begins_so label (name_bytes label b.name)) in
+    let bare : without_leading_blanks prefix ≡ label = blanks_go b.before label b.blank
+    ∙ others_stay label (begins_so label (name_bytes label b.name)) in
     let named : is_name (without_leading_blanks prefix) ≡ true = ap is_name bare ∙ b.name in
     let found : label_before prefix ≡ Some label = rw named (ap (λ (l : List ℕ). Some l) bare) in
     let one = one_label text prefix after label parts found in
@@ -230,7 +255,8 @@ begins_append [] b h = absurd (omega arith)
 begins_append (c ∷ a) b h = refl
 
 -- what a name of an instruction or a directive says of its operands, whatever they are
-said_so : (mnemonic operands : List ℕ) → is_name mnemonic ≡ true → are_operands operands ≡ true → said mnemonic operands ≡ said_by (mnemonic_of mnemonic) operands
+said_so : (mnemonic operands : List ℕ) → is_name mnemonic ≡ true → are_operands operands ≡ true
+    → said mnemonic operands ≡ said_by (mnemonic_of mnemonic) operands
 said_so mnemonic operands n e = rw (n, e) refl
 
 mnemonic_alone : (mnemonic : List ℕ) → is_name mnemonic ≡ true → statement_in mnemonic ≡ stating (said_by (mnemonic_of mnemonic) [])
@@ -238,16 +264,20 @@ mnemonic_alone mnemonic n =
     let none : position is_blank mnemonic ≡ None = no_position is_blank mnemonic (names_not_blank mnemonic (name_bytes mnemonic n)) in
     rw (name_some mnemonic n) (ap (λ p. stating (said_at mnemonic p)) none ∙ ap stating (said_so mnemonic [] n refl))
 
-mnemonic_apart : (mnemonic gap operands : List ℕ) → is_name mnemonic ≡ true → AllBlank gap → 0 < length gap → trimmed operands ≡ operands → are_operands operands ≡ true → statement_in (mnemonic ++ (gap ++ operands)) ≡ stating (said_by (mnemonic_of mnemonic) operands)
+mnemonic_apart : (mnemonic gap operands : List ℕ) → is_name mnemonic ≡ true → AllBlank gap → 0 < length gap → trimmed operands ≡ operands
+    → are_operands operands ≡ true → statement_in (mnemonic ++ (gap ++ operands)) ≡ stating (said_by (mnemonic_of mnemonic) operands)
 mnemonic_apart mnemonic [] operands n blank some b each = absurd (omega arith)
 mnemonic_apart mnemonic (g ∷ gap) operands n blank some b each =
     let m : List ℕ = mnemonic ++ g ∷ (gap ++ operands) in
-    let at : position is_blank m ≡ Some (length mnemonic) = position_at is_blank mnemonic (gap ++ operands) g (names_not_blank mnemonic (name_bytes mnemonic n)) (and_left (is_blank g) _ blank) in
+    let at : position is_blank m ≡ Some (length mnemonic) = position_at is_blank mnemonic (gap ++ operands) g
+    (names_not_blank mnemonic (name_bytes mnemonic n)) (and_left (is_blank g) _ blank) in
     let w : take (length mnemonic) m ≡ mnemonic = take-append_seam mnemonic (g ∷ (gap ++ operands)) in
     let x : drop (length mnemonic) m ≡ g ∷ (gap ++ operands) = drop-append_seam mnemonic (g ∷ (gap ++ operands)) in
-    let o : trimmed (g ∷ (gap ++ operands)) ≡ operands = sym (ap trimmed (append-nil (g ∷ (gap ++ operands)))) ∙ between (g ∷ gap) operands [] blank refl b in
+    let o : trimmed (g ∷ (gap ++ operands)) ≡ operands = sym (ap trimmed (append-nil (g ∷ (gap ++ operands))))
+    ∙ between (g ∷ gap) operands [] blank refl b in
     let long : (length m == 0) ≡ false = longer mnemonic g (gap ++ operands) in
-    rw long (ap (λ p. stating (said_at m p)) at ∙ ap (λ (l : List ℕ). stating (said l (trimmed (drop (length mnemonic) m)))) w ∙ ap (λ (l : List ℕ). stating (said mnemonic l)) (ap trimmed x ∙ o) ∙ ap stating (said_so mnemonic operands n each)) where
+    rw long (ap (λ p. stating (said_at m p)) at ∙ ap (λ (l : List ℕ). stating (said l (trimmed (drop (length mnemonic) m)))) w
+    ∙ ap (λ (l : List ℕ). stating (said mnemonic l)) (ap trimmed x ∙ o) ∙ ap stating (said_so mnemonic operands n each)) where
       longer : (a : List ℕ) (c : ℕ) (b : List ℕ) → (length (a ++ c ∷ b) == 0) ≡ false
       longer [] c b = grind (arith, nat_tests)
       longer (d ∷ a) c b = grind (arith, nat_tests)
@@ -264,20 +294,27 @@ spoken_read rest (Some (mnemonic, operands)) st = go operands refl where
   go : (o : List ℕ) → operands ≡ o → statement_in (trimmed rest) ≡ stating (said_by (mnemonic_of mnemonic) operands)
   go [] e =
       let bytes = name_bytes mnemonic st.name in
-      let whole : rest ≡ st.before ++ mnemonic ++ (st.gap ++ st.after) = st.spelled ∙ ap (λ (l : List ℕ). st.before ++ mnemonic ++ st.gap ++ l ++ st.after) e ∙ alone st.before mnemonic st.gap st.after in
-      let t : trimmed rest ≡ mnemonic = ap trimmed whole ∙ between st.before mnemonic (st.gap ++ st.after) st.blank_before (all_append is_blank st.gap st.after st.blank_gap st.blank_after) (bare mnemonic (begins_so mnemonic bytes) (ends_so mnemonic bytes)) in
+      let whole : rest ≡ st.before ++ mnemonic ++ (st.gap ++ st.after) = st.spelled
+      ∙ ap (λ (l : List ℕ). st.before ++ mnemonic ++ st.gap ++ l ++ st.after) e ∙ alone st.before mnemonic st.gap st.after in
+      let t : trimmed rest ≡ mnemonic = ap trimmed whole
+      ∙ between st.before mnemonic (st.gap ++ st.after) st.blank_before (all_append is_blank st.gap st.after st.blank_gap st.blank_after)
+      (bare mnemonic (begins_so mnemonic bytes) (ends_so mnemonic bytes)) in
       ap statement_in t ∙ mnemonic_alone mnemonic st.name ∙ ap (λ l. stating (said_by (mnemonic_of mnemonic) l)) (sym e)
   go (c ∷ o) e =
       let some : 0 < length operands = rw e (omega arith) in
       let m : List ℕ = mnemonic ++ (st.gap ++ operands) in
       let ends : begins_blank (reverse operands) ≡ false = sym (ap (λ l. begins_blank (reverse l)) st.bare) ∙ trimmed_ends operands in
-      let last : begins_blank (reverse m) ≡ false = ap (λ l. begins_blank (reverse l)) (sym (append_assoc mnemonic st.gap operands)) ∙ ap begins_blank (reverse-append (mnemonic ++ st.gap) operands) ∙ begins_append (reverse operands) (reverse (mnemonic ++ st.gap)) (rw (length-reverse operands) some) ∙ ends in
+      let last : begins_blank (reverse m) ≡ false = ap (λ l. begins_blank (reverse l)) (sym (append_assoc mnemonic st.gap operands))
+      ∙ ap begins_blank (reverse-append (mnemonic ++ st.gap) operands)
+      ∙ begins_append (reverse operands) (reverse (mnemonic ++ st.gap)) (rw (length-reverse operands) some) ∙ ends in
       let whole : rest ≡ st.before ++ m ++ st.after = st.spelled ∙ inner st.before mnemonic st.gap operands st.after in
-      let t : trimmed rest ≡ m = ap trimmed whole ∙ between st.before m st.after st.blank_before st.blank_after (bare m (name_begins mnemonic (st.gap ++ operands) st.name) last) in
+      let t : trimmed rest ≡ m = ap trimmed whole
+      ∙ between st.before m st.after st.blank_before st.blank_after (bare m (name_begins mnemonic (st.gap ++ operands) st.name) last) in
       ap statement_in t ∙ mnemonic_apart mnemonic st.gap operands st.name st.blank_gap (st.apart some) st.bare st.each
 
 pub lines_read : (line : List ℕ) (d : Division) → IsLine (without_comment line) d → read line ≡ means d
 unfolding read
 lines_read line d h =
     let l = labels_read d.labels (without_comment line) h.rest d.spoken h.labelled h.spoken in
-    ap (λ (x : List (List ℕ)). line_of x (statement_in (trimmed (rest_of (fields 58 (without_comment line)))))) l.0 ∙ ap (λ t. line_of d.labels (statement_in (trimmed t))) l.1 ∙ ap (line_of d.labels) (spoken_read h.rest d.spoken h.spoken)
+    ap (λ (x : List (List ℕ)). line_of x (statement_in (trimmed (rest_of (fields 58 (without_comment line)))))) l.0
+    ∙ ap (λ t. line_of d.labels (statement_in (trimmed t))) l.1 ∙ ap (line_of d.labels) (spoken_read h.rest d.spoken h.spoken)

@@ -15,22 +15,34 @@ two : (text prefix rest : List ℕ) → parted 58 text ≡ Some (prefix, rest) �
 two text prefix rest h = fields_some 58 text prefix rest h ∙ ap (λ (l : List (List ℕ)). prefix ∷ l) (shape 58 rest).2
 
 -- what stands before the colon is no label
-pub no_label : (text prefix rest : List ℕ) → parted 58 text ≡ Some (prefix, rest) → label_before prefix ≡ None → (labels_of (fields 58 text) ≡ []) × (rest_of (fields 58 text) ≡ text)
+pub no_label : (text prefix rest : List ℕ) → parted 58 text ≡ Some (prefix, rest) → label_before prefix ≡ None
+    → (labels_of (fields 58 text) ≡ []) × (rest_of (fields 58 text) ≡ text)
 no_label text prefix rest h t =
     let all = two text prefix rest h in
     let s = shape 58 rest in
-    let whole = join_with_byte 58 (prefix ∷ s.0 ∷ s.1) in
-    (ap labels_of all ∙ ap (λ l. labels_with l (labels_of (s.0 ∷ s.1))) t, ap rest_of all ∙ ap (λ l. rest_with l whole (rest_of (s.0 ∷ s.1))) t ∙ sym (ap (join_with_byte 58) all) ∙ join_with_byte-slice_split 58 text)
+    let whole = join_with_byte 58 (prefix ∷ s.0 ∷ s.1) in (
+      ap labels_of all ∙ ap (λ l. labels_with l (labels_of (s.0 ∷ s.1))) t,
+      ap rest_of all
+          ∙ ap (λ l. rest_with l whole (rest_of (s.0 ∷ s.1))) t ∙ sym (ap (join_with_byte 58) all) ∙ join_with_byte-slice_split 58 text,
+    )
 
 -- it is one
-pub one_label : (text prefix rest label : List ℕ) → parted 58 text ≡ Some (prefix, rest) → label_before prefix ≡ Some label → (labels_of (fields 58 text) ≡ label ∷ labels_of (fields 58 rest)) × (rest_of (fields 58 text) ≡ rest_of (fields 58 rest))
+pub one_label : (text prefix rest label : List ℕ) → parted 58 text ≡ Some (prefix, rest) → label_before prefix ≡ Some label
+    → (labels_of (fields 58 text) ≡ label ∷ labels_of (fields 58 rest)) × (rest_of (fields 58 text) ≡ rest_of (fields 58 rest))
 one_label text prefix rest label h t =
     let all = two text prefix rest h in
     let s = shape 58 rest in
-    let whole = join_with_byte 58 (prefix ∷ s.0 ∷ s.1) in
-    (ap labels_of all ∙ ap (λ l. labels_with l (labels_of (s.0 ∷ s.1))) t ∙ sym (ap (λ l. label ∷ labels_of l) s.2), ap rest_of all ∙ ap (λ l. rest_with l whole (rest_of (s.0 ∷ s.1))) t ∙ sym (ap rest_of s.2))
+    let whole = join_with_byte 58 (prefix ∷ s.0 ∷ s.1) in (
+      ap labels_of all ∙ ap (λ l. labels_with l (labels_of (s.0 ∷ s.1))) t ∙ sym (ap (λ l. label ∷ labels_of l) s.2),
+      ap rest_of all
+          ∙ ap (λ l. rest_with l whole (rest_of (s.0 ∷ s.1))) t ∙ sym (ap rest_of s.2),
+    )
 
 -- the labels so far, and those that are left
-pub one_more : (all before after : List (List ℕ)) (text prefix rest label : List ℕ) → all ≡ before ++ labels_of (fields 58 text) → after ≡ before ++ label ∷ [] → parted 58 text ≡ Some (prefix, rest) → label_before prefix ≡ Some label → all ≡ after ++ labels_of (fields 58 rest)
+pub one_more : (all before after : List (List ℕ)) (text prefix rest label : List ℕ) → all ≡ before ++ labels_of (fields 58 text)
+    → after ≡ before ++ label ∷ [] → parted 58 text ≡ Some (prefix, rest) → label_before prefix ≡ Some label
+    → all ≡ after ++ labels_of (fields 58 rest)
 one_more all before after text prefix rest label h p e t =
-    h ∙ ap (λ (l : List (List ℕ)). before ++ l) (one_label text prefix rest label e t).0 ∙ sym (append_assoc before (label ∷ []) (labels_of (fields 58 rest))) ∙ ap (λ (l : List (List ℕ)). l ++ labels_of (fields 58 rest)) (sym p)
+    h ∙ ap (λ (l : List (List ℕ)). before ++ l) (one_label text prefix rest label e t).0
+    ∙ sym (append_assoc before (label ∷ []) (labels_of (fields 58 rest)))
+    ∙ ap (λ (l : List (List ℕ)). l ++ labels_of (fields 58 rest)) (sym p)

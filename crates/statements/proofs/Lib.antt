@@ -9,3 +9,10 @@ pub mod Solid
 pub mod Numerals
 pub mod Texts
 pub mod PseudoLines
+pub mod AnyOperands
+pub mod Addresses
+pub mod NumbersRead
+pub mod Places
+pub mod DataLines
+pub mod Refused
+pub mod PlainLines

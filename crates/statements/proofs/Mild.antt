@@ -56,11 +56,13 @@ mild_one : {A D : Type 0} (x : Result A LineError) (f : A → D) → Mild x → 
 mild_one (Ok a) f x = tt
 mild_one (Err error) f x = x
 
-mild_two : {A B D : Type 0} (x : Result A LineError) (y : Result B LineError) (f : A → B → D) → Mild x → Mild y → Mild (and_then x (λ a. and_then y (λ b. Ok (f a b))))
+mild_two : {A B D : Type 0} (x : Result A LineError) (y : Result B LineError) (f : A → B → D) → Mild x → Mild y
+    → Mild (and_then x (λ a. and_then y (λ b. Ok (f a b))))
 mild_two (Ok a) y f x h = mild_one y (f a) h
 mild_two (Err error) y f x h = x
 
-mild_three : {A B C D : Type 0} (x : Result A LineError) (y : Result B LineError) (z : Result C LineError) (f : A → B → C → D) → Mild x → Mild y → Mild z → Mild (and_then x (λ a. and_then y (λ b. and_then z (λ c. Ok (f a b c)))))
+mild_three : {A B C D : Type 0} (x : Result A LineError) (y : Result B LineError) (z : Result C LineError) (f : A → B → C → D) → Mild x
+    → Mild y → Mild z → Mild (and_then x (λ a. and_then y (λ b. and_then z (λ c. Ok (f a b c)))))
 mild_three (Ok a) y z f x h k = mild_two y z (f a) h k
 mild_three (Err error) y z f x h k = x
 
@@ -119,7 +121,9 @@ mild_low : (text : List ℕ) → Mild (low_in text)
 mild_low text = mild_low_by text (stripped (codes "%lo") text)
 
 mild_offset : (text : List ℕ) → Mild (offset_in text)
-mild_offset text = mild_cond (length text == 0) (Ok (Bits 0)) (bits_low (immediate_in text)) tt (mild_bits_low (immediate_in text) (mild_bits 2048 2047 text))
+mild_offset text =
+    mild_cond (length text == 0) (Ok (Bits 0)) (bits_low (immediate_in text)) tt
+    (mild_bits_low (immediate_in text) (mild_bits 2048 2047 text))
 
 mild_access_with : (offset : Result Low LineError) (base : Result ℕ LineError) → Mild offset → Mild base → Mild (access_with offset base)
 mild_access_with offset (Err error) o b = b
@@ -132,11 +136,14 @@ mild_base_by (Some name) = mild_register name
 
 mild_plain_access : (found : Option (List ℕ × List ℕ)) → Mild (plain_access found)
 mild_plain_access None = tt
-mild_plain_access (Some (offset, after)) = mild_access_with (offset_in (trimmed offset)) (base_by (closed after)) (mild_offset (trimmed offset)) (mild_base_by (closed after))
+mild_plain_access (Some (offset, after)) =
+    mild_access_with (offset_in (trimmed offset)) (base_by (closed after)) (mild_offset (trimmed offset)) (mild_base_by (closed after))
 
 mild_part_access_by : (found : Option (List ℕ × List ℕ)) → Mild (part_access_by found)
 mild_part_access_by None = tt
-mild_part_access_by (Some (label, after)) = mild_access_with (part_low (label_in (trimmed label))) (base_by (bracketed (without_leading_blanks after))) (mild_part_low (label_in (trimmed label)) (mild_label (trimmed label))) (mild_base_by (bracketed (without_leading_blanks after)))
+mild_part_access_by (Some (label, after)) =
+    mild_access_with (part_low (label_in (trimmed label))) (base_by (bracketed (without_leading_blanks after)))
+    (mild_part_low (label_in (trimmed label)) (mild_label (trimmed label))) (mild_base_by (bracketed (without_leading_blanks after)))
 
 mild_part_access : (found : Option (List ℕ)) → Mild (part_access found)
 mild_part_access None = tt
@@ -154,7 +161,9 @@ mild_address_target (Ok address) h = tt
 mild_address_target (Err error) h = h
 
 mild_target : (text : List ℕ) → Mild (target_in text)
-mild_target text = mild_cond (is_name text) (Ok (Label text)) (address_target (bits_in 0 4294967295 text)) tt (mild_address_target (bits_in 0 4294967295 text) (mild_bits 0 4294967295 text))
+mild_target text =
+    mild_cond (is_name text) (Ok (Label text)) (address_target (bits_in 0 4294967295 text)) tt
+    (mild_address_target (bits_in 0 4294967295 text) (mild_bits 0 4294967295 text))
 
 mild_set : (text : List ℕ) → Mild (set_in text)
 mild_set text = mild_or_bad (named sets text)
@@ -175,22 +184,30 @@ mild_number_item (Err error) h = h
 mild_item : (width : Width) (text : List ℕ) → Mild (item_in width text)
 mild_item Byte text = mild_number_item (bits_in 128 255 text) (mild_bits 128 255 text)
 mild_item Half text = mild_number_item (bits_in 32768 65535 text) (mild_bits 32768 65535 text)
-mild_item Word text = mild_cond (is_name text) (Ok (LabelItem text)) (number_item (constant_in text)) tt (mild_number_item (constant_in text) (mild_bits 2147483648 4294967295 text))
+mild_item Word text =
+    mild_cond (is_name text) (Ok (LabelItem text)) (number_item (constant_in text)) tt
+    (mild_number_item (constant_in text) (mild_bits 2147483648 4294967295 text))
 
 mild_before : {A : Type 0} (a : A) (others : Result (List A) LineError) → Mild others → Mild (before_others a others)
 mild_before a (Ok others) h = tt
 mild_before a (Err error) h = h
 
-mild_next : {A : Type 0} (x : Result A LineError) (others : List (Result A LineError)) → Mild x → Mild (all_of others) → Mild (all_of (x ∷ others))
+mild_next : {A : Type 0} (x : Result A LineError) (others : List (Result A LineError)) → Mild x → Mild (all_of others)
+    → Mild (all_of (x ∷ others))
 mild_next (Ok a) others x h = mild_before a (all_of others) h
 mild_next (Err error) others x h = x
 
 mild_all : (width : Width) (list : List (List ℕ)) → Mild (all_of (map (λ field. item_in width (trimmed field)) list))
 mild_all width [] = tt
-mild_all width (field ∷ list) = mild_next (item_in width (trimmed field)) (map (λ field. item_in width (trimmed field)) list) (mild_item width (trimmed field)) (mild_all width list)
+mild_all width (field ∷ list) =
+    mild_next (item_in width (trimmed field)) (map (λ field. item_in width (trimmed field)) list) (mild_item width (trimmed field))
+    (mild_all width list)
 
 mild_stated : (width : Width) (text : List ℕ) → Mild (stated width text)
-mild_stated width text = mild_cond ((length text == 0) || not (are_formed width text)) (Err BadOperand) (and_then (items_in width text) (λ items. Ok (say.Data width items))) tt (mild_one (items_in width text) (λ items. say.Data width items) (mild_all width (fields 44 text)))
+mild_stated width text =
+    mild_cond ((length text == 0) || not (are_formed width text)) (Err BadOperand)
+    (and_then (items_in width text) (λ items. Ok (say.Data width items))) tt
+    (mild_one (items_in width text) (λ items. say.Data width items) (mild_all width (fields 44 text)))
 
 -- ---- instructions
 
@@ -198,20 +215,24 @@ mild_registers : (op : RegisterOperation) (operands : Operands) → Mild (regist
 mild_registers op Zero = tt
 mild_registers op (One a) = tt
 mild_registers op (Two a b) = tt
-mild_registers op (Three a b c) = mild_three (register_in a) (register_in b) (register_in c) (λ rd rs1 rs2. say.One (register_instruction op rd rs1 rs2)) (mild_register a) (mild_register b) (mild_register c)
+mild_registers op (Three a b c) =
+    mild_three (register_in a) (register_in b) (register_in c) (λ rd rs1 rs2. say.One (register_instruction op rd rs1 rs2))
+    (mild_register a) (mild_register b) (mild_register c)
 mild_registers op More = tt
 
 mild_of_register : (op : RegisterOperation) (operands : Operands) → Mild (of_register op operands)
 mild_of_register op Zero = tt
 mild_of_register op (One a) = tt
-mild_of_register op (Two a b) = mild_two (register_in a) (register_in b) (λ rd rs2. say.One (register_instruction op rd 0 rs2)) (mild_register a) (mild_register b)
+mild_of_register op (Two a b) =
+    mild_two (register_in a) (register_in b) (λ rd rs2. say.One (register_instruction op rd 0 rs2)) (mild_register a) (mild_register b)
 mild_of_register op (Three a b c) = tt
 mild_of_register op More = tt
 
 mild_with_zero : (op : RegisterOperation) (operands : Operands) → Mild (with_zero op operands)
 mild_with_zero op Zero = tt
 mild_with_zero op (One a) = tt
-mild_with_zero op (Two a b) = mild_two (register_in a) (register_in b) (λ rd rs1. say.One (register_instruction op rd rs1 0)) (mild_register a) (mild_register b)
+mild_with_zero op (Two a b) =
+    mild_two (register_in a) (register_in b) (λ rd rs1. say.One (register_instruction op rd rs1 0)) (mild_register a) (mild_register b)
 mild_with_zero op (Three a b c) = tt
 mild_with_zero op More = tt
 
@@ -219,34 +240,41 @@ mild_immediate : (op : ImmediateOperation) (operands : Operands) → Mild (immed
 mild_immediate op Zero = tt
 mild_immediate op (One a) = tt
 mild_immediate op (Two a b) = tt
-mild_immediate op (Three a b c) = mild_three (register_in a) (register_in b) (low_in c) (λ rd rs1 imm. lower op rd rs1 imm) (mild_register a) (mild_register b) (mild_low c)
+mild_immediate op (Three a b c) =
+    mild_three (register_in a) (register_in b) (low_in c) (λ rd rs1 imm. lower op rd rs1 imm) (mild_register a) (mild_register b)
+    (mild_low c)
 mild_immediate op More = tt
 
 mild_shift : (op : ShiftOperation) (operands : Operands) → Mild (shift op operands)
 mild_shift op Zero = tt
 mild_shift op (One a) = tt
 mild_shift op (Two a b) = tt
-mild_shift op (Three a b c) = mild_three (register_in a) (register_in b) (amount_in c) (λ rd rs1 shamt. say.One (shift_instruction op rd rs1 shamt)) (mild_register a) (mild_register b) (mild_bits 0 31 c)
+mild_shift op (Three a b c) =
+    mild_three (register_in a) (register_in b) (amount_in c) (λ rd rs1 shamt. say.One (shift_instruction op rd rs1 shamt)) (mild_register a)
+    (mild_register b) (mild_bits 0 31 c)
 mild_shift op More = tt
 
 mild_load : (op : ImmediateOperation) (operands : Operands) → Mild (load op operands)
 mild_load op Zero = tt
 mild_load op (One a) = tt
-mild_load op (Two a b) = mild_two (register_in a) (access_in b) (λ rd access. lower op rd access.base access.offset) (mild_register a) (mild_access b)
+mild_load op (Two a b) =
+    mild_two (register_in a) (access_in b) (λ rd access. lower op rd access.base access.offset) (mild_register a) (mild_access b)
 mild_load op (Three a b c) = tt
 mild_load op More = tt
 
 mild_store : (op : StoreOperation) (operands : Operands) → Mild (store op operands)
 mild_store op Zero = tt
 mild_store op (One a) = tt
-mild_store op (Two a b) = mild_two (register_in a) (access_in b) (λ rs2 access. store_lower op access.base rs2 access.offset) (mild_register a) (mild_access b)
+mild_store op (Two a b) =
+    mild_two (register_in a) (access_in b) (λ rs2 access. store_lower op access.base rs2 access.offset) (mild_register a) (mild_access b)
 mild_store op (Three a b c) = tt
 mild_store op More = tt
 
 mild_unary : (op : Unary) (operands : Operands) → Mild (unary op operands)
 mild_unary op Zero = tt
 mild_unary op (One a) = tt
-mild_unary op (Two a b) = mild_two (register_in a) (register_in b) (λ rd rs1. say.One (unary_instruction op rd rs1)) (mild_register a) (mild_register b)
+mild_unary op (Two a b) =
+    mild_two (register_in a) (register_in b) (λ rd rs1. say.One (unary_instruction op rd rs1)) (mild_register a) (mild_register b)
 mild_unary op (Three a b c) = tt
 mild_unary op More = tt
 
@@ -254,27 +282,33 @@ mild_branch : (condition : Condition) (operands : Operands) → Mild (branch con
 mild_branch condition Zero = tt
 mild_branch condition (One a) = tt
 mild_branch condition (Two a b) = tt
-mild_branch condition (Three a b c) = mild_three (register_in a) (register_in b) (target_in c) (λ rs1 rs2 target. say.Branch condition rs1 rs2 target) (mild_register a) (mild_register b) (mild_target c)
+mild_branch condition (Three a b c) =
+    mild_three (register_in a) (register_in b) (target_in c) (λ rs1 rs2 target. say.Branch condition rs1 rs2 target) (mild_register a)
+    (mild_register b) (mild_target c)
 mild_branch condition More = tt
 
 mild_swapped : (condition : Condition) (operands : Operands) → Mild (swapped condition operands)
 mild_swapped condition Zero = tt
 mild_swapped condition (One a) = tt
 mild_swapped condition (Two a b) = tt
-mild_swapped condition (Three a b c) = mild_three (register_in a) (register_in b) (target_in c) (λ rs2 rs1 target. say.Branch condition rs1 rs2 target) (mild_register a) (mild_register b) (mild_target c)
+mild_swapped condition (Three a b c) =
+    mild_three (register_in a) (register_in b) (target_in c) (λ rs2 rs1 target. say.Branch condition rs1 rs2 target) (mild_register a)
+    (mild_register b) (mild_target c)
 mild_swapped condition More = tt
 
 mild_against_zero : (condition : Condition) (operands : Operands) → Mild (against_zero condition operands)
 mild_against_zero condition Zero = tt
 mild_against_zero condition (One a) = tt
-mild_against_zero condition (Two a b) = mild_two (register_in a) (target_in b) (λ rs1 target. say.Branch condition rs1 0 target) (mild_register a) (mild_target b)
+mild_against_zero condition (Two a b) =
+    mild_two (register_in a) (target_in b) (λ rs1 target. say.Branch condition rs1 0 target) (mild_register a) (mild_target b)
 mild_against_zero condition (Three a b c) = tt
 mild_against_zero condition More = tt
 
 mild_zero_against : (condition : Condition) (operands : Operands) → Mild (zero_against condition operands)
 mild_zero_against condition Zero = tt
 mild_zero_against condition (One a) = tt
-mild_zero_against condition (Two a b) = mild_two (register_in a) (target_in b) (λ rs2 target. say.Branch condition 0 rs2 target) (mild_register a) (mild_target b)
+mild_zero_against condition (Two a b) =
+    mild_two (register_in a) (target_in b) (λ rs2 target. say.Branch condition 0 rs2 target) (mild_register a) (mild_target b)
 mild_zero_against condition (Three a b c) = tt
 mild_zero_against condition More = tt
 
@@ -312,7 +346,9 @@ mild_jump_and_link_register More = tt
 mild_load_upper : (operands : Operands) → Mild (load_upper operands)
 mild_load_upper Zero = tt
 mild_load_upper (One a) = tt
-mild_load_upper (Two a b) = mild_then (register_in a) (λ rd. upper_by rd b (stripped (codes "%hi") b)) (mild_register a) (λ rd. mild_upper_by rd b (stripped (codes "%hi") b))
+mild_load_upper (Two a b) =
+    mild_then (register_in a) (λ rd. upper_by rd b (stripped (codes "%hi") b)) (mild_register a)
+    (λ rd. mild_upper_by rd b (stripped (codes "%hi") b))
 mild_load_upper (Three a b c) = tt
 mild_load_upper More = tt
 
@@ -326,7 +362,8 @@ mild_add_upper More = tt
 mild_load_immediate : (operands : Operands) → Mild (load_immediate operands)
 mild_load_immediate Zero = tt
 mild_load_immediate (One a) = tt
-mild_load_immediate (Two a b) = mild_two (register_in a) (constant_in b) (λ rd n. constant rd n) (mild_register a) (mild_bits 2147483648 4294967295 b)
+mild_load_immediate (Two a b) =
+    mild_two (register_in a) (constant_in b) (λ rd n. constant rd n) (mild_register a) (mild_bits 2147483648 4294967295 b)
 mild_load_immediate (Three a b c) = tt
 mild_load_immediate More = tt
 
@@ -430,9 +467,12 @@ mild_error : (s : Said) → Mild s → ErrorIs IsOfOperands s
 mild_error (Ok statement) h = tt
 mild_error (Err error) h = h
 
-named_error : (labels : List (List ℕ)) (found : Option Mnemonic) (operands : List ℕ) → ErrorIs (λ error. MatchOption found (error ≡ UnknownInstruction) (λ named. IsOfOperands error)) (line_of labels (stating (said_by found operands)))
+named_error : (labels : List (List ℕ)) (found : Option Mnemonic) (operands : List ℕ)
+    → ErrorIs (λ error. MatchOption found (error ≡ UnknownInstruction) (λ named. IsOfOperands error)) (line_of labels (stating (said_by found operands)))
 named_error labels None operands = refl
-named_error labels (Some mnemonic) operands = stated_error labels IsOfOperands (meaning mnemonic (operands_in operands) operands) (mild_error (meaning mnemonic (operands_in operands) operands) (mild_meaning mnemonic (operands_in operands) operands))
+named_error labels (Some mnemonic) operands =
+    stated_error labels IsOfOperands (meaning mnemonic (operands_in operands) operands)
+    (mild_error (meaning mnemonic (operands_in operands) operands) (mild_meaning mnemonic (operands_in operands) operands))
 
 spoken_error : (labels : List (List ℕ)) (spoken : Option Spoken) → ErrorIs (IsErrorOf spoken) (line_of labels (says spoken))
 spoken_error labels None = tt

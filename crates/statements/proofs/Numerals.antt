@@ -65,7 +65,7 @@ no_bracket_byte b h = grind (arith, nat_tests)
 pub high_no_bracket : (text : List ℕ) → list_all is_high text ≡ true → list_all (λ b. not (b == 40)) text ≡ true
 high_no_bracket text h = all_weaker is_high (λ b. not (b == 40)) no_bracket_byte text h
 
-no_percent_byte : (b : ℕ) → is_high b ≡ true → (b == 37) ≡ false
+pub no_percent_byte : (b : ℕ) → is_high b ≡ true → (b == 37) ≡ false
 unfolding is_high
 no_percent_byte b h = grind (arith, nat_tests)
 
@@ -74,7 +74,7 @@ pub high_prefix : (prefix text more : List ℕ) → High text → stripped (37 �
 high_prefix prefix [] more h = let none : false ≡ true = h.some in cc
 high_prefix prefix (c ∷ text) more h = other_prefix c 37 prefix (text ++ more) (no_percent_byte c (and_left (is_high c) _ h.all))
 
-digit_high : (c : ℕ) → digit_value c < 16 → 48 ≤ c
+pub digit_high : (c : ℕ) → digit_value c < 16 → 48 ≤ c
 digit_high c h =
     let P : Bool → Type 0 = λ t. ltb c 48 ≡ t → 48 ≤ c in
     let go : P (ltb c 48) = elim (ltb c 48) as P [
@@ -91,7 +91,7 @@ digits_high radix (c ∷ ds) l h =
     let byte : leb 45 c ≡ true = grind (arith, nat_tests) in
     and_both _ _ byte (digits_high radix ds l h.1)
 
-digits_tested : (radix : ℕ) (ds : List ℕ) → AllDigits radix ds → list_all (λ c. is_digit c radix) ds ≡ true
+pub digits_tested : (radix : ℕ) (ds : List ℕ) → AllDigits radix ds → list_all (λ c. is_digit c radix) ds ≡ true
 digits_tested radix [] h = refl
 digits_tested radix (c ∷ ds) h =
     let value : digit_value c < radix = h.0 in
@@ -99,11 +99,11 @@ digits_tested radix (c ∷ ds) h =
       below : (a b : ℕ) → a < b → ltb a b ≡ true
       below a b l = grind (arith, nat_tests)
 
-some_digits : (ds : List ℕ) → 0 < length ds → is_operand ds ≡ true
+pub some_digits : (ds : List ℕ) → 0 < length ds → is_operand ds ≡ true
 some_digits [] h = absurd (omega arith)
 some_digits (c ∷ ds) h = grind (arith, nat_tests)
 
-at_most : (a b : ℕ) → a ≤ b → leb a b ≡ true
+pub at_most : (a b : ℕ) → a ≤ b → leb a b ≡ true
 at_most a b l = grind (arith, nat_tests)
 
 -- digits that write a number, in a radix
@@ -126,19 +126,20 @@ not_x : (c : ℕ) → digit_value c < 10 → (c == 120) ≡ false
 not_x c h =
     let P : Bool → Type 0 = λ t. (c == 120) ≡ t → t ≡ false in
     let go : P (c == 120) = elim (c == 120) as P [
-      | true ↦ λ t. let e : c ≡ 120 = grind (arith, nat_tests) in let value : digit_value c ≡ 33 = ap digit_value e in absurd (omega (arith, value, h))
+      | true ↦ λ t. let e : c ≡ 120 =
+          grind (arith, nat_tests) in let value : digit_value c ≡ 33 = ap digit_value e in absurd (omega (arith, value, h))
       | false ↦ λ t. refl
     ] in go refl
 
-not_minus : (c : ℕ) → digit_value c < 16 → (c == 45) ≡ false
+pub not_minus : (c : ℕ) → digit_value c < 16 → (c == 45) ≡ false
 not_minus c h = let high : 48 ≤ c = digit_high c h in grind (arith, nat_tests)
 
-no_radix : (ds : List ℕ) → AllDigits 10 ds → prefixed ds ≡ None
+pub no_radix : (ds : List ℕ) → AllDigits 10 ds → prefixed ds ≡ None
 no_radix [] h = refl
 no_radix (c ∷ []) h = refl
 no_radix (c ∷ d ∷ ds) h = turned_down ((c == 48) && (d == 120)) _ _ (ap (λ t. (c == 48) && t) (not_x d h.1.0) ∙ no_more (c == 48))
 
-no_minus : (ds : List ℕ) → AllDigits 10 ds → stripped (codes "-") ds ≡ None
+pub no_minus : (ds : List ℕ) → AllDigits 10 ds → stripped (codes "-") ds ≡ None
 no_minus [] h = refl
 no_minus (c ∷ ds) h = let value : digit_value c < 10 = h.0 in other_prefix c 45 [] ds (not_minus c (omega (arith, value)))
 
@@ -159,7 +160,8 @@ decimal_read below above n ds w a l =
     ap (bits_by below above) (ap (number_by ds) (no_minus ds w.numeral.1) ∙ ap (signed false) (magnitude_read ds n w l))
     ∙ within_above below above n a
 
-pub negative_read : (below above n : ℕ) (ds : List ℕ) → Writes 10 ds n → n ≤ below → n ≤ 4294967295 → bits_in below above (45 ∷ ds) ≡ Ok ((2 ^ 32 - n) % 2 ^ 32)
+pub negative_read : (below above n : ℕ) (ds : List ℕ) → Writes 10 ds n → n ≤ below → n ≤ 4294967295
+    → bits_in below above (45 ∷ ds) ≡ Ok ((2 ^ 32 - n) % 2 ^ 32)
 negative_read below above n ds w b l =
     ap (bits_by below above) (ap (signed true) (magnitude_read ds n w l))
     ∙ within_below below above n b
@@ -180,7 +182,7 @@ plain_immediate n l =
       read = decimal_read 2048 2047 n (decimal n) w l (omega arith);
     }
 
-minus_high : (ds : List ℕ) → High ds → High (45 ∷ ds)
+pub minus_high : (ds : List ℕ) → High ds → High (45 ∷ ds)
 unfolding is_high
 minus_high ds h = record { some = some_digits (45 ∷ ds) (omega arith); all = h.all }
 
@@ -191,12 +193,14 @@ negative_immediate n imm l e =
       read = negative_read 2048 2047 n (decimal n) w l (omega arith) ∙ ap (λ b. Ok b) e;
     }
 
-pub immediate_is : (sign low imm : ℕ) → sign < 2 → low < 2 ^ 11 → imm ≡ sign * (2 ^ 32 - 2 ^ 11) + low → IsImmediate (signed_decimal (signed_bits imm)) imm
+pub immediate_is : (sign low imm : ℕ) → sign < 2 → low < 2 ^ 11 → imm ≡ sign * (2 ^ 32 - 2 ^ 11) + low
+    → IsImmediate (signed_decimal (signed_bits imm)) imm
 immediate_is sign low imm s l e =
     let P : Bool → Type 0 = λ t. ltb imm (2 ^ 31) ≡ t → IsImmediate (signed_decimal (cond t (pos imm) (negsuc (2 ^ 32 - suc imm)))) imm in
     let go : P (ltb imm (2 ^ 31)) = elim (ltb imm (2 ^ 31)) as P [
       | true ↦ λ t. let small : imm < 2 ^ 31 = grind (arith, nat_tests) in plain_immediate imm (omega arith)
-      | false ↦ λ t. let large : 2 ^ 31 ≤ imm = grind (arith, nat_tests) in negative_immediate (suc (2 ^ 32 - suc imm)) imm (omega arith) (omega arith)
+      | false ↦ λ t. let large : 2 ^ 31 ≤ imm =
+          grind (arith, nat_tests) in negative_immediate (suc (2 ^ 32 - suc imm)) imm (omega arith) (omega arith)
     ] in go refl
 
 -- ---- hexadecimal
@@ -227,16 +231,33 @@ value_at d l = let t : is_value d ≡ true = all_below_at is_value 16 d values l
 
 eight : (a b c d e f g h : ℕ) (n : ℕ) → a < 16 → b < 16 → c < 16 → d < 16 → e < 16 → f < 16 → g < 16 → h < 16
     → a * 2 ^ 28 + b * 2 ^ 24 + c * 2 ^ 20 + d * 2 ^ 16 + e * 2 ^ 12 + f * 2 ^ 8 + g * 2 ^ 4 + h ≡ n
-    → (i j k l m o p q : ℕ) → digit_value i ≡ a → digit_value j ≡ b → digit_value k ≡ c → digit_value l ≡ d → digit_value m ≡ e → digit_value o ≡ f → digit_value p ≡ g → digit_value q ≡ h
+    → (i j k l m o p q : ℕ) → digit_value i ≡ a → digit_value j ≡ b → digit_value k ≡ c → digit_value l ≡ d → digit_value m ≡ e
+    → digit_value o ≡ f → digit_value p ≡ g → digit_value q ≡ h
     → Writes 16 (i ∷ j ∷ k ∷ l ∷ m ∷ o ∷ p ∷ q ∷ []) n
 eight a b c d e f g h n la lb lc ld le lf lg lh sum i j k l m o p q vi vj vk vl vm vo vp vq = record {
-  numeral = (omega arith, (omega (arith, vi), (omega (arith, vj), (omega (arith, vk), (omega (arith, vl), (omega (arith, vm), (omega (arith, vo), (omega (arith, vp), (omega (arith, vq), tt)))))))));
-  value = summed (digit_value i) (digit_value j) (digit_value k) (digit_value l) (digit_value m) (digit_value o) (digit_value p) (digit_value q) vi vj vk vl vm vo vp vq;
+  numeral = (
+    omega arith,
+    (
+      omega (arith, vi),
+      (
+        omega (arith, vj),
+        (
+          omega (arith, vk),
+          (omega (arith, vl), (omega (arith, vm), (omega (arith, vo), (omega (arith, vp), (omega (arith, vq), tt))))),
+        ),
+      ),
+    ),
+  );
+  value =
+      summed (digit_value i) (digit_value j) (digit_value k) (digit_value l) (digit_value m) (digit_value o) (digit_value p)
+      (digit_value q) vi vj vk vl vm vo vp vq;
 } where
-  summed : (r s t u v w x y : ℕ) → r ≡ a → s ≡ b → t ≡ c → u ≡ d → v ≡ e → w ≡ f → x ≡ g → y ≡ h → (((((((0 * 16 + r) * 16 + s) * 16 + t) * 16 + u) * 16 + v) * 16 + w) * 16 + x) * 16 + y ≡ n
+  summed : (r s t u v w x y : ℕ) → r ≡ a → s ≡ b → t ≡ c → u ≡ d → v ≡ e → w ≡ f → x ≡ g → y ≡ h
+      → (((((((0 * 16 + r) * 16 + s) * 16 + t) * 16 + u) * 16 + v) * 16 + w) * 16 + x) * 16 + y ≡ n
   summed r s t u v w x y e0 e1 e2 e3 e4 e5 e6 e7 = omega arith
 
-places_sum : (n : ℕ) → n < 2 ^ 32 → n / 2 ^ 28 * 2 ^ 28 + n / 2 ^ 24 % 16 * 2 ^ 24 + n / 2 ^ 20 % 16 * 2 ^ 20 + n / 2 ^ 16 % 16 * 2 ^ 16 + n / 2 ^ 12 % 16 * 2 ^ 12 + n / 2 ^ 8 % 16 * 2 ^ 8 + n / 2 ^ 4 % 16 * 2 ^ 4 + n % 16 ≡ n
+places_sum : (n : ℕ) → n < 2 ^ 32
+    → n / 2 ^ 28 * 2 ^ 28 + n / 2 ^ 24 % 16 * 2 ^ 24 + n / 2 ^ 20 % 16 * 2 ^ 20 + n / 2 ^ 16 % 16 * 2 ^ 16 + n / 2 ^ 12 % 16 * 2 ^ 12 + n / 2 ^ 8 % 16 * 2 ^ 8 + n / 2 ^ 4 % 16 * 2 ^ 4 + n % 16 ≡ n
 places_sum n l = omega arith
 
 sixteen : (n : ℕ) → n % 16 < 16
@@ -246,6 +267,10 @@ pub writes_eight : (n : ℕ) → n < 2 ^ 32 → Writes 16 (eight_digits n) n
 writes_eight n l =
     let top : n / 2 ^ 28 < 16 = omega arith in
     eight (n / 2 ^ 28) (n / 2 ^ 24 % 16) (n / 2 ^ 20 % 16) (n / 2 ^ 16 % 16) (n / 2 ^ 12 % 16) (n / 2 ^ 8 % 16) (n / 2 ^ 4 % 16) (n % 16) n
-    top (sixteen (n / 2 ^ 24)) (sixteen (n / 2 ^ 20)) (sixteen (n / 2 ^ 16)) (sixteen (n / 2 ^ 12)) (sixteen (n / 2 ^ 8)) (sixteen (n / 2 ^ 4)) (sixteen n) (places_sum n l)
-    (hex_digit (n / 2 ^ 28)) (hex_digit (n / 2 ^ 24 % 16)) (hex_digit (n / 2 ^ 20 % 16)) (hex_digit (n / 2 ^ 16 % 16)) (hex_digit (n / 2 ^ 12 % 16)) (hex_digit (n / 2 ^ 8 % 16)) (hex_digit (n / 2 ^ 4 % 16)) (hex_digit (n % 16))
-    (value_at (n / 2 ^ 28) top) (value_at (n / 2 ^ 24 % 16) (sixteen (n / 2 ^ 24))) (value_at (n / 2 ^ 20 % 16) (sixteen (n / 2 ^ 20))) (value_at (n / 2 ^ 16 % 16) (sixteen (n / 2 ^ 16))) (value_at (n / 2 ^ 12 % 16) (sixteen (n / 2 ^ 12))) (value_at (n / 2 ^ 8 % 16) (sixteen (n / 2 ^ 8))) (value_at (n / 2 ^ 4 % 16) (sixteen (n / 2 ^ 4))) (value_at (n % 16) (sixteen n))
+    top (sixteen (n / 2 ^ 24)) (sixteen (n / 2 ^ 20)) (sixteen (n / 2 ^ 16)) (sixteen (n / 2 ^ 12)) (sixteen (n / 2 ^ 8))
+    (sixteen (n / 2 ^ 4)) (sixteen n) (places_sum n l)
+    (hex_digit (n / 2 ^ 28)) (hex_digit (n / 2 ^ 24 % 16)) (hex_digit (n / 2 ^ 20 % 16)) (hex_digit (n / 2 ^ 16 % 16))
+    (hex_digit (n / 2 ^ 12 % 16)) (hex_digit (n / 2 ^ 8 % 16)) (hex_digit (n / 2 ^ 4 % 16)) (hex_digit (n % 16))
+    (value_at (n / 2 ^ 28) top) (value_at (n / 2 ^ 24 % 16) (sixteen (n / 2 ^ 24))) (value_at (n / 2 ^ 20 % 16) (sixteen (n / 2 ^ 20)))
+    (value_at (n / 2 ^ 16 % 16) (sixteen (n / 2 ^ 16))) (value_at (n / 2 ^ 12 % 16) (sixteen (n / 2 ^ 12)))
+    (value_at (n / 2 ^ 8 % 16) (sixteen (n / 2 ^ 8))) (value_at (n / 2 ^ 4 % 16) (sixteen (n / 2 ^ 4))) (value_at (n % 16) (sixteen n))

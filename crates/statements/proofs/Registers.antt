@@ -43,7 +43,9 @@ index_is (Some m) n h = let e : m ≡ n = grind (arith, nat_tests) in ap (λ x. 
 
 -- each register has its names, and they are names
 right_at : ℕ → Bool
-right_at n = is_index (register_of (name_of n)) n && (is_index (register_of (numbered_name_of n)) n && (is_name (name_of n) && is_name (numbered_name_of n)))
+right_at n =
+    is_index (register_of (name_of n)) n &&
+    (is_index (register_of (numbered_name_of n)) n && (is_name (name_of n) && is_name (numbered_name_of n)))
 
 right : all_below 32 right_at ≡ true
 unfolding all_below right_at is_index
@@ -70,7 +72,8 @@ register_named name n h =
 pub named_is_name : (name : List ℕ) (n : ℕ) → Names name n → is_name name ≡ true
 unfolding right_at
 named_is_name name n h =
-    let all = and_right (is_index (register_of (numbered_name_of n)) n) _ (and_right (is_index (register_of (name_of n)) n) _ (right_below n h.0)) in
+    let all = and_right (is_index (register_of (numbered_name_of n)) n) _
+    (and_right (is_index (register_of (name_of n)) n) _ (right_below n h.0)) in
     let P : Type 0 = is_name name ≡ true in
     elim h.1 as (λ _. P) [
       | inl e ↦ ap is_name e ∙ and_left _ _ all
@@ -97,7 +100,9 @@ register_none name h =
     let eight : ℕ = 8 in
     let P : Bool → Type 0 = λ t. bytes_eq name (codes "fp") ≡ t → cond t (Some eight) None ≡ None in
     let fp : P (bytes_eq name (codes "fp")) = elim (bytes_eq name (codes "fp")) as P [
-      | true ↦ λ t. let small : eight < 32 = lit< tt in let fp : name ≡ codes "fp" = (bytes_eq-Decides name (codes "fp")).0 t in let named : Names name eight = (small, inr (inr (fp, refl))) in absurd (h eight named)
+      | true ↦ λ t. let small : eight < 32 =
+          lit< tt in let fp : name ≡ codes "fp" = (bytes_eq-Decides name (codes "fp")).0 t in
+          let named : Names name eight = (small, inr (inr (fp, refl))) in absurd (h eight named)
       | false ↦ λ t. refl
     ] in rw plain (rw numbered (fp refl))
 
@@ -114,11 +119,14 @@ named_text text name h =
     ] in go h
 
 -- what is no name stands in no table of names
-pub no_row : {A : Type 0} (rows : List (List ℕ × A)) (text : List ℕ) → list_all (λ row. is_name row.0) rows ≡ true → is_name text ≡ false → named rows text ≡ None
+pub no_row : {A : Type 0} (rows : List (List ℕ × A)) (text : List ℕ) → list_all (λ row. is_name row.0) rows ≡ true → is_name text ≡ false
+    → named rows text ≡ None
 no_row [] text all h = refl
 no_row ((name, a) ∷ rows) text all h =
     let P : Bool → Type 0 = λ t. bytes_eq text name ≡ t → cond t (Some a) (named rows text) ≡ None in
     let go : P (bytes_eq text name) = elim (bytes_eq text name) as P [
-      | true ↦ λ t. let same : text ≡ name = (bytes_eq-Decides text name).0 t in let both : true ≡ false = sym (and_left (is_name name) _ all) ∙ sym (ap is_name same) ∙ h in cc
+      | true ↦ λ t. let same : text ≡ name =
+          (bytes_eq-Decides text name).0 t in let both : true ≡ false = sym (and_left (is_name name) _ all) ∙ sym (ap is_name same) ∙ h in
+          cc
       | false ↦ λ t. no_row rows text (and_right (is_name name) _ all) h
     ] in go refl

@@ -12,13 +12,16 @@ use Rattle.byte_strings.proofs.Trimming.{begins_blank}
 use Rattle.byte_strings.proofs.Conjunctions.{all_reverse}
 
 -- the first element that passes, after some that do not
-pub index_at : (p : ℕ → Bool) (xs ys : List ℕ) (y : ℕ) → list_all (λ x. not (p x)) xs ≡ true → p y ≡ true → position_or_len p (xs ++ y ∷ ys) ≡ length xs
+pub index_at : (p : ℕ → Bool) (xs ys : List ℕ) (y : ℕ) → list_all (λ x. not (p x)) xs ≡ true → p y ≡ true
+    → position_or_len p (xs ++ y ∷ ys) ≡ length xs
 index_at p [] ys y h t = rw t refl
-index_at p (x ∷ xs) ys y h t = rw (and_left (not (p x)) _ h) (ap (λ n. 1 + n) (index_at p xs ys y (and_right (not (p x)) _ h) t) ∙ next (length xs)) where
-  next : (n : ℕ) → 1 + n ≡ suc n
-  next n = omega arith
+index_at p (x ∷ xs) ys y h t =
+    rw (and_left (not (p x)) _ h) (ap (λ n. 1 + n) (index_at p xs ys y (and_right (not (p x)) _ h) t) ∙ next (length xs)) where
+      next : (n : ℕ) → 1 + n ≡ suc n
+      next n = omega arith
 
-pub position_at : (p : ℕ → Bool) (xs ys : List ℕ) (y : ℕ) → list_all (λ x. not (p x)) xs ≡ true → p y ≡ true → position p (xs ++ y ∷ ys) ≡ Some (length xs)
+pub position_at : (p : ℕ → Bool) (xs ys : List ℕ) (y : ℕ) → list_all (λ x. not (p x)) xs ≡ true → p y ≡ true
+    → position p (xs ++ y ∷ ys) ≡ Some (length xs)
 position_at p xs ys y h t =
     let at = index_at p xs ys y h t in
     let long : length (xs ++ y ∷ ys) ≡ length xs + length (y ∷ ys) = length-append xs (y ∷ ys) in
@@ -45,13 +48,16 @@ parted_joins byte text prefix after h =
     let rest : join_with_byte byte (s.0 ∷ s.1) ≡ after = sym (ap (join_with_byte byte) s.2) ∙ join_with_byte-slice_split byte after in
     sym (join_with_byte-slice_split byte text) ∙ ap (join_with_byte byte) all ∙ ap (λ (l : List ℕ). prefix ++ byte ∷ l) rest
 
-pub parts_join : (byte : ℕ) (prefix after : List ℕ) → list_all (λ b. not (b == byte)) prefix ≡ true → parted byte (prefix ++ byte ∷ after) ≡ Some (prefix, after)
+pub parts_join : (byte : ℕ) (prefix after : List ℕ) → list_all (λ b. not (b == byte)) prefix ≡ true
+    → parted byte (prefix ++ byte ∷ after) ≡ Some (prefix, after)
 parts_join byte prefix after h =
     let same : (byte == byte) ≡ true = grind (arith, nat_tests) in
-    let at : position (λ b. b == byte) (prefix ++ byte ∷ after) ≡ Some (length prefix) = position_at (λ b. b == byte) prefix after byte h same in
+    let at : position (λ b. b == byte) (prefix ++ byte ∷ after) ≡ Some (length prefix) = position_at
+    (λ b. b == byte) prefix after byte h same in
     let t : take (length prefix) (prefix ++ byte ∷ after) ≡ prefix = take-append_seam prefix (byte ∷ after) in
     let d : drop (length prefix + 1) (prefix ++ byte ∷ after) ≡ after = drop-append-add prefix (byte ∷ after) 1 in
-    ap (parted_at (prefix ++ byte ∷ after)) at ∙ ap (λ (l : List ℕ). Some (l, drop (length prefix + 1) (prefix ++ byte ∷ after))) t ∙ ap (λ (l : List ℕ). Some (prefix, l)) d
+    ap (parted_at (prefix ++ byte ∷ after)) at ∙ ap (λ (l : List ℕ). Some (l, drop (length prefix + 1) (prefix ++ byte ∷ after))) t
+    ∙ ap (λ (l : List ℕ). Some (prefix, l)) d
 
 -- the bytes of names
 pub name_bytes : (name : List ℕ) → is_name name ≡ true → list_all is_name_byte name ≡ true
@@ -98,7 +104,8 @@ blank_ends [] h = refl
 blank_ends (b ∷ text) h = grind (arith, nat_tests)
 
 -- the name that a text begins with is its bytes up to the first that is none of a name
-pub runs : (a b x y : List ℕ) → list_all is_name_byte a ≡ true → list_all is_name_byte b ≡ true → goes_on x ≡ false → goes_on y ≡ false → a ++ x ≡ b ++ y → (a ≡ b) × (x ≡ y)
+pub runs : (a b x y : List ℕ) → list_all is_name_byte a ≡ true → list_all is_name_byte b ≡ true → goes_on x ≡ false → goes_on y ≡ false
+    → a ++ x ≡ b ++ y → (a ≡ b) × (x ≡ y)
 runs [] [] x y ha hb gx gy e = (refl, e)
 runs [] (c ∷ b) x y ha hb gx gy e =
     let on : goes_on x ≡ true = ap goes_on e ∙ and_left (is_name_byte c) _ hb in

@@ -21,7 +21,8 @@ itself (Err BadOperand) s h = sym h
 itself (Err OutOfRange) s h = sym h
 
 -- what a mnemonic that is a name says of operands none of which is blank
-pub said_named : (mnemonic name text : List ℕ) → Some name ≡ (if is_name mnemonic then Some mnemonic else None) → are_operands text ≡ true → said mnemonic text ≡ said_by (mnemonic_of name) text
+pub said_named : (mnemonic name text : List ℕ) → Some name ≡ (if is_name mnemonic then Some mnemonic else None) → are_operands text ≡ true
+    → said mnemonic text ≡ said_by (mnemonic_of name) text
 said_named mnemonic name text h all =
     let P : Bool → Type 0 = λ t. is_name mnemonic ≡ t → said mnemonic text ≡ said_by (mnemonic_of name) text in
     let go : P (is_name mnemonic) = elim (is_name mnemonic) as P [
@@ -30,7 +31,8 @@ said_named mnemonic name text h all =
     ] in go refl
 
 -- a line whose statement is that, or no memory was left
-pub or_line : (labels : List (List ℕ)) (r s : Result (Option Statement) LineError) → OrNoMemory r s → OrNoMemory (line_of labels r) (line_of labels s)
+pub or_line : (labels : List (List ℕ)) (r s : Result (Option Statement) LineError) → OrNoMemory r s
+    → OrNoMemory (line_of labels r) (line_of labels s)
 or_line labels (Ok a) s h = ap (line_of labels) h
 or_line labels (Err NoMemory) s h = tt
 or_line labels (Err Syntax) s h = ap (line_of labels) h
@@ -38,9 +40,14 @@ or_line labels (Err UnknownInstruction) s h = ap (line_of labels) h
 or_line labels (Err BadOperand) s h = ap (line_of labels) h
 or_line labels (Err OutOfRange) s h = ap (line_of labels) h
 
-pub read_so : (line : List ℕ) (labels : List (List ℕ)) (rest : List ℕ) (r : Result (Option Statement) LineError) (result : Result Line LineError) → labels ≡ labels_of (fields 58 (without_comment line)) → rest ≡ rest_of (fields 58 (without_comment line)) → OrNoMemory r (statement_in (trimmed rest)) → result ≡ line_of labels r → OrNoMemory result (read line)
+pub read_so : (line : List ℕ) (labels : List (List ℕ)) (rest : List ℕ) (r : Result (Option Statement) LineError) (result : Result Line LineError)
+    → labels ≡ labels_of (fields 58 (without_comment line)) → rest ≡ rest_of (fields 58 (without_comment line))
+    → OrNoMemory r (statement_in (trimmed rest)) → result ≡ line_of labels r → OrNoMemory result (read line)
 unfolding read
 read_so line labels rest r result e f h same =
-    let so : OrNoMemory (line_of labels r) (line_of labels (statement_in (trimmed rest))) = or_line labels r (statement_in (trimmed rest)) h in
-    let read_is : line_of labels (statement_in (trimmed rest)) ≡ read_content (without_comment line) = ap (λ (l : List (List ℕ)). line_of l (statement_in (trimmed rest))) e ∙ ap (λ t. line_of (labels_of (fields 58 (without_comment line))) (statement_in (trimmed t))) f in
+    let so : OrNoMemory (line_of labels r) (line_of labels (statement_in (trimmed rest))) = or_line labels r
+    (statement_in (trimmed rest)) h in
+    let read_is : line_of labels (statement_in (trimmed rest)) ≡ read_content (without_comment line) = ap
+    (λ (l : List (List ℕ)). line_of l (statement_in (trimmed rest))) e
+    ∙ ap (λ t. line_of (labels_of (fields 58 (without_comment line))) (statement_in (trimmed t))) f in
     subst (λ x. OrNoMemory x (read_content (without_comment line))) (sym same) (subst (λ x. OrNoMemory (line_of labels r) x) read_is so)

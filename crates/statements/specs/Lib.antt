@@ -24,3 +24,9 @@ pub mod Pseudo
 pub mod Texts
 -- what holds of every line
 pub mod Laws
+-- what a line says by the forms of its operands
+pub mod OperandLaws
+-- what a directive states of its operands
+pub mod DirectiveLaws
+-- which operands are bad
+pub mod RefusalLaws

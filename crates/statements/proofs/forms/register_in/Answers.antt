@@ -5,12 +5,15 @@ use Rattle.statements.proofs.Registers.{register_named, register_none, unnamed, 
 use Rattle.statements.proofs.forms.register_in.Goals as goal
 
 pub returns-in_default : goal.returns-in_default
-returns-in_default c = sym (ap or_bad (register_none c.args.text.now (λ n h. unnamed c.args.text.now c.in_default.ensures (named_is_name c.args.text.now n h))))
+returns-in_default c =
+    sym (ap or_bad (register_none c.args.text.now
+    (λ n h. unnamed c.args.text.now c.in_default.ensures (named_is_name c.args.text.now n h))))
 
 pub returns-in-Some-reg_of : goal.returns-in-Some-reg_of
 returns-in-Some-reg_of c =
     let same : c.as_str.result.now ≡ c.args.text.now = c.as_str.ensures ∙ named_text c.args.text.now c.in-Some.name c.in-Some.ensures in
-    let named : Names c.args.text.now c.in-Some-reg_of.number = subst (λ t. Names t c.in-Some-reg_of.number) same c.in-Some-reg_of.ensures in
+    let named : Names c.args.text.now c.in-Some-reg_of.number = subst
+    (λ t. Names t c.in-Some-reg_of.number) same c.in-Some-reg_of.ensures in
     ap or_bad (ap (λ n. Some n) c.new.ensures ∙ sym (register_named c.args.text.now c.in-Some-reg_of.number named))
 
 pub returns-in-None : goal.returns-in-None

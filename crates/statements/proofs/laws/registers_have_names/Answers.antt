@@ -1,0 +1,5 @@
+use Rattle.statements.proofs.Refused.{registers_named}
+use Rattle.statements.proofs.laws.registers_have_names.Goals as goal
+
+pub returns : goal.returns
+returns c = registers_named
