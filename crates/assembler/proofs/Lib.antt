@@ -7,6 +7,9 @@ pub mod Placing
 pub mod Filling
 pub mod Rising
 pub mod Unique
+pub mod Encoded
+pub mod Ranges
+pub mod Whole
 pub mod Made
 pub mod Loadable
 pub mod Done

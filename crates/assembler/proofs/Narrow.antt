@@ -16,17 +16,14 @@ use Rattle.assembler.specs.Contents.{content_error}
 use Rattle.assembler.specs.Errors.{at, first_of}
 use Rattle.assembler.specs.Placed.{error_by, memory_end, placed}
 use Rattle.assembler.specs.Places.{end_of_line, labels_at, labels_in, misplaced, place, place_error, places, row_of, rows_at, rows_in, words_at}
-use Rattle.assembler.specs.Program.{line_at, line_then, read_lines, read_text, says_nothing, text_limit, too_long}
+use Rattle.assembler.specs.Program.{line_at, line_then, read_by, read_lines, read_text, says_nothing, text_limit, whole_error}
 use Rattle.std.specs.Str.Lossy.{utf8_valid_len}
 use Rattle.assembler.specs.declared.error.AsmErrorKind.TheVariants as k
 use Rattle.assembler.specs.declared.error.AsmError.{AsmError}
 use Rattle.assembler.specs.declared.program.Source.{Source}
 use Rattle.assembler.proofs.Loadable.{ends}
+use Rattle.assembler.proofs.Ranges.{either}
 use Rattle.assembler.proofs.Rising.{parted}
-
-either : {A : Type 0} (P : A → Type 0) (b : Bool) (x y : A) → P x → P y → P (cond b x y)
-either P true x y h g = h
-either P false x y h g = g
 
 -- ---- how many lines a text has
 
@@ -41,7 +38,8 @@ parts_few : (bytes : List ℕ) → Few (length bytes + 1) (slice_split (λ b. eq
 parts_few [] = omega arith
 parts_few (x ∷ bytes) =
     let rest = parts_few bytes in
-    either (Few (length (x ∷ bytes) + 1)) (eqb x 10) _ _ (omega (arith, rest)) (onto_few (length (x ∷ bytes) + 1) x (slice_split (λ b. eqb b 10) bytes) (omega arith) (omega (arith, rest)))
+    either (Few (length (x ∷ bytes) + 1)) (eqb x 10) _ _ (omega (arith, rest))
+    (onto_few (length (x ∷ bytes) + 1) x (slice_split (λ b. eqb b 10) bytes) (omega arith) (omega (arith, rest)))
 
 lines_few : (parts : List (List ℕ)) → length (lines_of_parts parts) ≤ length parts
 lines_few [] = omega arith
@@ -57,48 +55,71 @@ abbrev Reads : ℕ → Result (List Source) AsmError → Type 0
 Reads n (Ok program) = AllBelow n program
 Reads n (Err error) = Unit {0}
 
-then_below : (n number : ℕ) (line : Result Line LineError) (others : Result (List Source) AsmError) → number < n → Reads n others → Reads n (line_then number line others)
+then_below : (n number : ℕ) (line : Result Line LineError) (others : Result (List Source) AsmError) → number < n → Reads n others
+    → Reads n (line_then number line others)
 then_below n number (Err error) others low h = tt
 then_below n number (Ok line) (Err error) low h = tt
-then_below n number (Ok line) (Ok others) low h = either (AllBelow n) (says_nothing line) others _ h (All-cons (λ (s : Source). s.number < n) (record { number = number; line = line }) others low h)
+then_below n number (Ok line) (Ok others) low h =
+    either (AllBelow n) (says_nothing line) others _ h
+    (All-cons (λ (s : Source). s.number < n) (record { number = number; line = line }) others low h)
 
 lines_below : (n number : ℕ) (list : List (List ℕ)) → number + length list ≤ n → Reads n (read_lines number list)
 lines_below n number [] h = All-nil (λ (s : Source). s.number < n)
-lines_below n number (line ∷ others) h = then_below n number (read line) (read_lines (number + 1) others) (omega (arith, h)) (lines_below n (number + 1) others (omega (arith, h)))
+lines_below n number (line ∷ others) h =
+    then_below n number (read line) (read_lines (number + 1) others) (omega (arith, h))
+    (lines_below n (number + 1) others (omega (arith, h)))
 
 -- ---- rows
 
 row_narrow : (number address words : ℕ) → number < 2 ^ 32 → address < 2 ^ 32 → All IsNarrowRow (row_of number address words)
-row_narrow number address words n a = either (All IsNarrowRow) (eqb words 0) [] _ (All-nil IsNarrowRow) (All-cons IsNarrowRow (number, address, words) [] (n, a) (All-nil IsNarrowRow))
+row_narrow number address words n a =
+    either (All IsNarrowRow) (eqb words 0) [] _ (All-nil IsNarrowRow)
+    (All-cons IsNarrowRow (number, address, words) [] (n, a) (All-nil IsNarrowRow))
 
-rows_narrow : (limit : ℕ) (before : List Label) (address : ℕ) (program : List Source) → limit < 2 ^ 32 → address ≤ limit → AllBelow (2 ^ 32) program → place_error limit before (places address program) ≡ None → All IsNarrowRow (rows_in (places address program))
+rows_narrow : (limit : ℕ) (before : List Label) (address : ℕ) (program : List Source) → limit < 2 ^ 32 → address ≤ limit
+    → AllBelow (2 ^ 32) program → place_error limit before (places address program) ≡ None
+    → All IsNarrowRow (rows_in (places address program))
 rows_narrow limit before address [] few from low h = All-nil IsNarrowRow
 rows_narrow limit before address (source ∷ others) few from low h =
-    let right = parted source.number (misplaced limit before (place address source)) (place_error limit (before ++ labels_at (place address source)) (places (end_of_line source address) others)) h in
+    let right = parted source.number (misplaced limit before (place address source))
+    (place_error limit (before ++ labels_at (place address source)) (places (end_of_line source address) others)) h in
     All-append IsNarrowRow (rows_at (place address source)) (rows_in (places (end_of_line source address) others))
-    (row_narrow source.number address (words_at source.line.statement) (All-head (λ (s : Source). s.number < 2 ^ 32) source others low) (omega (arith, from, few)))
-    (rows_narrow limit (before ++ labels_at (place address source)) (end_of_line source address) others few (ends limit before (place address source) right.0) (All-tail (λ (s : Source). s.number < 2 ^ 32) source others low) right.1)
+    (row_narrow source.number address (words_at source.line.statement) (All-head (λ (s : Source). s.number < 2 ^ 32) source others low)
+    (omega (arith, from, few)))
+    (rows_narrow limit (before ++ labels_at (place address source)) (end_of_line source address) others few
+    (ends limit before (place address source) right.0) (All-tail (λ (s : Source). s.number < 2 ^ 32) source others low) right.1)
 
 no_error : (first later : Option AsmError) → first_of first later ≡ None → first ≡ None
 no_error None later h = refl
 no_error (Some e) later h = cc
 
-table_narrow : (size : ℕ) (result : Result (List Source) AsmError) → Reads (2 ^ 32) result → error_by size result ≡ None → All IsNarrowRow (image_by result).lines.rows
+table_narrow : (size : ℕ) (result : Result (List Source) AsmError) → Reads (2 ^ 32) result → error_by size result ≡ None
+    → All IsNarrowRow (image_by result).lines.rows
 table_narrow size (Err error) low h = absurd (let no : Some error ≡ None = h in cc)
 table_narrow size (Ok program) low h =
     let limit : memory_end size < 2 ^ 32 = omega arith in
     let start : first_address ≤ memory_end size = omega arith in
-    rows_narrow (memory_end size) [] first_address program limit start low (no_error _ (content_error (labels_in (placed program)) (placed program)) h)
+    rows_narrow (memory_end size) [] first_address program limit start low
+    (no_error _ (content_error (labels_in (placed program)) (placed program)) h)
+
+few_bytes : (text : List ℕ) → whole_error text ≡ None → length text ≤ text_limit
+unfolding whole_error
+few_bytes text h = by (ltb text_limit (length text)) refl h where
+  by : (long : Bool) → ltb text_limit (length text) ≡ long
+      → cond long (Some (at 0 k.TooLarge)) (cond (is_utf8 text) None (Some (at (line_at text (utf8_valid_len text)) k.NotUtf8))) ≡ None
+      → length text ≤ text_limit
+  by true e none = cc
+  by false e none = grind (arith, nat_tests)
+
+read_below : (wrong : Option AsmError) (text : List ℕ) → (wrong ≡ None → length text ≤ text_limit) → Reads (2 ^ 32) (read_by wrong text)
+read_below (Some error) text h = tt
+read_below None text h =
+    let few = h refl in let parts = parts_few text in let kept = lines_few (slice_split (λ b. eqb b 10) text) in
+    lines_below (2 ^ 32) 1 (lines text) (omega (arith, parts, kept, few))
 
 text_below : (text : List ℕ) → Reads (2 ^ 32) (read_text text)
 unfolding read_text
-text_below text = by (ltb text_limit (length text)) refl where
-  whole : length text ≤ text_limit → Reads (2 ^ 32) (read_lines 1 (lines text))
-  whole few = let parts = parts_few text in let kept = lines_few (slice_split (λ b. eqb b 10) text) in lines_below (2 ^ 32) 1 (lines text) (omega (arith, parts, kept, few))
-
-  by : (long : Bool) → ltb text_limit (length text) ≡ long → Reads (2 ^ 32) (cond long (Err too_long) (cond (is_utf8 text) (read_lines 1 (lines text)) (Err (at (line_at text (utf8_valid_len text)) k.NotUtf8))))
-  by true e = tt
-  by false e = either (Reads (2 ^ 32)) (is_utf8 text) _ _ (whole (let few : length text ≤ text_limit = grind (arith, nat_tests) in few)) tt
+text_below text = read_below (whole_error text) text (few_bytes text)
 
 pub assembled_is_narrow : AssembledIsNarrow
 unfolding assembled

@@ -14,7 +14,8 @@ above limit address h = let t : nat_le address limit ≡ false = grind (arith, n
 pub below : (limit address : ℕ) → address ≤ limit → up_to limit address ≡ Some address
 below limit address h = let t : nat_le address limit ≡ true = grind (arith, nat_tests) in rw t refl
 
-pub too_wide : (power address limit : ℕ) → 32 ≤ power → 0 < address → address ≤ limit → limit < 2 ^ 32 → None ≡ up_to limit (address + padding (2 ^ power) address)
+pub too_wide : (power address limit : ℕ) → 32 ≤ power → 0 < address → address ≤ limit → limit < 2 ^ 32
+    → None ≡ up_to limit (address + padding (2 ^ power) address)
 too_wide power address limit h some within fits =
     let wide : 2 ^ 32 ≤ 2 ^ power = pow_mono h in
     let over : address % 2 ^ power ≡ address = mod-eq_of_lt (omega arith) in
@@ -22,7 +23,8 @@ too_wide power address limit h some within fits =
     let all : padding (2 ^ power) address ≡ 2 ^ power - address = ap (λ n. (2 ^ power - n) % 2 ^ power) over ∙ gap in
     sym (above limit (address + padding (2 ^ power) address) (omega (arith, all)))
 
-pub at_multiple : (power address limit : ℕ) → power < 32 → address % ((1 * 2 ^ power) % 2 ^ 32) ≡ 0 → address ≤ limit → Some address ≡ up_to limit (address + padding (2 ^ power) address)
+pub at_multiple : (power address limit : ℕ) → power < 32 → address % ((1 * 2 ^ power) % 2 ^ 32) ≡ 0 → address ≤ limit
+    → Some address ≡ up_to limit (address + padding (2 ^ power) address)
 at_multiple power address limit h over within =
     let unit = one_shl power 32 h in
     let none : address % 2 ^ power ≡ 0 = ap (λ n. address % n) (sym unit) ∙ over in

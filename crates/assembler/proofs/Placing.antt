@@ -21,7 +21,8 @@ pub record IsReached (limit : ℕ) (program : List Source) (count : ℕ) (labels
   pub to : address ≤ limit
 
 -- what is wrong with a line is reported of the lines from it on
-pub reported_so : (kind : AsmErrorKind) (line : ℕ) (wrong : Option AsmErrorKind) (later found : Option AsmError) → reported_kind kind wrong → found ≡ error_at line wrong later → Reports (reported_at line kind) found
+pub reported_so : (kind : AsmErrorKind) (line : ℕ) (wrong : Option AsmErrorKind) (later found : Option AsmError) → reported_kind kind wrong
+    → found ≡ error_at line wrong later → Reports (reported_at line kind) found
 reported_so k.NoMemory line wrong later found h e = refl
 reported_so k.NotUtf8 line wrong later found h e = e ∙ ap (λ w. error_at line w later) h
 reported_so k.Syntax line wrong later found h e = e ∙ ap (λ w. error_at line w later) h

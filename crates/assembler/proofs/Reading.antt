@@ -4,7 +4,7 @@ use Rattle.std.proofs.lemmas.List.{append-nil, at_drop_more, at_drop_all}
 use Rattle.statements.specs.Reading.{read}
 use Rattle.statements.specs.declared.error.LineError.{LineError}
 use Rattle.statements.specs.declared.line.Line.{Line}
-use Rattle.std.specs.Prelude.{nat_lt}
+use Rattle.std.specs.Prelude.{IfSome, nat_lt, Option, None}
 use Rattle.std.specs.Str.{IsUtf8, is_utf8}
 use Rattle.std.specs.Str.Lines.{lines}
 use Rattle.std.specs.Str.Lossy.{utf8_valid_len}
@@ -12,7 +12,7 @@ use Rattle.std.proofs.lemmas.Bool.{false_from_ne_true}
 use Rattle.std.proofs.lemmas.Bool.Decides.{nat_tests}
 use Rattle.std.proofs.lemmas.Str.{IsUtf8-from_is_utf8, is_utf8-from_IsUtf8}
 use Rattle.assembler.specs.Errors.{at, error_in, Reports}
-use Rattle.assembler.specs.Program.{kept, line_at, line_then, read_lines, read_text, says_nothing, text_limit}
+use Rattle.assembler.specs.Program.{kept, line_at, line_then, read_by, read_lines, read_text, says_nothing, text_limit, whole_error}
 use Rattle.assembler.specs.declared.error.AsmErrorKind.TheVariants as k
 use Rattle.assembler.specs.declared.error.AsmError.{AsmError}
 use Rattle.assembler.specs.declared.program.Source.{Source}
@@ -28,47 +28,80 @@ kept_before number line others =
     ] in go refl
 
 -- lines, one more, and the rest
-one_more : (number : ℕ) (line : Result Line LineError) (before now : List Source) (rest : Result (List Source) AsmError) → after before (said number line) ≡ Ok now → after before (line_then number line rest) ≡ after now rest
+one_more : (number : ℕ) (line : Result Line LineError) (before now : List Source) (rest : Result (List Source) AsmError)
+    → after before (said number line) ≡ Ok now → after before (line_then number line rest) ≡ after now rest
 one_more number (Err error) before now rest h = cc
 one_more number (Ok line) before now (Err error) h = refl
 one_more number (Ok line) before now (Ok others) h =
     let same : before ++ kept number line [] ≡ now = cc in
-    ap (λ (l : List Source). Ok (before ++ l)) (kept_before number line others) ∙ ap Ok (sym (append_assoc before (kept number line []) others)) ∙ ap (λ (l : List Source). Ok (l ++ others)) same
+    ap (λ (l : List Source). Ok (before ++ l)) (kept_before number line others)
+    ∙ ap Ok (sym (append_assoc before (kept number line []) others)) ∙ ap (λ (l : List Source). Ok (l ++ others)) same
 
-pub line_more : (all : Result (List Source) AsmError) (texts : List (List ℕ)) (number : ℕ) (text : List ℕ) (before now : List Source) → all ≡ after before (read_lines (number + 1) (drop number texts)) → (number < length texts) × (text ≡ get_or texts number text) → after before (said (number + 1) (read text)) ≡ Ok now → all ≡ after now (read_lines (number + 1 + 1) (drop (number + 1) texts))
+pub line_more : (all : Result (List Source) AsmError) (texts : List (List ℕ)) (number : ℕ) (text : List ℕ) (before now : List Source)
+    → all ≡ after before (read_lines (number + 1) (drop number texts)) → (number < length texts) × (text ≡ get_or texts number text)
+    → after before (said (number + 1) (read text)) ≡ Ok now → all ≡ after now (read_lines (number + 1 + 1) (drop (number + 1) texts))
 line_more all texts number text before now h here made =
-    h ∙ ap (after before) (at_drop_more (read_lines (number + 1)) texts number text here.0 ∙ ap (λ t. line_then (number + 1) (read t) (read_lines (number + 1 + 1) (drop (number + 1) texts))) (sym here.1))
+    h ∙ ap (after before)
+    (at_drop_more (read_lines (number + 1)) texts number text here.0
+    ∙ ap (λ t. line_then (number + 1) (read t) (read_lines (number + 1 + 1) (drop (number + 1) texts))) (sym here.1))
     ∙ one_more (number + 1) (read text) before now (read_lines (number + 1 + 1) (drop (number + 1) texts)) made
 
-error_more : (number : ℕ) (line : Result Line LineError) (before : List Source) (rest : Result (List Source) AsmError) (error : AsmError) → error_in (said number line) ≡ Some error → error_in (after before (line_then number line rest)) ≡ Some error
+error_more : (number : ℕ) (line : Result Line LineError) (before : List Source) (rest : Result (List Source) AsmError) (error : AsmError)
+    → error_in (said number line) ≡ Some error → error_in (after before (line_then number line rest)) ≡ Some error
 error_more number (Err e) before rest error h = h
 error_more number (Ok line) before rest error h = cc
 
-pub line_wrong : (all : Result (List Source) AsmError) (texts : List (List ℕ)) (number : ℕ) (text : List ℕ) (before : List Source) (error : AsmError) → all ≡ after before (read_lines (number + 1) (drop number texts)) → (number < length texts) × (text ≡ get_or texts number text) → Reports error (error_in (said (number + 1) (read text))) → Reports error (error_in all)
+pub line_wrong : (all : Result (List Source) AsmError) (texts : List (List ℕ)) (number : ℕ) (text : List ℕ) (before : List Source) (error : AsmError)
+    → all ≡ after before (read_lines (number + 1) (drop number texts)) → (number < length texts) × (text ≡ get_or texts number text)
+    → Reports error (error_in (said (number + 1) (read text))) → Reports error (error_in all)
 line_wrong all texts number text before error h here reported =
-    let same = h ∙ ap (after before) (at_drop_more (read_lines (number + 1)) texts number text here.0 ∙ ap (λ t. line_then (number + 1) (read t) (read_lines (number + 1 + 1) (drop (number + 1) texts))) (sym here.1)) in
+    let same = h ∙ ap (after before)
+    (at_drop_more (read_lines (number + 1)) texts number text here.0
+    ∙ ap (λ t. line_then (number + 1) (read t) (read_lines (number + 1 + 1) (drop (number + 1) texts))) (sym here.1)) in
     reports_weaker error (error_in (said (number + 1) (read text))) (error_in all) reported
     (λ e. ap error_in same ∙ error_more (number + 1) (read text) before (read_lines (number + 1 + 1) (drop (number + 1) texts)) error e)
 
-pub lines_all : (all : Result (List Source) AsmError) (texts : List (List ℕ)) (number : ℕ) (before : List Source) → all ≡ after before (read_lines (number + 1) (drop number texts)) → number ≡ length texts → all ≡ Ok before
-lines_all all texts number before h same = h ∙ ap (after before) (at_drop_all (read_lines (number + 1)) texts number (omega arith)) ∙ ap Ok (append-nil before)
+pub lines_all : (all : Result (List Source) AsmError) (texts : List (List ℕ)) (number : ℕ) (before : List Source)
+    → all ≡ after before (read_lines (number + 1) (drop number texts)) → number ≡ length texts → all ≡ Ok before
+lines_all all texts number before h same =
+    h ∙ ap (after before) (at_drop_all (read_lines (number + 1)) texts number (omega arith)) ∙ ap Ok (append-nil before)
 
 -- ---- the text as a whole
 
-pub too_long : (text : List ℕ) → 1048576 < length text → error_in (read_text text) ≡ Some (at 0 k.TooLarge)
-unfolding read_text
+pub too_long : (text : List ℕ) → 1048576 < length text → whole_error text ≡ Some (at 0 k.TooLarge)
+unfolding whole_error
 too_long text h = let t : nat_lt text_limit (length text) ≡ true = grind (arith, nat_tests) in rw t refl
 
-pub a_text : (text : List ℕ) → length text ≤ 1048576 → IsUtf8 text → read_text text ≡ read_lines 1 (lines text)
-unfolding read_text
-a_text text h u =
+nothing_whole : (text : List ℕ) → length text ≤ 1048576 → IsUtf8 text → whole_error text ≡ None
+unfolding whole_error
+nothing_whole text h u =
     let t : nat_lt text_limit (length text) ≡ false = grind (arith, nat_tests) in
     let valid : is_utf8 text ≡ true = is_utf8-from_IsUtf8 text u in
     rw t (rw valid refl)
 
-pub no_text : (text : List ℕ) (line : ℕ) → length text ≤ 1048576 → (IsUtf8 text → ⊥) → line ≡ line_at text (utf8_valid_len text) → error_in (read_text text) ≡ Some (at line k.NotUtf8)
+pub a_text : (text : List ℕ) → length text ≤ 1048576 → IsUtf8 text → read_text text ≡ read_lines 1 (lines text)
 unfolding read_text
+a_text text h u = ap (λ wrong. read_by wrong text) (nothing_whole text h u)
+
+pub no_text : (text : List ℕ) (line : ℕ) → length text ≤ 1048576 → (IsUtf8 text → ⊥) → line ≡ line_at text (utf8_valid_len text)
+    → whole_error text ≡ Some (at line k.NotUtf8)
+unfolding whole_error
 no_text text line h u same =
     let t : nat_lt text_limit (length text) ≡ false = grind (arith, nat_tests) in
     let valid : is_utf8 text ≡ false = false_from_ne_true (is_utf8 text) (λ e. u (IsUtf8-from_is_utf8 text e)) in
     rw t (rw valid (rw same refl))
+
+-- what is wrong with a text as a whole is its error
+pub whole_first : (text : List ℕ) (error : AsmError) → whole_error text ≡ Some error → error_in (read_text text) ≡ Some error
+unfolding read_text
+whole_first text error h = ap (λ wrong. error_in (read_by wrong text)) h
+
+-- it is what is reported
+pub whole_reported : {A : Type 0} (found : Option AsmError) (error : AsmError) (result : Result A AsmError) → found ≡ Some error
+    → result ≡ Err error → IfSome found (λ whole. result ≡ Err whole)
+whole_reported found error result h e = rw h e
+
+-- nothing is wrong as a whole with a text that is read line by line
+pub whole_none : {A : Type 0} (text : List ℕ) (result : Result A AsmError) → length text ≤ 1048576 → IsUtf8 text
+    → IfSome (whole_error text) (λ whole. result ≡ Err whole)
+whole_none text result h u = rw (nothing_whole text h u) tt

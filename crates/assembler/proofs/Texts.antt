@@ -25,7 +25,8 @@ use Rattle.assembler.specs.Texts.{IsWordAt, TextsAreWords}
 use Rattle.assembler.proofs.Unique.{part_unique}
 
 -- what is right for a statement is all that is
-stands : (pc word : ℕ) (statement : Statement) → size_of statement pc ≡ 4 → ((labels : List Label) → IsPart (content_at labels pc (Some statement)) (word_bytes word)) → IsWordAt pc word statement
+stands : (pc word : ℕ) (statement : Statement) → size_of statement pc ≡ 4
+    → ((labels : List Label) → IsPart (content_at labels pc (Some statement)) (word_bytes word)) → IsWordAt pc word statement
 stands pc word statement size right = record {
   size = size;
   bytes = right;
@@ -39,7 +40,8 @@ one_instruction instruction word e = (word_bytes word, [], record { word = word;
 one_stands : (instruction : Instr) (pc word : ℕ) → Encodes instruction word → IsWordAt pc word (say.One instruction)
 one_stands instruction pc word e = stands pc word (say.One instruction) refl (λ labels. one_instruction instruction word e)
 
-coded : (instruction : Instr) (word : ℕ) (code : Coded) → code ≡ Ok instruction → Encodes instruction word → IsPart (one code) (word_bytes word)
+coded : (instruction : Instr) (word : ℕ) (code : Coded) → code ≡ Ok instruction → Encodes instruction word
+    → IsPart (one code) (word_bytes word)
 coded instruction word code h e = subst (λ x. IsPart (one x) (word_bytes word)) (sym h) (one_instruction instruction word e)
 
 -- from an address to the sum of it and an offset it is as far as the offset
@@ -54,40 +56,50 @@ test_even a h = grind (arith, nat_tests)
 
 -- ---- jumps
 
-jump_fits : {opcode rd offset word : ℕ} → JType opcode rd offset word → (offset < 2 ^ 32) × ((offset + 1048576) % 2 ^ 32 < 2097152) × (offset % 2 ≡ 0)
+jump_fits : {opcode rd offset word : ℕ} → JType opcode rd offset word
+    → (offset < 2 ^ 32) × ((offset + 1048576) % 2 ^ 32 < 2097152) × (offset % 2 ≡ 0)
 jump_fits e = (omega arith, omega arith, omega arith)
 
 jump_taken : (offset : ℕ) → (offset + 1048576) % 2 ^ 32 < 2097152 → offset % 2 ≡ 0 → jump_offset offset ≡ Ok offset
 jump_taken offset l even = chosen _ _ _ (and_from _ _ (test_below ((offset + 1048576) % 2 ^ 32) 2097152 l) (test_even offset even))
 
-jump_stands : (rd offset pc word : ℕ) → pc < 2 ^ 32 → JType 0b1101111 rd offset word → IsWordAt pc word (say.Jump rd (Address (sum pc offset)))
+jump_stands : (rd offset pc word : ℕ) → pc < 2 ^ 32 → JType 0b1101111 rd offset word
+    → IsWordAt pc word (say.Jump rd (Address (sum pc offset)))
 jump_stands rd offset pc word l e =
     let fits = jump_fits e in
-    let far : jump_offset (distance (sum pc offset) pc) ≡ Ok offset = ap jump_offset (distance_back pc offset l fits.0) ∙ jump_taken offset fits.1 fits.2 in
+    let far : jump_offset (distance (sum pc offset) pc) ≡ Ok offset = ap jump_offset (distance_back pc offset l fits.0)
+    ∙ jump_taken offset fits.1 fits.2 in
     stands pc word (say.Jump rd (Address (sum pc offset))) refl
-    (λ labels. coded (i.Jal rd offset) word (coded_jump labels pc rd (Address (sum pc offset))) (ap (λ x. and_then x (λ offset. Ok (i.Jal rd offset))) far) e)
+    (λ labels. coded (i.Jal rd offset) word (coded_jump labels pc rd (Address (sum pc offset)))
+    (ap (λ x. and_then x (λ offset. Ok (i.Jal rd offset))) far) e)
 
 -- ---- branches
 
-branch_fits : {opcode funct3 rs1 rs2 offset word : ℕ} → BType opcode funct3 rs1 rs2 offset word → (offset < 2 ^ 32) × ((offset + 4096) % 2 ^ 32 < 8192) × (offset % 2 ≡ 0)
+branch_fits : {opcode funct3 rs1 rs2 offset word : ℕ} → BType opcode funct3 rs1 rs2 offset word
+    → (offset < 2 ^ 32) × ((offset + 4096) % 2 ^ 32 < 8192) × (offset % 2 ≡ 0)
 branch_fits e = (omega arith, omega arith, omega arith)
 
 branch_taken : (offset : ℕ) → (offset + 4096) % 2 ^ 32 < 8192 → offset % 2 ≡ 0 → branch_offset offset ≡ Ok offset
 branch_taken offset l even = chosen _ _ _ (and_from _ _ (test_below ((offset + 4096) % 2 ^ 32) 8192 l) (test_even offset even))
 
-branch_stands : (condition : Condition) (rs1 rs2 offset pc word : ℕ) → pc < 2 ^ 32 → {opcode funct3 : ℕ} → BType opcode funct3 rs1 rs2 offset word → Encodes (branch_instruction condition rs1 rs2 offset) word → IsWordAt pc word (branch_at pc condition rs1 rs2 offset)
+branch_stands : (condition : Condition) (rs1 rs2 offset pc word : ℕ) → pc < 2 ^ 32 → {opcode funct3 : ℕ}
+    → BType opcode funct3 rs1 rs2 offset word → Encodes (branch_instruction condition rs1 rs2 offset) word
+    → IsWordAt pc word (branch_at pc condition rs1 rs2 offset)
 branch_stands condition rs1 rs2 offset pc word l b e =
     let fits = branch_fits b in
-    let far : branch_offset (distance (sum pc offset) pc) ≡ Ok offset = ap branch_offset (distance_back pc offset l fits.0) ∙ branch_taken offset fits.1 fits.2 in
+    let far : branch_offset (distance (sum pc offset) pc) ≡ Ok offset = ap branch_offset (distance_back pc offset l fits.0)
+    ∙ branch_taken offset fits.1 fits.2 in
     stands pc word (branch_at pc condition rs1 rs2 offset) refl
-    (λ labels. coded (branch_instruction condition rs1 rs2 offset) word (coded_branch labels pc condition rs1 rs2 (Address (sum pc offset))) (ap (λ x. and_then x (λ offset. Ok (branch_instruction condition rs1 rs2 offset))) far) e)
+    (λ labels. coded (branch_instruction condition rs1 rs2 offset) word (coded_branch labels pc condition rs1 rs2 (Address (sum pc offset)))
+    (ap (λ x. and_then x (λ offset. Ok (branch_instruction condition rs1 rs2 offset))) far) e)
 
 -- ---- a fence, and a word of data
 
 data_stands : (pc word : ℕ) → IsWordAt pc word (data_word word)
 data_stands pc word = stands pc word (data_word word) refl (λ labels. refl)
 
-fence_stands : (fm before after rd rs1 pc word : ℕ) → Encodes (i.Fence fm before after rd rs1) word → IsWordAt pc word (statement_of (i.Fence fm before after rd rs1) pc word)
+fence_stands : (fm before after rd rs1 pc word : ℕ) → Encodes (i.Fence fm before after rd rs1) word
+    → IsWordAt pc word (statement_of (i.Fence fm before after rd rs1) pc word)
 fence_stands fm before after rd rs1 pc word e = go (is_plain_fence fm before after rd rs1) where
   go : (plain : Bool) → IsWordAt pc word (cond plain (say.One (i.Fence fm before after rd rs1)) (data_word word))
   go true = one_stands (i.Fence fm before after rd rs1) pc word e

@@ -19,5 +19,7 @@ itself k.TwiceDefined contained same = same
 itself k.Undefined contained same = same
 itself k.TooLarge contained same = same
 
-pub one_word : (instruction : Instr) (word : ℕ) (before after : List ℕ) → Encodes instruction word → after ≡ before ++ word_bytes word → Appends (Code (instruction ∷ [])) before after
-one_word instruction word before after e h = (word_bytes word, (word_bytes word, [], record { word = word; encodes = e; low_first = refl }, refl, refl), h)
+pub one_word : (instruction : Instr) (word : ℕ) (before after : List ℕ) → Encodes instruction word → after ≡ before ++ word_bytes word
+    → Appends (Code (instruction ∷ [])) before after
+one_word instruction word before after e h =
+    (word_bytes word, (word_bytes word, [], record { word = word; encodes = e; low_first = refl }, refl, refl), h)

@@ -59,6 +59,11 @@ assembled text = image_by (read_text text)
 abbrev pub PlacedIsAssembled : Type 0
 PlacedIsAssembled = (text : List ℕ) (size : ℕ) (image : Image) → Placed text size image → image ≡ assembled text
 
+-- Where nothing is wrong with a text, the image of that text is right for it.
+abbrev pub AssembledIsPlaced : Type 0
+AssembledIsPlaced =
+    (text : List ℕ) (size : ℕ) → error_of text size ≡ None → Placed text size (assembled text)
+
 -- an image that a memory of a size has room for, and whose entry is at a multiple of 4
 pub record IsLoadable (size : ℕ) (image : Image) : Type 0 where
   pub fits : length image.bytes ≤ size

@@ -1,5 +1,6 @@
--- What is reported of a text that has no image: a line, counted from 1, and what is wrong with it. What is wrong with
--- the text as a whole is reported at line 0. Where no memory is left, that is reported instead, at line 0 too.
+-- What is reported of a text that has no image: a line, counted from 1, and what is wrong with it.
+-- That a text is too long is reported at line 0. Where no memory is left for its lines, that is
+-- reported instead, at line 0 too.
 use Rattle.std.specs.Prelude.{◌≡◌, ℕ, Option, Some, None, Result, Ok, Err}
 use Rattle.assembler.specs.declared.error.AsmError.{AsmError}
 use Rattle.assembler.specs.declared.error.AsmErrorKind.{AsmErrorKind}

@@ -7,8 +7,8 @@
 -- What is wrong with a text before any address is known is the first of these: it is too long (TooLarge, at line 0); it
 -- is no UTF-8 (NotUtf8, at the line of the first byte that belongs to no character); a line is wrong as it stands, and
 -- then the first such line is reported.
-use Rattle.std.specs.Prelude.{ℕ, ◌+◌, ◌<◌, Bool, ◌==◌, nat_lt, ◌&&◌, if◌then◌else◌, List, [], ◌∷◌, length, take}
-use Rattle.std.specs.Prelude.{count_by, is_none, Result, Ok, Err}
+use Rattle.std.specs.Prelude.{ℕ, ◌+◌, Bool, ◌==◌, nat_lt, ◌&&◌, if◌then◌else◌, List, [], ◌∷◌, length, take}
+use Rattle.std.specs.Prelude.{count_by, is_none, Option, Some, None, Result, Ok, Err}
 use Rattle.std.specs.Str.{is_utf8}
 use Rattle.std.specs.Str.Lines.{lines}
 use Rattle.std.specs.Str.Lossy.{utf8_valid_len}
@@ -55,17 +55,18 @@ abbrev pub read_lines : ℕ → List (List ℕ) → Result (List Source) AsmErro
 read_lines number [] = Ok []
 read_lines number (line ∷ others) = line_then number (read line) (read_lines (number + 1) others)
 
--- What is wrong with a text as a whole. It is found before any memory is taken, so that it is reported even where none
--- is left.
-abbrev pub IsTooLong : List ℕ → Type 0
-IsTooLong text = text_limit < length text
+-- What is wrong with a text as a whole, if anything. It is found before any memory is taken, so that
+-- it is reported even where none is left.
+unfoldable pub whole_error : List ℕ → Option AsmError
+whole_error text = if nat_lt text_limit (length text) then Some (at 0 k.TooLarge)
+    else if is_utf8 text then None
+    else Some (at (line_at text (utf8_valid_len text)) k.NotUtf8)
 
--- the error of a text that is too long
-abbrev pub too_long : AsmError
-too_long = at 0 k.TooLarge
+-- the lines of a text, unless something is wrong with it as a whole
+abbrev pub read_by : Option AsmError → List ℕ → Result (List Source) AsmError
+read_by (Some error) text = Err error
+read_by None text = read_lines 1 (lines text)
 
 -- the lines of a text that say something, or the first error
 unfoldable pub read_text : List ℕ → Result (List Source) AsmError
-read_text text = if nat_lt text_limit (length text) then Err (at 0 k.TooLarge)
-    else if is_utf8 text then read_lines 1 (lines text)
-    else Err (at (line_at text (utf8_valid_len text)) k.NotUtf8)
+read_text text = read_by (whole_error text) text

@@ -1,10 +1,10 @@
 //! A text to an image.
-ghost use Rattle.std.specs.Prelude.{◌≡◌, ◌≤◌, length, Err, IfOk, MatchResult};
+ghost use Rattle.std.specs.Prelude.{◌≡◌, ◌≤◌, length, Err, IfOk, IfSome, MatchResult};
 ghost use Rattle.image.specs.Lines.{labels_of, RowsRise};
 ghost use Rattle.assembler.specs.Errors.{Reports};
 ghost use Rattle.assembler.specs.Placed.{error_of, Placed};
 ghost use Rattle.assembler.specs.Places as spec;
-ghost use Rattle.assembler.specs.Program.{too_long, IsTooLong};
+ghost use Rattle.assembler.specs.Program.{whole_error};
 
 use crate::error::AsmError;
 use crate::fill::fill;
@@ -24,13 +24,14 @@ use std::alloc::Global;
 ///   no multiple of 4; then `TooLarge` for a line that ends past the end of memory.
 /// - Fourth: `Undefined`; then `OutOfRange` for a distance.
 ///
-/// Instead of any answer it may report `NoMemory`, at line 0.
+/// Instead of any answer but the two errors of the first pass it may report `NoMemory`, at line 0.
 pub fn assemble(alloc: Global, text: &[u8], size: u32) -> Result<Image, AsmError>
     ensures answers { MatchResult result (λ image. Placed text.now size image) (λ error. Reports error (error_of text.now size)) }
     ensures fits { IfOk result (λ image. length image.bytes ≤ size) }
 
-    // A text that is too long takes no memory, so it is never reported that none is left.
-    ensures long { IsTooLong text.now → result ≡ Err too_long }
+    // What is wrong with the text as a whole is found before any memory is taken, so that it is
+    // reported whatever is left.
+    ensures whole { IfSome (whole_error text.now) (λ error. result ≡ Err error) }
 {
     let limit = FIRST_ADDRESS.saturating_add(size);
     let program = match read_program(alloc, text) {

@@ -1,7 +1,7 @@
 //! What holds of every image and of every text: each law is the contract of a function that does
 //! nothing.
 
-ghost use Rattle.assembler.specs.Assembled.{AssembledIsNarrow, PlacedIsAssembled, PlacedIsLoadable};
+ghost use Rattle.assembler.specs.Assembled.{AssembledIsNarrow, AssembledIsPlaced, PlacedIsAssembled, PlacedIsLoadable};
 ghost use Rattle.assembler.specs.Placed.{PlacedIsUnique};
 ghost use Rattle.assembler.specs.Texts.{TextsAreWords};
 
@@ -13,6 +13,12 @@ pub fn placed_is_unique()
 /// An image that is right for a text is the one that `Assembled.assembled` computes of the text.
 pub fn placed_is_assembled()
     ensures { PlacedIsAssembled }
+{}
+
+/// The image that is computed of a text with which nothing is wrong is right for it. So of each text
+/// either an image is right or something is wrong with it, and never both.
+pub fn assembled_is_placed()
+    ensures { AssembledIsPlaced }
 {}
 
 /// An image that is right for a text and a size of memory is no longer than that, and its entry is a multiple

@@ -1,5 +1,5 @@
 //! A text to the lines that say something.
-ghost use Rattle.std.specs.Prelude.{◌≡◌, ◌≤◌, ◌<◌, ◌+◌, ◌^◌, ◌++◌, [], Ok, Err, Result, length, MatchResult, OnOk, IfErr};
+ghost use Rattle.std.specs.Prelude.{◌≡◌, ◌≤◌, ◌<◌, ◌+◌, ◌^◌, ◌++◌, [], Ok, Err, Result, length, IfSome, MatchResult, OnOk, IfErr};
 ghost use Rattle.std.specs.Str.Lines.{lines};
 ghost use Rattle.statements.specs.Reading.{read};
 ghost use Rattle.assembler.specs.Errors.{error_in, no_memory, Reports};
@@ -25,7 +25,7 @@ pub(crate) struct Source<'a> {
 /// The lines of a text that say something.
 pub(crate) fn read_program<'a>(alloc: Global, text: &'a [u8]) -> Result<Vec<Source<'a>>, AsmError>
     ensures answers { MatchResult result (λ p. spec.read_text text.now ≡ Ok p.items) (λ e. Reports e (error_in (spec.read_text text.now))) }
-    ensures long { spec.IsTooLong text.now → result ≡ Err spec.too_long }
+    ensures whole { IfSome (spec.whole_error text.now) (λ error. result ≡ Err error) }
 {
     if text.len() > TEXT_LIMIT {
         return Err(AsmError {

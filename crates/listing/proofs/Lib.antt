@@ -1,3 +1,4 @@
 pub mod Listed
 pub mod Unique
 pub mod Written
+pub mod Whole

@@ -7,11 +7,14 @@ use Rattle.assembler.specs.Placed.{PlacedIsUnique}
 use Rattle.listing.specs.Entries.{addresses_in, entry, listed, word_in, words_from, AreEntries, IsEntry}
 use Rattle.listing.specs.Listing.{memory_size, ListingIsUnique}
 
-one_entry : TextIsUnique → (bytes : List ℕ) (address : ℕ) (line other : List ℕ) → IsEntry bytes address line → IsEntry bytes address other → line ≡ other
+one_entry : TextIsUnique → (bytes : List ℕ) (address : ℕ) (line other : List ℕ) → IsEntry bytes address line → IsEntry bytes address other
+    → line ≡ other
 one_entry unique bytes address line other a b =
-    a.is_line ∙ ap (entry address (word_in bytes address)) (unique (word_in bytes address) address a.text b.text a.is_text b.is_text) ∙ sym b.is_line
+    a.is_line ∙ ap (entry address (word_in bytes address)) (unique (word_in bytes address) address a.text b.text a.is_text b.is_text)
+    ∙ sym b.is_line
 
-entries_unique : TextIsUnique → (bytes : List ℕ) (addresses : List ℕ) (lines others : List ℕ) → AreEntries bytes addresses lines → AreEntries bytes addresses others → lines ≡ others
+entries_unique : TextIsUnique → (bytes : List ℕ) (addresses : List ℕ) (lines others : List ℕ) → AreEntries bytes addresses lines
+    → AreEntries bytes addresses others → lines ≡ others
 entries_unique unique bytes [] lines others a b = a ∙ sym b
 entries_unique unique bytes (address ∷ addresses) lines others (line, rest, one, more, e) (line', rest', one', more', e') =
     let first : line ≡ line' = one_entry unique bytes address line line' one one' in

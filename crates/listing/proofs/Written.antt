@@ -11,8 +11,11 @@ appends_twice (Some xs) (Some ys) None first second h k = absurd k
 appends_twice (Some xs) (Some ys) (Some zs) first second h k = k ∙ ap (λ (l : List ℕ). l ++ second) h ∙ append_assoc xs first second
 
 -- some more of the bytes, of those that are left
-pub more_written : (a b c : Option (List ℕ)) (bytes : List ℕ) (written count : ℕ) → Appends a b (take written bytes) → Appends b c (take count (take (length bytes - written) (drop written bytes))) → Appends a c (take (written + count) bytes)
+pub more_written : (a b c : Option (List ℕ)) (bytes : List ℕ) (written count : ℕ) → Appends a b (take written bytes)
+    → Appends b c (take count (take (length bytes - written) (drop written bytes))) → Appends a c (take (written + count) bytes)
 more_written a b c bytes written count h k =
     let P : List ℕ → Type 0 = λ l. Appends a c l in
-    let rest : take (length bytes - written) (drop written bytes) ≡ drop written bytes = take_all (length bytes - written) (drop written bytes) (omega (arith, length-drop written bytes)) in
-    subst P (ap (λ (l : List ℕ). take written bytes ++ take count l) rest ∙ sym (take-add written count bytes)) (appends_twice a b c (take written bytes) (take count (take (length bytes - written) (drop written bytes))) h k)
+    let rest : take (length bytes - written) (drop written bytes) ≡ drop written bytes = take_all (length bytes - written)
+    (drop written bytes) (omega (arith, length-drop written bytes)) in
+    subst P (ap (λ (l : List ℕ). take written bytes ++ take count l) rest ∙ sym (take-add written count bytes))
+    (appends_twice a b c (take written bytes) (take count (take (length bytes - written) (drop written bytes))) h k)

@@ -1,8 +1,9 @@
 -- What `listing` writes, and what it reports.
 --
 -- A text that has an image, for memory of 1 MiB, is listed wholly. Where the writer fails on the way, it has a part of
--- the listing, up to some byte. Of a text that has no image its error is reported, and then the writer has what it had;
--- so it has where no memory was left. A text has at most one listing.
+-- the listing, up to some byte. Of a text that has no image its error is reported, and then the
+-- writer has what it had; so it has where no memory was left, which is never reported of a text
+-- that is too long or no UTF-8. A text has at most one listing.
 use Rattle.std.specs.Prelude.{◌≡◌, ℕ, ◌<◌, List, length, take, Option, Some}
 use Rattle.std.specs.Io.KnownBytes.{Appends, Keeps}
 use Rattle.image.specs.declared.Image.{Image}

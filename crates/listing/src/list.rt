@@ -1,5 +1,6 @@
 //! A text to its listing.
-ghost use Rattle.std.specs.Prelude.{◌≡◌, string_bytes, IfErr, IfOk, OnOk};
+ghost use Rattle.std.specs.Prelude.{◌≡◌, string_bytes, Err, IfErr, IfOk, IfSome, OnOk};
+ghost use Rattle.assembler.specs.Program.{whole_error};
 ghost use Rattle.listing.specs.Listing as spec;
 ghost use Rattle.listing.specs.Listing.{Faults, IsListed, Lists};
 ghost use Rattle.listing.specs.Steps as steps;
@@ -22,10 +23,15 @@ const MEMORY_SIZE: u32 = 1_048_576;
 ///
 /// - `Assembly`: something is wrong with the text, and nothing was written.
 /// - `Write`: the writer failed, and has the first bytes of the listing, but not all.
-/// - `NoMemory`: no memory was left, and nothing was written.
+/// - `NoMemory`: no memory was left, and nothing was written. A text that is too long or no UTF-8 is
+///   always reported as that.
 pub fn listing<W: Write>(alloc: Global, text: &[u8], writer: &mut W) -> Result<(), ListFault>
     ensures ok { OnOk result (Lists text.now (W.contents writer.old) (W.contents writer.new)) }
     ensures err { IfErr result (λ fault. Faults fault text.now (W.contents writer.old) (W.contents writer.new)) }
+
+    // What is wrong with the text as a whole is found before any memory is taken, so that it is
+    // reported whatever is left.
+    ensures whole { IfSome (whole_error text.now) (λ e. result ≡ Err (ListFault.Assembly e)) }
 {
     match lines_of(alloc, text) {
         Ok(lines) => reported(write_whole(writer, lines.as_bytes())),
@@ -37,6 +43,7 @@ pub fn listing<W: Write>(alloc: Global, text: &[u8], writer: &mut W) -> Result<(
 fn lines_of(alloc: Global, text: &[u8]) -> Result<String, ListFault>
     ensures ok { IfOk result (λ lines. IsListed text.now (string_bytes lines)) }
     ensures err { IfErr result (λ fault. Unlisted fault text.now) }
+    ensures whole { IfSome (whole_error text.now) (λ e. result ≡ Err (ListFault.Assembly e)) }
 {
     let image = match assemble(alloc, text, MEMORY_SIZE) {
         Ok(image) => image,

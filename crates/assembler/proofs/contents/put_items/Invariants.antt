@@ -4,4 +4,6 @@ use Rattle.assembler.specs.Contents.{items_bytes, with_more}
 use Rattle.assembler.proofs.contents.put_items.Given as goal
 
 abbrev pub invariant-loop-item : goal.invariant-loop-item
-invariant-loop-item l = with_more l.initial.bytes.items (items_bytes (labels_of l.labels.entries) l.width l.items) ≡ with_more l.bytes.items (items_bytes (labels_of l.labels.entries) l.width (drop l.item-index l.items))
+invariant-loop-item l =
+    with_more l.initial.bytes.items (items_bytes (labels_of l.labels.entries) l.width l.items) ≡ with_more l.bytes.items
+    (items_bytes (labels_of l.labels.entries) l.width (drop l.item-index l.items))
