@@ -21,7 +21,8 @@ is_none byte other = by (eqb byte 47) refl where
   by true e = absurd (other (eqb-true byte 47 e))
   by false e = ap not e
 
-one_taken : (byte : ℕ) (bytes rest : List ℕ) → byte ≢ 47 → take_while no_slash bytes ≡ rest → take_while no_slash (byte ∷ bytes) ≡ byte ∷ rest
+one_taken : (byte : ℕ) (bytes rest : List ℕ) → byte ≢ 47 → take_while no_slash bytes ≡ rest
+    → take_while no_slash (byte ∷ bytes) ≡ byte ∷ rest
 one_taken byte bytes rest other e =
     take_while-cons no_slash byte bytes
     ∙ ap (λ (b : Bool). cond b (byte ∷ take_while no_slash bytes) []) (is_none byte other)

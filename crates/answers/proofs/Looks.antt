@@ -21,7 +21,8 @@ use Rattle.answers.proofs.Proper.{offset_small}
 -- ---- texts
 
 pub texts : TextsAreDisassemblies
-texts word pc text = (λ e. subst (IsTextOf word pc) e (text_at-is word pc), λ h. one_text word pc (text_at word pc) text (text_at-is word pc) h)
+texts word pc text =
+    (λ e. subst (IsTextOf word pc) e (text_at-is word pc), λ h. one_text word pc (text_at word pc) text (text_at-is word pc) h)
 
 -- ---- entries
 
@@ -29,7 +30,8 @@ entries_length : (memory : List ℕ) (place : ℤ) (count : ℕ) → length (ent
 entries_length memory place zero = refl
 entries_length memory place (suc count) = ap suc (entries_length memory (place +ℤ pos 4) count)
 
-entries_at : (memory : List ℕ) (place : ℤ) (count k : ℕ) → k < count → slice_get (entries_from memory place count) k ≡ Some (entry memory (place +ℤ pos (4 * k)))
+entries_at : (memory : List ℕ) (place : ℤ) (count k : ℕ) → k < count
+    → slice_get (entries_from memory place count) k ≡ Some (entry memory (place +ℤ pos (4 * k)))
 entries_at memory place zero k h = absurd (omega (arith, h))
 entries_at memory place (suc count) zero h =
     let here : place ≡ place +ℤ pos (4 * 0) = omega (arith, ints) in
@@ -71,8 +73,13 @@ take_within [] (suc n) = omega arith
 take_within (x ∷ m) (suc n) = let h = take_within m n in omega (arith, h)
 
 -- what is read from an address where reading can begin
-is_read : (memory : List ℕ) (count address : ℕ) → length memory ≤ 16777216 → address < 4294967296 → IsTrue (can_begin memory count address) →
-    IsRead memory count (record { address = address; bytes = bytes_from memory count address; unreadable_bytes = count - length (bytes_from memory count address) })
+is_read : (memory : List ℕ) (count address : ℕ) → length memory ≤ 16777216 → address < 4294967296
+    → IsTrue (can_begin memory count address) →
+    IsRead memory count (record {
+      address = address;
+      bytes = bytes_from memory count address;
+      unreadable_bytes = count - length (bytes_from memory count address);
+    })
 is_read memory count address few fits begins =
     let l : List ℕ = drop (address - first_address) memory in
     let n : ℕ = min count (4294967296 - address) in
@@ -83,31 +90,45 @@ is_read memory count address few fits begins =
     record {
       all = omega (arith, short);
       each = λ k h. get_take l n k h ∙ byte_there memory address k (begins_inside memory count address k begins (omega (arith, h, short)));
-      missing = λ h. (let low = begins_inside memory count address (length (take n l)) begins (omega (arith, h)) in sym (byte_there memory address (length (take n l)) low) ∙ get_past l n (end h));
+      missing =
+          λ h. (let low = begins_inside memory count address (length (take n l)) begins (omega (arith, h)) in
+          sym (byte_there memory address (length (take n l)) low) ∙ get_past l n (end h));
     }
 
 -- by where it begins
-of_body : (memory : List ℕ) (count address : ℕ) (body : ReadMemory) → length memory ≤ 16777216 → address < 4294967296 → IsTrue (can_begin memory count address) → read memory count (Ok address) ≡ Ok (Bytes body) → IsRead memory count body
+of_body : (memory : List ℕ) (count address : ℕ) (body : ReadMemory) → length memory ≤ 16777216 → address < 4294967296
+    → IsTrue (can_begin memory count address) → read memory count (Ok address) ≡ Ok (Bytes body) → IsRead memory count body
 of_body memory count address body few fits begins e =
-    let same : record { address = address; bytes = bytes_from memory count address; unreadable_bytes = count - length (bytes_from memory count address) } ≡ body = cc in
+    let same : record {
+      address = address;
+      bytes = bytes_from memory count address;
+      unreadable_bytes = count - length (bytes_from memory count address);
+    } ≡ body = cc in
     subst (IsRead memory count) same (is_read memory count address few fits begins)
 
-at_start : (memory : List ℕ) (count : ℕ) (found : Option ℕ) (body : ReadMemory) → length memory ≤ 16777216 → ((a : ℕ) → found ≡ Some a → a < 4294967296) → read memory count (start_at memory count found) ≡ Ok (Bytes body) → IsRead memory count body
+at_start : (memory : List ℕ) (count : ℕ) (found : Option ℕ) (body : ReadMemory) → length memory ≤ 16777216
+    → ((a : ℕ) → found ≡ Some a → a < 4294967296) → read memory count (start_at memory count found) ≡ Ok (Bytes body)
+    → IsRead memory count body
 at_start memory count None body few fits e = cc
 at_start memory count (Some address) body few fits e =
-    let P : Bool → Type 0 = λ v. can_begin memory count address ≡ v → read memory count (cond v (Ok address) (Err OutsideMemory)) ≡ Ok (Bytes body) → IsRead memory count body in
+    let P : Bool → Type 0 = λ v. can_begin memory count address ≡ v
+    → read memory count (cond v (Ok address) (Err OutsideMemory)) ≡ Ok (Bytes body) → IsRead memory count body in
     let go : P (can_begin memory count address) = elim (can_begin memory count address) as P [
       | true ↦ λ v f. of_body memory count address body few (fits address refl) v f
       | false ↦ λ v f. cc
     ] in go refl e
 
-by_reference : (memory : List ℕ) (arguments : ReadMemoryArguments) (reference : Option ℕ) (body : ReadMemory) → length memory ≤ 16777216 → read memory arguments.count (start_by memory arguments reference) ≡ Ok (Bytes body) → IsRead memory arguments.count body
+by_reference : (memory : List ℕ) (arguments : ReadMemoryArguments) (reference : Option ℕ) (body : ReadMemory) → length memory ≤ 16777216
+    → read memory arguments.count (start_by memory arguments reference) ≡ Ok (Bytes body) → IsRead memory arguments.count body
 by_reference memory arguments None body few e = cc
 by_reference memory arguments (Some reference) body few e =
-    let P : Bool → Type 0 = λ v. read memory arguments.count (cond v (Err TooMuch) (start_at memory arguments.count (offset_by arguments.offset (Some reference)))) ≡ Ok (Bytes body) → IsRead memory arguments.count body in
+    let P : Bool → Type 0 = λ v. read memory arguments.count
+    (cond v (Err TooMuch) (start_at memory arguments.count (offset_by arguments.offset (Some reference)))) ≡ Ok (Bytes body)
+    → IsRead memory arguments.count body in
     let go : P (ltb 65536 arguments.count) = elim (ltb 65536 arguments.count) as P [
       | true ↦ λ f. cc
-      | false ↦ λ f. at_start memory arguments.count (offset_by arguments.offset (Some reference)) body few (λ a h. offset_small arguments.offset (Some reference) a h) f
+      | false ↦ λ f. at_start memory arguments.count (offset_by arguments.offset (Some reference)) body few
+          (λ a h. offset_small arguments.offset (Some reference) a h) f
     ] in go e
 
 pub bytes_are_read : BytesAreRead

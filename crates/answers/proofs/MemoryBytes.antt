@@ -35,30 +35,39 @@ has_byte memory address h = by_test (ltb address first_address) refl where
   by_test false e = grind (arith, nat_tests)
 
 -- where a byte is asked for, reading begins in memory
-pub begins_inside : (memory : List ℕ) (count address index : ℕ) → IsTrue (can_begin memory count address) → index < count → first_address ≤ address
+pub begins_inside : (memory : List ℕ) (count address index : ℕ) → IsTrue (can_begin memory count address) → index < count
+    → first_address ≤ address
 begins_inside memory count address index h below = by_byte (is_some (byte_at memory address)) refl where
   by_byte : (b : Bool) → is_some (byte_at memory address) ≡ b → first_address ≤ address
   by_byte true e = has_byte memory address e
   by_byte false e = let none : eqb count 0 ≡ false = grind (arith, nat_tests) in absurd (cc)
 
-pub byte_there : (memory : List ℕ) (address index : ℕ) → first_address ≤ address → slice_get (drop (address - first_address) memory) index ≡ byte_at memory (address + index)
+pub byte_there : (memory : List ℕ) (address index : ℕ) → first_address ≤ address
+    → slice_get (drop (address - first_address) memory) index ≡ byte_at memory (address + index)
 byte_there memory address index low =
     let above : ltb (address + index) first_address ≡ false = grind (arith, nat_tests) in
     let same : address - first_address + index ≡ address + index - first_address = omega (arith, low) in
     get_drop memory (address - first_address) index ∙ ap (slice_get memory) same ∙ (rw above refl)
 
-pub one_more : (memory : List ℕ) (count address index byte : ℕ) (bytes bytes' : List ℕ) → IsTrue (can_begin memory count address) → index < count → byte_at memory (address + index) ≡ Some byte → bytes ≡ bytes_at memory address index → bytes' ≡ bytes ++ byte ∷ [] → bytes' ≡ bytes_at memory address (index + 1)
+pub one_more : (memory : List ℕ) (count address index byte : ℕ) (bytes bytes' : List ℕ) → IsTrue (can_begin memory count address)
+    → index < count → byte_at memory (address + index) ≡ Some byte → bytes ≡ bytes_at memory address index → bytes' ≡ bytes ++ byte ∷ []
+    → bytes' ≡ bytes_at memory address (index + 1)
 one_more memory count address index byte bytes bytes' begins below there so more =
     let low = begins_inside memory count address index begins below in
     let l : List ℕ = drop (address - first_address) memory in
-    more ∙ ap (λ (x : List ℕ). x ++ byte ∷ []) so ∙ sym (take_one l index byte (byte_there memory address index low ∙ there)) ∙ (rw add-one refl)
+    more ∙ ap (λ (x : List ℕ). x ++ byte ∷ []) so ∙ sym (take_one l index byte (byte_there memory address index low ∙ there))
+    ∙ (rw add-one refl)
 
 -- memory ends before the last of them
-pub no_more : (memory : List ℕ) (count address index : ℕ) (bytes : List ℕ) → IsTrue (can_begin memory count address) → index < count → index ≤ 4294967296 - address → byte_at memory (address + index) ≡ None → bytes ≡ bytes_at memory address index → bytes ≡ bytes_from memory count address
+pub no_more : (memory : List ℕ) (count address index : ℕ) (bytes : List ℕ) → IsTrue (can_begin memory count address) → index < count
+    → index ≤ 4294967296 - address → byte_at memory (address + index) ≡ None → bytes ≡ bytes_at memory address index
+    → bytes ≡ bytes_from memory count address
 no_more memory count address index bytes begins below room none so =
     let low = begins_inside memory count address index begins below in
-    so ∙ take_past (drop (address - first_address) memory) index (min count (4294967296 - address)) (omega (arith, below, room)) (byte_there memory address index low ∙ none)
+    so ∙ take_past (drop (address - first_address) memory) index (min count (4294967296 - address)) (omega (arith, below, room))
+    (byte_there memory address index low ∙ none)
 
 -- so many are read
-pub all_read : (memory : List ℕ) (count address index : ℕ) (bytes : List ℕ) → index ≡ min count (4294967296 - address) → bytes ≡ bytes_at memory address index → bytes ≡ bytes_from memory count address
+pub all_read : (memory : List ℕ) (count address index : ℕ) (bytes : List ℕ) → index ≡ min count (4294967296 - address)
+    → bytes ≡ bytes_at memory address index → bytes ≡ bytes_from memory count address
 all_read memory count address index bytes e so = so ∙ ap (bytes_at memory address) e

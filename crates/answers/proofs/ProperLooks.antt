@@ -40,7 +40,8 @@ both false y a b = cc
 some_taken : (m : List ℕ) (n : ℕ) → are_bytes m ≡ true → are_bytes (take n m) ≡ true
 some_taken m zero h = refl
 some_taken [] (suc n) h = refl
-some_taken (x ∷ m) (suc n) h = both (ltb x 256) _ (first_of (ltb x 256) (are_bytes m) h) (some_taken m n (second_of (ltb x 256) (are_bytes m) h))
+some_taken (x ∷ m) (suc n) h =
+    both (ltb x 256) _ (first_of (ltb x 256) (are_bytes m) h) (some_taken m n (second_of (ltb x 256) (are_bytes m) h))
 
 pub some_dropped : (m : List ℕ) (n : ℕ) → are_bytes m ≡ true → are_bytes (drop n m) ≡ true
 some_dropped m zero h = h
@@ -53,35 +54,46 @@ missing_small n h =
     let go : P (eqb n 0) = elim (eqb n 0) as P [ true ↦ refl | false ↦ lt-ltb n 4294967296 h ] in go
 
 -- the first address and the count of what is read
-pub start_small : (memory : List ℕ) (count : ℕ) (found : Option ℕ) → count ≤ 65536 → ((a : ℕ) → found ≡ Some a → a < 4294967296) → IfOk (start_at memory count found) (λ a. (a < 4294967296) × (count ≤ 65536))
+pub start_small : (memory : List ℕ) (count : ℕ) (found : Option ℕ) → count ≤ 65536 → ((a : ℕ) → found ≡ Some a → a < 4294967296)
+    → IfOk (start_at memory count found) (λ a. (a < 4294967296) × (count ≤ 65536))
 start_small memory count None few fits = tt
 start_small memory count (Some address) few fits =
     let P : Bool → Type 0 = λ v. IfOk {E = Refusal} (cond v (Ok address) (Err OutsideMemory)) (λ a. (a < 4294967296) × (count ≤ 65536)) in
-    let go : P (can_begin memory count address) = elim (can_begin memory count address) as P [ true ↦ (fits address refl, few) | false ↦ tt ] in go
+    let go : P (can_begin memory count address) = elim
+    (can_begin memory count address) as P [ true ↦ (fits address refl, few) | false ↦ tt ] in go
 
-by_reference : (memory : List ℕ) (arguments : ReadMemoryArguments) (reference : Option ℕ) → IfOk (start_by memory arguments reference) (λ a. (a < 4294967296) × (arguments.count ≤ 65536))
+by_reference : (memory : List ℕ) (arguments : ReadMemoryArguments) (reference : Option ℕ)
+    → IfOk (start_by memory arguments reference) (λ a. (a < 4294967296) × (arguments.count ≤ 65536))
 by_reference memory arguments None = tt
 by_reference memory arguments (Some reference) =
     let found = offset_by arguments.offset (Some reference) in
-    let P : Bool → Type 0 = λ v. ltb 65536 arguments.count ≡ v → IfOk (cond v (Err TooMuch) (start_at memory arguments.count found)) (λ a. (a < 4294967296) × (arguments.count ≤ 65536)) in
+    let P : Bool → Type 0 = λ v. ltb 65536 arguments.count ≡ v
+    → IfOk (cond v (Err TooMuch) (start_at memory arguments.count found)) (λ a. (a < 4294967296) × (arguments.count ≤ 65536)) in
     let go : P (ltb 65536 arguments.count) = elim (ltb 65536 arguments.count) as P [
       | true ↦ λ v. tt
-      | false ↦ λ v. start_small memory arguments.count found (grind (arith, nat_tests)) (λ a h. offset_small arguments.offset (Some reference) a h)
+      | false ↦ λ v. start_small memory arguments.count found (grind (arith, nat_tests))
+          (λ a h. offset_small arguments.offset (Some reference) a h)
     ] in go refl
 
-read_proper : (memory : List ℕ) (count : ℕ) (found : Result ℕ Refusal) → are_bytes memory ≡ true → IfOk found (λ a. (a < 4294967296) × (count ≤ 65536)) → IfOk (read memory count found) (λ body. IsOutcomeOf (codes "readMemory") (Done body))
+read_proper : (memory : List ℕ) (count : ℕ) (found : Result ℕ Refusal) → are_bytes memory ≡ true
+    → IfOk found (λ a. (a < 4294967296) × (count ≤ 65536))
+    → IfOk (read memory count found) (λ body. IsOutcomeOf (codes "readMemory") (Done body))
 read_proper memory count (Err refusal) h small = tt
 read_proper memory count (Ok address) h small =
     let bytes : List ℕ = bytes_from memory count address in
     let missing : count - length bytes < 4294967296 = omega (arith, small.1) in (
       refl,
       both (ltb address 4294967296) _ (lt-ltb address 4294967296 small.0)
-          (both (are_bytes bytes) _ (some_taken (drop (address - first_address) memory) (min count (4294967296 - address)) (some_dropped memory (address - first_address) h))
+          (both (are_bytes bytes) _
+          (some_taken (drop (address - first_address) memory) (min count (4294967296 - address))
+          (some_dropped memory (address - first_address) h))
           (both (is_in_if is_word (unless_0 (count - length bytes))) true (missing_small (count - length bytes) missing) refl)),
     )
 
 pub bytes_are_proper : BytesAreProper
-bytes_are_proper memory arguments h = read_proper memory arguments.count (start_by memory arguments (word_of arguments.memory_reference)) h (by_reference memory arguments (word_of arguments.memory_reference))
+bytes_are_proper memory arguments h =
+    read_proper memory arguments.count (start_by memory arguments (word_of arguments.memory_reference)) h
+    (by_reference memory arguments (word_of arguments.memory_reference))
 
 -- ---- entries
 
@@ -108,25 +120,38 @@ of_bytes (a ∷ b ∷ c ∷ d ∷ l) h =
     let z = ltb-true c 256 (first_of (ltb c 256) (are_bytes (d ∷ l)) s) in
     let w = ltb-true d 256 (first_of (ltb d 256) (are_bytes l) (second_of (ltb c 256) (are_bytes (d ∷ l)) s)) in omega (arith, x, y, z, w)
 
-word_small : (memory : List ℕ) (found : Option ℕ) (word : ℕ) → are_bytes memory ≡ true → word_in memory found ≡ Some word → word < 4294967296
+word_small : (memory : List ℕ) (found : Option ℕ) (word : ℕ) → are_bytes memory ≡ true → word_in memory found ≡ Some word
+    → word < 4294967296
 word_small memory None word h e = cc
 word_small memory (Some address) word h e = by_fault (fault_at memory 4 address 4) e where
-  by_fault : (fault : Option MemFault) → result_ok (unless_fault fault (little_endian (bytes_at memory address 4))) ≡ Some word → word < 4294967296
+  by_fault : (fault : Option MemFault) → result_ok (unless_fault fault (little_endian (bytes_at memory address 4))) ≡ Some word
+      → word < 4294967296
   by_fault (Some fault) f = cc
-  by_fault None f = let same : little_endian (bytes_at memory address 4) ≡ word = cc in subst (λ n. n < 4294967296) same (of_bytes (drop (address - first_address) memory) (some_dropped memory (address - first_address) h))
+  by_fault None f =
+      let same : little_endian (bytes_at memory address 4) ≡ word = cc in
+      subst (λ n. n < 4294967296) same (of_bytes (drop (address - first_address) memory) (some_dropped memory (address - first_address) h))
 
-entry_proper : (address : ℕ) (found : Option ℕ) → address < 4294967296 → ((word : ℕ) → found ≡ Some word → word < 4294967296) → instruction.is_in (entry_by address found) ≡ true
+entry_proper : (address : ℕ) (found : Option ℕ) → address < 4294967296 → ((word : ℕ) → found ≡ Some word → word < 4294967296)
+    → instruction.is_in (entry_by address found) ≡ true
 entry_proper address None small fits = both (ltb address 4294967296) true (lt-ltb address 4294967296 small) refl
-entry_proper address (Some word) small fits = both (ltb address 4294967296) _ (lt-ltb address 4294967296 small) (both (ltb word 4294967296) true (lt-ltb word 4294967296 (fits word refl)) refl)
+entry_proper address (Some word) small fits =
+    both (ltb address 4294967296) _ (lt-ltb address 4294967296 small)
+    (both (ltb word 4294967296) true (lt-ltb word 4294967296 (fits word refl)) refl)
 
-entries_proper : (memory : List ℕ) (place : ℤ) (count : ℕ) → are_bytes memory ≡ true → list_all instruction.is_in (entries_from memory place count) ≡ true
+entries_proper : (memory : List ℕ) (place : ℤ) (count : ℕ) → are_bytes memory ≡ true
+    → list_all instruction.is_in (entries_from memory place count) ≡ true
 entries_proper memory place zero h = refl
 entries_proper memory place (suc count) h =
-    both (instruction.is_in (entry memory place)) _ (entry_proper (wrapped place) (word_in memory (address_of place)) (wrapped_small place) (λ word e. word_small memory (address_of place) word h e)) (entries_proper memory (place +ℤ pos 4) count h)
+    both (instruction.is_in (entry memory place)) _
+    (entry_proper (wrapped place) (word_in memory (address_of place)) (wrapped_small place)
+    (λ word e. word_small memory (address_of place) word h e)) (entries_proper memory (place +ℤ pos 4) count h)
 
-disassembled_proper : (memory : List ℕ) (count : ℕ) (found : Result ℤ Refusal) → are_bytes memory ≡ true → IfOk (disassembled memory count found) (λ body. IsOutcomeOf (codes "disassemble") (Done body))
+disassembled_proper : (memory : List ℕ) (count : ℕ) (found : Result ℤ Refusal) → are_bytes memory ≡ true
+    → IfOk (disassembled memory count found) (λ body. IsOutcomeOf (codes "disassemble") (Done body))
 disassembled_proper memory count (Err refusal) h = tt
-disassembled_proper memory count (Ok place) h = (refl, both (list_all instruction.is_in (entries_from memory place count)) true (entries_proper memory place count h) refl)
+disassembled_proper memory count (Ok place) h =
+    (refl, both (list_all instruction.is_in (entries_from memory place count)) true (entries_proper memory place count h) refl)
 
 pub entries_are_proper : EntriesAreProper
-entries_are_proper memory arguments h = disassembled_proper memory arguments.instruction_count (places_by arguments (word_of arguments.memory_reference)) h
+entries_are_proper memory arguments h =
+    disassembled_proper memory arguments.instruction_count (places_by arguments (word_of arguments.memory_reference)) h

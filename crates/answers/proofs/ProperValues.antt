@@ -61,7 +61,8 @@ taken_in : (n : ℕ) (l : List Variable) → AreIn l → AreIn (take n l)
 taken_in zero l h = refl
 taken_in (suc n) [] h = refl
 taken_in (suc n) (v ∷ l) h =
-    both (variable.is_in v) (list_all variable.is_in (take n l)) (first_of (variable.is_in v) (list_all variable.is_in l) h) (taken_in n l (second_of (variable.is_in v) (list_all variable.is_in l) h))
+    both (variable.is_in v) (list_all variable.is_in (take n l)) (first_of (variable.is_in v) (list_all variable.is_in l) h)
+    (taken_in n l (second_of (variable.is_in v) (list_all variable.is_in l) h))
 
 dropped_in : (n : ℕ) (l : List Variable) → AreIn l → AreIn (drop n l)
 dropped_in zero l h = h
@@ -80,10 +81,13 @@ kind_in None l h = h
 kind_in (Some Named) l h = h
 kind_in (Some Indexed) l h = refl
 
-some_registers : (hart : Hart) (some : List ℕ) → hart.pc < 4294967296 → All (λ value. value < 4294967296) hart.x → AreIn (map (register hart) some ++ counter hart ∷ [])
+some_registers : (hart : Hart) (some : List ℕ) → hart.pc < 4294967296 → All (λ value. value < 4294967296) hart.x
+    → AreIn (map (register hart) some ++ counter hart ∷ [])
 some_registers hart [] pc x = both (variable.is_in (counter hart)) true (is_in (codes "pc") hart.pc pc) refl
 some_registers hart (number ∷ some) pc x =
-    both (variable.is_in (register hart number)) _ (both (ltb (register hart number).value 4294967296) true (lt-ltb (register hart number).value 4294967296 (small_at hart.x number x)) refl) (some_registers hart some pc x)
+    both (variable.is_in (register hart number)) _
+    (both (ltb (register hart number).value 4294967296) true
+    (lt-ltb (register hart number).value 4294967296 (small_at hart.x number x)) refl) (some_registers hart some pc x)
 
 registers_in : (hart : Hart) → hart.pc < 4294967296 → All (λ value. value < 4294967296) hart.x → AreIn (registers hart)
 unfolding registers
@@ -93,8 +97,10 @@ some_words : (memory : List ℕ) (sp : ℕ) (some : List ℕ) → are_bytes memo
 some_words memory sp [] bytes = refl
 some_words memory sp (offset ∷ some) bytes =
     let value : ℕ = little_endian (bytes_at memory (sum sp offset) 4) in
-    let small : value < 4294967296 = of_bytes (drop (sum sp offset - first_address) memory) (some_dropped memory (sum sp offset - first_address) bytes) in
-    both (variable.is_in (word memory sp offset)) _ (both (ltb value 4294967296) true (lt-ltb value 4294967296 small) refl) (some_words memory sp some bytes)
+    let small : value < 4294967296 = of_bytes (drop (sum sp offset - first_address) memory)
+    (some_dropped memory (sum sp offset - first_address) bytes) in
+    both (variable.is_in (word memory sp offset)) _ (both (ltb value 4294967296) true (lt-ltb value 4294967296 small) refl)
+    (some_words memory sp some bytes)
 
 words_in : (hart : Hart) (memory : List ℕ) → are_bytes memory ≡ true → AreIn (stack_words hart memory)
 unfolding stack_words
@@ -102,10 +108,14 @@ words_in hart memory bytes =
     let sp : ℕ = slice_index hart.x 2 in
     some_words memory sp (take_while (has_word memory sp) (map (λ number. 4 * number) (range_with_len 0 64))) bytes
 
-body_in : (arguments : VariablesArguments) (found : Result (List Variable) Refusal) → IfOk found AreIn → IfOk (body_by arguments found) (λ body. IsOutcomeOf (codes "variables") (Done body))
+body_in : (arguments : VariablesArguments) (found : Result (List Variable) Refusal) → IfOk found AreIn
+    → IfOk (body_by arguments found) (λ body. IsOutcomeOf (codes "variables") (Done body))
 body_in arguments (Err refusal) h = tt
-body_in arguments (Ok list) h =
-    (refl, both (list_all variable.is_in (asked_of arguments list)) true (part_in arguments.start arguments.count (of_kind arguments.filter list) (kind_in arguments.filter list h)) refl)
+body_in arguments (Ok list) h = (
+  refl,
+  both (list_all variable.is_in (asked_of arguments list)) true
+      (part_in arguments.start arguments.count (of_kind arguments.filter list) (kind_in arguments.filter list h)) refl,
+)
 
 scope_in : (machine : Debugged) (found : Result Target Refusal) → HoldsWords machine → IfOk (variables_in machine found) AreIn
 scope_in machine (Err refusal) holds = tt
@@ -113,25 +123,31 @@ scope_in machine (Ok (Frame index)) holds = tt
 scope_in machine (Ok Registers) holds = registers_in machine.hart holds.pc holds.registers
 scope_in machine (Ok Stack) holds = words_in machine.hart machine.memory (all_bytes machine.memory holds.memory)
 
-pub variables_are_proper : (arguments : VariablesArguments) (machine : Debugged) (numbers : Numbers) → HoldsWords machine → IfOk (variables arguments machine numbers) (λ body. IsOutcomeOf (codes "variables") (Done body))
+pub variables_are_proper : (arguments : VariablesArguments) (machine : Debugged) (numbers : Numbers) → HoldsWords machine
+    → IfOk (variables arguments machine numbers) (λ body. IsOutcomeOf (codes "variables") (Done body))
 variables_are_proper arguments machine numbers holds =
     let found = target_of numbers arguments.variables_reference in
     body_in arguments (variables_in machine found) (scope_in machine found holds)
 
 -- ---- the value of an expression
 
-valued_in : (found : Result ℕ ExprFault) → IfOk found (λ v. v < 4294967296) → IfOk (if_valued found) (λ body. IsOutcomeOf (codes "evaluate") (Done body))
+valued_in : (found : Result ℕ ExprFault) → IfOk found (λ v. v < 4294967296)
+    → IfOk (if_valued found) (λ body. IsOutcomeOf (codes "evaluate") (Done body))
 valued_in (Err fault) h = tt
 valued_in (Ok value) h = (refl, both (ltb value 4294967296) true (lt-ltb value 4294967296 h) refl)
 
-expression_in : (text : List ℕ) (found : Option Tree) (machine : Debugged) → expression_of text ≡ found → HoldsWords machine → IfOk (valued found machine.hart machine.memory) (λ body. IsOutcomeOf (codes "evaluate") (Done body))
+expression_in : (text : List ℕ) (found : Option Tree) (machine : Debugged) → expression_of text ≡ found → HoldsWords machine
+    → IfOk (valued found machine.hart machine.memory) (λ body. IsOutcomeOf (codes "evaluate") (Done body))
 expression_in text None machine e holds = tt
 expression_in text (Some tree) machine e holds =
-    valued_in (value_in tree machine.hart machine.memory) (expression_small text tree machine.hart machine.memory e holds.pc holds.registers (all_bytes machine.memory holds.memory))
+    valued_in (value_in tree machine.hart machine.memory)
+    (expression_small text tree machine.hart machine.memory e holds.pc holds.registers (all_bytes machine.memory holds.memory))
 
-pub values_are_proper : (arguments : EvaluateArguments) (machine : Debugged) (numbers : Numbers) → HoldsWords machine → IfOk (evaluate arguments machine numbers) (λ body. IsOutcomeOf (codes "evaluate") (Done body))
+pub values_are_proper : (arguments : EvaluateArguments) (machine : Debugged) (numbers : Numbers) → HoldsWords machine
+    → IfOk (evaluate arguments machine numbers) (λ body. IsOutcomeOf (codes "evaluate") (Done body))
 values_are_proper arguments machine numbers holds = by (frame_refusal numbers arguments.frame_id) where
-  by : (refusal : Option Refusal) → IfOk (unless_refused refusal (valued (expression_of arguments.expression) machine.hart machine.memory)) (λ body. IsOutcomeOf (codes "evaluate") (Done body))
+  by : (refusal : Option Refusal)
+      → IfOk (unless_refused refusal (valued (expression_of arguments.expression) machine.hart machine.memory)) (λ body. IsOutcomeOf (codes "evaluate") (Done body))
   by (Some refusal) = tt
   by None = expression_in arguments.expression (expression_of arguments.expression) machine refl holds
 
@@ -174,20 +190,24 @@ value_small (sign ∷ digits) n e = by (eqb sign 45) e where
   by true f = negated_small (result_ok (numeral 10 digits)) n f
   by false f = word_small (sign ∷ digits) (prefixed (sign ∷ digits)) n f
 
-set_proper : (hart : Hart) (named : Result ℕ Refusal) (found : Option ℕ) → ((n : ℕ) → found ≡ Some n → n < 4294967296) → IfOk (setting_of hart named found) (λ setting. IsOutcomeOf (codes "setVariable") (Done setting.body))
+set_proper : (hart : Hart) (named : Result ℕ Refusal) (found : Option ℕ) → ((n : ℕ) → found ≡ Some n → n < 4294967296)
+    → IfOk (setting_of hart named found) (λ setting. IsOutcomeOf (codes "setVariable") (Done setting.body))
 set_proper hart (Err refusal) found h = tt
 set_proper hart (Ok number) None h = tt
 set_proper hart (Ok number) (Some value) h = (refl, both (ltb value 4294967296) true (lt-ltb value 4294967296 (h value refl)) refl)
 
 pub settings_are_proper : SettingsAreProper
 settings_are_proper arguments machine numbers = by (target_of numbers arguments.variables_reference) where
-  by : (found : Result Target Refusal) → IfOk (set_in arguments machine found) (λ setting. IsOutcomeOf (codes "setVariable") (Done setting.body))
+  by : (found : Result Target Refusal)
+      → IfOk (set_in arguments machine found) (λ setting. IsOutcomeOf (codes "setVariable") (Done setting.body))
   by (Err refusal) = tt
   by (Ok (Frame index)) = tt
   by (Ok Stack) = tt
-  by (Ok Registers) = set_proper machine.hart (name_answer arguments.name) (value_of arguments.value) (λ n e. value_small arguments.value n e)
+  by (Ok Registers) =
+      set_proper machine.hart (name_answer arguments.name) (value_of arguments.value) (λ n e. value_small arguments.value n e)
 
-kept_words : (machine : Debugged) (number value : ℕ) → HoldsWords machine → value < 4294967296 → HoldsWords (record machine { hart = with_register machine.hart number value })
+kept_words : (machine : Debugged) (number value : ℕ) → HoldsWords machine → value < 4294967296
+    → HoldsWords (record machine { hart = with_register machine.hart number value })
 kept_words machine zero value holds small = holds
 kept_words machine (suc number) value holds small = record {
   pc = holds.pc;
@@ -197,18 +217,22 @@ kept_words machine (suc number) value holds small = record {
   few = holds.few;
 }
 
-set_keeps : (machine : Debugged) (named : Result ℕ Refusal) (found : Option ℕ) → HoldsWords machine → ((n : ℕ) → found ≡ Some n → n < 4294967296) → IfOk (setting_of machine.hart named found) (λ setting. HoldsWords (record machine { hart = setting.hart }))
+set_keeps : (machine : Debugged) (named : Result ℕ Refusal) (found : Option ℕ) → HoldsWords machine
+    → ((n : ℕ) → found ≡ Some n → n < 4294967296)
+    → IfOk (setting_of machine.hart named found) (λ setting. HoldsWords (record machine { hart = setting.hart }))
 set_keeps machine (Err refusal) found holds h = tt
 set_keeps machine (Ok number) None holds h = tt
 set_keeps machine (Ok number) (Some value) holds h = kept_words machine number value holds (h value refl)
 
 pub settings_keep_words : SettingsKeepWords
 settings_keep_words arguments machine numbers holds = by (target_of numbers arguments.variables_reference) where
-  by : (found : Result Target Refusal) → IfOk (set_in arguments machine found) (λ setting. HoldsWords (record machine { hart = setting.hart }))
+  by : (found : Result Target Refusal)
+      → IfOk (set_in arguments machine found) (λ setting. HoldsWords (record machine { hart = setting.hart }))
   by (Err refusal) = tt
   by (Ok (Frame index)) = tt
   by (Ok Stack) = tt
-  by (Ok Registers) = set_keeps machine (name_answer arguments.name) (value_of arguments.value) holds (λ n e. value_small arguments.value n e)
+  by (Ok Registers) =
+      set_keeps machine (name_answer arguments.name) (value_of arguments.value) holds (λ n e. value_small arguments.value n e)
 
 -- ---- bytes that are written
 
@@ -222,32 +246,38 @@ fitting_within memory count address =
     let left = length-drop (address - first_address) memory in
     omega (arith, taken, left)
 
-fits : (memory : List ℕ) (count address : ℕ) → can_begin memory count address ≡ true → fault_at memory 1 address (fitting memory count address) ≡ None
-fits memory count address begins = by_count (fitting memory count address) (fitting_short memory count address) (fitting_within memory count address) where
-  by_count : (n : ℕ) → n ≤ count → n ≤ length memory - (address - first_address) → fault_at memory 1 address n ≡ None
-  by_count zero short within = grind (arith, nat_tests)
-  by_count (suc n) short within =
-      let low : first_address ≤ address = begins_inside memory count address 0 begins (omega (arith, short)) in
-      let end : address + suc n ≤ first_address + length memory = omega (arith, low, within) in
-      grind (arith, nat_tests)
+fits : (memory : List ℕ) (count address : ℕ) → can_begin memory count address ≡ true
+    → fault_at memory 1 address (fitting memory count address) ≡ None
+fits memory count address begins =
+    by_count (fitting memory count address) (fitting_short memory count address) (fitting_within memory count address) where
+      by_count : (n : ℕ) → n ≤ count → n ≤ length memory - (address - first_address) → fault_at memory 1 address n ≡ None
+      by_count zero short within = grind (arith, nat_tests)
+      by_count (suc n) short within =
+          let low : first_address ≤ address = begins_inside memory count address 0 begins (omega (arith, short)) in
+          let end : address + suc n ≤ first_address + length memory = omega (arith, low, within) in
+          grind (arith, nat_tests)
 
-written_fits : (memory : List ℕ) (partial : Bool) (count address : ℕ) → can_begin memory count address ≡ true → IfOk (written_at memory partial count address) (λ writing. (writing.count ≤ count) × (fault_at memory 1 writing.address writing.count ≡ None))
+written_fits : (memory : List ℕ) (partial : Bool) (count address : ℕ) → can_begin memory count address ≡ true
+    → IfOk (written_at memory partial count address) (λ writing. (writing.count ≤ count) × (fault_at memory 1 writing.address writing.count ≡ None))
 written_fits memory partial count address begins = by (eqb (fitting memory count address) count) refl partial where
-  by : (all : Bool) → eqb (fitting memory count address) count ≡ all → (partial : Bool) → IfOk (cond all (Ok (writing_of address count)) (cond partial (Ok (writing_of address (fitting memory count address))) (Err OutsideMemory))) (λ writing. (writing.count ≤ count) × (fault_at memory 1 writing.address writing.count ≡ None))
+  by : (all : Bool) → eqb (fitting memory count address) count ≡ all → (partial : Bool)
+      → IfOk (cond all (Ok (writing_of address count)) (cond partial (Ok (writing_of address (fitting memory count address))) (Err OutsideMemory))) (λ writing. (writing.count ≤ count) × (fault_at memory 1 writing.address writing.count ≡ None))
   by true is partial =
       let same : fitting memory count address ≡ count = grind (arith, nat_tests) in
       (omega arith, subst (λ (n : ℕ). fault_at memory 1 address n ≡ None) same (fits memory count address begins))
   by false is true = (fitting_short memory count address, fits memory count address begins)
   by false is false = tt
 
-written_in : (memory : List ℕ) (partial : Bool) (count address : ℕ) → count ≤ 65536 → IfOk (written_at memory partial count address) (λ writing. IsOutcomeOf (codes "writeMemory") (Done writing.body))
+written_in : (memory : List ℕ) (partial : Bool) (count address : ℕ) → count ≤ 65536
+    → IfOk (written_at memory partial count address) (λ writing. IsOutcomeOf (codes "writeMemory") (Done writing.body))
 written_in memory partial count address few = by (eqb (fitting memory count address) count) partial where
   one : (n : ℕ) → n ≤ 65536 → IsOutcomeOf (codes "writeMemory") (Done (writing_of address n).body)
   one n h =
       let small : n < 4294967296 = omega (arith, h) in
       (refl, both (ltb n 4294967296) true (lt-ltb n 4294967296 small) refl)
 
-  by : (all : Bool) → (partial : Bool) → IfOk (cond all (Ok (writing_of address count)) (cond partial (Ok (writing_of address (fitting memory count address))) (Err OutsideMemory))) (λ writing. IsOutcomeOf (codes "writeMemory") (Done writing.body))
+  by : (all : Bool) → (partial : Bool)
+      → IfOk (cond all (Ok (writing_of address count)) (cond partial (Ok (writing_of address (fitting memory count address))) (Err OutsideMemory))) (λ writing. IsOutcomeOf (codes "writeMemory") (Done writing.body))
   by true partial = one count few
   by false true =
       let short : fitting memory count address ≤ count = fitting_short memory count address in
@@ -265,21 +295,27 @@ start_in memory count (Some address) few = by (can_begin memory count address) r
   by true is = (few, is)
   by false is = tt
 
-begins : (memory : List ℕ) (arguments : WriteMemoryArguments) (reference : Option ℕ) → CanWrite memory (length arguments.bytes) (start_by memory arguments reference)
+begins : (memory : List ℕ) (arguments : WriteMemoryArguments) (reference : Option ℕ)
+    → CanWrite memory (length arguments.bytes) (start_by memory arguments reference)
 begins memory arguments None = tt
 begins memory arguments (Some reference) = by (ltb 65536 (length arguments.bytes)) refl where
-  by : (b : Bool) → ltb 65536 (length arguments.bytes) ≡ b → CanWrite memory (length arguments.bytes) (cond b (Err TooMuch) (start_at memory (length arguments.bytes) (offset_by arguments.offset (Some reference))))
+  by : (b : Bool) → ltb 65536 (length arguments.bytes) ≡ b
+      → CanWrite memory (length arguments.bytes) (cond b (Err TooMuch) (start_at memory (length arguments.bytes) (offset_by arguments.offset (Some reference))))
   by true is = tt
   by false is = start_in memory (length arguments.bytes) (offset_by arguments.offset (Some reference)) (grind (arith, nat_tests))
 
 pub writings_are_proper : WritingsAreProper
-writings_are_proper arguments memory = by (start_by memory arguments (word_of arguments.memory_reference)) (begins memory arguments (word_of arguments.memory_reference)) where
-  by : (found : Result ℕ Refusal) → CanWrite memory (length arguments.bytes) found → IfOk (written memory arguments found) (λ writing. IsOutcomeOf (codes "writeMemory") (Done writing.body))
-  by (Err refusal) h = tt
-  by (Ok address) h = written_in memory arguments.allow_partial (length arguments.bytes) address h.0
+writings_are_proper arguments memory =
+    by (start_by memory arguments (word_of arguments.memory_reference)) (begins memory arguments (word_of arguments.memory_reference)) where
+      by : (found : Result ℕ Refusal) → CanWrite memory (length arguments.bytes) found
+          → IfOk (written memory arguments found) (λ writing. IsOutcomeOf (codes "writeMemory") (Done writing.body))
+      by (Err refusal) h = tt
+      by (Ok address) h = written_in memory arguments.allow_partial (length arguments.bytes) address h.0
 
 pub writings_fit : WritingsFit
-writings_fit arguments memory = by (start_by memory arguments (word_of arguments.memory_reference)) (begins memory arguments (word_of arguments.memory_reference)) where
-  by : (found : Result ℕ Refusal) → CanWrite memory (length arguments.bytes) found → IfOk (written memory arguments found) (λ writing. (writing.count ≤ length arguments.bytes) × (fault_at memory 1 writing.address writing.count ≡ None))
-  by (Err refusal) h = tt
-  by (Ok address) h = written_fits memory arguments.allow_partial (length arguments.bytes) address h.1
+writings_fit arguments memory =
+    by (start_by memory arguments (word_of arguments.memory_reference)) (begins memory arguments (word_of arguments.memory_reference)) where
+      by : (found : Result ℕ Refusal) → CanWrite memory (length arguments.bytes) found
+          → IfOk (written memory arguments found) (λ writing. (writing.count ≤ length arguments.bytes) × (fault_at memory 1 writing.address writing.count ≡ None))
+      by (Err refusal) h = tt
+      by (Ok address) h = written_fits memory arguments.allow_partial (length arguments.bytes) address h.1

@@ -42,7 +42,8 @@ to_end {A = A} start l =
     ap (λ (m : List A). drop (first_in start (length l)) m) (take_all (length l) l (omega arith)) ∙ drop_min {A = A} start l
 
 -- so many elements from an index on
-some : {A : Type 0} (start count : ℕ) (l : List A) → drop (first_in start (length l)) (take (min (length l) (first_in start (length l) + count)) l) ≡ take count (drop start l)
+some : {A : Type 0} (start count : ℕ) (l : List A)
+    → drop (first_in start (length l)) (take (min (length l) (first_in start (length l) + count)) l) ≡ take count (drop start l)
 some {A = A} start count l =
     let first : ℕ = min start (length l) in
     let rest : List A = drop first l in
@@ -51,15 +52,18 @@ some {A = A} start count l =
     ap (λ (n : ℕ). drop first (take n l)) end ∙ drop_take {A = A} first (min (length rest) count) l
     ∙ take_min {A = A} count rest ∙ ap (λ (m : List A). take count m) (drop_min {A = A} start l)
 
-pub part_is : {A : Type 0} (start : ℕ) (count : Option ℕ) (l : List A) → drop (first_in start (length l)) (take (end_in (first_in start (length l)) count (length l)) l) ≡ part start count l
+pub part_is : {A : Type 0} (start : ℕ) (count : Option ℕ) (l : List A)
+    → drop (first_in start (length l)) (take (end_in (first_in start (length l)) count (length l)) l) ≡ part start count l
 part_is {A = A} start None l = to_end {A = A} start l
 part_is {A = A} start (Some count) l = by (eqb count 0) where
-  by : (b : Bool) → drop (first_in start (length l)) (take (cond b (length l) (min (length l) (first_in start (length l) + count))) l) ≡ cond b (drop start l) (take count (drop start l))
+  by : (b : Bool)
+      → drop (first_in start (length l)) (take (cond b (length l) (min (length l) (first_in start (length l) + count))) l) ≡ cond b (drop start l) (take count (drop start l))
   by true = to_end {A = A} start l
   by false = some {A = A} start count l
 
 -- as the code cuts it
-pub cut : {A : Type 0} (start : ℕ) (count : Option ℕ) (l : List A) (n m first end : ℕ) → n ≡ length l → m ≡ length l → first ≡ first_in start n → end ≡ end_in first count m → drop first (take end l) ≡ part start count l
+pub cut : {A : Type 0} (start : ℕ) (count : Option ℕ) (l : List A) (n m first end : ℕ) → n ≡ length l → m ≡ length l
+    → first ≡ first_in start n → end ≡ end_in first count m → drop first (take end l) ≡ part start count l
 cut {A = A} start count l n m first end long also begins ends =
     let from : first ≡ first_in start (length l) = begins ∙ ap (first_in start) long in
     ap (λ (k : ℕ). drop first (take k l)) (ends ∙ ap (end_in first count) also)
@@ -87,7 +91,8 @@ pub length_range : (k from : ℕ) → length (range_with_len from k) ≡ k
 length_range zero from = refl
 length_range (suc k) from = let e : length (range_with_len (from + 1) k) ≡ k = length_range k (from + 1) in omega (arith, e)
 
-pub range_part : (start : ℕ) (count : Option ℕ) (total end : ℕ) → end ≡ end_in (first_in start total) count total → end ≤ total → range_with_len (first_in start total) (end - first_in start total) ≡ part start count (range_with_len 0 total)
+pub range_part : (start : ℕ) (count : Option ℕ) (total end : ℕ) → end ≡ end_in (first_in start total) count total → end ≤ total
+    → range_with_len (first_in start total) (end - first_in start total) ≡ part start count (range_with_len 0 total)
 range_part start count total end e within =
     let l : List ℕ = range_with_len 0 total in
     let long : length l ≡ total = length_range total 0 in

@@ -1,7 +1,7 @@
 -- The token that bytes spell is found among those that they may spell.
 use Rattle.std.proofs.Common.{◌≡◌, ℕ, ◌<◌, zero, suc, Bool, true, false, ◌==◌, ◌&&◌, ◌||◌, ltb, cond, ◌≤◌, Result, Ok, Err, List, [], ◌∷◌, Option, Some, None, refl, sym, ap, ◌∙◌, subst, codes, arith, ◌⊎◌, inl, inr}
 use Rattle.std.specs.Prelude.{find, ⊤}
-use Rattle.std.proofs.lemmas.Bool.{and_parts, eqb-true, ltb-true, lt-ltb, both_ways}
+use Rattle.std.proofs.lemmas.Bool.{and_from, and_parts, or_left, or_right, eqb-true, ltb-true, lt-ltb, both_ways}
 use Rattle.std.proofs.lemmas.Bool.Decides.{nat_tests}
 use Rattle.std.proofs.lemmas.Slice.Eq.{bytes_eq-Decides}
 use Rattle.std.specs.Str.{bytes_eq}
@@ -15,6 +15,7 @@ use Rattle.expressions.specs.declared.token.Infix.{Infix}
 use Rattle.expressions.specs.declared.token.Infix.TheVariants.{OrElse, AndThen, Or, Xor, And, Equal, NotEqual, Less, LessEqual, Greater, GreaterEqual, ShiftLeft, ShiftRight, Plus, Minus, Times}
 use Rattle.expressions.specs.declared.token.Token.{Token}
 use Rattle.expressions.specs.declared.token.Token.TheVariants as t
+use Rattle.expressions.proofs.Lexemes.{either}
 use Rattle.expressions.proofs.Words.{one_token}
 use Rattle.answers.specs.Expressions.{is_number, names, spells, signs, registers_below, with_number, token_of, and_others, tokens_of}
 
@@ -26,50 +27,38 @@ same_bytes xs ys h = (bytes_eq-Decides xs ys).0 h
 tested : (xs ys : List ℕ) → xs ≡ ys → bytes_eq xs ys ≡ true
 tested xs ys h = (bytes_eq-Decides xs ys).1 h
 
-either : (x y : Bool) → (x || y) ≡ true → (x ≡ true) ⊎ (y ≡ true)
-either true y h = inl refl
-either false y h = inr h
-
-or_left : (x y : Bool) → x ≡ true → (x || y) ≡ true
-or_left true y h = refl
-or_left false y h = cc
-
-or_right : (x y : Bool) → y ≡ true → (x || y) ≡ true
-or_right true y h = refl
-or_right false y h = h
-
-and_both : (x y : Bool) → x ≡ true → y ≡ true → (x && y) ≡ true
-and_both true y a b = b
-and_both false y a b = cc
-
 number_is : (found : Result ℕ NumeralError) (n : ℕ) → is_number found n ≡ true → found ≡ Ok n
 number_is (Ok m) n h = ap (λ x. Ok x) (eqb-true m n h)
 number_is (Err error) n h = cc
 
 is_named : (bytes : List ℕ) (r : ℕ) → names bytes r ≡ true → Names bytes r
 is_named bytes r h =
-    let parts = and_parts (ltb r 32) (bytes_eq bytes (name_of r) || (bytes_eq bytes (numbered_name_of r) || (bytes_eq bytes (codes "fp") && (r == 8)))) h in
+    let parts = and_parts (ltb r 32)
+    (bytes_eq bytes (name_of r) || (bytes_eq bytes (numbered_name_of r) || (bytes_eq bytes (codes "fp") && (r == 8)))) h in
     let P : Type 0 = (bytes ≡ name_of r) ⊎ ((bytes ≡ numbered_name_of r) ⊎ ((bytes ≡ codes "fp") × (r ≡ 8))) in
     let any : P = elim (either (bytes_eq bytes (name_of r)) _ parts.1) as (λ _. P) [
       | inl e ↦ inl (same_bytes bytes (name_of r) e)
       | inr others ↦ elim (either (bytes_eq bytes (numbered_name_of r)) _ others) as (λ _. P) [
         | inl e ↦ inr (inl (same_bytes bytes (numbered_name_of r) e))
-        | inr both ↦ let p = and_parts (bytes_eq bytes (codes "fp")) (r == 8) both in inr (inr (same_bytes bytes (codes "fp") p.0, eqb-true r 8 p.1))
+        | inr both ↦ let p =
+            and_parts (bytes_eq bytes (codes "fp")) (r == 8) both in inr (inr (same_bytes bytes (codes "fp") p.0, eqb-true r 8 p.1))
       ]
     ] in
     (ltb-true r 32 parts.0, any)
 
 names_it : (bytes : List ℕ) (r : ℕ) → Names bytes r → names bytes r ≡ true
 names_it bytes r h =
-    let P : Type 0 = (bytes_eq bytes (name_of r) || (bytes_eq bytes (numbered_name_of r) || (bytes_eq bytes (codes "fp") && (r == 8)))) ≡ true in
+    let P : Type 0 = (bytes_eq bytes (name_of r) || (bytes_eq bytes (numbered_name_of r) || (bytes_eq bytes (codes "fp") && (r == 8))))
+    ≡ true in
     let any : P = elim h.1 as (λ _. P) [
       | inl e ↦ or_left _ _ (tested bytes (name_of r) e)
       | inr others ↦ elim others as (λ _. P) [
         | inl e ↦ or_right (bytes_eq bytes (name_of r)) _ (or_left _ _ (tested bytes (numbered_name_of r) e))
-        | inr both ↦ or_right (bytes_eq bytes (name_of r)) _ (or_right (bytes_eq bytes (numbered_name_of r)) _ (and_both _ _ (tested bytes (codes "fp") both.0) (same_number r both.1)))
+        | inr both ↦ or_right (bytes_eq bytes (name_of r)) _
+            (or_right (bytes_eq bytes (numbered_name_of r)) _ (and_from _ _ (tested bytes (codes "fp") both.0) (same_number r both.1)))
       ]
     ] in
-    and_both (ltb r 32) _ (lt-ltb r 32 h.0) any
+    and_from (ltb r 32) _ (lt-ltb r 32 h.0) any
   where
     same_number : (r : ℕ) → r ≡ 8 → (r == 8) ≡ true
     same_number r e = grind (arith, nat_tests)
@@ -136,7 +125,8 @@ after_registers : (p : Token → Bool) (k : ℕ) (others : List Token) → AllFa
 after_registers p zero others f = f
 after_registers p (suc k) others f = after_registers p k others f.1
 
-register_fails : (p : Token → Bool) (k : ℕ) (others : List Token) (r : ℕ) → AllFail p (registers_below k others) → r < k → p (t.Register r) ≡ false
+register_fails : (p : Token → Bool) (k : ℕ) (others : List Token) (r : ℕ) → AllFail p (registers_below k others) → r < k
+    → p (t.Register r) ≡ false
 register_fails p zero others r f l = absurd (omega arith)
 register_fails p (suc k) others r f l =
     let P : Bool → Type 0 = λ v. (r == k) ≡ v → p (t.Register r) ≡ false in
@@ -145,11 +135,13 @@ register_fails p (suc k) others r f l =
       | false ↦ λ v. let below : r < k = grind (arith, nat_tests) in register_fails p k others r f.1 below
     ] in go refl
 
-after_number : (p : Token → Bool) (found : Result ℕ NumeralError) (others : List Token) → AllFail p (with_number found others) → AllFail p others
+after_number : (p : Token → Bool) (found : Result ℕ NumeralError) (others : List Token) → AllFail p (with_number found others)
+    → AllFail p others
 after_number p (Ok n) others f = f.1
 after_number p (Err error) others f = f
 
-number_fails : (p : Token → Bool) (found : Result ℕ NumeralError) (others : List Token) (n : ℕ) → AllFail p (with_number found others) → found ≡ Ok n → p (t.Number n) ≡ false
+number_fails : (p : Token → Bool) (found : Result ℕ NumeralError) (others : List Token) (n : ℕ) → AllFail p (with_number found others)
+    → found ≡ Ok n → p (t.Number n) ≡ false
 number_fails p (Ok m) others n f e = let same : m ≡ n = cc in ap (λ x. p (t.Number x)) (sym same) ∙ f.0
 number_fails p (Err error) others n f e = cc
 
@@ -172,23 +164,40 @@ infix_fails p Minus f = f.1.1.1.1.1.1.1.1.1.1.1.1.1.1.1.1.1.1.1.1.1.0
 infix_fails p Times f = f.1.1.1.1.1.1.1.1.1.1.1.1.1.1.1.1.1.1.1.1.1.1.0
 
 -- a token that bytes spell is among those that are tried
-fails : (bytes : List ℕ) (k : ℕ) (token : Token) → 32 ≤ k → Spells token bytes → AllFail (spells bytes) (with_number (magnitude bytes) (registers_below k signs)) → spells bytes token ≡ false
+fails : (bytes : List ℕ) (k : ℕ) (token : Token) → 32 ≤ k → Spells token bytes
+    → AllFail (spells bytes) (with_number (magnitude bytes) (registers_below k signs)) → spells bytes token ≡ false
 fails bytes k (t.Number n) l h f = number_fails (spells bytes) (magnitude bytes) (registers_below k signs) n f h
-fails bytes k (t.Register r) l h f = register_fails (spells bytes) k signs r (after_number (spells bytes) (magnitude bytes) (registers_below k signs) f) (omega (arith, h.0, l))
-fails bytes k t.Pc l h f = (after_registers (spells bytes) k signs (after_number (spells bytes) (magnitude bytes) (registers_below k signs) f)).0
-fails bytes k t.Tilde l h f = (after_registers (spells bytes) k signs (after_number (spells bytes) (magnitude bytes) (registers_below k signs) f)).1.0
-fails bytes k t.Bang l h f = (after_registers (spells bytes) k signs (after_number (spells bytes) (magnitude bytes) (registers_below k signs) f)).1.1.0
-fails bytes k (t.Open Round) l h f = (after_registers (spells bytes) k signs (after_number (spells bytes) (magnitude bytes) (registers_below k signs) f)).1.1.1.0
-fails bytes k (t.Open Square) l h f = (after_registers (spells bytes) k signs (after_number (spells bytes) (magnitude bytes) (registers_below k signs) f)).1.1.1.1.0
-fails bytes k (t.Close Round) l h f = (after_registers (spells bytes) k signs (after_number (spells bytes) (magnitude bytes) (registers_below k signs) f)).1.1.1.1.1.0
-fails bytes k (t.Close Square) l h f = (after_registers (spells bytes) k signs (after_number (spells bytes) (magnitude bytes) (registers_below k signs) f)).1.1.1.1.1.1.0
-fails bytes k (t.Infix operator) l h f = infix_fails (spells bytes) operator (after_registers (spells bytes) k signs (after_number (spells bytes) (magnitude bytes) (registers_below k signs) f))
+fails bytes k (t.Register r) l h f =
+    register_fails (spells bytes) k signs r (after_number (spells bytes) (magnitude bytes) (registers_below k signs) f)
+    (omega (arith, h.0, l))
+fails bytes k t.Pc l h f =
+    (after_registers (spells bytes) k signs (after_number (spells bytes) (magnitude bytes) (registers_below k signs) f)).0
+fails bytes k t.Tilde l h f =
+    (after_registers (spells bytes) k signs (after_number (spells bytes) (magnitude bytes) (registers_below k signs) f)).1.0
+fails bytes k t.Bang l h f =
+    (after_registers (spells bytes) k signs (after_number (spells bytes) (magnitude bytes) (registers_below k signs) f)).1.1.0
+fails bytes k (t.Open Round) l h f =
+    (after_registers (spells bytes) k signs (after_number (spells bytes) (magnitude bytes) (registers_below k signs) f)).1.1.1.0
+fails bytes k (t.Open Square) l h f =
+    (after_registers (spells bytes) k signs (after_number (spells bytes) (magnitude bytes) (registers_below k signs) f)).1.1.1.1.0
+fails bytes k (t.Close Round) l h f =
+    (after_registers (spells bytes) k signs (after_number (spells bytes) (magnitude bytes) (registers_below k signs) f)).1.1.1.1.1.0
+fails bytes k (t.Close Square) l h f =
+    (after_registers (spells bytes) k signs (after_number (spells bytes) (magnitude bytes) (registers_below k signs) f)).1.1.1.1.1.1.0
+fails bytes k (t.Infix operator) l h f =
+    infix_fails (spells bytes) operator
+    (after_registers (spells bytes) k signs (after_number (spells bytes) (magnitude bytes) (registers_below k signs) f))
 
-found_among : (bytes : List ℕ) (k : ℕ) (token : Token) (found : Option Token) → 32 ≤ k → Spells token bytes → find (spells bytes) (with_number (magnitude bytes) (registers_below k signs)) ≡ found → found ≡ Some token
+found_among : (bytes : List ℕ) (k : ℕ) (token : Token) (found : Option Token) → 32 ≤ k → Spells token bytes
+    → find (spells bytes) (with_number (magnitude bytes) (registers_below k signs)) ≡ found → found ≡ Some token
 found_among bytes k token None l h e =
-    absurd (both_ways (spells bytes token) (fails bytes k token l h (none_passes (spells bytes) (with_number (magnitude bytes) (registers_below k signs)) e)) (spells_it bytes token h))
+    absurd (both_ways (spells bytes token)
+    (fails bytes k token l h (none_passes (spells bytes) (with_number (magnitude bytes) (registers_below k signs)) e))
+    (spells_it bytes token h))
 found_among bytes k token (Some other) l h e =
-    ap (λ (x : Token). Some x) (one_token other token bytes (spelled bytes other (found_passes (spells bytes) (with_number (magnitude bytes) (registers_below k signs)) other e)) h)
+    ap (λ (x : Token). Some x)
+    (one_token other token bytes
+    (spelled bytes other (found_passes (spells bytes) (with_number (magnitude bytes) (registers_below k signs)) other e)) h)
 
 -- ---- both directions
 
@@ -198,7 +207,8 @@ token_found bytes token h = found_among bytes 32 token (token_of bytes) (omega a
 
 pub token_spelled : (bytes : List ℕ) (token : Token) → token_of bytes ≡ Some token → Spells token bytes
 unfolding token_of
-token_spelled bytes token e = spelled bytes token (found_passes (spells bytes) (with_number (magnitude bytes) (registers_below 32 signs)) token e)
+token_spelled bytes token e =
+    spelled bytes token (found_passes (spells bytes) (with_number (magnitude bytes) (registers_below 32 signs)) token e)
 
 -- ---- of words and signs
 
@@ -207,13 +217,16 @@ tokens_found [] [] h = refl
 tokens_found [] (bytes ∷ lexemes) h = absurd h
 tokens_found (token ∷ tokens) [] h = absurd h
 tokens_found (token ∷ tokens) (bytes ∷ lexemes) h =
-    ap (λ x. and_others x (tokens_of lexemes)) (token_found bytes token h.0) ∙ ap (λ x. and_others (Some token) x) (tokens_found tokens lexemes h.1)
+    ap (λ x. and_others x (tokens_of lexemes)) (token_found bytes token h.0)
+    ∙ ap (λ x. and_others (Some token) x) (tokens_found tokens lexemes h.1)
 
 pub tokens_spelled : (lexemes : List (List ℕ)) (tokens : List Token) → tokens_of lexemes ≡ Some tokens → Spelled tokens lexemes
 tokens_spelled [] [] e = tt
 tokens_spelled [] (token ∷ tokens) e = cc
 tokens_spelled (bytes ∷ lexemes) tokens e = parts tokens (token_of bytes) (tokens_of lexemes) refl refl (tokens_spelled lexemes) e where
-  parts : (tokens : List Token) (first : Option Token) (others : Option (List Token)) → token_of bytes ≡ first → tokens_of lexemes ≡ others → ((rest : List Token) → tokens_of lexemes ≡ Some rest → Spelled rest lexemes) → and_others first others ≡ Some tokens → Spelled tokens (bytes ∷ lexemes)
+  parts : (tokens : List Token) (first : Option Token) (others : Option (List Token)) → token_of bytes ≡ first → tokens_of lexemes ≡ others
+      → ((rest : List Token) → tokens_of lexemes ≡ Some rest → Spelled rest lexemes) → and_others first others ≡ Some tokens
+      → Spelled tokens (bytes ∷ lexemes)
   parts tokens None others a b on f = cc
   parts tokens (Some token) None a b on f = cc
   parts [] (Some token) (Some others) a b on f = cc

@@ -15,5 +15,7 @@ none_leads (b ∷ text) none =
 
 pub none_trails : (text : List ℕ) → ((front : List ℕ) → text ≢ front ++ 32 ∷ []) → without_trailing_spaces text ≡ text
 none_trails text none =
-    let leads : (rest : List ℕ) → reverse text ≢ 32 ∷ rest = λ rest e. none (reverse rest) (sym (reverse-reverse text) ∙ ap reverse e ∙ reverse-append (32 ∷ []) rest) in
+    let leads : (rest : List ℕ)
+    → reverse text ≢ 32 ∷ rest = λ rest e. none (reverse rest)
+    (sym (reverse-reverse text) ∙ ap reverse e ∙ reverse-append (32 ∷ []) rest) in
     ap reverse (none_leads (reverse text) leads) ∙ reverse-reverse text

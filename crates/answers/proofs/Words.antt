@@ -109,8 +109,11 @@ tree_words (Number n) h = h.0
 tree_words (Register r) h = tt
 tree_words Pc h = tt
 tree_words (Unary operator operand) h = tree_words operand h.1
-tree_words (Binary operator left right) h =
-    (tree_words left (first_words (tokens_of left) (t.Infix operator ∷ tokens_of right) h), tree_words right (last_words (tokens_of left) (t.Infix operator ∷ tokens_of right) h).1)
+tree_words (Binary operator left right) h = (
+  tree_words left (first_words (tokens_of left) (t.Infix operator ∷ tokens_of right) h),
+  tree_words right
+      (last_words (tokens_of left) (t.Infix operator ∷ tokens_of right) h).1,
+)
 tree_words (Enclosed bracket inner) h = tree_words inner (first_words (tokens_of inner) (t.Close bracket ∷ []) h.1)
 
 -- ---- values
@@ -123,7 +126,8 @@ small_at (v ∷ x) (suc r) h = small_at x r (All-tail (λ (value : ℕ). value <
 pub all_bytes : (m : List ℕ) → All (λ byte. byte < 256) m → are_bytes m ≡ true
 all_bytes [] h = refl
 all_bytes (b ∷ m) h =
-    both (ltb b 256) (are_bytes m) (lt-ltb b 256 (All-head (λ (byte : ℕ). byte < 256) b m h)) (all_bytes m (All-tail (λ (byte : ℕ). byte < 256) b m h))
+    both (ltb b 256) (are_bytes m) (lt-ltb b 256 (All-head (λ (byte : ℕ). byte < 256) b m h))
+    (all_bytes m (All-tail (λ (byte : ℕ). byte < 256) b m h))
 
 abbrev IsSmall : Valued → Type 0
 IsSmall found = IfOk found (λ v. v < 4294967296)
@@ -167,26 +171,35 @@ decided_small : (b : Bool) (a : ℕ) (found : Valued) → IsSmall found → IsSm
 decided_small true a found h = flag_small (is_true a)
 decided_small false a found h = h
 
-enclosed_small : (bracket : Bracket) (memory : List ℕ) (v : ℕ) → are_bytes memory ≡ true → v < 4294967296 → IsSmall (enclosed bracket memory v)
+enclosed_small : (bracket : Bracket) (memory : List ℕ) (v : ℕ) → are_bytes memory ≡ true → v < 4294967296
+    → IsSmall (enclosed bracket memory v)
 enclosed_small Round memory v bytes h = h
 enclosed_small Square memory v bytes h = by (has_bytes memory v 4) where
   by : (b : Bool) → IsSmall (cond b (Ok (little_endian (bytes_at memory v 4))) (Err Outside))
   by true = of_bytes (drop (v - first_address) memory) (some_dropped memory (v - first_address) bytes)
   by false = tt
 
-value_small : (tree : Tree) (hart : Hart) (memory : List ℕ) → HasWords tree → hart.pc < 4294967296 → All (λ value. value < 4294967296) hart.x → are_bytes memory ≡ true → IsSmall (value_of tree hart memory)
+value_small : (tree : Tree) (hart : Hart) (memory : List ℕ) → HasWords tree → hart.pc < 4294967296
+    → All (λ value. value < 4294967296) hart.x → are_bytes memory ≡ true → IsSmall (value_of tree hart memory)
 value_small (Number n) hart memory h pc x bytes = h
 value_small (Register r) hart memory h pc x bytes = small_at hart.x r x
 value_small Pc hart memory h pc x bytes = pc
 value_small (Unary operator operand) hart memory h pc x bytes =
-    with_small (value_of operand hart memory) (λ v. Ok (before operator v)) (value_small operand hart memory h pc x bytes) (λ v small. before_small operator v small)
+    with_small (value_of operand hart memory) (λ v. Ok (before operator v)) (value_small operand hart memory h pc x bytes)
+    (λ v small. before_small operator v small)
 value_small (Binary operator left right) hart memory h pc x bytes =
-    with_small (value_of left hart memory) (λ a. cond (decides operator a) (Ok (flag (is_true a))) (with_value (value_of right hart memory) (λ b. Ok (between operator a b)))) (value_small left hart memory h.0 pc x bytes) (λ a small.
-    decided_small (decides operator a) a (with_value (value_of right hart memory) (λ b. Ok (between operator a b))) (with_small (value_of right hart memory) (λ b. Ok (between operator a b)) (value_small right hart memory h.1 pc x bytes) (λ b also. between_small operator a b small also)))
+    with_small (value_of left hart memory)
+    (λ a. cond (decides operator a) (Ok (flag (is_true a))) (with_value (value_of right hart memory) (λ b. Ok (between operator a b))))
+    (value_small left hart memory h.0 pc x bytes) (λ a small.
+    decided_small (decides operator a) a (with_value (value_of right hart memory) (λ b. Ok (between operator a b)))
+    (with_small (value_of right hart memory) (λ b. Ok (between operator a b)) (value_small right hart memory h.1 pc x bytes)
+    (λ b also. between_small operator a b small also)))
 value_small (Enclosed bracket inner) hart memory h pc x bytes =
-    with_small (value_of inner hart memory) (enclosed bracket memory) (value_small inner hart memory h pc x bytes) (λ v small. enclosed_small bracket memory v bytes small)
+    with_small (value_of inner hart memory) (enclosed bracket memory) (value_small inner hart memory h pc x bytes)
+    (λ v small. enclosed_small bracket memory v bytes small)
 
 -- of the expression that a text is
-pub expression_small : (text : List ℕ) (tree : Tree) (hart : Hart) (memory : List ℕ) → expression_of text ≡ Some tree → hart.pc < 4294967296 → All (λ value. value < 4294967296) hart.x → are_bytes memory ≡ true → IfOk (value_of tree hart memory) (λ v. v < 4294967296)
+pub expression_small : (text : List ℕ) (tree : Tree) (hart : Hart) (memory : List ℕ) → expression_of text ≡ Some tree → hart.pc < 4294967296
+    → All (λ value. value < 4294967296) hart.x → are_bytes memory ≡ true → IfOk (value_of tree hart memory) (λ v. v < 4294967296)
 expression_small text tree hart memory e pc x bytes =
     value_small tree hart memory (tree_words tree (spelled_words (tokens_of tree) text (is_expression text tree e).1.0.tokens)) pc x bytes

@@ -3,7 +3,7 @@
 --
 -- A condition is an expression. A hit condition is a number from 1 to 4,294,967,295, in decimal digits: from that hit
 -- on the breakpoint stops, and from the first one where there is none. The condition is looked at first.
-use Rattle.std.specs.Prelude.{◌≡◌, ℕ, nat_le, if◌then◌else◌, List, Option, Some, None, Result, Ok, Err, codes, refl}
+use Rattle.std.specs.Prelude.{◌≡◌, ℕ, ◌≤◌, nat_le, if◌then◌else◌, List, length, Option, Some, None, Result, Ok, Err, codes, refl}
 use Rattle.numerals.specs.Numerals.{numeral}
 use Rattle.numerals.specs.declared.NumeralError.{NumeralError}
 use Rattle.expressions.specs.Trees.{Tree}
@@ -25,6 +25,12 @@ if_expression None = Err BadCondition
 abbrev pub condition_of : Option (List ℕ) → Result (Option Tree) Problem
 condition_of None = Ok None
 condition_of (Some text) = if_expression (expression_of text)
+
+-- For private clauses alone: reading a condition may take memory only where there is one, and it is
+-- not too long: one of more than 1,024 bytes is bad, and that takes none
+abbrev pub MayTakeMemory : Option (List ℕ) → Type 0
+MayTakeMemory None = ⊥
+MayTakeMemory (Some text) = length text ≤ 1024
 
 abbrev pub if_positive : Result ℕ NumeralError → Result ℕ Problem
 if_positive (Ok n) = if nat_le 1 n then Ok n else Err BadHitCondition

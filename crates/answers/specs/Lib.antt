@@ -5,6 +5,8 @@ pub mod Answers
 pub mod Breakpoints
 -- the texts of a breakpoint: its condition, and which of its hits stops
 pub mod Conditions
+-- lines as the editor counts them and as the image does
+pub mod EditorLines
 -- a request for breakpoints at lines
 pub mod SetBreakpoints
 -- a request for breakpoints at instructions

@@ -3,7 +3,7 @@
 -- Such a request changes nothing of the machine. Those for frames and scopes need numbers for what they give: the answer
 -- has these numbers already, and the targets are those for which they have still to be issued, in this order. Where a
 -- request is refused, there are none.
-use Rattle.std.specs.Prelude.{Bool, true, false, List, [], Result, Ok, Err}
+use Rattle.std.specs.Prelude.{ℕ, Bool, true, false, List, [], Result, Ok, Err}
 use Rattle.image.specs.Lines.{Table}
 use Rattle.protocol.specs.declared.command.Command.{Command}
 use Rattle.protocol.specs.declared.command.Command.TheVariants.{StackTrace, Scopes, Variables, Evaluate, Disassemble}
@@ -59,6 +59,12 @@ look_answer other machine table numbers view = alone (Ok Empty)
 -- the code's answer
 abbrev pub look_by : code.Look → Look
 look_by look = record { result = look.result; targets = look.targets.items }
+
+-- the text that a request has read as an expression, which takes no memory where it has more than
+-- 1,024 bytes
+abbrev pub text_read : Command → List ℕ
+text_read (Evaluate arguments) = arguments.expression
+text_read other = []
 
 -- Whether an answer may take memory: a body does, and so does reading a text that turns out to be no expression. Every
 -- other refusal takes none.

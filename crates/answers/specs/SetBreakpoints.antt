@@ -3,9 +3,9 @@
 -- The breakpoints are those of one source. Where that is not the program's, none is set and no list is replaced. A
 -- breakpoint is set at the first line with code, from the asked line on, and at the first instruction there. Lines
 -- count from 0 or 1, as the editor said; the image counts them from 1.
-use Rattle.std.specs.Prelude.{◌≡◌, ℕ, ◌+◌, ◌-◌, min, nat_lt, Bool, false}
+use Rattle.std.specs.Prelude.{ℕ, nat_lt, Bool, false}
 use Rattle.std.specs.Prelude.{if◌then◌else◌, List, length, Option, Some, None}
-use Rattle.std.specs.Prelude.{Result, Ok, Err, bytes_eq, refl}
+use Rattle.std.specs.Prelude.{Result, Ok, Err, bytes_eq}
 use Rattle.image.specs.Lines.{Table, bind}
 use Rattle.protocol.specs.declared.set_breakpoints.SetBreakpointsArguments.{SetBreakpointsArguments}
 use Rattle.protocol.specs.declared.set_breakpoints.SourceBreakpoint.{SourceBreakpoint}
@@ -16,17 +16,10 @@ use Rattle.replies.specs.declared.set_breakpoints.SourceBreakpoint.TheVariants.{
 use Rattle.breakpoints.specs.Stops.{Wanted}
 use Rattle.answers.specs.Breakpoints.{Answer, entries_of, list_of, message_of}
 use Rattle.answers.specs.Conditions.{Conditions, conditions_of}
+use Rattle.answers.specs.EditorLines.{line_in_editor, line_in_image}
 use Rattle.answers.specs.declared.problem.Problem.{Problem}
 use Rattle.answers.specs.declared.problem.Problem.TheVariants.{UnknownSource, NoCode}
 use Rattle.answers.specs.declared.view.View.{View}
-
--- a line as the image counts it, of an editor whose first line is `base`; what 32 bits do not hold is no editor's line
-abbrev pub line_in_image : ℕ → ℕ → ℕ
-line_in_image base line = min (line + (1 - base)) 4294967295
-
--- a line of the image as the editor counts it
-abbrev pub line_in_editor : ℕ → ℕ → ℕ
-line_in_editor base line = line - (1 - base)
 
 -- a breakpoint that can be set: the line in the image, its first address, and its conditions
 pub record Place : Type 0 where
@@ -78,6 +71,3 @@ abbrev pub set_breakpoints : Table → View → ℕ → SetBreakpointsArguments 
 set_breakpoints table view next arguments =
     if nat_lt 1024 (length arguments.breakpoints) then record { result = Err TooMuch; list = None }
     else of_source (is_own view.path arguments.source.path) table view next arguments.breakpoints
-
-lines_from_0 : line_in_editor 0 (line_in_image 0 7) ≡ 7
-lines_from_0 = refl

@@ -23,8 +23,8 @@ use Rattle.stepping.specs.Ticks.{Debugged}
 use Rattle.variables.specs.Numbers.{Numbers, with_targets}
 use Rattle.variables.specs.declared.target.Target.{Target}
 use Rattle.variables.specs.declared.target.Target.TheVariants.{Frame}
+use Rattle.answers.specs.EditorLines.{line_in_editor}
 use Rattle.answers.specs.Parts.{part}
-use Rattle.answers.specs.SetBreakpoints.{line_in_editor}
 use Rattle.answers.specs.Targets.{number_for}
 use Rattle.answers.specs.declared.view.View.{View}
 

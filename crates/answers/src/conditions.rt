@@ -1,6 +1,6 @@
 //! The texts of a breakpoint: its condition, and which of its hits stops.
 
-ghost use Rattle.std.specs.Prelude.{◌≡◌, option_copied, IfOk};
+ghost use Rattle.std.specs.Prelude.{◌≡◌, ◌≤◌, length, option_copied, IfOk, OnErr};
 ghost use Rattle.answers.specs.Expressions.{expression_of};
 ghost use Rattle.answers.specs.Spaces.{said};
 ghost use Rattle.answers.specs.Conditions as spec;
@@ -23,14 +23,15 @@ pub(crate) struct Conditions {
 }
 
 /// What the two texts say. `BadCondition`: the first is no expression; else `BadHitCondition`: the second is no number from 1 to
-/// 4,294,967,295 in decimal digits. Spaces round them are left out, and an empty one is as an absent one. It fails where no memory is
-/// left.
+/// 4,294,967,295 in decimal digits. Spaces round them are left out, and an empty one is as an absent one. `Err`: no memory was
+/// left; a condition that is absent or has more than 1,024 bytes takes none.
 pub(crate) fn conditions_of(
     alloc: Global,
     condition: &Option<Text>,
     hits: &Option<Text>,
 ) -> Result<Result<Conditions, Problem>, AllocError>
-    ensures { IfOk result (λ found. conditions_by found ≡ spec.conditions_of condition.now hits.now) }
+    ensures found { IfOk result (λ found. conditions_by found ≡ spec.conditions_of condition.now hits.now) }
+    ensures short { OnErr result (spec.MayTakeMemory (said condition.now)) }
 {
     match condition_of(alloc, said(condition))? {
         Err(problem) => Ok(Err(problem)),
@@ -52,7 +53,8 @@ fn condition_of(
     alloc: Global,
     text: Option<&str>,
 ) -> Result<Result<Option<Expr>, Problem>, AllocError>
-    ensures { IfOk result (λ found. condition_by found ≡ spec.condition_of (option_copied text.entry)) }
+    ensures found { IfOk result (λ found. condition_by found ≡ spec.condition_of (option_copied text.entry)) }
+    ensures short { OnErr result (spec.MayTakeMemory (option_copied text.entry)) }
 {
     match text {
         None => Ok(Ok(None)),
@@ -61,7 +63,8 @@ fn condition_of(
 }
 
 fn expression_of(alloc: Global, text: &str) -> Result<Result<Option<Expr>, Problem>, AllocError>
-    ensures { IfOk result (λ found. condition_by found ≡ spec.if_expression (expression_of text.now)) }
+    ensures found { IfOk result (λ found. condition_by found ≡ spec.if_expression (expression_of text.now)) }
+    ensures short { OnErr result (length text.now ≤ 1024) }
 {
     match Expr::parse(alloc, text) {
         Ok(expression) => Ok(Ok(Some(expression))),

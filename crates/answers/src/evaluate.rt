@@ -1,6 +1,6 @@
 //! `evaluate`: the value of an expression.
 
-ghost use Rattle.std.specs.Prelude.{◌≡◌, IfOk, IsTrue, OnErr};
+ghost use Rattle.std.specs.Prelude.{◌≡◌, ◌≤◌, length, IfOk, IsTrue, OnErr};
 ghost use Rattle.answers.specs.Evaluate as spec;
 ghost use Rattle.answers.specs.Expressions.{expression_of};
 ghost use Rattle.expressions.specs.Nodes.{tree_of};
@@ -23,7 +23,7 @@ use variables::Handles;
 /// - `StaleReference`: else a frame of an earlier stop is named.
 /// - `BadExpression`: else the text is no expression, or a word outside memory is evaluated.
 ///
-/// `Err`: no memory was left; the first two refusals take none.
+/// `Err`: no memory was left; the first two refusals take none, nor does a text of more than 1,024 bytes, which is no expression.
 pub(crate) fn answer(
     alloc: Global,
     arguments: &EvaluateArguments,
@@ -32,6 +32,7 @@ pub(crate) fn answer(
 ) -> Result<Result<ResponseBody, Refusal>, AllocError>
     ensures answer { IfOk result (λ answer. answer ≡ spec.evaluate arguments.now runner.now handles.now) }
     ensures granted { OnErr result (IsTrue (may_allocate (spec.evaluate arguments.now runner.now handles.now))) }
+    ensures short { OnErr result (length arguments.now.expression ≤ 1024) }
 {
     match frame_refusal(handles, arguments.frame_id) {
         Some(refusal) => Ok(Err(refusal)),
@@ -50,7 +51,8 @@ fn valued(
     hart: &Hart,
     memory: &Memory,
 ) -> Result<Result<ResponseBody, Refusal>, AllocError>
-    ensures { IfOk result (λ answer. answer ≡ spec.valued (expression_of text.now) hart.now memory.now) }
+    ensures answer { IfOk result (λ answer. answer ≡ spec.valued (expression_of text.now) hart.now memory.now) }
+    ensures short { OnErr result (length text.now ≤ 1024) }
 {
     match Expr::parse(alloc, text) {
         Ok(expression) => Ok(if_valued(&expression, hart, memory)),

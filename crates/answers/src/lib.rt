@@ -8,6 +8,7 @@ mod breaks;
 mod conditions;
 pub mod disassemble;
 mod draft;
+mod editor_lines;
 mod evaluate;
 pub mod laws;
 mod looking;

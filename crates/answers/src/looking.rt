@@ -1,7 +1,7 @@
 //! What the requests that look into a stopped machine answer.
 
-ghost use Rattle.std.specs.Prelude.{◌≡◌, ◌≤◌, IfOk, IsTrue, OnErr};
-ghost use Rattle.answers.specs.Looking.{alone, look_answer, look_by, looks_in, may_allocate};
+ghost use Rattle.std.specs.Prelude.{◌≡◌, ◌≤◌, length, IfOk, IsTrue, OnErr};
+ghost use Rattle.answers.specs.Looking.{alone, look_answer, look_by, looks_in, may_allocate, text_read};
 
 use crate::shown::Look;
 use crate::view::View;
@@ -18,7 +18,7 @@ use variables::Handles;
 /// 1. Nothing is changed: the body has the numbers that the targets get when they are issued.
 ///
 /// Which refusals there are, and when, is said at each request. Whether numbers are left for the targets is not looked at. `Err`: no
-/// memory was left; a refusal takes none, but for `BadExpression`.
+/// memory was left; a refusal takes none, but for `BadExpression` of a text of 1,024 bytes at most.
 pub fn look(
     alloc: Global,
     command: &Command,
@@ -31,6 +31,7 @@ pub fn look(
     requires base { view.now.line_base ≤ 1 }
     ensures answer { IfOk result (λ look. look_by look ≡ look_answer command.now runner.now image.now.lines handles.now view.now) }
     ensures granted { OnErr result (IsTrue (may_allocate (look_answer command.now runner.now image.now.lines handles.now view.now).result)) }
+    ensures short { OnErr result (length (text_read command.now) ≤ 1024) }
 {
     match command {
         Command::StackTrace(arguments) => {

@@ -1,14 +1,17 @@
 //! `setBreakpoints`: the breakpoints at the lines of a source.
 
-ghost use Rattle.std.specs.Prelude.{◌≡◌, ◌+◌, ◌<◌, ◌≤◌, ◌^◌, ◌++◌, IfOk, OnOk, OnErr, length};
+ghost use Rattle.std.specs.Prelude.{◌≡◌, ◌+◌, ◌<◌, ◌≤◌, ◌^◌, ◌++◌, IfOk, IsTrue, OnOk, OnErr, length};
 ghost use Rattle.answers.specs.Answers.{answer_by};
 ghost use Rattle.answers.specs.Breakpoints.{entries_of, list_of};
+ghost use Rattle.answers.specs.Conditions.{MayTakeMemory};
 ghost use Rattle.answers.specs.SetBreakpoints as spec;
+ghost use Rattle.answers.specs.Spaces.{said};
 ghost use Rattle.answers.specs.Steps.{list_in, source_place_by, source_place_in, Takes, conditions_in};
 
 use crate::breaks::{BreakAnswer, MOST};
 use crate::conditions::{Conditions, conditions_of};
 use crate::draft::Draft;
+use crate::editor_lines::{line_in_editor, line_in_image};
 use crate::problem::Problem;
 use crate::view::View;
 use image::LineTable;
@@ -61,7 +64,7 @@ fn is_own(path: &str, source: &Option<Text>) -> bool
     }
 }
 
-// The same, of a source that is the program's or not.
+// What is answered for a source: its list where it is the program's, else that none of them can be set.
 fn of_source(
     alloc: Global,
     own: bool,
@@ -164,7 +167,9 @@ fn judged(
     asked: &SourceBreakpoint,
 ) -> Result<Result<Place, Problem>, AllocError>
     requires { base ≤ 1 }
-    ensures { IfOk result (λ found. source_place_by found ≡ spec.judged own lines.now base asked.now) }
+    ensures found { IfOk result (λ found. source_place_by found ≡ spec.judged own lines.now base asked.now) }
+    ensures own { OnErr result (IsTrue own) }
+    ensures short { OnErr result (MayTakeMemory (said asked.now.condition)) }
 {
     if !own {
         return Ok(Err(Problem::UnknownSource));
@@ -186,20 +191,4 @@ fn placed(conditions: Conditions, found: Option<(u32, u32)>) -> Result<Place, Pr
             conditions,
         }),
     }
-}
-
-// A line as the image counts it.
-fn line_in_image(base: u32, line: u32) -> u32
-    requires { base ≤ 1 }
-    ensures { result ≡ spec.line_in_image base line }
-{
-    line.saturating_add(1 - base)
-}
-
-/// A line of the image as the editor counts it.
-pub(crate) fn line_in_editor(base: u32, line: u32) -> u32
-    requires { base ≤ 1 }
-    ensures { result ≡ spec.line_in_editor base line }
-{
-    line.saturating_sub(1 - base)
 }

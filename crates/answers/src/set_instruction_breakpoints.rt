@@ -3,7 +3,9 @@
 ghost use Rattle.std.specs.Prelude.{◌≡◌, ◌+◌, ◌<◌, ◌≤◌, ◌^◌, ◌++◌, IfOk, OnOk, OnErr, length};
 ghost use Rattle.answers.specs.Answers.{answer_by};
 ghost use Rattle.answers.specs.Breakpoints.{entries_of, list_of};
+ghost use Rattle.answers.specs.Conditions.{MayTakeMemory};
 ghost use Rattle.answers.specs.SetInstructionBreakpoints as spec;
+ghost use Rattle.answers.specs.Spaces.{said};
 ghost use Rattle.answers.specs.Steps.{instruction_place_by, instruction_place_in, list_in, Takes, conditions_in};
 
 use crate::breaks::{BreakAnswer, MOST};
@@ -115,7 +117,8 @@ fn judged(
     size: u32,
     asked: &InstructionBreakpoint,
 ) -> Result<Result<Place, Problem>, AllocError>
-    ensures { IfOk result (λ found. instruction_place_by found ≡ spec.judged size asked.now) }
+    ensures found { IfOk result (λ found. instruction_place_by found ≡ spec.judged size asked.now) }
+    ensures short { OnErr result (MayTakeMemory (said asked.now.condition)) }
 {
     match conditions_of(alloc, &asked.condition, &asked.hit_condition)? {
         Err(problem) => Ok(Err(problem)),

@@ -7,8 +7,8 @@ ghost use Rattle.answers.specs.StackTrace as spec;
 ghost use Rattle.answers.specs.Steps.{frames_from};
 ghost use Rattle.rv32i.specs.Texts.{address_text};
 
+use crate::editor_lines::line_in_editor;
 use crate::parts::{end_in, first_in};
-use crate::set_breakpoints::line_in_editor;
 use crate::shown::Look;
 use crate::view::View;
 use image::LineTable;

@@ -107,7 +107,8 @@ line_holds (Some value) = natural_holds value
 breakpoint_holds : (value : Data) → IfSome (source_breakpoint value) IsLineWithin
 breakpoint_holds value =
     then_any IsLineWithin (as_object value) _ (λ members.
-    then_holds (λ n. n ≤ 2147483647) IsLineWithin (required natural (property LINE.now members)) _ (line_holds (property LINE.now members)) (λ line h.
+    then_holds (λ n. n ≤ 2147483647) IsLineWithin (required natural (property LINE.now members)) _ (line_holds (property LINE.now members))
+    (λ line h.
     then_any IsLineWithin (optional as_str (property CONDITION.now members)) _ (λ condition.
     then_any IsLineWithin (optional as_str (property HIT_CONDITION.now members)) _ (λ hits. h))))
 
@@ -117,14 +118,18 @@ lines_hold (Some lines) h = All-map IsLineWithin at_line lines h
 
 by_lines_holds : (members : Members) → IfSome (by_lines members) (All IsLineWithin)
 by_lines_holds members =
-    then_holds (λ found. IfSome found (All (λ n. n ≤ 2147483647))) (All IsLineWithin) (optional (list natural) (property LINES.now members)) _
-    (optional_holds (All (λ n. n ≤ 2147483647)) (list natural) (list_holds (λ n. n ≤ 2147483647) natural natural_holds) (property LINES.now members))
+    then_holds (λ found. IfSome found (All (λ n. n ≤ 2147483647))) (All IsLineWithin)
+    (optional (list natural) (property LINES.now members)) _
+    (optional_holds (All (λ n. n ≤ 2147483647)) (list natural) (list_holds (λ n. n ≤ 2147483647) natural natural_holds)
+    (property LINES.now members))
     lines_hold
 
 asked_holds : (members : Members) → IfSome (asked members) (All IsLineWithin)
 asked_holds members =
-    then_holds (λ found. IfSome found (All IsLineWithin)) (All IsLineWithin) (optional (list source_breakpoint) (property BREAKPOINTS.now members)) _
-    (optional_holds (All IsLineWithin) (list source_breakpoint) (list_holds IsLineWithin source_breakpoint breakpoint_holds) (property BREAKPOINTS.now members))
+    then_holds (λ found. IfSome found (All IsLineWithin)) (All IsLineWithin)
+    (optional (list source_breakpoint) (property BREAKPOINTS.now members)) _
+    (optional_holds (All IsLineWithin) (list source_breakpoint) (list_holds IsLineWithin source_breakpoint breakpoint_holds)
+    (property BREAKPOINTS.now members))
     by
   where
     by : (found : Option (List SourceBreakpoint)) → IfSome found (All IsLineWithin) → IfSome (or_by_lines found members) (All IsLineWithin)

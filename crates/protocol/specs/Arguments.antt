@@ -3,7 +3,7 @@
 -- An argument is a property of the request's `arguments`, and has the type that the protocol's schema gives it. One
 -- that the schema does not require may be absent. Where one that is required is absent, or any that is looked at has
 -- another type, the arguments are bad. Where there are no arguments at all, all are absent.
-use Rattle.std.specs.Prelude.{◌≡◌, ℕ, List, [], ◌∷◌, Option, Some, None, Result, Ok, Err, option_map, refl}
+use Rattle.std.specs.Prelude.{◌≡◌, ℕ, List, [], ◌∷◌, Option, Some, None, Result, Ok, Err, option_map, IsSome, refl}
 use Rattle.base64.specs.Engines.{standard}
 use Rattle.base64.specs.GeneralPurpose.{decoded_of}
 use Rattle.serde_json.specs.Data.{Data, Items, no_items, item, Members, no_members, number, unsigned}
@@ -50,6 +50,23 @@ each meaning (item value rest) = do
 -- a list of such entries
 abbrev pub list : {A : Type 0} → (Data → Option A) → Data → Option (List A)
 list meaning value = as_array value >>= each meaning
+
+-- For private clauses alone: of which values memory may run out in reading a text, a list or an
+-- object
+abbrev pub IsText : Data → Type 0
+IsText value = IsSome (as_str value)
+
+abbrev pub IsList : Data → Type 0
+IsList value = IsSome (as_array value)
+
+abbrev pub IsObject : Data → Type 0
+IsObject value = IsSome (as_object value)
+
+-- For private clauses alone: memory may run out in reading an argument that is there, where its
+-- type says so of the value
+abbrev pub MayTakeMemory : (Data → Type 0) → Option Data → Type 0
+MayTakeMemory TakesMemory None = ⊥
+MayTakeMemory TakesMemory (Some value) = TakesMemory value
 
 -- For private clauses alone: what was read is what is meant, and where arguments are bad nothing is.
 abbrev pub Reads : {A : Type 0} → Result A Unread → Option A → Type 0

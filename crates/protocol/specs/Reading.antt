@@ -9,7 +9,7 @@
 -- is nothing to name in an answer. One that has both is answered, if only by a refusal.
 --
 -- The faults have an order, which is that of the lines below: what is reported is the first.
-use Rattle.std.specs.Prelude.{ℕ, List, Result, Ok, Err, IsOk, ok_or, bytes_eq, codes, refl, ◌||◌, ◌≡◌, if◌then◌else◌}
+use Rattle.std.specs.Prelude.{ℕ, List, Result, Ok, Err, ok_or, ⊤, bytes_eq, codes, refl, ◌||◌, ◌≡◌, if◌then◌else◌}
 use Rattle.serde_json.specs.Data.{Data, array, no_items, number, string, unsigned, Members, no_members, member}
 use Rattle.serde_json.specs.Find.{as_object}
 use Rattle.protocol.specs.Json.{json_of}
@@ -97,8 +97,15 @@ abbrev pub Gives : Result Incoming MessageError → Result Incoming MessageError
 Gives (Err NoMemory) meant = Unit {0}
 Gives result meant = result ≡ meant
 
+-- For private clauses alone: what is meant is a request, taken or refused
+abbrev pub IsOfARequest : Result Incoming MessageError → Type 0
+IsOfARequest (Ok (Request request)) = ⊤
+IsOfARequest (Ok (Bad seq name refusal)) = ⊤
+IsOfARequest (Ok Ignored) = ⊥
+IsOfARequest (Err fault) = ⊥
+
 -- For private clauses alone: a call that takes memory only for a request gives what is meant, or it finds none for a
 -- request.
 abbrev pub GivesMeaning : Result Incoming MessageError → Result Incoming MessageError → Type 0
-GivesMeaning (Err NoMemory) meant = IsOk meant
+GivesMeaning (Err NoMemory) meant = IsOfARequest meant
 GivesMeaning result meant = result ≡ meant

@@ -1,11 +1,12 @@
 //! The arguments of requests, each read by its type from the property of its name. A property that
 //! is null counts as absent.
-ghost use Rattle.std.specs.Prelude.{◌≡◌, Option, Some, None, Err, IfOk};
+ghost use Rattle.std.specs.Prelude.{◌≡◌, Option, Some, None, Err, IfErr, IfOk};
+ghost use Rattle.protocol.specs.declared.unread.Unread.TheVariants.{Bad, NoMemory};
 ghost use Rattle.serde_json.specs.Data.{Data};
 ghost use Rattle.serde_json.specs.View.{view, members_view};
 ghost use Rattle.serde_json.specs.Find.{as_object, as_str};
 ghost use Rattle.protocol.specs.Arguments as arguments;
-ghost use Rattle.protocol.specs.Arguments.{Reads};
+ghost use Rattle.protocol.specs.Arguments.{MayTakeMemory, Reads};
 ghost use Rattle.protocol.specs.Properties as properties;
 
 use crate::Text;
@@ -18,9 +19,14 @@ use std::alloc::Global;
 pub(crate) trait Argument: Drop {
     ghost meaning: { Data → Option Self };
 
-    /// What the JSON value is as such an argument; `Bad` where it is none.
+    // For which values reading may take memory.
+    ghost takes_memory: { Data → Type 0 };
+
+    /// What the JSON value is as such an argument; `Bad` where it is none. `NoMemory`: no memory was
+    /// left for a value that takes some.
     fn read(alloc: Global, value: &Value) -> Result<Self, Unread>
-        ensures { Reads result (meaning (view value.now)) };
+        ensures reads { Reads result (meaning (view value.now)) }
+        ensures memory { result ≡ Err NoMemory → takes_memory (view value.now) };
 }
 
 /// The argument of that name, which has to be there.
@@ -29,8 +35,10 @@ pub(crate) fn required<T: Argument>(
     members: &Map<String, Value>,
     name: &str,
 ) -> Result<T, Unread>
-    ensures { Reads result (arguments.required T.meaning
+    ensures reads { Reads result (arguments.required T.meaning
         (properties.property name.now (members_view members.now.entries))) }
+    ensures memory { result ≡ Err NoMemory → MayTakeMemory T.takes_memory
+        (properties.property name.now (members_view members.now.entries)) }
 {
     match property(members, name) {
         Some(value) => T::read(alloc, value),
@@ -44,8 +52,10 @@ pub(crate) fn optional<T: Argument>(
     members: &Map<String, Value>,
     name: &str,
 ) -> Result<Option<T>, Unread>
-    ensures { Reads result (arguments.optional T.meaning
+    ensures reads { Reads result (arguments.optional T.meaning
         (properties.property name.now (members_view members.now.entries))) }
+    ensures memory { result ≡ Err NoMemory → MayTakeMemory T.takes_memory
+        (properties.property name.now (members_view members.now.entries)) }
 {
     match property(members, name) {
         Some(value) => Ok(Some(T::read(alloc, value)?)),
@@ -59,6 +69,8 @@ impl Argument for bool {
 
     ghost meaning = { as_bool };
 
+    ghost takes_memory = { λ _. ⊥ };
+
     fn read(_alloc: Global, value: &Value) -> Result<bool, Unread> {
         value.as_bool().ok_or(Unread::Bad)
     }
@@ -69,6 +81,8 @@ impl Argument for i32 {
     ghost use Rattle.protocol.specs.Properties.{integer};
 
     ghost meaning = { integer };
+
+    ghost takes_memory = { λ _. ⊥ };
 
     fn read(_alloc: Global, value: &Value) -> Result<i32, Unread> {
         let number = value.as_i64().ok_or(Unread::Bad)?;
@@ -86,6 +100,8 @@ impl Argument for u32 {
 
     ghost meaning = { natural };
 
+    ghost takes_memory = { λ _. ⊥ };
+
     fn read(_alloc: Global, value: &Value) -> Result<u32, Unread> {
         let number = value.as_u64().ok_or(Unread::Bad)?;
         if number <= i32::MAX as u64 {
@@ -99,8 +115,11 @@ impl Argument for u32 {
 /// A text.
 impl Argument for Text {
     ghost use Rattle.serde_json.specs.Find.{as_str};
+    ghost use Rattle.protocol.specs.Arguments.{IsText};
 
     ghost meaning = { as_str };
+
+    ghost takes_memory = { IsText };
 
     fn read(alloc: Global, value: &Value) -> Result<Text, Unread> {
         Ok(Text::from_string(String::from_str(alloc, text(value)?)?))
@@ -110,7 +129,7 @@ impl Argument for Text {
 /// The text that a value is; `Bad` where it is none.
 pub(crate) fn text(value: &Value) -> Result<&str, Unread>
     ensures is { IfOk result (λ text. as_str (view value.now) ≡ Some text.now) }
-    ensures bad { result ≡ Err Unread.Bad → as_str (view value.now) ≡ None }
+    ensures bad { IfErr result (λ why. (why ≡ Bad) × (as_str (view value.now) ≡ None)) }
 {
     value.as_str().ok_or(Unread::Bad)
 }
@@ -118,7 +137,7 @@ pub(crate) fn text(value: &Value) -> Result<&str, Unread>
 /// The members of the object that a value is; `Bad` where it is none.
 pub(crate) fn object(value: &Value) -> Result<&Map<String, Value>, Unread>
     ensures is { IfOk result (λ m. as_object (view value.now) ≡ Some (members_view m.now.entries)) }
-    ensures bad { result ≡ Err Unread.Bad → as_object (view value.now) ≡ None }
+    ensures bad { IfErr result (λ why. (why ≡ Bad) × (as_object (view value.now) ≡ None)) }
 {
     value.as_object().ok_or(Unread::Bad)
 }

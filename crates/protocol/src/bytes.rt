@@ -13,9 +13,11 @@ use std::alloc::Global;
 
 /// Bytes, spelled in base64 with padding (RFC 4648, section 4).
 impl Argument for Bytes {
-    ghost use Rattle.protocol.specs.Arguments.{base64};
+    ghost use Rattle.protocol.specs.Arguments.{base64, IsText};
 
     ghost meaning = { base64 };
+
+    ghost takes_memory = { IsText };
 
     fn read(alloc: Global, value: &Value) -> Result<Bytes, Unread> {
         decoded(alloc, text(value)?)

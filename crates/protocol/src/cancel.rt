@@ -1,4 +1,5 @@
 //! The request `cancel`: an editor is no longer interested in the result of an earlier request.
+ghost use Rattle.std.specs.Prelude.{◌≢◌, Err};
 ghost use Rattle.serde_json.specs.View.{members_view};
 ghost use Rattle.protocol.specs.Arguments.{Reads};
 ghost use Rattle.protocol.specs.Cancel.{cancel_arguments};
@@ -29,7 +30,8 @@ pub(crate) fn arguments(
     alloc: Global,
     members: &Map<String, Value>,
 ) -> Result<CancelArguments, Unread>
-    ensures { Reads result (cancel_arguments (members_view members.now.entries)) }
+    ensures reads { Reads result (cancel_arguments (members_view members.now.entries)) }
+    ensures memory { result ≢ Err Unread.NoMemory }
 {
     Ok(CancelArguments {
         request_id: optional(alloc, members, REQUEST_ID)?,

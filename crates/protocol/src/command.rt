@@ -125,7 +125,7 @@ pub(crate) fn command_named(
     }
 }
 
-/// The same, of the members of the arguments.
+/// The command of that name with arguments of these members.
 fn command_with(alloc: Global, name: &str, members: Members) -> Result<Option<Command>, Unread>
     ensures { Finds result (command_among requests name.now
         (option_map (λ m. members_view m.now.entries) (result_ok members.entry))) }
@@ -159,7 +159,7 @@ fn command_with(alloc: Global, name: &str, members: Members) -> Result<Option<Co
     }
 }
 
-/// The same, where it is no request of the session itself.
+/// The command of that name among those that set breakpoints, run the program or look into it.
 #[tactic(auto, unfolding(crate::specs::Commands::execution_requests))]
 fn execution_command(alloc: Global, name: &str, members: Members) -> Result<Option<Command>, Unread>
     ensures { Finds result (command_among (execution_requests ++ inspection_requests) name.now
@@ -185,7 +185,7 @@ fn execution_command(alloc: Global, name: &str, members: Members) -> Result<Opti
     }
 }
 
-/// The same, where the program is only looked into.
+/// The command of that name among those that look into the program or change its registers and memory.
 #[tactic(auto, unfolding(crate::specs::Commands::inspection_requests))]
 fn inspection_command(
     alloc: Global,

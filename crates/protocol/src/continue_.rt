@@ -1,4 +1,5 @@
 //! The request `continue`: a thread runs on.
+ghost use Rattle.std.specs.Prelude.{◌≢◌, Err};
 ghost use Rattle.serde_json.specs.View.{members_view};
 ghost use Rattle.protocol.specs.Arguments.{Reads};
 ghost use Rattle.protocol.specs.Continue.{continue_arguments};
@@ -25,7 +26,8 @@ pub(crate) fn arguments(
     alloc: Global,
     members: &Map<String, Value>,
 ) -> Result<ContinueArguments, Unread>
-    ensures { Reads result (continue_arguments (members_view members.now.entries)) }
+    ensures reads { Reads result (continue_arguments (members_view members.now.entries)) }
+    ensures memory { result ≢ Err Unread.NoMemory }
 {
     Ok(ContinueArguments {
         thread_id: required(alloc, members, THREAD_ID)?,

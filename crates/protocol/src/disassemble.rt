@@ -1,6 +1,8 @@
 //! The request `disassemble`: the instructions at an address.
+ghost use Rattle.std.specs.Prelude.{◌≡◌, Err};
 ghost use Rattle.serde_json.specs.View.{members_view};
-ghost use Rattle.protocol.specs.Arguments.{Reads};
+ghost use Rattle.protocol.specs.Arguments.{IsText, MayTakeMemory, Reads};
+ghost use Rattle.protocol.specs.Properties.{property};
 ghost use Rattle.protocol.specs.Disassemble.{disassemble_arguments};
 
 use crate::Text;
@@ -38,7 +40,9 @@ pub(crate) fn arguments(
     alloc: Global,
     members: &Map<String, Value>,
 ) -> Result<DisassembleArguments, Unread>
-    ensures { Reads result (disassemble_arguments (members_view members.now.entries)) }
+    ensures reads { Reads result (disassemble_arguments (members_view members.now.entries)) }
+    ensures memory { result ≡ Err Unread.NoMemory → MayTakeMemory IsText
+        (property MEMORY_REFERENCE.now (members_view members.now.entries)) }
 {
     Ok(DisassembleArguments {
         memory_reference: required(alloc, members, MEMORY_REFERENCE)?,

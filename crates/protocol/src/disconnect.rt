@@ -1,4 +1,5 @@
 //! The request `disconnect`: an editor ends the session.
+ghost use Rattle.std.specs.Prelude.{◌≢◌, Err};
 ghost use Rattle.serde_json.specs.View.{members_view};
 ghost use Rattle.protocol.specs.Arguments.{Reads};
 ghost use Rattle.protocol.specs.Disconnect.{disconnect_arguments};
@@ -30,7 +31,8 @@ pub(crate) fn arguments(
     alloc: Global,
     members: &Map<String, Value>,
 ) -> Result<DisconnectArguments, Unread>
-    ensures { Reads result (disconnect_arguments (members_view members.now.entries)) }
+    ensures reads { Reads result (disconnect_arguments (members_view members.now.entries)) }
+    ensures memory { result ≢ Err Unread.NoMemory }
 {
     Ok(DisconnectArguments {
         terminate_debuggee: optional(alloc, members, TERMINATE_DEBUGGEE)?,

@@ -49,9 +49,11 @@ impl<T> Entries<T> {
 
 /// A list, of which each entry is of that type.
 impl<T: Argument> Argument for Entries<T> {
-    ghost use Rattle.protocol.specs.Arguments.{list};
+    ghost use Rattle.protocol.specs.Arguments.{IsList, list};
 
     ghost meaning = { list T.meaning };
+
+    ghost takes_memory = { IsList };
 
     fn read(alloc: Global, value: &Value) -> Result<Entries<T>, Unread> {
         let values = value.as_array().ok_or(Unread::Bad)?;

@@ -1,6 +1,8 @@
 //! The request `evaluate`: the value of an expression.
+ghost use Rattle.std.specs.Prelude.{◌≡◌, Err};
 ghost use Rattle.serde_json.specs.View.{members_view};
-ghost use Rattle.protocol.specs.Arguments.{Reads};
+ghost use Rattle.protocol.specs.Arguments.{IsText, MayTakeMemory, Reads};
+ghost use Rattle.protocol.specs.Properties.{property};
 ghost use Rattle.protocol.specs.Evaluate.{evaluate_arguments};
 
 use crate::Text;
@@ -31,7 +33,9 @@ pub(crate) fn arguments(
     alloc: Global,
     members: &Map<String, Value>,
 ) -> Result<EvaluateArguments, Unread>
-    ensures { Reads result (evaluate_arguments (members_view members.now.entries)) }
+    ensures reads { Reads result (evaluate_arguments (members_view members.now.entries)) }
+    ensures memory { result ≡ Err Unread.NoMemory → MayTakeMemory IsText
+        (property EXPRESSION.now (members_view members.now.entries)) }
 {
     Ok(EvaluateArguments {
         expression: required(alloc, members, EXPRESSION)?,

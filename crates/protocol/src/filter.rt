@@ -1,4 +1,5 @@
 //! The kinds of variables.
+ghost use Rattle.std.specs.Prelude.{◌≢◌, Err};
 ghost use Rattle.protocol.specs.Arguments.{Reads};
 ghost use Rattle.protocol.specs.Filter.{filter_named};
 
@@ -21,6 +22,8 @@ impl Argument for Filter {
 
     ghost meaning = { filter_of };
 
+    ghost takes_memory = { λ _. ⊥ };
+
     fn read(_alloc: Global, value: &Value) -> Result<Filter, Unread> {
         named(text(value)?)
     }
@@ -28,7 +31,8 @@ impl Argument for Filter {
 
 /// The kind of that name in the schema.
 fn named(name: &str) -> Result<Filter, Unread>
-    ensures { Reads result (filter_named name.now) }
+    ensures reads { Reads result (filter_named name.now) }
+    ensures memory { result ≢ Err Unread.NoMemory }
 {
     match name {
         "indexed" => Ok(Filter::Indexed),

@@ -1,4 +1,5 @@
 //! How far a step goes.
+ghost use Rattle.std.specs.Prelude.{◌≢◌, Err};
 ghost use Rattle.protocol.specs.Arguments.{Reads};
 ghost use Rattle.protocol.specs.Granularity.{granularity_named};
 
@@ -26,6 +27,8 @@ impl Argument for Granularity {
 
     ghost meaning = { granularity_of };
 
+    ghost takes_memory = { λ _. ⊥ };
+
     fn read(_alloc: Global, value: &Value) -> Result<Granularity, Unread> {
         named(text(value)?)
     }
@@ -33,7 +36,8 @@ impl Argument for Granularity {
 
 /// The granularity of that name in the schema.
 fn named(name: &str) -> Result<Granularity, Unread>
-    ensures { Reads result (granularity_named name.now) }
+    ensures reads { Reads result (granularity_named name.now) }
+    ensures memory { result ≢ Err Unread.NoMemory }
 {
     match name {
         "statement" => Ok(Granularity::Statement),

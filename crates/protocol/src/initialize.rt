@@ -1,4 +1,5 @@
 //! The request `initialize`: an editor says how it counts lines and columns.
+ghost use Rattle.std.specs.Prelude.{◌≢◌, Err};
 ghost use Rattle.serde_json.specs.View.{members_view};
 ghost use Rattle.protocol.specs.Arguments.{Reads};
 ghost use Rattle.protocol.specs.Initialize.{initialize_arguments};
@@ -31,7 +32,8 @@ pub(crate) fn arguments(
     alloc: Global,
     members: &Map<String, Value>,
 ) -> Result<InitializeArguments, Unread>
-    ensures { Reads result (initialize_arguments (members_view members.now.entries)) }
+    ensures reads { Reads result (initialize_arguments (members_view members.now.entries)) }
+    ensures memory { result ≢ Err Unread.NoMemory }
 {
     Ok(InitializeArguments {
         lines_start_at1: optional(alloc, members, LINES_START_AT1)?.unwrap_or(true),

@@ -1,6 +1,8 @@
 //! The request `launch`: an editor starts a program.
+ghost use Rattle.std.specs.Prelude.{◌≡◌, Err};
 ghost use Rattle.serde_json.specs.View.{members_view};
-ghost use Rattle.protocol.specs.Arguments.{Reads};
+ghost use Rattle.protocol.specs.Arguments.{IsText, MayTakeMemory, Reads};
+ghost use Rattle.protocol.specs.Properties.{property};
 ghost use Rattle.protocol.specs.Launch.{launch_arguments};
 
 use crate::Text;
@@ -32,7 +34,9 @@ pub(crate) fn arguments(
     alloc: Global,
     members: &Map<String, Value>,
 ) -> Result<LaunchArguments, Unread>
-    ensures { Reads result (launch_arguments (members_view members.now.entries)) }
+    ensures reads { Reads result (launch_arguments (members_view members.now.entries)) }
+    ensures memory { result ≡ Err Unread.NoMemory → MayTakeMemory IsText
+        (property PROGRAM.now (members_view members.now.entries)) }
 {
     Ok(LaunchArguments {
         program: required(alloc, members, PROGRAM)?,

@@ -1,4 +1,5 @@
 //! The request `next`: a step of a thread, over calls.
+ghost use Rattle.std.specs.Prelude.{◌≢◌, Err};
 ghost use Rattle.serde_json.specs.View.{members_view};
 ghost use Rattle.protocol.specs.Arguments.{Reads};
 ghost use Rattle.protocol.specs.Next.{next_arguments};
@@ -28,7 +29,8 @@ pub(crate) fn arguments(
     alloc: Global,
     members: &Map<String, Value>,
 ) -> Result<NextArguments, Unread>
-    ensures { Reads result (next_arguments (members_view members.now.entries)) }
+    ensures reads { Reads result (next_arguments (members_view members.now.entries)) }
+    ensures memory { result ≢ Err Unread.NoMemory }
 {
     Ok(NextArguments {
         thread_id: required(alloc, members, THREAD_ID)?,

@@ -1,6 +1,8 @@
 //! The request `readMemory`: bytes of memory are read.
+ghost use Rattle.std.specs.Prelude.{◌≡◌, Err};
 ghost use Rattle.serde_json.specs.View.{members_view};
-ghost use Rattle.protocol.specs.Arguments.{Reads};
+ghost use Rattle.protocol.specs.Arguments.{IsText, MayTakeMemory, Reads};
+ghost use Rattle.protocol.specs.Properties.{property};
 ghost use Rattle.protocol.specs.ReadMemory.{read_memory_arguments};
 
 use crate::Text;
@@ -31,7 +33,9 @@ pub(crate) fn arguments(
     alloc: Global,
     members: &Map<String, Value>,
 ) -> Result<ReadMemoryArguments, Unread>
-    ensures { Reads result (read_memory_arguments (members_view members.now.entries)) }
+    ensures reads { Reads result (read_memory_arguments (members_view members.now.entries)) }
+    ensures memory { result ≡ Err Unread.NoMemory → MayTakeMemory IsText
+        (property MEMORY_REFERENCE.now (members_view members.now.entries)) }
 {
     Ok(ReadMemoryArguments {
         memory_reference: required(alloc, members, MEMORY_REFERENCE)?,

@@ -1,4 +1,5 @@
 //! The request `scopes`: the scopes of a frame.
+ghost use Rattle.std.specs.Prelude.{◌≢◌, Err};
 ghost use Rattle.serde_json.specs.View.{members_view};
 ghost use Rattle.protocol.specs.Arguments.{Reads};
 ghost use Rattle.protocol.specs.Scopes.{scopes_arguments};
@@ -25,7 +26,8 @@ pub(crate) fn arguments(
     alloc: Global,
     members: &Map<String, Value>,
 ) -> Result<ScopesArguments, Unread>
-    ensures { Reads result (scopes_arguments (members_view members.now.entries)) }
+    ensures reads { Reads result (scopes_arguments (members_view members.now.entries)) }
+    ensures memory { result ≢ Err Unread.NoMemory }
 {
     Ok(ScopesArguments {
         frame_id: required(alloc, members, FRAME_ID)?,

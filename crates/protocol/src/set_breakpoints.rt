@@ -52,9 +52,12 @@ pub struct SourceBreakpoint {
 }
 
 impl Argument for Source {
+    ghost use Rattle.protocol.specs.Arguments.{IsObject};
     ghost use Rattle.protocol.specs.SetBreakpoints.{source_of};
 
     ghost meaning = { source_of };
+
+    ghost takes_memory = { IsObject };
 
     fn read(alloc: Global, value: &Value) -> Result<Source, Unread> {
         let members = object(value)?;
@@ -65,9 +68,12 @@ impl Argument for Source {
 }
 
 impl Argument for SourceBreakpoint {
+    ghost use Rattle.protocol.specs.Arguments.{IsObject};
     ghost use Rattle.protocol.specs.SetBreakpoints.{source_breakpoint};
 
     ghost meaning = { source_breakpoint };
+
+    ghost takes_memory = { IsObject };
 
     fn read(alloc: Global, value: &Value) -> Result<SourceBreakpoint, Unread> {
         let members = object(value)?;

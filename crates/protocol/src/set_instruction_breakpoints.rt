@@ -1,6 +1,8 @@
 //! The request `setInstructionBreakpoints`: the breakpoints at addresses.
+ghost use Rattle.std.specs.Prelude.{◌≡◌, Err};
 ghost use Rattle.serde_json.specs.View.{members_view};
-ghost use Rattle.protocol.specs.Arguments.{Reads};
+ghost use Rattle.protocol.specs.Arguments.{IsList, MayTakeMemory, Reads};
+ghost use Rattle.protocol.specs.Properties.{property};
 ghost use Rattle.protocol.specs.SetInstructionBreakpoints.{set_instruction_breakpoints_arguments};
 
 use crate::argument::{Argument, object, optional, required};
@@ -37,9 +39,12 @@ pub struct InstructionBreakpoint {
 }
 
 impl Argument for InstructionBreakpoint {
+    ghost use Rattle.protocol.specs.Arguments.{IsObject};
     ghost use Rattle.protocol.specs.SetInstructionBreakpoints.{instruction_breakpoint};
 
     ghost meaning = { instruction_breakpoint };
+
+    ghost takes_memory = { IsObject };
 
     fn read(alloc: Global, value: &Value) -> Result<InstructionBreakpoint, Unread> {
         let members = object(value)?;
@@ -59,7 +64,10 @@ pub(crate) fn arguments(
     alloc: Global,
     members: &Map<String, Value>,
 ) -> Result<SetInstructionBreakpointsArguments, Unread>
-    ensures { Reads result (set_instruction_breakpoints_arguments (members_view members.now.entries)) }
+    ensures reads { Reads result
+        (set_instruction_breakpoints_arguments (members_view members.now.entries)) }
+    ensures memory { result ≡ Err Unread.NoMemory → MayTakeMemory IsList
+        (property BREAKPOINTS.now (members_view members.now.entries)) }
 {
     Ok(SetInstructionBreakpointsArguments {
         breakpoints: required(alloc, members, BREAKPOINTS)?,

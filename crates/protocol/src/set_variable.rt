@@ -1,6 +1,8 @@
 //! The request `setVariable`: a variable gets another value.
+ghost use Rattle.std.specs.Prelude.{◌≡◌, Err};
 ghost use Rattle.serde_json.specs.View.{members_view};
-ghost use Rattle.protocol.specs.Arguments.{Reads};
+ghost use Rattle.protocol.specs.Arguments.{IsText, MayTakeMemory, Reads};
+ghost use Rattle.protocol.specs.Properties.{property};
 ghost use Rattle.protocol.specs.SetVariable.{set_variable_arguments};
 
 use crate::Text;
@@ -35,7 +37,9 @@ pub(crate) fn arguments(
     alloc: Global,
     members: &Map<String, Value>,
 ) -> Result<SetVariableArguments, Unread>
-    ensures { Reads result (set_variable_arguments (members_view members.now.entries)) }
+    ensures reads { Reads result (set_variable_arguments (members_view members.now.entries)) }
+    ensures memory { result ≡ Err Unread.NoMemory → MayTakeMemory IsText
+        (property VARIABLE_NAME.now (members_view members.now.entries)) }
 {
     Ok(SetVariableArguments {
         variables_reference: required(alloc, members, VARIABLES_REFERENCE)?,

@@ -1,4 +1,5 @@
 //! The request `stackTrace`: the frames of a thread's call stack.
+ghost use Rattle.std.specs.Prelude.{◌≢◌, Err};
 ghost use Rattle.serde_json.specs.View.{members_view};
 ghost use Rattle.protocol.specs.Arguments.{Reads};
 ghost use Rattle.protocol.specs.StackTrace.{stack_trace_arguments};
@@ -35,7 +36,8 @@ pub(crate) fn arguments(
     alloc: Global,
     members: &Map<String, Value>,
 ) -> Result<StackTraceArguments, Unread>
-    ensures { Reads result (stack_trace_arguments (members_view members.now.entries)) }
+    ensures reads { Reads result (stack_trace_arguments (members_view members.now.entries)) }
+    ensures memory { result ≢ Err Unread.NoMemory }
 {
     Ok(StackTraceArguments {
         thread_id: required(alloc, members, THREAD_ID)?,

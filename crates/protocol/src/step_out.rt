@@ -1,4 +1,5 @@
 //! The request `stepOut`: a step of a thread, out of the running call.
+ghost use Rattle.std.specs.Prelude.{◌≢◌, Err};
 ghost use Rattle.serde_json.specs.View.{members_view};
 ghost use Rattle.protocol.specs.Arguments.{Reads};
 ghost use Rattle.protocol.specs.StepOut.{step_out_arguments};
@@ -28,7 +29,8 @@ pub(crate) fn arguments(
     alloc: Global,
     members: &Map<String, Value>,
 ) -> Result<StepOutArguments, Unread>
-    ensures { Reads result (step_out_arguments (members_view members.now.entries)) }
+    ensures reads { Reads result (step_out_arguments (members_view members.now.entries)) }
+    ensures memory { result ≢ Err Unread.NoMemory }
 {
     Ok(StepOutArguments {
         thread_id: required(alloc, members, THREAD_ID)?,

@@ -1,4 +1,5 @@
 //! The request `variables`: the variables of a scope.
+ghost use Rattle.std.specs.Prelude.{◌≢◌, Err};
 ghost use Rattle.serde_json.specs.View.{members_view};
 ghost use Rattle.protocol.specs.Arguments.{Reads};
 ghost use Rattle.protocol.specs.Variables.{variables_arguments};
@@ -38,7 +39,8 @@ pub(crate) fn arguments(
     alloc: Global,
     members: &Map<String, Value>,
 ) -> Result<VariablesArguments, Unread>
-    ensures { Reads result (variables_arguments (members_view members.now.entries)) }
+    ensures reads { Reads result (variables_arguments (members_view members.now.entries)) }
+    ensures memory { result ≢ Err Unread.NoMemory }
 {
     Ok(VariablesArguments {
         variables_reference: required(alloc, members, VARIABLES_REFERENCE)?,

@@ -3,8 +3,10 @@ use Rattle.answers.proofs.breaks.breaks_for.Goals as goal
 
 pub returns-in-SetBreakpoints-clause-settable : goal.returns-in-SetBreakpoints-clause-settable
 returns-in-SetBreakpoints-clause-settable c =
-    settable c.answer.result _ (source_settable c.args.image.now.lines c.args.view.now c.args.next_id c.in-SetBreakpoints.arguments) c.answer.ensures.answer
+    settable c.answer.result _
+    (source_settable c.args.image.now.lines c.args.view.now c.args.next_id c.in-SetBreakpoints.arguments) c.answer.ensures.answer
 
 pub returns-in-SetInstructionBreakpoints-clause-settable : goal.returns-in-SetInstructionBreakpoints-clause-settable
 returns-in-SetInstructionBreakpoints-clause-settable c =
-    settable c.answer-in-SetInstructionBreakpoints.result _ (instruction_settable c.size.result c.args.next_id c.in-SetInstructionBreakpoints.arguments) c.answer-in-SetInstructionBreakpoints.ensures.answer
+    settable c.answer-in-SetInstructionBreakpoints.result _
+    (instruction_settable c.size.result c.args.next_id c.in-SetInstructionBreakpoints.arguments) c.answer-in-SetInstructionBreakpoints.ensures.answer

@@ -7,4 +7,7 @@ use Rattle.answers.proofs.disassemble.valid.Goals as goal
 pub returns : goal.returns
 returns c =
     let text = string_bytes c.in_ok-text.text in
-    ap (λ (t : List ℕ). Valid c.args.address t c.args.word) (c.from_string.ensures ∙ one_text c.args.word c.args.address text (text_at c.args.word c.args.address) c.in_ok-text.ensures (text_at-is c.args.word c.args.address))
+    ap (λ (t : List ℕ). Valid c.args.address t c.args.word)
+    (c.from_string.ensures
+    ∙ one_text c.args.word c.args.address text (text_at c.args.word c.args.address) c.in_ok-text.ensures
+    (text_at-is c.args.word c.args.address))

@@ -9,6 +9,7 @@ loop-index-preserved c =
     let small : c.args.address + c.loop-index.index < 2 ^ 32 = search rules in
     let there : byte_at c.args.memory.now c.in-Some.place ≡ Some c.in-Some-byte.byte = search rules in
     record {
-      bytes = one_more c.args.memory.now c.args.count c.args.address c.loop-index.index c.in-Some-byte.byte _ _ c.requires c.loop-index-test.true (ap (byte_at c.args.memory.now) (sym place) ∙ there) c.loop-index.invariant.bytes c.in_ok-push-in-Some-byte.ensures.items;
+      bytes =
+          one_more c.args.memory.now c.args.count c.args.address c.loop-index.index c.in-Some-byte.byte _ _ c.requires c.loop-index-test.true (ap (byte_at c.args.memory.now) (sym place) ∙ there) c.loop-index.invariant.bytes c.in_ok-push-in-Some-byte.ensures.items;
       room = omega (arith, small);
     }

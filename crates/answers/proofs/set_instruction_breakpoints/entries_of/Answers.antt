@@ -10,7 +10,13 @@ loop-breakpoint-preserved c =
     let i = c.loop-breakpoint.breakpoint-index in
     let item = c.breakpoint-item.result in
     record {
-      entries = entries_on (spec.judged c.args.size) spec.entry asked i item c.loop-breakpoint.draft.next_id c.entry.new.draft.next_id c.loop-breakpoint.entries.items c.push.new.self.items _ c.in_ok-entry.field-0 c.loop-breakpoint-test.true c.breakpoint-item.is c.loop-breakpoint.invariant.entries c.in_ok-entry.ensures.entry takes.next c.in_ok-push.ensures.items;
-      list = list_on (spec.judged c.args.size) spec.wanted asked i item c.loop-breakpoint.draft.next_id c.entry.new.draft.next_id (list_in c.loop-breakpoint.draft) (list_in c.entry.new.draft) _ c.loop-breakpoint-test.true c.breakpoint-item.is c.loop-breakpoint.invariant.list takes.next takes.list;
-      room = next_small c.args.draft.now.next_id i c.loop-breakpoint.draft.next_id c.entry.new.draft.next_id ((spec.judged c.args.size) item) takes.next c.loop-breakpoint.invariant.room;
+      entries =
+          entries_on (spec.judged c.args.size) spec.entry asked i item c.loop-breakpoint.draft.next_id c.entry.new.draft.next_id c.loop-breakpoint.entries.items c.push.new.self.items _ c.in_ok-entry.field-0 c.loop-breakpoint-test.true c.breakpoint-item.is c.loop-breakpoint.invariant.entries c.in_ok-entry.ensures.entry takes.next c.in_ok-push.ensures.items;
+      list =
+          list_on (spec.judged c.args.size) spec.wanted asked i item c.loop-breakpoint.draft.next_id c.entry.new.draft.next_id
+          (list_in c.loop-breakpoint.draft)
+          (list_in c.entry.new.draft) _ c.loop-breakpoint-test.true c.breakpoint-item.is c.loop-breakpoint.invariant.list takes.next takes.list;
+      room =
+          next_small c.args.draft.now.next_id i c.loop-breakpoint.draft.next_id c.entry.new.draft.next_id
+          ((spec.judged c.args.size) item) takes.next c.loop-breakpoint.invariant.room;
     }

@@ -7,4 +7,6 @@ pub returns : goal.returns
 returns c =
     let left = c.loop-rest.left.now in
     let h = strip_prefix_char 32 left c.strip_prefix.result c.strip_prefix.ensures.cases (omega arith) in
-    sym (none_leads left (subst (λ (r : Option (Bor (List ℕ))). MatchOption r ((rest : List ℕ) → left ≢ 32 ∷ rest) (λ x. left ≡ 32 ∷ x.now)) c.in_default.is h)) ∙ c.loop-rest.invariant.1
+    sym (none_leads left
+    (subst (λ (r : Option (Bor (List ℕ))). MatchOption r ((rest : List ℕ) → left ≢ 32 ∷ rest) (λ x. left ≡ 32 ∷ x.now)) c.in_default.is h))
+    ∙ c.loop-rest.invariant.1

@@ -7,4 +7,6 @@ pub returns : goal.returns
 returns c =
     let left = c.loop-rest.left.now in
     let h = strip_suffix_char 32 left c.strip_suffix.result c.strip_suffix.ensures.cases (omega arith) in
-    sym (none_trails left (subst (λ (r : Option (Bor (List ℕ))). MatchOption r ((front : List ℕ) → left ≢ front ++ 32 ∷ []) (λ x. left ≡ x.now ++ 32 ∷ [])) c.in_default.is h)) ∙ c.loop-rest.invariant.1
+    sym (none_trails left
+    (subst (λ (r : Option (Bor (List ℕ))). MatchOption r ((front : List ℕ) → left ≢ front ++ 32 ∷ [])
+    (λ x. left ≡ x.now ++ 32 ∷ [])) c.in_default.is h)) ∙ c.loop-rest.invariant.1

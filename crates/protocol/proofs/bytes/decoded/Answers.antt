@@ -6,7 +6,8 @@ use Rattle.protocol.proofs.bytes.decoded.Goals as goal
 
 pub returns-in-Ok : goal.returns-in-Ok
 returns-in-Ok c =
-    ap (decoded_of standard) (sym c.as_bytes.ensures.value) ∙ decoded_of-ok standard _ _ c.in-Ok.ensures.ok ∙ ap (λ b. Some b) (sym c.from_vec.ensures)
+    ap (decoded_of standard) (sym c.as_bytes.ensures.value) ∙ decoded_of-ok standard _ _ c.in-Ok.ensures.ok
+    ∙ ap (λ b. Some b) (sym c.from_vec.ensures)
 
 pub returns-in-Err-DecodeError : goal.returns-in-Err-DecodeError
 returns-in-Err-DecodeError c =

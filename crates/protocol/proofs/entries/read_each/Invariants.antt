@@ -7,4 +7,5 @@ use Rattle.protocol.proofs.entries.read_each.Given as goal
 -- the list means the entries so far, and then what is left of it
 abbrev pub invariant-loop-value : goal.invariant-loop-value
 invariant-loop-value g l =
-    each g.T.Argument.meaning (items_view l.values) ≡ with_others l.entries.items (each g.T.Argument.meaning (items_view (drop l.value-index l.values)))
+    each g.T.Argument.meaning (items_view l.values) ≡ with_others l.entries.items
+    (each g.T.Argument.meaning (items_view (drop l.value-index l.values)))

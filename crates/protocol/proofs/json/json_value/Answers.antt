@@ -18,4 +18,6 @@ pub returns-in-Err-clause-value : goal.returns-in-Err-clause-value
 returns-in-Err-clause-value c =
     let text = c.in-Ok.ensures.cases in
     subst (λ (e : MessageError). GivesValue (Err e) (json_of c.args.body.now)) (sym c.fault_of.ensures)
-    (gives_fault c.classify.result (json_of c.args.body.now) (λ other. json_of-unread c.args.body.now (λ is. ap read (sym text.0) ∙ c.in-Err.ensures.err (λ memory. other (c.classify.ensures.memory.1 memory)))))
+    (gives_fault c.classify.result (json_of c.args.body.now)
+    (λ other. json_of-unread c.args.body.now
+    (λ is. ap read (sym text.0) ∙ c.in-Err.ensures.err (λ memory. other (c.classify.ensures.memory.1 memory)))))
