@@ -38,7 +38,8 @@ more_by stream piece (Some x) e =
 more : (stream piece : List ℕ) → messages_so_far (stream ++ piece) ≡ messages_so_far stream ++ newly_whole stream piece
 more stream piece = more_by stream piece (error_of (reading_of body_limit stream).bodies) refl
 
-newly-append : (stream piece next : List ℕ) → newly_whole stream (piece ++ next) ≡ newly_whole stream piece ++ newly_whole (stream ++ piece) next
+newly-append : (stream piece next : List ℕ)
+    → newly_whole stream (piece ++ next) ≡ newly_whole stream piece ++ newly_whole (stream ++ piece) next
 newly-append stream piece next =
     let so_far = messages_so_far stream in
     let whole : messages_so_far (stream ++ (piece ++ next)) ≡ so_far ++ (newly_whole stream piece ++ newly_whole (stream ++ piece) next) =

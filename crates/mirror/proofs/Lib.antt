@@ -1,5 +1,3 @@
--- what is found first among numbers
-pub mod Found
 -- maps and lists as functions
 pub mod Maps
 -- the messages of a stream that comes in pieces

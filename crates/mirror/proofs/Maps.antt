@@ -24,21 +24,25 @@ pub at_below : (k q : ℕ) → q < k → is_at (nat_cmp k) q ≡ false
 at_below k q h = ap is_eq (sym (nat_cmp_is k q Greater h))
 
 -- one more of a list is told
-upto_step_by : {A : Type 0} (first i q : ℕ) (items : List A) (old mid new : Option A) (x : A) → first + i < 2 ^ 32 → slice_get items i ≡ Some x
+upto_step_by : {A : Type 0} (first i q : ℕ) (items : List A) (old mid new : Option A) (x : A) → first + i < 2 ^ 32
+    → slice_get items i ≡ Some x
     → mid ≡ cond (nat_le first q && nat_lt q (first + i) && nat_lt q (2 ^ 32)) (slice_get items (q - first)) old
     → new ≡ cond (is_at (nat_cmp (first + i)) q) (Some x) mid
     → new ≡ cond (nat_le first q && nat_lt q (first + (i + 1)) && nat_lt q (2 ^ 32)) (slice_get items (q - first)) old
 upto_step_by first i q items old mid new x fits is told put = grind (arith, nat_tests, at_same, at_above, at_below)
 
-pub upto_step : {A : Type 0} (first i k : ℕ) (items : List A) (old mid new : ℕ → Option A) (x : A) → k ≡ first + i → k < 2 ^ 32 → slice_get items i ≡ Some x
+pub upto_step : {A : Type 0} (first i k : ℕ) (items : List A) (old mid new : ℕ → Option A) (x : A) → k ≡ first + i → k < 2 ^ 32
+    → slice_get items i ≡ Some x
     → ((q : ℕ) → mid q ≡ upto i first items old q) → ((q : ℕ) → new q ≡ cond (is_at (nat_cmp k) q) (Some x) (mid q))
     → (q : ℕ) → new q ≡ upto (i + 1) first items old q
 upto_step first i k items old mid new x e fits is told put q =
     let room : first + i < 2 ^ 32 = omega arith in
-    upto_step_by first i q items (old q) (mid q) (new q) x room is (told q) (put q ∙ ap (λ (n : ℕ). cond (is_at (nat_cmp n) q) (Some x) (mid q)) e)
+    upto_step_by first i q items (old q) (mid q) (new q) x room is (told q)
+    (put q ∙ ap (λ (n : ℕ). cond (is_at (nat_cmp n) q) (Some x) (mid q)) e)
 
 -- all are told
-pub upto_whole : {A : Type 0} (first i : ℕ) (items : List A) (old new : ℕ → Option A) → i ≡ length items → ((q : ℕ) → new q ≡ upto i first items old q)
+pub upto_whole : {A : Type 0} (first i : ℕ) (items : List A) (old new : ℕ → Option A) → i ≡ length items
+    → ((q : ℕ) → new q ≡ upto i first items old q)
     → new ≡ over first items old
 unfolding over
 upto_whole first i items old new e told = fun_ext (λ q. told q ∙ ap (λ (n : ℕ). upto n first items old q) e)
@@ -84,13 +88,15 @@ told_by true list = refl
 told_by false list = refl
 
 -- one more list before the others
-told_step : (list l : Listed) (asked : List ℕ) (kept rest : List Listed) (b d : Bool) → bytes_eq l.path list.path ≡ b → bytes_eq l.path asked ≡ d
+told_step : (list l : Listed) (asked : List ℕ) (kept rest : List Listed) (b d : Bool) → bytes_eq l.path list.path ≡ b
+    → bytes_eq l.path asked ≡ d
     → breaks_of (find (λ k. bytes_eq k.path asked) (kept ++ list ∷ [])) ≡ cond (bytes_eq list.path asked) list.breaks (breaks_of (find (λ k. bytes_eq k.path asked) rest))
     → breaks_of (find (λ k. bytes_eq k.path asked) (cond (not b) (l ∷ kept) kept ++ list ∷ []))
     ≡ cond (bytes_eq list.path asked) list.breaks (breaks_of (cond d (Some l) (find (λ k. bytes_eq k.path asked) rest)))
 told_step list l asked kept rest true true e f others =
     let s = same_path l.path list.path asked true e f in
-    others ∙ ap (λ t. cond t list.breaks (breaks_of (find (λ k. bytes_eq k.path asked) rest))) s ∙ sym (ap (λ t. cond t list.breaks l.breaks) s)
+    others ∙ ap (λ t. cond t list.breaks (breaks_of (find (λ k. bytes_eq k.path asked) rest))) s
+    ∙ sym (ap (λ t. cond t list.breaks l.breaks) s)
 told_step list l asked kept rest true false e f others = others
 told_step list l asked kept rest false true e f others =
     ap (λ t. breaks_of (cond t (Some l) (find (λ k. bytes_eq k.path asked) (kept ++ list ∷ [])))) f
@@ -103,7 +109,8 @@ list_told : (list : Listed) (asked : List ℕ) (lists : List Listed)
     → source_in (filter (λ l. not (bytes_eq l.path list.path)) lists ++ list ∷ []) asked ≡ listed list.path list.breaks (source_in lists) asked
 list_told list asked [] = told_by (bytes_eq list.path asked) list
 list_told list asked (l ∷ lists) =
-    told_step list l asked (filter (λ k. not (bytes_eq k.path list.path)) lists) lists (bytes_eq l.path list.path) (bytes_eq l.path asked) refl refl (list_told list asked lists)
+    told_step list l asked (filter (λ k. not (bytes_eq k.path list.path)) lists) lists (bytes_eq l.path list.path)
+    (bytes_eq l.path asked) refl refl (list_told list asked lists)
     ∙ ap (λ t. cond (bytes_eq list.path asked) list.breaks t) refl
 
 pub list_put : (path copy : List ℕ) (breaks : List BreakInfo) (old dropped pushed : List Listed) → copy ≡ path
@@ -111,7 +118,8 @@ pub list_put : (path copy : List ℕ) (breaks : List BreakInfo) (old dropped pus
     → source_in pushed ≡ listed path breaks (source_in old)
 list_put path copy breaks old dropped pushed same drops pushes =
     let list : Listed = record { path = path; breaks = breaks } in
-    ap source_in (pushes ∙ ap (λ (p : List ℕ). dropped ++ record { path = p; breaks = breaks } ∷ []) same ∙ ap (λ (ls : List Listed). ls ++ list ∷ []) drops)
+    ap source_in (pushes ∙ ap (λ (p : List ℕ). dropped ++ record { path = p; breaks = breaks } ∷ []) same
+    ∙ ap (λ (ls : List Listed). ls ++ list ∷ []) drops)
     ∙ fun_ext (λ asked. list_told list asked old)
 
 -- ---- places

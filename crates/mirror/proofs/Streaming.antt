@@ -19,7 +19,8 @@ use Rattle.mirror.specs.declared.error.MirrorError.{MirrorError}
 
 -- ---- messages after messages
 
-messages_in-append : (xs ys : List (Result Message MessageError)) → error_in xs ≡ None → messages_in (xs ++ ys) ≡ messages_in xs ++ messages_in ys
+messages_in-append : (xs ys : List (Result Message MessageError)) → error_in xs ≡ None
+    → messages_in (xs ++ ys) ≡ messages_in xs ++ messages_in ys
 messages_in-append [] ys e = refl
 messages_in-append (Ok m ∷ xs) ys e = ap (λ (l : List Message). m ∷ l) (messages_in-append xs ys e)
 messages_in-append (Err x ∷ xs) ys e = absurd (not_none e) where
@@ -34,7 +35,8 @@ error_in-append (Err x ∷ xs) ys e = absurd (not_none e) where
   not_none e = cc
 
 -- after a body that is no message nothing is looked at
-messages_in-error : (xs ys : List (Result Message MessageError)) (x : MessageError) → error_in xs ≡ Some x → messages_in (xs ++ ys) ≡ messages_in xs
+messages_in-error : (xs ys : List (Result Message MessageError)) (x : MessageError) → error_in xs ≡ Some x
+    → messages_in (xs ++ ys) ≡ messages_in xs
 messages_in-error [] ys x e = absurd (not_some e) where
   not_some : (let o : Option MessageError = None in o) ≡ Some x → ⊥
   not_some e = cc
@@ -139,7 +141,8 @@ whole_reading past piece tail e =
 abbrev Taken : Past → List ℕ → Result (Unit {0}) MirrorError → Kept → Type 0
 Taken past piece result new = StandsFor new (with_piece past piece) × (result ≡ answer_by (stream_fault (past.bytes ++ piece)))
 
-taken_open : (old new : Kept) (piece : List ℕ) (result : Result (Unit {0}) MirrorError) (past : Past) (tail : Tail) → old.link ≡ Open tail → StandsFor old past
+taken_open : (old new : Kept) (piece : List ℕ) (result : Result (Unit {0}) MirrorError) (past : Past) (tail : Tail) → old.link ≡ Open tail
+    → StandsFor old past
     → GoesOn old (reading_after body_limit tail piece) new → result ≡ answer_by (link_fault new.link) → Taken past piece result new
 taken_open old new piece result past tail e s goes is =
     let R = reading_of body_limit past.bytes in
@@ -152,7 +155,8 @@ taken_open old new piece result past tail e s goes is =
     ap (λ (w : Reading). drop (length (messages_of R.bodies)) (messages_of w.bodies)) whole
     ∙ ap (drop (length (messages_of R.bodies))) (messages_of-append R.bodies r.bodies none)
     ∙ drop-append_seam (messages_of R.bodies) (messages_of r.bodies) in
-    let fault : fault_in (with_bodies R.bodies r) ≡ fault_in r = ap (λ m. first_fault m (fault_of r.tail)) (error_of-append R.bodies r.bodies none) in
+    let fault : fault_in (with_bodies R.bodies r) ≡ fault_in r = ap (λ m. first_fault m (fault_of r.tail))
+    (error_of-append R.bodies r.bodies none) in
     let link : link_of (reading_of body_limit (past.bytes ++ piece)) ≡ link_of r = ap link_of whole ∙ ap (λ f. link_by f r.tail) fault in
     let stands : StandsFor new (with_piece past piece) = record {
       facts = goes.facts
@@ -161,10 +165,14 @@ taken_open old new piece result past tail e s goes is =
           ∙ sym (ap (fold (folded past.asked) past.facts) news);
       link = goes.link ∙ sym link;
       asked = asks_are new.link (at new.asked) past.asked (ap at goes.asked ∙ asks);
-    } in
-    (stands, is ∙ ap (λ (l : Link). answer_by (link_fault l)) goes.link ∙ ap answer_by (link_fault-of (fault_in r) r.tail) ∙ sym (ap answer_by (ap fault_in whole ∙ fault)))
+    } in (
+      stands,
+      is ∙ ap (λ (l : Link). answer_by (link_fault l)) goes.link ∙ ap answer_by (link_fault-of (fault_in r) r.tail)
+          ∙ sym (ap answer_by (ap fault_in whole ∙ fault)),
+    )
 
-taken_closed : (old new : Kept) (piece : List ℕ) (result : Result (Unit {0}) MirrorError) (past : Past) (x : MirrorError) → old.link ≡ Closed x → StandsFor old past
+taken_closed : (old new : Kept) (piece : List ℕ) (result : Result (Unit {0}) MirrorError) (past : Past) (x : MirrorError)
+    → old.link ≡ Closed x → StandsFor old past
     → new ≡ old → result ≡ answer_by (link_fault new.link) → Taken past piece result new
 taken_closed old new piece result past x e s stays is =
     let R = reading_of body_limit past.bytes in
@@ -184,12 +192,14 @@ taken_closed old new piece result past x e s stays is =
     } in
     (stands, is ∙ ap (λ (l : Link). answer_by (link_fault l)) closed ∙ sym (ap answer_by fault))
 
-taken : (link : Link) (old new : Kept) (piece : List ℕ) (result : Result (Unit {0}) MirrorError) (past : Past) → old.link ≡ link → StandsFor old past
+taken : (link : Link) (old new : Kept) (piece : List ℕ) (result : Result (Unit {0}) MirrorError) (past : Past) → old.link ≡ link
+    → StandsFor old past
     → FedBy link old piece new → result ≡ answer_by (link_fault new.link) → Taken past piece result new
 taken (Open tail) old new piece result past e s goes is = taken_open old new piece result past tail e s goes is
 taken (Closed x) old new piece result past e s goes is = taken_closed old new piece result past x e s goes is
 
-pub feeds_past : (old new : Kept) (piece : List ℕ) (result : Result (Unit {0}) MirrorError) → Feeds old piece result new → (past : Past) → StandsFor old past
+pub feeds_past : (old new : Kept) (piece : List ℕ) (result : Result (Unit {0}) MirrorError) → Feeds old piece result new → (past : Past)
+    → StandsFor old past
     → FeedsPast past piece old result new
 feeds_past old new piece result (inl went) past s = inl (taken old.link old new piece result past refl s went.0 went.1)
 feeds_past old new piece result (inr none) past s = inr none
@@ -210,18 +220,22 @@ smaller u v body lent first =
     let b : length u.waiting ≡ length (body ∷ others_of u.waiting) = ap length (waits_by u.waiting body first) in
     omega arith
 
-pub messages_more : (u v : Unframed) (body : List ℕ) (m : Message) (so_far pushed all : List Message) → v ≡ lent_from u → Some body ≡ first_of u.waiting
+pub messages_more : (u v : Unframed) (body : List ℕ) (m : Message) (so_far pushed all : List Message) → v ≡ lent_from u
+    → Some body ≡ first_of u.waiting
     → message_of body ≡ Ok m → pushed ≡ so_far ++ m ∷ [] → so_far ++ messages_of u.waiting ≡ all → pushed ++ messages_of v.waiting ≡ all
 messages_more u v body m so_far pushed all lent first is pushes told =
     let rest = messages_of (others_of u.waiting) in
     let here : messages_of u.waiting ≡ m ∷ rest =
-    ap messages_of (waits_by u.waiting body first) ∙ ap (λ (x : Result Message MessageError). messages_in (x ∷ map message_of (others_of u.waiting))) is in
+    ap messages_of (waits_by u.waiting body first)
+    ∙ ap (λ (x : Result Message MessageError). messages_in (x ∷ map message_of (others_of u.waiting))) is in
     ap (λ (w : Unframed). pushed ++ messages_of w.waiting) lent ∙ ap (λ (l : List Message). l ++ rest) pushes
     ∙ append_assoc so_far (m ∷ []) rest ∙ sym (ap (λ (l : List Message). so_far ++ l) here) ∙ told
 
-pub error_more : (u v : Unframed) (body : List ℕ) (m : Message) (all : Option MessageError) → v ≡ lent_from u → Some body ≡ first_of u.waiting
+pub error_more : (u v : Unframed) (body : List ℕ) (m : Message) (all : Option MessageError) → v ≡ lent_from u
+    → Some body ≡ first_of u.waiting
     → message_of body ≡ Ok m → error_of u.waiting ≡ all → error_of v.waiting ≡ all
 error_more u v body m all lent first is told =
     let here : error_of u.waiting ≡ error_of (others_of u.waiting) =
-    ap error_of (waits_by u.waiting body first) ∙ ap (λ (x : Result Message MessageError). error_in (x ∷ map message_of (others_of u.waiting))) is in
+    ap error_of (waits_by u.waiting body first)
+    ∙ ap (λ (x : Result Message MessageError). error_in (x ∷ map message_of (others_of u.waiting))) is in
     ap (λ (w : Unframed). error_of w.waiting) lent ∙ sym here ∙ told

@@ -3,8 +3,7 @@
 -- A response does not repeat what was asked: that a list of breakpoints is the list of this path, that the first of these
 -- frames has that index, stands in the request (DAP specification, `Request`, `Response.request_seq`). So an editor that
 -- reads responses remembers its requests by their numbers. Of each only what a success would tell has to be remembered.
-use Rattle.std.specs.Prelude.{◌≡◌, ℕ, ◌==◌, if◌then◌else◌, List, Option, Some, None, find, bytes_eq, codes, refl}
-use Rattle.std.specs.List.{range_with_len}
+use Rattle.std.specs.Prelude.{◌≡◌, ℕ, ◌==◌, if◌then◌else◌, List, Option, Some, None, bytes_eq, codes, refl}
 use Rattle.numerals.specs.MemoryReferences.{address_in}
 use Rattle.protocol.specs.declared.command.Command.{Command}
 use Rattle.protocol.specs.declared.command.Command.TheVariants.{Initialize, Attach, Threads, Cancel, Restart}
@@ -22,7 +21,7 @@ use Rattle.protocol.specs.declared.command.Command.TheVariants.{Variables as Ask
 use Rattle.protocol.specs.declared.command.Command.TheVariants.{SetVariable as AskSetVariable}
 use Rattle.protocol.specs.declared.command.Command.TheVariants.{ReadMemory as AskReadMemory}
 use Rattle.protocol.specs.declared.command.Command.TheVariants.{WriteMemory as AskWriteMemory}
-use Rattle.rv32i.specs.Names.{name_of}
+use Rattle.rv32i.specs.Names.{number_named}
 use Rattle.mirror.specs.declared.asked.Asked.{Asked}
 use Rattle.mirror.specs.declared.asked.Asked.TheVariants.{Continue, Resume, ConfigurationDone, Launch, Terminate, Disconnect}
 use Rattle.mirror.specs.declared.asked.Asked.TheVariants.{SetBreakpoints, SetInstructionBreakpoints, StackTrace, Variables}
@@ -30,23 +29,19 @@ use Rattle.mirror.specs.declared.asked.Asked.TheVariants.{SetVariable, ReadMemor
 
 -- ---- registers by name
 
--- the register that has this name among x0 to x31
-unfoldable pub named : List ℕ → Option ℕ
-named name = find (λ number. bytes_eq (name_of number) name) (range_with_len 0 32)
-
 -- the number by which the facts have a register: `zero`, `ra` and on to `t6` are 0 to 31, and `pc` is 32
 abbrev pub register_of : List ℕ → Option ℕ
-register_of name = if bytes_eq name (codes "pc") then Some 32 else named name
+register_of name = if bytes_eq name (codes "pc") then Some 32 else number_named name
 
 the_last : register_of (codes "t6") ≡ Some 31
-unfolding named
+unfolding number_named
 the_last = refl
 
 the_counter : register_of (codes "pc") ≡ Some 32
 the_counter = refl
 
 no_other_names : register_of (codes "fp") ≡ None
-unfolding named
+unfolding number_named
 no_other_names = refl
 
 -- ---- the requests

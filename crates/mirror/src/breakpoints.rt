@@ -41,7 +41,7 @@ impl Breaks {
         self.list.get(index).copied()
     }
 
-    /// The same breakpoints. It fails where no memory is left.
+    /// A copy of these breakpoints. It fails where no memory is left.
     pub(crate) fn copied(&self, alloc: Global) -> Result<Breaks, AllocError>
         ensures { IfOk result (λ copy. copy ≡ self.now) }
     {
@@ -98,7 +98,7 @@ fn verified_at(entry: &SourceBreakpoint) -> Option<BreakInfo>
     }
 }
 
-// The same of an entry for an instruction.
+// The breakpoint that an entry for an instruction tells, if it is set.
 fn verified_instruction(entry: &InstructionBreakpoint) -> Option<BreakInfo>
     ensures { result ≡ verified_instruction entry.now }
 {

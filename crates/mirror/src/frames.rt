@@ -44,7 +44,7 @@ impl Frames {
         self.map.get(&index)
     }
 
-    /// The same frames. It fails where no memory is left.
+    /// A copy of these frames. It fails where no memory is left.
     pub(crate) fn copied(&self) -> Result<Frames, AllocError>
         ensures { IfOk result (λ copy. copy ≡ self.now) }
     {

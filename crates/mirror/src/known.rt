@@ -48,7 +48,7 @@ impl Known {
         }
     }
 
-    /// The same facts. It fails where no memory is left.
+    /// A copy of these facts. It fails where no memory is left.
     pub(crate) fn copied(&self, alloc: Global) -> Result<Known, AllocError>
         ensures { IfOk result (λ copy. copy ≡ self.now) }
     {

@@ -38,7 +38,7 @@ impl Memory {
         self.map.get(&address).copied()
     }
 
-    /// The same bytes. It fails where no memory is left.
+    /// A copy of these bytes. It fails where no memory is left.
     pub(crate) fn copied(&self) -> Result<Memory, AllocError>
         ensures { IfOk result (λ copy. copy ≡ self.now) }
     {

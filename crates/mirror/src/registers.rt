@@ -1,11 +1,11 @@
 //! The values of registers.
-ghost use Rattle.std.specs.Prelude.{◌≡◌, ◌<◌, ◌≤◌, IfSome};
+ghost use Rattle.std.specs.Prelude.{◌≡◌, ◌≤◌, IfSome};
 ghost use Rattle.mirror.specs.Folding.{after_variables, valued};
 ghost use Rattle.mirror.specs.Kept.{register_in};
-ghost use Rattle.mirror.specs.Requests.{named, register_of};
+ghost use Rattle.mirror.specs.Requests.{register_of};
 
 use replies::Variable;
-use rv32i::reg_name;
+use rv32i::reg_named;
 use std::marker::Model;
 
 /// How many registers there are, with pc.
@@ -50,7 +50,7 @@ impl Registers {
         }
     }
 
-    /// The same values.
+    /// A copy of these values.
     pub(crate) fn copied(&self) -> Registers
         ensures { result ≡ self.now }
     {
@@ -90,18 +90,5 @@ pub(crate) fn register_of(name: &[u8]) -> Option<u32>
     if name == b"pc".as_slice() {
         return Some(COUNTER);
     }
-    named(name)
-}
-
-// The register that has this name among x0 to x31.
-fn named(name: &[u8]) -> Option<u32>
-    ensures number { result ≡ named name.now }
-    ensures small { IfSome result (λ number. number < 32) }
-{
-    for number in 0..COUNTER {
-        if reg_name(number).as_bytes() == name {
-            return Some(number);
-        }
-    }
-    None
+    reg_named(name)
 }

@@ -19,7 +19,7 @@ pub(crate) struct Listed {
 }
 
 impl Listed {
-    // The same. It fails where no memory is left.
+    // A copy of it. It fails where no memory is left.
     fn copied(&self, alloc: Global) -> Result<Listed, AllocError>
         ensures { IfOk result (λ copy. copy ≡ self.now) }
     {
@@ -67,7 +67,7 @@ impl Sources {
         }
     }
 
-    /// The same lists. It fails where no memory is left.
+    /// A copy of these lists. It fails where no memory is left.
     pub(crate) fn copied(&self, alloc: Global) -> Result<Sources, AllocError>
         ensures { IfOk result (λ copy. copy ≡ self.now) }
     {

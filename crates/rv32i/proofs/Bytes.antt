@@ -30,7 +30,8 @@ at_place address byte o h =
 no_place : (address : ℕ) (o : Option ℕ) → cond (ltb address 65536) None o ≡ None → (address < 65536) ⊎ ((65536 ≤ address) × (o ≡ None))
 no_place address o h =
     let P : Bool → Type 0 = λ t. ltb address 65536 ≡ t → cond t None o ≡ None → (address < 65536) ⊎ ((65536 ≤ address) × (o ≡ None)) in
-    let go : P (ltb address 65536) = elim (ltb address 65536) as P [ true ↦ λ t e. inl (grind (arith, nat_tests)) | false ↦ λ t e. inr (grind (arith, nat_tests), e) ] in
+    let go : P (ltb address 65536) = elim
+    (ltb address 65536) as P [ true ↦ λ t e. inl (grind (arith, nat_tests)) | false ↦ λ t e. inr (grind (arith, nat_tests), e) ] in
     go refl h
 
 pub byte_loads : (memory : List ℕ) (address byte : ℕ) → byte_at memory address ≡ Some byte → loaded 1 memory address ≡ Ok byte
@@ -40,7 +41,8 @@ byte_loads memory address byte h =
     let low : 65536 ≤ address = p.0 in
     let e : eqb (address % 1) 0 ≡ true = (let z : address % 1 ≡ 0 = omega arith in rw z refl) in
     let l : leb 65536 address ≡ true = grind (arith, nat_tests) in
-    let r : leb (address + 1) (65536 + length memory) ≡ true = (let b : address + 1 ≤ 65536 + length memory = omega arith in grind (arith, nat_tests)) in
+    let r : leb (address + 1) (65536 + length memory) ≡ true =
+    (let b : address + 1 ≤ 65536 + length memory = omega arith in grind (arith, nat_tests)) in
     let n : byte + 256 * 0 ≡ byte = omega arith in
     rw (e, l, r, f.one) (ap (λ x. Ok x) n)
 
@@ -52,6 +54,7 @@ no_byte_loads memory address h =
       | inr none ↦ (let past = missing memory (address - 65536) none.1 in
           let low : 65536 ≤ address = none.0 in
           let l : leb 65536 address ≡ true = grind (arith, nat_tests) in
-          let r : leb (address + 1) (65536 + length memory) ≡ false = (let b : 65536 + length memory < address + 1 = omega arith in grind (arith, nat_tests)) in
+          let r : leb (address + 1) (65536 + length memory) ≡ false =
+          (let b : 65536 + length memory < address + 1 = omega arith in grind (arith, nat_tests)) in
           rw (e, l, r) refl)
     ]

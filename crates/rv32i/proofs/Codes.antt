@@ -43,7 +43,9 @@ signed_code a = record { least = omega (arith, ints); greatest = omega (arith, i
 
 calls_code : (m : Machine) → Codes (calls m)
 calls_code m =
-    let P : Bool → Bool → Type 0 = λ s t. Codes (cond s (record { answer = Ok (Exit (signed (value 10 m))); machine = m }) (cond t (record { answer = Ok (Printed (signed (value 10 m))); machine = record m { pc = sum m.pc 4 } }) (trapped UnknownCall m))) in
+    let P : Bool → Bool → Type 0 = λ s t. Codes
+    (cond s (record { answer = Ok (Exit (signed (value 10 m))); machine = m })
+    (cond t (record { answer = Ok (Printed (signed (value 10 m))); machine = record m { pc = sum m.pc 4 } }) (trapped UnknownCall m))) in
     let go : P (eqb (value 17 m) 93) (eqb (value 17 m) 1) = elim (eqb (value 17 m) 93) as (λ s. P s (eqb (value 17 m) 1)) [
       | true ↦ signed_code (value 10 m)
       | false ↦ (elim (eqb (value 17 m) 1) as (λ t. P false t) [ true ↦ tt | false ↦ tt ])
@@ -96,11 +98,14 @@ exit_codes_are_words m e h = go (word_at m.memory m.pc) h where
   of_effect : (effect : Effect) → e ≡ effect → Codes effect → Codes e
   of_effect effect same c = subst Codes (sym same) c
 
-  by_decoding : (word : ℕ) (decoded : Option Instr) → IsDecoding word decoded → ((i : Instr) → Encodes i word → e ≡ effect_of i m) × (IsIllegal word → e ≡ trapped Illegal m) → Codes e
+  by_decoding : (word : ℕ) (decoded : Option Instr) → IsDecoding word decoded
+      → ((i : Instr) → Encodes i word → e ≡ effect_of i m) × (IsIllegal word → e ≡ trapped Illegal m) → Codes e
   by_decoding word (Some i) d h = of_effect (effect_of i m) (h.0 i d) (codes_of i m)
   by_decoding word None d h = of_effect (trapped Illegal m) (h.1 d) tt
 
-  go : (w : Result ℕ MemFault) → MatchResult w (λ word. ((i : Instr) → Encodes i word → e ≡ effect_of i m) × (IsIllegal word → e ≡ trapped Illegal m)) (λ f. e ≡ fetch_fault f m) → Codes e
+  go : (w : Result ℕ MemFault)
+      → MatchResult w (λ word. ((i : Instr) → Encodes i word → e ≡ effect_of i m) × (IsIllegal word → e ≡ trapped Illegal m)) (λ f. e ≡ fetch_fault f m)
+      → Codes e
   go (Ok word) h = let d = the_decoding word in by_decoding word d.instr d.is h
   go (Err Misaligned) h = of_effect (fetch_fault Misaligned m) h tt
   go (Err Outside) h = of_effect (fetch_fault Outside m) h tt

@@ -6,7 +6,8 @@ use Rattle.rv32i.specs.Words.{b_word, fence_word, i_word, j_word, r_word, s_word
 use Rattle.rv32i.specs.declared.instr.Instr.{Instr}
 use Rattle.rv32i.specs.declared.instr.Instr.TheVariants.{Lui, Auipc, Jal, Jalr, Beq, Bne, Blt, Bge, Bltu, Bgeu, Lb, Lh, Lw, Lbu, Lhu, Sb, Sh, Sw, Addi, Slti, Sltiu, Xori, Ori, Andi, Slli, Srli, Srai, Add, Sub, Sll, Slt, Sltu, Xor, Srl, Sra, Or, And, Fence, Ecall, Ebreak}
 
-r_computed : (opcode funct3 funct7 rd rs1 rs2 word : ℕ) → RType opcode funct3 funct7 rd rs1 rs2 word → word ≡ r_word opcode funct3 funct7 rd rs1 rs2
+r_computed : (opcode funct3 funct7 rd rs1 rs2 word : ℕ) → RType opcode funct3 funct7 rd rs1 rs2 word
+    → word ≡ r_word opcode funct3 funct7 rd rs1 rs2
 r_computed opcode funct3 funct7 rd rs1 rs2 word t = t.sum
 
 i_computed : (opcode funct3 rd rs1 imm word : ℕ) → IType opcode funct3 rd rs1 imm word → word ≡ i_word opcode funct3 rd rs1 imm
@@ -24,7 +25,8 @@ u_computed opcode rd imm word t = omega (arith, t.sum, t.high_fits, t.value)
 j_computed : (opcode rd offset word : ℕ) → JType opcode rd offset word → word ≡ j_word opcode rd offset
 j_computed opcode rd offset word t = omega (arith, t.sum, t.sign_fits, t.high_fits, t.bit11_fits, t.low_fits, t.value)
 
-fence_computed : (opcode funct3 fm before after rd rs1 word : ℕ) → FenceType opcode funct3 fm before after rd rs1 word → word ≡ fence_word opcode funct3 fm before after rd rs1
+fence_computed : (opcode funct3 fm before after rd rs1 word : ℕ) → FenceType opcode funct3 fm before after rd rs1 word
+    → word ≡ fence_word opcode funct3 fm before after rd rs1
 fence_computed opcode funct3 fm before after rd rs1 word t = t.sum
 
 pub computed : (i : Instr) (word : ℕ) → Encodes i word → word ≡ word_of i

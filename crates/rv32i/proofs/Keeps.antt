@@ -46,7 +46,9 @@ stores_keep (Some NoMemory) bytes address m = record { unchanged = refl; aligned
 
 calls_keep : (m : Machine) → Keeps m (calls m)
 calls_keep m =
-    let P : Bool → Bool → Type 0 = λ s t. Keeps m (cond s (record { answer = Ok (Exit (signed (value 10 m))); machine = m }) (cond t (record { answer = Ok (Printed (signed (value 10 m))); machine = record m { pc = sum m.pc 4 } }) (trapped UnknownCall m))) in
+    let P : Bool → Bool → Type 0 = λ s t. Keeps m
+    (cond s (record { answer = Ok (Exit (signed (value 10 m))); machine = m })
+    (cond t (record { answer = Ok (Printed (signed (value 10 m))); machine = record m { pc = sum m.pc 4 } }) (trapped UnknownCall m))) in
     let go : P (eqb (value 17 m) 93) (eqb (value 17 m) 1) = elim (eqb (value 17 m) 93) as (λ s. P s (eqb (value 17 m) 1)) [
       | true ↦ record { unchanged = refl; aligned = λ h. h }
       | false ↦ (elim (eqb (value 17 m) 1) as (λ t. P false t) [
@@ -112,10 +114,12 @@ branches_answer true offset m = jumps_answer (sum m.pc offset) m m
 branches_answer false offset m = refl
 
 -- which faults an access can have
-faults : (P : Option MemFault → Type 0) (memory : List ℕ) (aligned address count : ℕ) → P None → P (Some Misaligned) → P (Some Outside) → P (fault_at memory aligned address count)
+faults : (P : Option MemFault → Type 0) (memory : List ℕ) (aligned address count : ℕ) → P None → P (Some Misaligned) → P (Some Outside)
+    → P (fault_at memory aligned address count)
 faults P memory aligned address count none misaligned outside =
     let Q : Bool → Bool → Type 0 = λ s t. P (cond (not s) (Some Misaligned) (cond t None (Some Outside))) in
-    let go : Q (eqb (address % aligned) 0) (has_bytes memory address count) = elim (eqb (address % aligned) 0) as (λ s. Q s (has_bytes memory address count)) [
+    let go : Q (eqb (address % aligned) 0) (has_bytes memory address count) = elim (eqb (address % aligned) 0) as
+    (λ s. Q s (has_bytes memory address count)) [
       | true ↦ (elim (has_bytes memory address count) as (λ t. Q true t) [ true ↦ none | false ↦ outside ])
       | false ↦ misaligned
     ] in go
@@ -123,12 +127,17 @@ faults P memory aligned address count none misaligned outside =
 loads_answer : (count rd v address : ℕ) (m : Machine) → is_ok (loads_unless (fault_at m.memory count address count) rd v m).answer ≡ true
 loads_answer count rd v address m = faults (λ f. is_ok (loads_unless f rd v m).answer ≡ true) m.memory count address count refl refl refl
 
-stores_answer : (count : ℕ) (bytes : List ℕ) (address : ℕ) (m : Machine) → is_ok (stores_unless (fault_at m.memory count address count) bytes address m).answer ≡ true
-stores_answer count bytes address m = faults (λ f. is_ok (stores_unless f bytes address m).answer ≡ true) m.memory count address count refl refl refl
+stores_answer : (count : ℕ) (bytes : List ℕ) (address : ℕ) (m : Machine)
+    → is_ok (stores_unless (fault_at m.memory count address count) bytes address m).answer ≡ true
+stores_answer count bytes address m =
+    faults (λ f. is_ok (stores_unless f bytes address m).answer ≡ true) m.memory count address count refl refl refl
 
 calls_answer : (m : Machine) → is_ok (calls m).answer ≡ true
 calls_answer m =
-    let P : Bool → Bool → Type 0 = λ s t. is_ok (cond s (record { answer = Ok (Exit (signed (value 10 m))); machine = m }) (cond t (record { answer = Ok (Printed (signed (value 10 m))); machine = record m { pc = sum m.pc 4 } }) (trapped UnknownCall m))).answer ≡ true in
+    let P : Bool → Bool → Type 0 = λ s t. is_ok
+    (cond s (record { answer = Ok (Exit (signed (value 10 m))); machine = m })
+    (cond t (record { answer = Ok (Printed (signed (value 10 m))); machine = record m { pc = sum m.pc 4 } })
+    (trapped UnknownCall m))).answer ≡ true in
     let go : P (eqb (value 17 m) 93) (eqb (value 17 m) 1) = elim (eqb (value 17 m) 93) as (λ s. P s (eqb (value 17 m) 1)) [
       | true ↦ refl
       | false ↦ (elim (eqb (value 17 m) 1) as (λ t. P false t) [ true ↦ refl | false ↦ refl ])

@@ -12,3 +12,4 @@ pub mod OneMove
 pub mod Candidates
 pub mod Moving
 pub mod Codes
+pub mod Following

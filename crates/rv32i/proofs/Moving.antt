@@ -18,26 +18,40 @@ use Rattle.rv32i.proofs.Unique.{one_instruction}
 
 -- ---- a word that encodes an instruction has 32 bits
 
-r_below : (opcode funct3 funct7 rd rs1 rs2 word : ℕ) → opcode < 2 ^ 7 → funct3 < 2 ^ 3 → funct7 < 2 ^ 7 → RType opcode funct3 funct7 rd rs1 rs2 word → word < 2 ^ 32
-r_below opcode funct3 funct7 rd rs1 rs2 word o f g t = let d = t.rd_fits in let s = t.rs1_fits in let u = t.rs2_fits in let e = t.sum in omega (arith, o, f, g, d, s, u, e)
+r_below : (opcode funct3 funct7 rd rs1 rs2 word : ℕ) → opcode < 2 ^ 7 → funct3 < 2 ^ 3 → funct7 < 2 ^ 7
+    → RType opcode funct3 funct7 rd rs1 rs2 word → word < 2 ^ 32
+r_below opcode funct3 funct7 rd rs1 rs2 word o f g t =
+    let d = t.rd_fits in let s = t.rs1_fits in let u = t.rs2_fits in let e = t.sum in omega (arith, o, f, g, d, s, u, e)
 
 i_below : (opcode funct3 rd rs1 imm word : ℕ) → opcode < 2 ^ 7 → funct3 < 2 ^ 3 → IType opcode funct3 rd rs1 imm word → word < 2 ^ 32
-i_below opcode funct3 rd rs1 imm word o f t = let d = t.rd_fits in let s = t.rs1_fits in let l = t.low_fits in let g = t.sign_fits in let e = t.sum in omega (arith, o, f, d, s, l, g, e)
+i_below opcode funct3 rd rs1 imm word o f t =
+    let d = t.rd_fits in let s = t.rs1_fits in let l = t.low_fits in let g = t.sign_fits in let e = t.sum in
+    omega (arith, o, f, d, s, l, g, e)
 
 s_below : (opcode funct3 rs1 rs2 imm word : ℕ) → opcode < 2 ^ 7 → funct3 < 2 ^ 3 → SType opcode funct3 rs1 rs2 imm word → word < 2 ^ 32
-s_below opcode funct3 rs1 rs2 imm word o f t = let d = t.rs2_fits in let s = t.rs1_fits in let l = t.low_fits in let k = t.high_fits in let g = t.sign_fits in let e = t.sum in omega (arith, o, f, d, s, l, k, g, e)
+s_below opcode funct3 rs1 rs2 imm word o f t =
+    let d = t.rs2_fits in let s = t.rs1_fits in let l = t.low_fits in let k = t.high_fits in let g = t.sign_fits in let e = t.sum in
+    omega (arith, o, f, d, s, l, k, g, e)
 
-b_below : (opcode funct3 rs1 rs2 offset word : ℕ) → opcode < 2 ^ 7 → funct3 < 2 ^ 3 → BType opcode funct3 rs1 rs2 offset word → word < 2 ^ 32
-b_below opcode funct3 rs1 rs2 offset word o f t = let d = t.rs2_fits in let s = t.rs1_fits in let l = t.low_fits in let k = t.high_fits in let b = t.bit11_fits in let g = t.sign_fits in let e = t.sum in omega (arith, o, f, d, s, l, k, b, g, e)
+b_below : (opcode funct3 rs1 rs2 offset word : ℕ) → opcode < 2 ^ 7 → funct3 < 2 ^ 3 → BType opcode funct3 rs1 rs2 offset word
+    → word < 2 ^ 32
+b_below opcode funct3 rs1 rs2 offset word o f t =
+    let d = t.rs2_fits in let s = t.rs1_fits in let l = t.low_fits in let k = t.high_fits in let b = t.bit11_fits in let g = t.sign_fits in
+    let e = t.sum in omega (arith, o, f, d, s, l, k, b, g, e)
 
 u_below : (opcode rd imm word : ℕ) → opcode < 2 ^ 7 → UType opcode rd imm word → word < 2 ^ 32
 u_below opcode rd imm word o t = let d = t.rd_fits in let k = t.high_fits in let e = t.sum in omega (arith, o, d, k, e)
 
 j_below : (opcode rd offset word : ℕ) → opcode < 2 ^ 7 → JType opcode rd offset word → word < 2 ^ 32
-j_below opcode rd offset word o t = let d = t.rd_fits in let k = t.high_fits in let b = t.bit11_fits in let l = t.low_fits in let g = t.sign_fits in let e = t.sum in omega (arith, o, d, k, b, l, g, e)
+j_below opcode rd offset word o t =
+    let d = t.rd_fits in let k = t.high_fits in let b = t.bit11_fits in let l = t.low_fits in let g = t.sign_fits in let e = t.sum in
+    omega (arith, o, d, k, b, l, g, e)
 
-fence_below : (opcode funct3 fm before after rd rs1 word : ℕ) → opcode < 2 ^ 7 → funct3 < 2 ^ 3 → FenceType opcode funct3 fm before after rd rs1 word → word < 2 ^ 32
-fence_below opcode funct3 fm before after rd rs1 word o f t = let d = t.rd_fits in let s = t.rs1_fits in let m = t.fm_fits in let b = t.before_fits in let a = t.after_fits in let e = t.sum in omega (arith, o, f, d, s, m, b, a, e)
+fence_below : (opcode funct3 fm before after rd rs1 word : ℕ) → opcode < 2 ^ 7 → funct3 < 2 ^ 3
+    → FenceType opcode funct3 fm before after rd rs1 word → word < 2 ^ 32
+fence_below opcode funct3 fm before after rd rs1 word o f t =
+    let d = t.rd_fits in let s = t.rs1_fits in let m = t.fm_fits in let b = t.before_fits in let a = t.after_fits in let e = t.sum in
+    omega (arith, o, f, d, s, m, b, a, e)
 
 below : (i : Instr) (word : ℕ) → Encodes i word → word < 2 ^ 32
 below (Lui rd imm) word t = u_below 55 rd imm word (lit< tt) t
@@ -111,7 +125,8 @@ loads_zero (Some Misaligned) rd v m h = h
 loads_zero (Some Outside) rd v m h = h
 loads_zero (Some NoMemory) rd v m h = h
 
-stores_zero : (fault : Option MemFault) (bytes : List ℕ) (address : ℕ) (m : Machine) → slice_index m.x 0 ≡ 0 → Zero (stores_unless fault bytes address m)
+stores_zero : (fault : Option MemFault) (bytes : List ℕ) (address : ℕ) (m : Machine) → slice_index m.x 0 ≡ 0
+    → Zero (stores_unless fault bytes address m)
 stores_zero None bytes address m h = h
 stores_zero (Some Misaligned) bytes address m h = h
 stores_zero (Some Outside) bytes address m h = h
@@ -176,7 +191,11 @@ zero_of Ebreak m h = h
 decoding_by : (word : ℕ) (found : Option Instr) → decoded word ≡ found → (small : Bool) → ltb word (2 ^ 32) ≡ small → HasDecoding word
 decoding_by word None e small s = record { instr = None; is = illegal word e }
 decoding_by word (Some j) e true s = record { instr = Some j; is = sound word (ltb-true word (2 ^ 32) s) j e }
-decoding_by word (Some j) e false s = record { instr = None; is = λ i t. (let small = below i word t in let not : ltb word (2 ^ 32) ≡ true = lt-ltb word (2 ^ 32) small in cc) }
+decoding_by word (Some j) e false s =
+    record {
+      instr = None;
+      is = λ i t. (let small = below i word t in let not : ltb word (2 ^ 32) ≡ true = lt-ltb word (2 ^ 32) small in cc);
+    }
 
 pub the_decoding : (word : ℕ) → HasDecoding word
 the_decoding word = decoding_by word (decoded word) refl (ltb word (2 ^ 32)) refl
@@ -199,7 +218,9 @@ move_by m word (Some j) is = record {
 }
 
 by_word : (m : Machine) (word : Result ℕ MemFault) → word_at m.memory m.pc ≡ word → HasMove m
-by_word m (Ok word) e = let d = the_decoding word in let x = move_by m word d.instr d.is in record { effect = x.effect; is = rw e (x.of_each, x.of_none); zero = x.zero }
+by_word m (Ok word) e =
+    let d = the_decoding word in let x = move_by m word d.instr d.is in
+    record { effect = x.effect; is = rw e (x.of_each, x.of_none); zero = x.zero }
 by_word m (Err fault) e = record { effect = fetch_fault fault m; is = rw e refl; zero = fetch_zero fault m }
 
 pub the_move : (m : Machine) → HasMove m

@@ -44,7 +44,18 @@ number (Ok (Trap cause)) = pos 0
 number (Err error) = pos 0
 
 abbrev stepped : ℕ → ℤ → Result Stepped AllocError
-stepped k n = cond (eqb k 0) (Ok Retired) (cond (eqb k 1) (Ok (Printed n)) (cond (eqb k 2) (Ok Breakpoint) (cond (eqb k 3) (Ok (Exit n)) (cond (eqb k 4) (Ok (Trap FetchOutside)) (cond (eqb k 5) (Ok (Trap Illegal)) (cond (eqb k 6) (Ok (Trap JumpMisaligned)) (cond (eqb k 7) (Ok (Trap LoadMisaligned)) (cond (eqb k 8) (Ok (Trap LoadOutside)) (cond (eqb k 9) (Ok (Trap StoreMisaligned)) (cond (eqb k 10) (Ok (Trap StoreOutside)) (cond (eqb k 11) (Ok (Trap UnknownCall)) (Err alloc_error))))))))))))
+stepped k n =
+    cond (eqb k 0) (Ok Retired)
+    (cond (eqb k 1) (Ok (Printed n))
+    (cond (eqb k 2) (Ok Breakpoint)
+    (cond (eqb k 3) (Ok (Exit n))
+    (cond (eqb k 4) (Ok (Trap FetchOutside))
+    (cond (eqb k 5) (Ok (Trap Illegal))
+    (cond (eqb k 6) (Ok (Trap JumpMisaligned))
+    (cond (eqb k 7) (Ok (Trap LoadMisaligned))
+    (cond (eqb k 8) (Ok (Trap LoadOutside))
+    (cond (eqb k 9) (Ok (Trap StoreMisaligned))
+    (cond (eqb k 10) (Ok (Trap StoreOutside)) (cond (eqb k 11) (Ok (Trap UnknownCall)) (Err alloc_error))))))))))))
 
 back : (s : Result Stepped AllocError) → stepped (kind s) (number s) ≡ s
 unfolding kind number
@@ -68,8 +79,11 @@ same_answers s t k n = sym (back s) ∙ ap (λ a. stepped a (number s)) k ∙ ap
 abbrev made : Result Stepped AllocError → ℕ → List ℕ → List ℕ → Effect
 made answer pc x memory = record { answer = answer; machine = record { pc = pc; x = x; memory = memory } }
 
-same_effects : (e f : Effect) → e.answer ≡ f.answer → e.machine.pc ≡ f.machine.pc → e.machine.x ≡ f.machine.x → e.machine.memory ≡ f.machine.memory → e ≡ f
-same_effects e f a p x m = ap (λ s. made s e.machine.pc e.machine.x e.machine.memory) a ∙ ap (λ s. made f.answer s e.machine.x e.machine.memory) p ∙ ap (λ s. made f.answer f.machine.pc s e.machine.memory) x ∙ ap (made f.answer f.machine.pc f.machine.x) m
+same_effects : (e f : Effect) → e.answer ≡ f.answer → e.machine.pc ≡ f.machine.pc → e.machine.x ≡ f.machine.x
+    → e.machine.memory ≡ f.machine.memory → e ≡ f
+same_effects e f a p x m =
+    ap (λ s. made s e.machine.pc e.machine.x e.machine.memory) a ∙ ap (λ s. made f.answer s e.machine.x e.machine.memory) p
+    ∙ ap (λ s. made f.answer f.machine.pc s e.machine.memory) x ∙ ap (made f.answer f.machine.pc f.machine.x) m
 
 -- Effects that cannot differ are equal.
 numbers_equal : (m n : ℕ) → ((m ≡ n → ⊥) → ⊥) → m ≡ n

@@ -8,7 +8,9 @@ use Rattle.rv32i.specs.declared.instr.Instr.{Instr}
 use Rattle.rv32i.specs.declared.instr.Instr.TheVariants.{Lui, Auipc, Jal, Jalr, Beq, Bne, Blt, Bge, Bltu, Bgeu, Lb, Lh, Lw, Lbu, Lhu, Sb, Sh, Sw, Addi, Slti, Sltiu, Xori, Ori, Andi, Slli, Srli, Srai, Add, Sub, Sll, Slt, Sltu, Xor, Srl, Sra, Or, And, Fence, Ecall, Ebreak}
 use Rattle.rv32i.proofs.Unique.{one_instruction}
 
-one_choice : (test : Bool) (text other same : List ℕ) (by : ℕ → List ℕ) (Q : ℕ → Type 0) (word : ℕ) → Q word → MatchBool test (text ≡ same) ((word : ℕ) → Q word → text ≡ by word) → MatchBool test (other ≡ same) ((word : ℕ) → Q word → other ≡ by word) → text ≡ other
+one_choice : (test : Bool) (text other same : List ℕ) (by : ℕ → List ℕ) (Q : ℕ → Type 0) (word : ℕ) → Q word
+    → MatchBool test (text ≡ same) ((word : ℕ) → Q word → text ≡ by word)
+    → MatchBool test (other ≡ same) ((word : ℕ) → Q word → other ≡ by word) → text ≡ other
 one_choice true text other same by Q word q a b = a ∙ sym b
 one_choice false text other same by Q word q a b = a word q ∙ sym (b word q)
 
@@ -50,7 +52,8 @@ one_has (Srl rd rs1 rs2) word pc text other e a b = a ∙ sym b
 one_has (Sra rd rs1 rs2) word pc text other e a b = a ∙ sym b
 one_has (Or rd rs1 rs2) word pc text other e a b = a ∙ sym b
 one_has (And rd rs1 rs2) word pc text other e a b = a ∙ sym b
-one_has (Fence fm before after rd rs1) word pc text other e a b = one_choice (is_plain_fence fm before after rd rs1) text other _ word_text (Encodes (Fence fm before after rd rs1)) word e a b
+one_has (Fence fm before after rd rs1) word pc text other e a b =
+    one_choice (is_plain_fence fm before after rd rs1) text other _ word_text (Encodes (Fence fm before after rd rs1)) word e a b
 one_has Ecall word pc text other e a b = a ∙ sym b
 one_has Ebreak word pc text other e a b = a ∙ sym b
 

@@ -15,4 +15,5 @@ pub joined_two : (name a b p q text : List ℕ) → text ≡ with_two name a b �
 joined_two name a b p q text e f g = e ∙ ap (λ x. with_two name x b) f ∙ ap (λ x. with_two name p x) g
 
 pub joined_three : (name a b c p q r text : List ℕ) → text ≡ with_three name a b c → a ≡ p → b ≡ q → c ≡ r → text ≡ with_three name p q r
-joined_three name a b c p q r text e f g h = e ∙ ap (λ x. with_three name x b c) f ∙ ap (λ x. with_three name p x c) g ∙ ap (λ x. with_three name p q x) h
+joined_three name a b c p q r text e f g h =
+    e ∙ ap (λ x. with_three name x b c) f ∙ ap (λ x. with_three name p x c) g ∙ ap (λ x. with_three name p q x) h

@@ -4,6 +4,7 @@ use Rattle.std.specs.Prelude.{◌≡◌, ◌≤ℤ◌, ℕ, ℤ, pos, neg_ℤ, L
 use Rattle.std.specs.declared.alloc.AllocError.{AllocError}
 use Rattle.rv32i.specs.Encoding.{Encodes, IsDecoding}
 use Rattle.rv32i.specs.Machine.{Machine, Effect, IsMove}
+use Rattle.rv32i.specs.Names.{Names}
 use Rattle.rv32i.specs.Texts.{IsTextOf}
 use Rattle.rv32i.specs.Words.{word_of}
 use Rattle.rv32i.specs.declared.instr.Instr.{Instr}
@@ -66,3 +67,7 @@ HasCode (Err error) = ⊤
 -- The code of an exit is one, whatever the registers hold.
 abbrev pub ExitCodesAreWords : Type 0
 ExitCodesAreWords = (before : Machine) (effect : Effect) → IsMove before effect → HasCode effect.answer
+
+-- A name means one register at most.
+abbrev pub NameIsUnique : Type 0
+NameIsUnique = (name : List ℕ) (number other : ℕ) → Names name number → Names name other → number ≡ other

@@ -1,5 +1,6 @@
 -- The names of the registers (RISC-V Unprivileged ISA 20191213, chapter 25, table 25.1).
-use Rattle.std.specs.Prelude.{◌≡◌, ℕ, ◌<◌, ◌⊎◌, List, [], ◌∷◌, slice_index_or, codes, Option, MatchOption}
+use Rattle.std.specs.Prelude.{◌≡◌, ℕ, ◌<◌, ◌⊎◌, List, [], ◌∷◌, slice_index_or, bytes_eq, codes, find, Option, MatchOption}
+use Rattle.std.specs.List.{range_with_len}
 
 -- the names of x0 to x31
 abbrev pub names : List (List ℕ)
@@ -22,6 +23,10 @@ name_of number = slice_index_or names number []
 -- its name by its number
 abbrev pub numbered_name_of : ℕ → List ℕ
 numbered_name_of number = slice_index_or numbered_names number []
+
+-- the register that has this name among x0 to x31, if one has: neither `fp` nor `x8` is the name of one
+unfoldable pub number_named : List ℕ → Option ℕ
+number_named name = find (λ number. bytes_eq (name_of number) name) (range_with_len 0 32)
 
 -- A name means a register: it is its name, or its name by number, or fp, which is s0.
 abbrev pub Names : List ℕ → ℕ → Type 0

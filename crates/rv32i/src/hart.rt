@@ -66,7 +66,7 @@ impl Hart {
         self.execute(decode(word), memory)
     }
 
-    /// The same step, where the word at pc lies in memory and is decoded already: `instr` is what `decode`
+    /// A step, where the word at pc lies in memory and is decoded already: `instr` is what `decode`
     /// makes of it. It answers and leaves what `step` does.
     #[inline]
     pub fn execute(

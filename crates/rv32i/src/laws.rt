@@ -1,7 +1,7 @@
 //! What holds of every word and of every move: each law is the contract of a function that does
 //! nothing.
 
-ghost use Rattle.rv32i.specs.Laws.{EachMachineMoves, EachWordIsDecoded, EncodingIsUnique, ExitCodesAreWords, InstructionIsUnique, MoveIsDeterministic, TextIsUnique, WordIsComputed};
+ghost use Rattle.rv32i.specs.Laws.{EachMachineMoves, EachWordIsDecoded, EncodingIsUnique, ExitCodesAreWords, InstructionIsUnique, MoveIsDeterministic, NameIsUnique, TextIsUnique, WordIsComputed};
 
 /// A word encodes at most one instruction.
 pub fn instruction_is_unique()
@@ -43,4 +43,9 @@ pub fn exit_codes_are_words()
 /// A word at an address has at most one disassembly.
 pub fn text_is_unique()
     ensures { TextIsUnique }
+{}
+
+/// A name means at most one register.
+pub fn name_is_unique()
+    ensures { NameIsUnique }
 {}

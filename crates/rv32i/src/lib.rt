@@ -20,7 +20,7 @@ pub use encoding::encode;
 pub use fields::{BranchOffset, FenceSet, Imm, JumpOffset, Reg, Shamt, Upper};
 pub use hart::Hart;
 pub use instr::Instr;
-pub use names::{reg_name, reg_of};
+pub use names::{reg_name, reg_named, reg_of};
 pub use stepped::{Cause, Stepped};
 pub use text::{push_digits, text_of};
 pub use word_text::text_of_word;

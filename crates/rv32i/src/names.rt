@@ -1,9 +1,12 @@
 //! The names of the registers (RISC-V Unprivileged ISA 20191213, chapter 25, "RISC-V Assembly
 //! Programmer's Handbook").
 
-ghost use Rattle.std.specs.Prelude.{◌≡◌, ◌<◌};
+ghost use Rattle.std.specs.Prelude.{◌≡◌, ◌<◌, IfSome};
 ghost use Rattle.rv32i.specs.Candidates.{candidate, digit, numbered, of_three, of_two};
-ghost use Rattle.rv32i.specs.Names.{name_of, numbered_name_of, NamesOrNot};
+ghost use Rattle.rv32i.specs.Names.{name_of, number_named, numbered_name_of, NamesOrNot};
+
+/// How many registers there are.
+const REGISTERS: u32 = 32;
 
 /// The name of the register of a number from 0 to 31.
 pub fn reg_name(number: u32) -> &'static str
@@ -85,6 +88,20 @@ fn numbered_name(number: u32) -> &'static str
         30 => "x30",
         _ => "x31",
     }
+}
+
+/// The number of the register whose name this is in the table: of what `reg_name` answers, and no other name. `None`: it is
+/// none of them.
+pub fn reg_named(name: &[u8]) -> Option<u32>
+    ensures number { result ≡ number_named name.now }
+    ensures small { IfSome result (λ number. number < 32) }
+{
+    for number in 0..REGISTERS {
+        if reg_name(number).as_bytes() == name {
+            return Some(number);
+        }
+    }
+    None
 }
 
 /// The number of the register that a name means: one of the names of `reg_name`, `fp` for `s0`, or `x0`

@@ -39,7 +39,8 @@ falls stop (i ∷ issued) o =
     let rest : Falls issued = falls i.stop issued o.1.1 in
     let number : i.number ≡ suc (length issued) = o.0 ∙ rest.next in
     record {
-      numbers = ap (λ (n : ℕ). n ∷ map (λ (i : Issued). i.number) issued) number ∙ ap (λ (l : List ℕ). suc (length issued) ∷ l) rest.numbers;
+      numbers =
+          ap (λ (n : ℕ). n ∷ map (λ (i : Issued). i.number) issued) number ∙ ap (λ (l : List ℕ). suc (length issued) ∷ l) rest.numbers;
       next = omega (arith, number);
     }
 
@@ -55,13 +56,20 @@ pub record IsAt (first : ℕ) (target : Target) (known : List Target) (n : ℕ) 
 at_place : (first : ℕ) (target : Target) (known : List Target) (n : ℕ) → number_from first target known ≡ Some n → IsAt first target known n
 at_place first target [] n e = absurd (cc)
 at_place first target (t ∷ known) n e = by (is_same t target) refl (at_place (first + 1) target known n) where
-  by : (b : Bool) → is_same t target ≡ b → (number_from (first + 1) target known ≡ Some n → IsAt (first + 1) target known n) → IsAt first target (t ∷ known) n
+  by : (b : Bool) → is_same t target ≡ b → (number_from (first + 1) target known ≡ Some n → IsAt (first + 1) target known n)
+      → IsAt first target (t ∷ known) n
   by true is at =
-      let number : first ≡ n = let some : Some first ≡ Some n = sym (ap (λ (b : Bool). cond b (Some first) (number_from (first + 1) target known)) is) ∙ e in cc in
+      let number : first ≡ n = let some : Some first ≡ Some n = sym
+      (ap (λ (b : Bool). cond b (Some first) (number_from (first + 1) target known)) is) ∙ e in cc in
       let none : n - first ≡ 0 = omega (arith, number) in
-      record { from = omega (arith, number); place = ap (slice_get (t ∷ known)) none ∙ ap (λ (t : Target). Some t) (is_same-true t target is) }
+      record {
+        from = omega (arith, number);
+        place = ap (slice_get (t ∷ known)) none
+            ∙ ap (λ (t : Target). Some t) (is_same-true t target is);
+      }
   by false is at =
-      let rest : IsAt (first + 1) target known n = at (sym (ap (λ (b : Bool). cond b (Some first) (number_from (first + 1) target known)) is) ∙ e) in
+      let rest : IsAt (first + 1) target known n = at
+      (sym (ap (λ (b : Bool). cond b (Some first) (number_from (first + 1) target known)) is) ∙ e) in
       let later : n - first ≡ suc (n - (first + 1)) = omega (arith, rest.from) in
       record { from = omega (arith, rest.from); place = ap (slice_get (t ∷ known)) later ∙ rest.place }
 
@@ -76,7 +84,8 @@ found_by_number kept target n some e =
     let there : IsAt kept.first target kept.targets n = at_place kept.first target kept.targets n e in
     let not_0 : (n == 0) ≡ false = not_zero kept.first n some there.from in
     let not_before : nat_lt n kept.first ≡ false = not_below kept.first n there.from in
-    ap (λ (b : Bool). cond b (Err Unknown) (cond (nat_lt n kept.first) (Err Stale) (unless_absent (slice_get kept.targets (n - kept.first))))) not_0
+    ap (λ (b : Bool). cond b (Err Unknown)
+    (cond (nat_lt n kept.first) (Err Stale) (unless_absent (slice_get kept.targets (n - kept.first))))) not_0
     ∙ ap (λ (b : Bool). cond b (Err Stale) (unless_absent (slice_get kept.targets (n - kept.first)))) not_before
     ∙ ap unless_absent there.place
 
@@ -89,8 +98,15 @@ issued_are_found calls targets target h =
     has-with_all target before.0.targets targets
     ∙ ap (λ (b : Bool). has target before.0.targets || b) h
     ∙ or-true (has target before.0.targets) in
-    let number : (n : ℕ) × (number_in (with_targets before.0 targets) target ≡ Some n) = some_number before.0.first target (with_all before.0.targets targets) there in
-    (number.0, (sym (after.numbers target) ∙ number.1, sym (after.finds number.0) ∙ found_by_number (with_targets before.0 targets) target number.0 after.some number.1))
+    let number : (n : ℕ) × (number_in (with_targets before.0 targets) target ≡ Some n) = some_number before.0.first target
+    (with_all before.0.targets targets) there in (
+      number.0,
+      (
+        sym (after.numbers target) ∙ number.1,
+        sym (after.finds number.0)
+            ∙ found_by_number (with_targets before.0 targets) target number.0 after.some number.1,
+      ),
+    )
 
 pub numbers_stay : NumbersStay
 numbers_stay calls targets target n e =

@@ -3,13 +3,13 @@
 -- The list has x0 to x31 under their names, and then the program counter as `pc`. What can be set are x1 to x31, under
 -- the same names: neither `fp` nor `x8` is a variable, though both name s0 elsewhere. x0 is always 0, and the program
 -- goes on where it stands.
-use Rattle.std.specs.Prelude.{◌≡◌, ℕ, ◌==◌, if◌then◌else◌, List, [], ◌∷◌, ◌++◌, map, find, slice_index, slice_set}
+use Rattle.std.specs.Prelude.{◌≡◌, ℕ, ◌==◌, if◌then◌else◌, List, [], ◌∷◌, ◌++◌, map, slice_index, slice_set}
 use Rattle.std.specs.Prelude.{Option, Some, None, Result, Ok, Err, bytes_eq, codes, refl}
 use Rattle.std.specs.List.{range_with_len}
 use Rattle.protocol.specs.declared.refusal.Refusal.{Refusal}
 use Rattle.protocol.specs.declared.refusal.Refusal.TheVariants.{UnknownName, NotWritable, BadValue}
 use Rattle.replies.specs.declared.variables.Variable.{Variable}
-use Rattle.rv32i.specs.Names.{name_of}
+use Rattle.rv32i.specs.Names.{name_of, number_named}
 use Rattle.rv32i.specs.declared.hart.Hart.{Hart}
 use Rattle.variables.specs.Values.{value_of}
 
@@ -31,17 +31,13 @@ registers hart = map (register hart) numbers ++ counter hart ∷ []
 
 -- ---- setting one
 
--- the number of the register that has a name in the list
-unfoldable pub number_of : List ℕ → Option ℕ
-number_of name = find (λ number. bytes_eq (name_of number) name) numbers
-
 abbrev pub unless_zero : Option ℕ → Result ℕ Refusal
 unless_zero None = Err UnknownName
 unless_zero (Some number) = if number == 0 then Err NotWritable else Ok number
 
 -- the number of the register that can be set under a name, or why there is none
 abbrev pub name_answer : List ℕ → Result ℕ Refusal
-name_answer name = if bytes_eq name (codes "pc") then Err NotWritable else unless_zero (number_of name)
+name_answer name = if bytes_eq name (codes "pc") then Err NotWritable else unless_zero (number_named name)
 
 abbrev pub value_answer : Result ℕ Refusal → Option ℕ → Result ℕ Refusal
 value_answer (Err refusal) value = Err refusal
@@ -62,17 +58,17 @@ abbrev pub registers_after : List ℕ → List ℕ → List ℕ → List ℕ
 registers_after name text x = with_value (name_answer name) (value_of text) x
 
 sets_a0 : set_answer (codes "a0") (codes "-1") ≡ Ok 0xffffffff
-unfolding number_of
+unfolding number_named
 sets_a0 = refl
 
 sets_no_zero : set_answer (codes "zero") (codes "z") ≡ Err NotWritable
-unfolding number_of
+unfolding number_named
 sets_no_zero = refl
 
 sets_no_fp : set_answer (codes "fp") (codes "1") ≡ Err UnknownName
-unfolding number_of
+unfolding number_named
 sets_no_fp = refl
 
 no_word : set_answer (codes "a0") (codes "z") ≡ Err BadValue
-unfolding number_of
+unfolding number_named
 no_word = refl

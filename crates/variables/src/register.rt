@@ -1,12 +1,12 @@
 //! The registers as variables.
 
-ghost use Rattle.std.specs.Prelude.{◌≡◌, ◌<◌, IfOk, IfSome, slice_index};
-ghost use Rattle.variables.specs.Registers.{counter, name_answer, number_of, register, registers, registers_after, set_answer};
+ghost use Rattle.std.specs.Prelude.{◌≡◌, ◌<◌, IfOk, slice_index};
+ghost use Rattle.variables.specs.Registers.{counter, name_answer, register, registers, registers_after, set_answer};
 
 use crate::value::value_of;
 use protocol::{Refusal, Text};
 use replies::Variable;
-use rv32i::{Hart, reg_name};
+use rv32i::{Hart, reg_name, reg_named};
 use std::alloc::{AllocError, Global};
 
 /// How many registers there are.
@@ -56,24 +56,11 @@ fn named(name: &str) -> Result<usize, Refusal>
     if name == COUNTER {
         return Err(Refusal::NotWritable);
     }
-    match number_of(name) {
+    match reg_named(name.as_bytes()) {
         None => Err(Refusal::UnknownName),
         Some(0) => Err(Refusal::NotWritable),
         Some(number) => Ok(number as usize),
     }
-}
-
-// The number of the register that has a name in the list.
-fn number_of(name: &str) -> Option<u32>
-    ensures number { result ≡ number_of name.now }
-    ensures small { IfSome result (λ number. number < 32) }
-{
-    for number in 0..REGISTERS {
-        if reg_name(number) == name {
-            return Some(number);
-        }
-    }
-    None
 }
 
 /// A variable of this name and value. It fails where no memory is left.

@@ -13,7 +13,8 @@ loop-body-preserved c =
     let first = c.in-Some.ensures.body in
     let is = sym c.in_ok-message.ensures ∙ c.in-Ok.is in
     record {
-      messages = messages_more u _ c.in-Some.body.now c.in-Ok.message c.loop-body.messages.items _ _ lent first is c.in_ok-push-in-Ok.ensures.items c.loop-body.invariant.messages;
+      messages =
+          messages_more u _ c.in-Some.body.now c.in-Ok.message c.loop-body.messages.items _ _ lent first is c.in_ok-push-in-Ok.ensures.items c.loop-body.invariant.messages;
       error = error_more u _ c.in-Some.body.now c.in-Ok.message _ lent first is c.loop-body.invariant.error;
       before = ap (λ (w : Unframed). w.before) lent ∙ c.loop-body.invariant.before;
       limit = ap (λ (w : Unframed). w.limit) lent ∙ c.loop-body.invariant.limit;

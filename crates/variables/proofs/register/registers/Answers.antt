@@ -4,7 +4,8 @@ use Rattle.variables.proofs.register.registers.Goals as goal
 
 pub loop-number-preserved : goal.loop-number-preserved
 loop-number-preserved c = record {
-  listed = register_on c.args.hart.now c.loop-number.number c.reg_name.result.now c.in_ok-variable.field-0 c.loop-number.variables.items c.push.new.self.items c.reg_name.ensures c.in_ok-variable.ensures c.in_ok-push.ensures.items c.loop-number.invariant.listed;
+  listed =
+      register_on c.args.hart.now c.loop-number.number c.reg_name.result.now c.in_ok-variable.field-0 c.loop-number.variables.items c.push.new.self.items c.reg_name.ensures c.in_ok-variable.ensures c.in_ok-push.ensures.items c.loop-number.invariant.listed;
   within = omega (arith, c.loop-number-test.true);
 }
 

@@ -8,7 +8,9 @@ use Rattle.variables.proofs.handles.Handles.issue.Goals as goal
 
 pub returns-then-count_new-left-clause-past : goal.returns-then-count_new-left-clause-past
 returns-then-count_new-left-clause-past c =
-    none_issued c.args.self.now c.self.inside.last c.next.result c.count_new.result c.deref.result.now c.args.targets.now (c.deref.ensures.value ∙ ap (λ (n : Numbers). n.targets) c.self.view_is) (ap (λ (n : Numbers). n.last) c.self.view_is) c.next.ensures.kept c.count_new.ensures c.if-count_new-left.true
+    none_issued c.args.self.now c.self.inside.last c.next.result c.count_new.result c.deref.result.now c.args.targets.now
+    (c.deref.ensures.value ∙ ap (λ (n : Numbers). n.targets) c.self.view_is)
+    (ap (λ (n : Numbers). n.last) c.self.view_is) c.next.ensures.kept c.count_new.ensures c.if-count_new-left.true
 
 pub returns-in_err-all-clause-past : goal.returns-in_err-all-clause-past
 returns-in_err-all-clause-past c =
@@ -16,7 +18,8 @@ returns-in_err-all-clause-past c =
 
 pub numbers_from-requires-clause-known : goal.numbers_from-requires-clause-known
 numbers_from-requires-clause-known c =
-    subst (λ (all : List Target). All (λ (target : Target). has target all ≡ true) c.args.targets.now) (sym (c.deref-3.ensures.value ∙ c.in_ok-all.ensures)) (all_there c.deref-2.result.now c.args.targets.now)
+    subst (λ (all : List Target). All (λ (target : Target). has target all ≡ true) c.args.targets.now)
+    (sym (c.deref-3.ensures.value ∙ c.in_ok-all.ensures)) (all_there c.deref-2.result.now c.args.targets.now)
 
 pub returns-in_err-numbers-clause-past : goal.returns-in_err-numbers-clause-past
 returns-in_err-numbers-clause-past c =

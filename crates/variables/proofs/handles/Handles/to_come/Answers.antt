@@ -12,11 +12,13 @@ numbers_from-requires-clause-fits c =
     let kept : first + length c.self.inside.targets.items ≤ c.self.inside.last + 1 = c.self.invariant.1 in
     let last : c.self.inside.last ≤ 2147483647 = c.self.invariant.2 in
     let same : length known ≡ length c.self.inside.targets.items = ap length c.deref.ensures.value in
-    let all : length c.deref-2.result.now ≡ length (with_all known c.args.targets.now) = ap length (c.deref-2.ensures.value ∙ c.in_ok-all.ensures) in
+    let all : length c.deref-2.result.now ≡ length (with_all known c.args.targets.now) = ap length
+    (c.deref-2.ensures.value ∙ c.in_ok-all.ensures) in
     let short : length (with_all known c.args.targets.now) ≤ length known + length c.args.targets.now = with_all-short known c.args.targets.now in
     let few = c.requires in
     omega (arith, kept, last, same, all, short, few)
 
 pub numbers_from-requires-clause-known : goal.numbers_from-requires-clause-known
 numbers_from-requires-clause-known c =
-    subst (λ (all : List Target). All (λ (target : Target). has target all ≡ true) c.args.targets.now) (sym (c.deref-2.ensures.value ∙ c.in_ok-all.ensures)) (all_there c.deref.result.now c.args.targets.now)
+    subst (λ (all : List Target). All (λ (target : Target). has target all ≡ true) c.args.targets.now)
+    (sym (c.deref-2.ensures.value ∙ c.in_ok-all.ensures)) (all_there c.deref.result.now c.args.targets.now)

@@ -1,0 +1,10 @@
+use Rattle.std.proofs.Common.{◌≡◌, ◌-◌}
+use Rattle.std.specs.Prelude.{bytes_eq, find}
+use Rattle.std.specs.List.{range_with_len}
+use Rattle.rv32i.specs.Names.{name_of, number_named}
+use Rattle.rv32i.proofs.names.reg_named.Given as goal
+
+abbrev pub invariant-loop-number : goal.invariant-loop-number
+invariant-loop-number l = record {
+  found : find (λ number. bytes_eq (name_of number) l.name) (range_with_len l.number (32 - l.number)) ≡ number_named l.name;
+}
