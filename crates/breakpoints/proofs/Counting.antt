@@ -13,7 +13,8 @@ most a b = omega arith
 least : (a : ℕ) → a ≤ 4294967295 → min a 4294967295 ≡ a
 least a h = omega (arith, h)
 
-one_check : (c : Check) (b : Placed) → b.hits ≤ 4294967295 → counted c.pc c.hart c.memory b ≡ with_hits (min (b.hits + cond (is_hit c.pc c.hart c.memory b) 1 0) 4294967295) b
+one_check : (c : Check) (b : Placed) → b.hits ≤ 4294967295
+    → counted c.pc c.hart c.memory b ≡ with_hits (min (b.hits + cond (is_hit c.pc c.hart c.memory b) 1 0) 4294967295) b
 one_check c b h = go (is_hit c.pc c.hart c.memory b) where
   go : (t : Bool) → cond t (with_hit b) b ≡ with_hits (min (b.hits + cond t 1 0) 4294967295) b
   go true = refl
@@ -24,7 +25,8 @@ same_hits : (checks : List Check) (n : ℕ) (b : Placed) → hits_among checks (
 same_hits [] n b = refl
 same_hits (c ∷ checks) n b = ap (λ k. cond (is_hit c.pc c.hart c.memory b) 1 0 + k) (same_hits checks n b)
 
-pub counts : (checks : List Check) (b : Placed) → b.hits ≤ 4294967295 → after_checks checks b ≡ with_hits (min (b.hits + hits_among checks b) 4294967295) b
+pub counts : (checks : List Check) (b : Placed) → b.hits ≤ 4294967295
+    → after_checks checks b ≡ with_hits (min (b.hits + hits_among checks b) 4294967295) b
 counts [] b h = let e : b.hits ≡ min (b.hits + 0) 4294967295 = omega (arith, h) in ap (λ n. with_hits n b) e
 counts (c ∷ checks) b h =
     let one : ℕ = cond (is_hit c.pc c.hart c.memory b) 1 0 in
@@ -33,14 +35,16 @@ counts (c ∷ checks) b h =
     ap (after_checks checks) (one_check c b h)
     ∙ counts checks (with_hits n b) small
     ∙ ap (λ k. with_hits (min (n + k) 4294967295) b) (same_hits checks n b)
-    ∙ ap (λ k. with_hits k b) (let e : min (n + hits_among checks b) 4294967295 ≡ min (b.hits + (one + hits_among checks b)) 4294967295 = omega arith in e)
+    ∙ ap (λ k. with_hits k b)
+    (let e : min (n + hits_among checks b) 4294967295 ≡ min (b.hits + (one + hits_among checks b)) 4294967295 = omega arith in e)
 
 pub stops_so : StopsFromItsHit
 stops_so spec checks last h =
     let b = fresh spec in
     let n = hits_among checks b in
     let start : b.hits ≤ 4294967295 = omega arith in
-    let after : after_checks checks b ≡ with_hits (min n 4294967295) b = counts checks b start ∙ ap (λ k. with_hits (min k 4294967295) b) (let e : 0 + n ≡ n = omega arith in e) in
+    let after : after_checks checks b ≡ with_hits (min n 4294967295) b = counts checks b start
+    ∙ ap (λ k. with_hits (min k 4294967295) b) (let e : 0 + n ≡ n = omega arith in e) in
     ap (stops last.pc last.hart last.memory) after ∙ ap (λ t. is_hit last.pc last.hart last.memory b && t) (reached spec.hit n h)
   where
     reached : (hit n : ℕ) → hit ≤ 4294967295 → leb hit (min (min n 4294967295 + 1) 4294967295) ≡ leb hit (n + 1)

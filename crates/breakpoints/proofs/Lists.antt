@@ -11,18 +11,23 @@ use Rattle.breakpoints.specs.Stops.{checked, counted, hit_in, is_hit, Lists, Pla
 
 -- ---- the addresses stay
 
-pub same_places : (f : Placed → Placed) → ((b : Placed) → (f b).address ≡ b.address) → (address : ℕ) (list : List Placed) → list_any (is_at address) (map f list) ≡ list_any (is_at address) list
+pub same_places : (f : Placed → Placed) → ((b : Placed) → (f b).address ≡ b.address) → (address : ℕ) (list : List Placed)
+    → list_any (is_at address) (map f list) ≡ list_any (is_at address) list
 same_places f same address [] = refl
 same_places f same address (b ∷ list) = rw (same b) (rw (same_places f same address list) refl)
 
-pub still_covers : (places : List ℕ) (f : Placed → Placed) → ((b : Placed) → (f b).address ≡ b.address) → (source instructions : List Placed) → Covers places source instructions → Covers places (map f source) (map f instructions)
-still_covers places f same source instructions h address = rw (same_places f same address source) (rw (same_places f same address instructions) (h address))
+pub still_covers : (places : List ℕ) (f : Placed → Placed) → ((b : Placed) → (f b).address ≡ b.address)
+    → (source instructions : List Placed) → Covers places source instructions → Covers places (map f source) (map f instructions)
+still_covers places f same source instructions h address =
+    rw (same_places f same address source) (rw (same_places f same address instructions) (h address))
 
 pub same_length : (f : Placed → Placed) (list : List Placed) → length (map f list) ≡ length list
 same_length f [] = refl
 same_length f (b ∷ list) = ap suc (same_length f list)
 
-pub still_kept : (places : List ℕ) (f : Placed → Placed) → ((b : Placed) → (f b).address ≡ b.address) → (source instructions : List Placed) (room more : ℕ) → room ≤ more → IsKept places source instructions room → IsKept places (map f source) (map f instructions) more
+pub still_kept : (places : List ℕ) (f : Placed → Placed) → ((b : Placed) → (f b).address ≡ b.address)
+    → (source instructions : List Placed) (room more : ℕ) → room ≤ more → IsKept places source instructions room
+    → IsKept places (map f source) (map f instructions) more
 still_kept places f same source instructions room more e h = record {
   covers = still_covers places f same source instructions h.covers;
   fits = rw (same_length f source) (rw (same_length f instructions) (omega (arith, h.fits, e)));
@@ -45,19 +50,22 @@ none_counted pc hart memory b h = rw h refl
 none_stops : (pc : ℕ) (hart : Hart) (memory : List ℕ) (b : Placed) → is_at pc b ≡ false → stops pc hart memory b ≡ false
 none_stops pc hart memory b h = rw h refl
 
-pub unchanged : (pc : ℕ) (hart : Hart) (memory : List ℕ) (list : List Placed) → list_any (is_at pc) list ≡ false → map (counted pc hart memory) list ≡ list
+pub unchanged : (pc : ℕ) (hart : Hart) (memory : List ℕ) (list : List Placed) → list_any (is_at pc) list ≡ false
+    → map (counted pc hart memory) list ≡ list
 unchanged pc hart memory [] h = refl
 unchanged pc hart memory (b ∷ list) h =
     let parts = or_parts (is_at pc b) (list_any (is_at pc) list) h in
     rw (none_counted pc hart memory b parts.0) (ap (λ (x : List Placed). b ∷ x) (unchanged pc hart memory list parts.1))
 
-pub no_ids : (pc : ℕ) (hart : Hart) (memory : List ℕ) (list : List Placed) → list_any (is_at pc) list ≡ false → stopping_ids pc hart memory list ≡ []
+pub no_ids : (pc : ℕ) (hart : Hart) (memory : List ℕ) (list : List Placed) → list_any (is_at pc) list ≡ false
+    → stopping_ids pc hart memory list ≡ []
 no_ids pc hart memory [] h = refl
 no_ids pc hart memory (b ∷ list) h =
     let parts = or_parts (is_at pc b) (list_any (is_at pc) list) h in
     rw (none_stops pc hart memory b parts.0) (no_ids pc hart memory list parts.1)
 
-pub no_stop : (pc : ℕ) (hart : Hart) (memory : List ℕ) (list : List Placed) → list_any (is_at pc) list ≡ false → list_any (stops pc hart memory) list ≡ false
+pub no_stop : (pc : ℕ) (hart : Hart) (memory : List ℕ) (list : List Placed) → list_any (is_at pc) list ≡ false
+    → list_any (stops pc hart memory) list ≡ false
 no_stop pc hart memory [] h = refl
 no_stop pc hart memory (b ∷ list) h =
     let parts = or_parts (is_at pc b) (list_any (is_at pc) list) h in
@@ -65,10 +73,12 @@ no_stop pc hart memory (b ∷ list) h =
 
 -- ---- one more breakpoint
 
-pub ids_more : (pc : ℕ) (hart : Hart) (memory : List ℕ) (list : List Placed) (i : ℕ) (b : Placed) → i < length list → stopping_ids pc hart memory (take (i + 1) list) ≡ stopping_ids pc hart memory (take i list) ++ cond (stops pc hart memory (get_or list i b)) ((get_or list i b).id ∷ []) []
+pub ids_more : (pc : ℕ) (hart : Hart) (memory : List ℕ) (list : List Placed) (i : ℕ) (b : Placed) → i < length list
+    → stopping_ids pc hart memory (take (i + 1) list) ≡ stopping_ids pc hart memory (take i list) ++ cond (stops pc hart memory (get_or list i b)) ((get_or list i b).id ∷ []) []
 ids_more pc hart memory list i b h =
     ap (map (λ (x : Placed). x.id)) (filter_more (stops pc hart memory) list i b h)
-    ∙ map-append (λ (x : Placed). x.id) (filter (stops pc hart memory) (take i list)) (cond (stops pc hart memory (get_or list i b)) (get_or list i b ∷ []) [])
+    ∙ map-append (λ (x : Placed). x.id) (filter (stops pc hart memory) (take i list))
+    (cond (stops pc hart memory (get_or list i b)) (get_or list i b ∷ []) [])
     ∙ ap (λ (x : List ℕ). stopping_ids pc hart memory (take i list) ++ x) (go (stops pc hart memory (get_or list i b)))
   where
     go : (t : Bool) → map (λ (x : Placed). x.id) (cond t (get_or list i b ∷ []) []) ≡ cond t ((get_or list i b).id ∷ []) []
@@ -77,13 +87,15 @@ ids_more pc hart memory list i b h =
 
 -- ---- the places of both lists
 
-pub places_cover : (source instructions : List Placed) (addresses places : List ℕ) → SamePlaces addresses places → addresses ≡ map (λ (b : Placed). b.address) source ++ map (λ (b : Placed). b.address) instructions → Covers places source instructions
+pub places_cover : (source instructions : List Placed) (addresses places : List ℕ) → SamePlaces addresses places
+    → addresses ≡ map (λ (b : Placed). b.address) source ++ map (λ (b : Placed). b.address) instructions → Covers places source instructions
 places_cover source instructions addresses places same e address =
     same address ∙ ap (has_place address) e
     ∙ list_any-append (λ place. place == address) (map (λ (b : Placed). b.address) source) (map (λ (b : Placed). b.address) instructions)
     ∙ both (any_address source) (any_address instructions)
   where
-    any_address : (list : List Placed) → list_any (λ place. place == address) (map (λ (b : Placed). b.address) list) ≡ list_any (is_at address) list
+    any_address : (list : List Placed)
+        → list_any (λ place. place == address) (map (λ (b : Placed). b.address) list) ≡ list_any (is_at address) list
     any_address [] = refl
     any_address (b ∷ list) = ap (λ t. is_at address b || t) (any_address list)
 
@@ -99,19 +111,26 @@ id_stays pc hart memory b = go (is_hit pc hart memory b) where
   go false = refl
 
 -- what a loop has not come to is as it was
-pub not_yet : {X : Type 0} (f : X → X) (xs ys : List X) (i : ℕ) (d : X) → i < length xs → ys ≡ map f (take i xs) ++ drop i xs → get_or ys i d ≡ get_or xs i d
+pub not_yet : {X : Type 0} (f : X → X) (xs ys : List X) (i : ℕ) (d : X) → i < length xs → ys ≡ map f (take i xs) ++ drop i xs
+    → get_or ys i d ≡ get_or xs i d
 not_yet f xs ys i d h e = ap (λ zs. get_or zs i d) e ∙ go f xs i d h where
   go : {X : Type 0} (f : X → X) (xs : List X) (i : ℕ) (d : X) → i < length xs → get_or (map f (take i xs) ++ drop i xs) i d ≡ get_or xs i d
   go f [] i d h = absurd (omega (arith, h))
   go f (x ∷ xs) zero d h = refl
   go f (x ∷ xs) (suc i) d h = go f xs i d (omega (arith, h))
 
-pub no_check : (pc : ℕ) (hart : Hart) (memory : List ℕ) (lists : Lists) → (list_any (is_at pc) lists.source || list_any (is_at pc) lists.instructions) ≡ false → checked pc hart memory lists ≡ record lists { ids = [] }
+pub no_check : (pc : ℕ) (hart : Hart) (memory : List ℕ) (lists : Lists)
+    → (list_any (is_at pc) lists.source || list_any (is_at pc) lists.instructions) ≡ false
+    → checked pc hart memory lists ≡ record lists { ids = [] }
 no_check pc hart memory lists h =
     let parts = or_parts (list_any (is_at pc) lists.source) (list_any (is_at pc) lists.instructions) h in
-    rw (unchanged pc hart memory lists.source parts.0) (rw (unchanged pc hart memory lists.instructions parts.1) (rw (no_ids pc hart memory lists.source parts.0) (rw (no_ids pc hart memory lists.instructions parts.1) refl)))
+    rw (unchanged pc hart memory lists.source parts.0)
+    (rw (unchanged pc hart memory lists.instructions parts.1)
+    (rw (no_ids pc hart memory lists.source parts.0) (rw (no_ids pc hart memory lists.instructions parts.1) refl)))
 
-pub no_hit : (pc : ℕ) (hart : Hart) (memory : List ℕ) (lists : Lists) → (list_any (is_at pc) lists.source || list_any (is_at pc) lists.instructions) ≡ false → hit_in pc hart memory lists ≡ record { source = false; instruction = false }
+pub no_hit : (pc : ℕ) (hart : Hart) (memory : List ℕ) (lists : Lists)
+    → (list_any (is_at pc) lists.source || list_any (is_at pc) lists.instructions) ≡ false
+    → hit_in pc hart memory lists ≡ record { source = false; instruction = false }
 no_hit pc hart memory lists h =
     let parts = or_parts (list_any (is_at pc) lists.source) (list_any (is_at pc) lists.instructions) h in
     rw (no_stop pc hart memory lists.source parts.0) (rw (no_stop pc hart memory lists.instructions parts.1) refl)

@@ -1,7 +1,7 @@
 -- What holds over many checks.
 use Rattle.std.specs.Prelude.{◌≡◌, ℕ, ◌+◌, ◌≤◌, nat_le, ◌&&◌, if◌then◌else◌, List, [], ◌∷◌}
 use Rattle.rv32i.specs.declared.hart.Hart.{Hart}
-use Rattle.breakpoints.specs.Stops.{counted, fresh, is_hit, Placed, stops, Wanted}
+use Rattle.breakpoints.specs.Stops.{counted, fresh, is_hit, Placed, reset, stops, Wanted}
 
 -- what a check looks at
 pub record Check : Type 0 where
@@ -25,3 +25,9 @@ abbrev pub StopsFromItsHit : Type 0
 StopsFromItsHit = (spec : Wanted) (checks : List Check) (last : Check) → spec.hit ≤ 4294967295 →
     stops last.pc last.hart last.memory (after_checks checks (fresh spec)) ≡
     (is_hit last.pc last.hart last.memory (fresh spec) && nat_le spec.hit (hits_among checks (fresh spec) + 1))
+
+-- One whose hits were taken away, however often it was hit, counts anew.
+abbrev pub ResetCountsAnew : Type 0
+ResetCountsAnew = (b : Placed) (checks : List Check) (last : Check) → b.hit ≤ 4294967295 →
+    stops last.pc last.hart last.memory (after_checks checks (reset b)) ≡
+    (is_hit last.pc last.hart last.memory b && nat_le b.hit (hits_among checks (reset b) + 1))

@@ -1,9 +1,14 @@
 //! What holds over many checks: each law is the contract of a function that does nothing.
 
-ghost use Rattle.breakpoints.specs.Laws.{StopsFromItsHit};
+ghost use Rattle.breakpoints.specs.Laws.{ResetCountsAnew, StopsFromItsHit};
 
 /// A breakpoint stops from its N-th hit on, N being the number that it was set with: at each check where it is hit, and was hit N - 1
 /// times before.
 pub fn stops_from_its_hit()
     ensures { StopsFromItsHit }
+{}
+
+/// A breakpoint whose hits were taken away stops as one that was just set: from its N-th hit since then on.
+pub fn reset_counts_anew()
+    ensures { ResetCountsAnew }
 {}

@@ -18,12 +18,14 @@ use Rattle.stepping.proofs.Loading.{one_is_loaded, one_is_reloaded}
 pub just_is : (image : Image) (size : ℕ) (d : Debugged) → IsLoaded image size no_breakpoints d → d ≡ loaded image size no_breakpoints
 just_is image size d h = (one_is_loaded image size no_breakpoints d).0 h
 
-pub anew_is : (image : Image) (before after : Debugged) → IsLoaded image before.size (not_hit before.lists) after → after ≡ reloaded image before
+pub anew_is : (image : Image) (before after : Debugged) → IsLoaded image before.size (not_hit before.lists) after
+    → after ≡ reloaded image before
 anew_is image before after h = (one_is_reloaded image before after).0 h
 
 -- ---- moves keep the size of memory
 
-settled_size : (before after : Debugged) (s : Stepped) (instr : Option Instr) (pc : ℕ) → after ≡ settled s instr pc (moved_as before after) → after.size ≡ before.size
+settled_size : (before after : Debugged) (s : Stepped) (instr : Option Instr) (pc : ℕ) → after ≡ settled s instr pc (moved_as before after)
+    → after.size ≡ before.size
 settled_size before after Retired instr pc h = ap (λ (d : Debugged). d.size) h
 settled_size before after (Printed number) instr pc h = ap (λ (d : Debugged). d.size) h
 settled_size before after Break instr pc h = ap (λ (d : Debugged). d.size) h
@@ -36,7 +38,8 @@ tick_size before after answer h = by_due before.check_due h where
   by_move instr (Ok s) e = settled_size before after s instr before.hart.pc e.1
   by_move instr (Err error) e = ap (λ (d : Debugged). d.size) e.1
 
-  by_due : (due : Bool) → MatchBool due ((answer ≡ Ok (entry_tick before)) × (after ≡ entry_checked before)) (Moves before answer after) → after.size ≡ before.size
+  by_due : (due : Bool) → MatchBool due ((answer ≡ Ok (entry_tick before)) × (after ≡ entry_checked before)) (Moves before answer after)
+      → after.size ≡ before.size
   by_due true e = ap (λ (d : Debugged). d.size) e.1
   by_due false m = by_move m.instr m.stepped m.settles
 
@@ -51,7 +54,8 @@ run_size most before ran after h = by ran.ending h.ends ∙ goes_size ran.went b
   by (Ticked tick) e = tick_size h.middle after (Ok tick) e.1.1
   by NoMemory e = tick_size h.middle after _ e.1
 
-pub still_loadable : (image : Image) (most : ℕ) (before : Debugged) (ran : Ran) (after : Debugged) → IsRun most before ran after → CanBeLoaded image before.size → CanBeLoaded image after.size
+pub still_loadable : (image : Image) (most : ℕ) (before : Debugged) (ran : Ran) (after : Debugged) → IsRun most before ran after
+    → CanBeLoaded image before.size → CanBeLoaded image after.size
 still_loadable image most before ran after h c = subst (λ n. CanBeLoaded image n) (sym (run_size most before ran after h)) c
 
 pub on_ok : {A B : Type 0} (P Q : Type 0) (r : Result A B) → (P → Q) → OnOk r P → OnOk r Q

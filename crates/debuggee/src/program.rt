@@ -146,10 +146,12 @@ impl Program {
         }
     }
 
-    /// Makes the check at the entry, whether it is due or not, and none is due then: the breakpoints at pc are looked at, and nothing
-    /// moves. It owes the stop, if one of them stops it.
+    /// Makes the check at the entry, which is due, and none is due then: the breakpoints at pc are looked at, and nothing moves. It
+    /// owed nothing, and owes the stop, if one of them stops it.
     #[tactic(auto, using(crate::proofs::Advancing::entry_names_none))]
     pub fn check_entry(&mut self)
+        requires due { self.old.machine.check_due ≡ true }
+        requires owed { self.old.owed ≡ None }
         ensures { self.new ≡ spec.entered self.old }
     {
         let tick = self.runner.check();

@@ -36,24 +36,29 @@ advance_answers before after a = (machine_of after.hart after.memory, a.moved)
 
 -- ---- a tick answers
 
-no_fetch_lacks_memory : (aligned there : Bool) (word : ℕ) → unless_fault (if not aligned then Some fault.Misaligned else if there then None else Some fault.Outside) word ≡ Err fault.NoMemory → ⊥
+no_fetch_lacks_memory : (aligned there : Bool) (word : ℕ)
+    → unless_fault (if not aligned then Some fault.Misaligned else if there then None else Some fault.Outside) word ≡ Err fault.NoMemory → ⊥
 no_fetch_lacks_memory true true word e = cc
 no_fetch_lacks_memory true false word e = cc
 no_fetch_lacks_memory false there word e = cc
 
 pub move_answers : (m : Machine) (e : Effect) → IsMove m e → is_ok e.answer ≡ true
 move_answers m e i = go (word_at m.memory m.pc) refl i where
-  decided : (ok : Bool) → is_ok e.answer ≡ ok → (word : ℕ) → ((j : Instr) → Encodes j word → e ≡ effect_of j m) × (IsIllegal word → e ≡ trapped Illegal m) → is_ok e.answer ≡ true
+  decided : (ok : Bool) → is_ok e.answer ≡ ok → (word : ℕ)
+      → ((j : Instr) → Encodes j word → e ≡ effect_of j m) × (IsIllegal word → e ≡ trapped Illegal m) → is_ok e.answer ≡ true
   decided true o word h = o
   decided false o word h =
       let none : IsIllegal word = λ j q. let never : false ≡ true = sym o ∙ step_answers m e j (h.0 j q) in cc in
       ap (λ (x : Effect). is_ok x.answer) (h.1 none)
 
-  go : (w : Result ℕ MemFault) → word_at m.memory m.pc ≡ w → MatchResult w (λ word. ((j : Instr) → Encodes j word → e ≡ effect_of j m) × (IsIllegal word → e ≡ trapped Illegal m)) (λ f. e ≡ fetch_fault f m) → is_ok e.answer ≡ true
+  go : (w : Result ℕ MemFault) → word_at m.memory m.pc ≡ w
+      → MatchResult w (λ word. ((j : Instr) → Encodes j word → e ≡ effect_of j m) × (IsIllegal word → e ≡ trapped Illegal m)) (λ f. e ≡ fetch_fault f m)
+      → is_ok e.answer ≡ true
   go (Ok word) w h = decided (is_ok e.answer) refl word h
   go (Err fault.Misaligned) w h = ap (λ (x : Effect). is_ok x.answer) h
   go (Err fault.Outside) w h = ap (λ (x : Effect). is_ok x.answer) h
-  go (Err fault.NoMemory) w h = absurd (no_fetch_lacks_memory (nat_eq (m.pc % 4) 0) (has_bytes m.memory m.pc 4) (little_endian (bytes_at m.memory m.pc 4)) w)
+  go (Err fault.NoMemory) w h =
+      absurd (no_fetch_lacks_memory (nat_eq (m.pc % 4) 0) (has_bytes m.memory m.pc 4) (little_endian (bytes_at m.memory m.pc 4)) w)
 
 pub each_tick_answers : EachTickAnswers
 each_tick_answers before after answer t = go before.check_due t where
@@ -61,20 +66,27 @@ each_tick_answers before after answer t = go before.check_due t where
   moved (Ok s) instr o h = ap is_ok h.0
   moved (Err error) instr o h = let never : false ≡ true = o in cc
 
-  go : (due : Bool) → MatchBool due ((answer ≡ Ok (entry_tick before)) × (after ≡ entry_checked before)) (Moves before answer after) → IsOk answer
+  go : (due : Bool) → MatchBool due ((answer ≡ Ok (entry_tick before)) × (after ≡ entry_checked before)) (Moves before answer after)
+      → IsOk answer
   go true h = ap is_ok h.0
-  go false h = moved h.stepped h.instr (move_answers (machine_of before.hart before.memory) (record { answer = h.stepped; machine = machine_of after.hart after.memory }) h.moved) h.settles
+  go false h =
+      moved h.stepped h.instr
+      (move_answers (machine_of before.hart before.memory)
+      (record { answer = h.stepped; machine = machine_of after.hart after.memory }) h.moved) h.settles
 
 -- ---- one move more is one tick
 
-retires_settled : (s : Stepped) (instr : Instr) (before after : Debugged) → IsTrue (has_retired s) → after ≡ gone_on (Some instr) before.hart.pc (moved_as before after) → after ≡ settled s (Some instr) before.hart.pc (moved_as before after)
+retires_settled : (s : Stepped) (instr : Instr) (before after : Debugged) → IsTrue (has_retired s)
+    → after ≡ gone_on (Some instr) before.hart.pc (moved_as before after)
+    → after ≡ settled s (Some instr) before.hart.pc (moved_as before after)
 retires_settled Retired instr before after r e = e
 retires_settled (Printed number) instr before after r e = e
 retires_settled Breakpoint instr before after r e = e
 retires_settled (Exit code) instr before after r e = let never : false ≡ true = r in cc
 retires_settled (Trap cause) instr before after r e = let never : false ≡ true = r in cc
 
-pub advance_moves : (before after : Debugged) → (a : Advances before after) → Moves before (Ok (tick_of a.answer (Some a.instr) before.hart.pc (moved_as before after))) after
+pub advance_moves : (before after : Debugged) → (a : Advances before after)
+    → Moves before (Ok (tick_of a.answer (Some a.instr) before.hart.pc (moved_as before after))) after
 advance_moves before after a = record {
   instr = Some a.instr;
   stepped = Ok a.answer;
@@ -98,21 +110,30 @@ retired_goes_not (Trap cause) r g = let never : false ≡ true = r in cc
 abbrev just : Instr → Option Instr
 just instr = Some instr
 
-fetched_is_decoded : (m : Machine) (instr : Instr) → IsFetched m (Some instr) → (word : ℕ) × ((word_at m.memory m.pc ≡ Ok word) × Encodes instr word)
+fetched_is_decoded : (m : Machine) (instr : Instr) → IsFetched m (Some instr)
+    → (word : ℕ) × ((word_at m.memory m.pc ≡ Ok word) × Encodes instr word)
 fetched_is_decoded m instr f = go (word_at m.memory m.pc) refl f where
-  go : (w : Result ℕ MemFault) → word_at m.memory m.pc ≡ w → MatchResult w (λ word. Encodes instr word) (λ fault. just instr ≡ None) → (word : ℕ) × ((word_at m.memory m.pc ≡ Ok word) × Encodes instr word)
+  go : (w : Result ℕ MemFault) → word_at m.memory m.pc ≡ w → MatchResult w (λ word. Encodes instr word) (λ fault. just instr ≡ None)
+      → (word : ℕ) × ((word_at m.memory m.pc ≡ Ok word) × Encodes instr word)
   go (Ok word) e h = (word, (e, h))
   go (Err fault) e h = absurd (cc)
 
-settled_retires : (s : Stepped) (instr : Instr) (before after : Debugged) → IsTrue (has_retired s) → after ≡ settled s (Some instr) before.hart.pc (moved_as before after) → after ≡ gone_on (Some instr) before.hart.pc (moved_as before after)
+settled_retires : (s : Stepped) (instr : Instr) (before after : Debugged) → IsTrue (has_retired s)
+    → after ≡ settled s (Some instr) before.hart.pc (moved_as before after)
+    → after ≡ gone_on (Some instr) before.hart.pc (moved_as before after)
 settled_retires Retired instr before after r e = e
 settled_retires (Printed number) instr before after r e = e
 settled_retires Breakpoint instr before after r e = e
 settled_retires (Exit code) instr before after r e = let never : false ≡ true = r in cc
 settled_retires (Trap cause) instr before after r e = let never : false ≡ true = r in cc
 
-pub advances_so : (before after : Debugged) (instr : Option Instr) (s : Stepped) → IsFetched (machine_of before.hart before.memory) instr → IsMove (machine_of before.hart before.memory) (record { answer = Ok s; machine = machine_of after.hart after.memory }) → IsTrue (has_retired s) → after ≡ settled s instr before.hart.pc (moved_as before after) → (i : Instr) × ((instr ≡ Some i) × Advances before after)
-advances_so before after None s f m r e = absurd (retired_goes_not s r (none_retires (machine_of before.hart before.memory) (record { answer = Ok s; machine = machine_of after.hart after.memory }) f m))
+pub advances_so : (before after : Debugged) (instr : Option Instr) (s : Stepped) → IsFetched (machine_of before.hart before.memory) instr
+    → IsMove (machine_of before.hart before.memory) (record { answer = Ok s; machine = machine_of after.hart after.memory })
+    → IsTrue (has_retired s) → after ≡ settled s instr before.hart.pc (moved_as before after)
+    → (i : Instr) × ((instr ≡ Some i) × Advances before after)
+advances_so before after None s f m r e =
+    absurd (retired_goes_not s r
+    (none_retires (machine_of before.hart before.memory) (record { answer = Ok s; machine = machine_of after.hart after.memory }) f m))
 advances_so before after (Some i) s f m r e = (
   i,
   (
@@ -141,7 +162,8 @@ machines_equal : (a b : Machine) → ((a ≡ b → ⊥) → ⊥) → a ≡ b
 machines_equal a b n =
     let p : a.pc ≡ b.pc = holds (eqb a.pc b.pc) (Decides-eqb a.pc b.pc) (λ no. n (λ h. no (ap (λ (m : Machine). m.pc) h))) in
     let x : a.x ≡ b.x = holds (bytes_eq a.x b.x) (bytes_eq-Decides a.x b.x) (λ no. n (λ h. no (ap (λ (m : Machine). m.x) h))) in
-    let l : a.memory ≡ b.memory = holds (bytes_eq a.memory b.memory) (bytes_eq-Decides a.memory b.memory) (λ no. n (λ h. no (ap (λ (m : Machine). m.memory) h))) in
+    let l : a.memory ≡ b.memory = holds (bytes_eq a.memory b.memory) (bytes_eq-Decides a.memory b.memory)
+    (λ no. n (λ h. no (ap (λ (m : Machine). m.memory) h))) in
     ap (λ q. machine q a.x a.memory) p ∙ ap (λ q. machine b.pc q a.memory) x ∙ ap (λ q. machine b.pc b.x q) l
 
 kept : (s : Stepped) (before after : Machine) → has_retired s ≡ false → KeepsMachine (Ok s) before after → after ≡ before
@@ -158,18 +180,26 @@ fetch_keeps fault.NoMemory m = refl
 
 pub machine_stays : (m : Machine) (e : Effect) (s : Stepped) → has_retired s ≡ false → e.answer ≡ Ok s → IsMove m e → e.machine ≡ m
 machine_stays m e s r a i = go (word_at m.memory m.pc) i where
-  go : (w : Result ℕ MemFault) → MatchResult w (λ word. ((j : Instr) → Encodes j word → e ≡ effect_of j m) × (IsIllegal word → e ≡ trapped Illegal m)) (λ f. e ≡ fetch_fault f m) → e.machine ≡ m
+  go : (w : Result ℕ MemFault)
+      → MatchResult w (λ word. ((j : Instr) → Encodes j word → e ≡ effect_of j m) × (IsIllegal word → e ≡ trapped Illegal m)) (λ f. e ≡ fetch_fault f m)
+      → e.machine ≡ m
   go (Ok word) h = machines_equal e.machine m (λ no.
-      let none : IsIllegal word = λ j q. no (kept s m e.machine r (subst (λ (t : Result Stepped AllocError). KeepsMachine t m e.machine) a (step_keeps m e j (h.0 j q)).unchanged)) in
+      let none : IsIllegal word = λ j q. no
+      (kept s m e.machine r
+      (subst (λ (t : Result Stepped AllocError). KeepsMachine t m e.machine) a (step_keeps m e j (h.0 j q)).unchanged)) in
       no (ap (λ (x : Effect). x.machine) (h.1 none)))
   go (Err f) h = ap (λ (x : Effect). x.machine) h ∙ fetch_keeps f m
 
-pub stays_so : (before after : Debugged) (s : Stepped) → has_retired s ≡ false → IsMove (machine_of before.hart before.memory) (record { answer = Ok s; machine = machine_of after.hart after.memory }) → after ≡ stayed (moved_as before after) → after ≡ stayed before
+pub stays_so : (before after : Debugged) (s : Stepped) → has_retired s ≡ false
+    → IsMove (machine_of before.hart before.memory) (record { answer = Ok s; machine = machine_of after.hart after.memory })
+    → after ≡ stayed (moved_as before after) → after ≡ stayed before
 stays_so before after s r m e =
-    let same : machine_of after.hart after.memory ≡ machine_of before.hart before.memory = machine_stays (machine_of before.hart before.memory) (record { answer = Ok s; machine = machine_of after.hart after.memory }) s r refl m in
+    let same : machine_of after.hart after.memory ≡ machine_of before.hart before.memory = machine_stays
+    (machine_of before.hart before.memory) (record { answer = Ok s; machine = machine_of after.hart after.memory }) s r refl m in
     let hart = harts_equal after.hart before.hart (ap (λ (m : Machine). m.pc) same) (ap (λ (m : Machine). m.x) same) in
     let memory : after.memory ≡ before.memory = ap (λ (m : Machine). m.memory) same in
-    e ∙ ap (λ h. stayed (record before { hart = h; memory = after.memory })) hart ∙ ap (λ l. stayed (record before { hart = before.hart; memory = l })) memory
+    e ∙ ap (λ h. stayed (record before { hart = h; memory = after.memory })) hart
+    ∙ ap (λ l. stayed (record before { hart = before.hart; memory = l })) memory
 
 -- ---- the machine after so many moves
 
@@ -183,7 +213,8 @@ after_ready (suc n) start after a = ap (λ (d : Debugged). d.check_due) a.1.1.le
 
 pub after_equal : (n : ℕ) (start after other : Debugged) → After n start after → After n start other → after ≡ other
 after_equal zero start after other a b = a ∙ sym b
-after_equal (suc n) start after other a b = advance_equal a.0 after other a.1.1 (subst (λ (d : Debugged). Advances d other) (after_equal n start b.0 a.0 b.1.0 a.1.0) b.1.1)
+after_equal (suc n) start after other a b =
+    advance_equal a.0 after other a.1.1 (subst (λ (d : Debugged). Advances d other) (after_equal n start b.0 a.0 b.1.0 a.1.0) b.1.1)
 
 -- a move that was made on the way
 abbrev pub Made : ℕ → Debugged → Type 0
@@ -198,8 +229,11 @@ after_lower (suc n) k start after l a = go (eqb k n) (Decides-eqb k n) (λ less.
 
 -- ---- a tick after the entry
 
-pub ticks_by_moves : (before after : Debugged) (answer : Result Tick AllocError) → before.check_due ≡ false → IsTick before answer after → Moves before answer after
+pub ticks_by_moves : (before after : Debugged) (answer : Result Tick AllocError) → before.check_due ≡ false → IsTick before answer after
+    → Moves before answer after
 ticks_by_moves before after answer e t = go before.check_due e t where
-  go : (due : Bool) → due ≡ false → MatchBool due ((answer ≡ Ok (entry_tick before)) × (after ≡ entry_checked before)) (Moves before answer after) → Moves before answer after
+  go : (due : Bool) → due ≡ false
+      → MatchBool due ((answer ≡ Ok (entry_tick before)) × (after ≡ entry_checked before)) (Moves before answer after)
+      → Moves before answer after
   go true e h = cc
   go false e h = h

@@ -25,13 +25,15 @@ and_true true = refl
 and_true false = refl
 
 -- all depths are above one where the least is, and at most one where the greatest is
-pub all_above : (before depth : ℕ) (marks : List Mark) → list_all (λ d. nat_lt before d) (depths_through depth marks) ≡ nat_lt before (least depth marks)
+pub all_above : (before depth : ℕ) (marks : List Mark)
+    → list_all (λ d. nat_lt before d) (depths_through depth marks) ≡ nat_lt before (least depth marks)
 all_above before depth [] = and_true (nat_lt before depth)
 all_above before depth (mark ∷ marks) =
     ap (λ (t : Bool). nat_lt before depth && t) (all_above before (depth_after depth mark) marks)
     ∙ below_both before depth (least (depth_after depth mark) marks)
 
-pub all_within : (most depth : ℕ) (marks : List Mark) → list_all (λ d. nat_le d most) (depths_through depth marks) ≡ nat_le (greatest depth marks) most
+pub all_within : (most depth : ℕ) (marks : List Mark)
+    → list_all (λ d. nat_le d most) (depths_through depth marks) ≡ nat_le (greatest depth marks) most
 all_within most depth [] = and_true (nat_le depth most)
 all_within most depth (mark ∷ marks) =
     ap (λ (t : Bool). nat_le depth most && t) (all_within most (depth_after depth mark) marks)
@@ -55,14 +57,17 @@ greatest-end depth [] = omega arith
 greatest-end depth (mark ∷ marks) = omega (arith, greatest-end (depth_after depth mark) marks)
 
 -- one mark more
-pub depth_through-more : (depth : ℕ) (marks : List Mark) (mark : Mark) → depth_through depth (marks ++ mark ∷ []) ≡ depth_after (depth_through depth marks) mark
+pub depth_through-more : (depth : ℕ) (marks : List Mark) (mark : Mark)
+    → depth_through depth (marks ++ mark ∷ []) ≡ depth_after (depth_through depth marks) mark
 depth_through-more depth [] mark = refl
 depth_through-more depth (m ∷ marks) mark = depth_through-more (depth_after depth m) marks mark
 
-pub least-more : (depth : ℕ) (marks : List Mark) (mark : Mark) → least depth (marks ++ mark ∷ []) ≡ min (least depth marks) (depth_after (depth_through depth marks) mark)
+pub least-more : (depth : ℕ) (marks : List Mark) (mark : Mark)
+    → least depth (marks ++ mark ∷ []) ≡ min (least depth marks) (depth_after (depth_through depth marks) mark)
 least-more depth [] mark = refl
 least-more depth (m ∷ marks) mark = omega (arith, least-more (depth_after depth m) marks mark)
 
-pub greatest-more : (depth : ℕ) (marks : List Mark) (mark : Mark) → greatest depth (marks ++ mark ∷ []) ≡ max (greatest depth marks) (depth_after (depth_through depth marks) mark)
+pub greatest-more : (depth : ℕ) (marks : List Mark) (mark : Mark)
+    → greatest depth (marks ++ mark ∷ []) ≡ max (greatest depth marks) (depth_after (depth_through depth marks) mark)
 greatest-more depth [] mark = refl
 greatest-more depth (m ∷ marks) mark = omega (arith, greatest-more (depth_after depth m) marks mark)

@@ -46,14 +46,17 @@ nothing = None
 
 pub one_fetched : (m : Machine) (a b : Option Instr) → IsFetched m a → IsFetched m b → a ≡ b
 one_fetched m a b x y = go (word_at m.memory m.pc) x y where
-  go : (w : Result ℕ MemFault) → MatchResult w (λ word. IsDecoding word a) (λ fault. a ≡ nothing) → MatchResult w (λ word. IsDecoding word b) (λ fault. b ≡ nothing) → a ≡ b
+  go : (w : Result ℕ MemFault) → MatchResult w (λ word. IsDecoding word a) (λ fault. a ≡ nothing)
+      → MatchResult w (λ word. IsDecoding word b) (λ fault. b ≡ nothing) → a ≡ b
   go (Ok word) d e = one_decoding word a b d e
   go (Err fault) d e = d ∙ sym e
 
 -- ---- and makes one move
 
 -- what a debugged machine leaves of a move is what it settles
-settle_equal : (before after other : Debugged) (instr : Option Instr) (s : Result Stepped AllocError) (answer another : Result Tick AllocError) → moved_as before after ≡ moved_as before other → Settles before instr s answer after → Settles before instr s another other → (answer ≡ another) × (after ≡ other)
+settle_equal : (before after other : Debugged) (instr : Option Instr) (s : Result Stepped AllocError) (answer another : Result Tick AllocError)
+    → moved_as before after ≡ moved_as before other → Settles before instr s answer after → Settles before instr s another other
+    → (answer ≡ another) × (after ≡ other)
 settle_equal before after other instr (Ok s) answer another e a b = (
   a.0 ∙ ap (λ (d : Debugged). Ok (tick_of s instr before.hart.pc d)) e ∙ sym b.0,
   a.1 ∙ ap (λ (d : Debugged). settled s instr before.hart.pc d) e ∙ sym b.1,
@@ -63,7 +66,8 @@ settle_equal before after other instr (Err error) answer another e a b = (a.0 �
 abbrev with_move : Debugged → Hart → List ℕ → Debugged
 with_move d hart memory = record d { hart = hart; memory = memory }
 
-pub one_settled : (before after other : Debugged) (answer another : Result Tick AllocError) → Moves before answer after → Moves before another other → (answer ≡ another) × (after ≡ other)
+pub one_settled : (before after other : Debugged) (answer another : Result Tick AllocError) → Moves before answer after
+    → Moves before another other → (answer ≡ another) × (after ≡ other)
 one_settled before after other answer another a b =
     let m : Machine = machine_of before.hart before.memory in
     let left : Effect = record { answer = a.stepped; machine = machine_of after.hart after.memory } in
@@ -71,14 +75,19 @@ one_settled before after other answer another a b =
     let instr : a.instr ≡ b.instr = one_fetched m a.instr b.instr a.fetched b.fetched in
     let effect : left ≡ right = one_move m left right a.moved b.moved in
     let stepped : a.stepped ≡ b.stepped = ap (λ (e : Effect). e.answer) effect in
-    let hart : after.hart ≡ other.hart = harts_equal after.hart other.hart (ap (λ (e : Effect). e.machine.pc) effect) (ap (λ (e : Effect). e.machine.x) effect) in
+    let hart : after.hart ≡ other.hart = harts_equal after.hart other.hart (ap (λ (e : Effect). e.machine.pc) effect)
+    (ap (λ (e : Effect). e.machine.x) effect) in
     let memory : after.memory ≡ other.memory = ap (λ (e : Effect). e.machine.memory) effect in
-    let moved : moved_as before after ≡ moved_as before other = ap (λ h. with_move before h after.memory) hart ∙ ap (λ l. with_move before other.hart l) memory in
-    let settles : Settles before b.instr b.stepped answer after = subst (λ s. Settles before b.instr s answer after) stepped (subst (λ i. Settles before i a.stepped answer after) instr a.settles) in
+    let moved : moved_as before after ≡ moved_as before other = ap (λ h. with_move before h after.memory) hart
+    ∙ ap (λ l. with_move before other.hart l) memory in
+    let settles : Settles before b.instr b.stepped answer after = subst (λ s. Settles before b.instr s answer after) stepped
+    (subst (λ i. Settles before i a.stepped answer after) instr a.settles) in
     settle_equal before after other b.instr b.stepped answer another moved settles b.settles
 
 pub tick_is_deterministic : TickIsDeterministic
 tick_is_deterministic before after other answer another a b = go before.check_due a b where
-  go : (due : Bool) → MatchBool due ((answer ≡ Ok (entry_tick before)) × (after ≡ entry_checked before)) (Moves before answer after) → MatchBool due ((another ≡ Ok (entry_tick before)) × (other ≡ entry_checked before)) (Moves before another other) → (answer ≡ another) × (after ≡ other)
+  go : (due : Bool) → MatchBool due ((answer ≡ Ok (entry_tick before)) × (after ≡ entry_checked before)) (Moves before answer after)
+      → MatchBool due ((another ≡ Ok (entry_tick before)) × (other ≡ entry_checked before)) (Moves before another other)
+      → (answer ≡ another) × (after ≡ other)
   go true x y = (x.0 ∙ sym y.0, x.1 ∙ sym y.1)
   go false x y = one_settled before after other answer another x y

@@ -28,7 +28,8 @@ fetches m = by_word (word_at m.memory m.pc) refl where
   by_word (Err fault) e = record { instr = None; is = rw e refl }
 
 -- what settles changes neither hart nor memory
-same_machine : (stepped : Stepped) (instr : Option Instr) (before middle : Debugged) (pc : ℕ) → moved_as before middle ≡ middle → moved_as before (settled stepped instr pc middle) ≡ middle
+same_machine : (stepped : Stepped) (instr : Option Instr) (before middle : Debugged) (pc : ℕ) → moved_as before middle ≡ middle
+    → moved_as before (settled stepped instr pc middle) ≡ middle
 same_machine Retired instr before middle pc e = e
 same_machine (Printed number) instr before middle pc e = e
 same_machine Break instr before middle pc e = e
@@ -42,11 +43,15 @@ effect_with answer machine = record { answer = answer; machine = machine }
 abbrev moved_to : Debugged → Machine → Hart → Debugged
 moved_to d m hart = record d { hart = hart; memory = m.memory }
 
-not_due : (d : Debugged) (answer : Result Tick AllocError) (after : Debugged) → d.check_due ≡ false → Moves d answer after → IsTick d answer after
-not_due d answer after due h = subst (λ (b : Bool). MatchBool b ((answer ≡ Ok (entry_tick d)) × (after ≡ entry_checked d)) (Moves d answer after)) (sym due) h
+not_due : (d : Debugged) (answer : Result Tick AllocError) (after : Debugged) → d.check_due ≡ false → Moves d answer after
+    → IsTick d answer after
+not_due d answer after due h =
+    subst (λ (b : Bool). MatchBool b ((answer ≡ Ok (entry_tick d)) × (after ≡ entry_checked d)) (Moves d answer after)) (sym due) h
 
-is_due : (d : Debugged) (answer : Result Tick AllocError) (after : Debugged) → d.check_due ≡ true → (answer ≡ Ok (entry_tick d)) × (after ≡ entry_checked d) → IsTick d answer after
-is_due d answer after due h = subst (λ (b : Bool). MatchBool b ((answer ≡ Ok (entry_tick d)) × (after ≡ entry_checked d)) (Moves d answer after)) (sym due) h
+is_due : (d : Debugged) (answer : Result Tick AllocError) (after : Debugged) → d.check_due ≡ true
+    → (answer ≡ Ok (entry_tick d)) × (after ≡ entry_checked d) → IsTick d answer after
+is_due d answer after due h =
+    subst (λ (b : Bool). MatchBool b ((answer ≡ Ok (entry_tick d)) × (after ≡ entry_checked d)) (Moves d answer after)) (sym due) h
 
 moves : (d : Debugged) → d.check_due ≡ false → HasMove (machine_of d.hart d.memory) → HasTick d
 moves d due move = by_answer move.effect.answer refl (move_answers (machine_of d.hart d.memory) move.effect move.is) where
@@ -72,13 +77,17 @@ moves d due move = by_answer move.effect.answer refl (move_answers (machine_of d
           instr = f.instr;
           stepped = Ok stepped;
           fetched = f.is;
-          moved = subst (IsMove (machine_of d.hart d.memory)) (ap (λ (a : Result Stepped AllocError). effect_with a m) e ∙ ap (λ (x : Debugged). effect_with (Ok stepped) (machine_of x.hart x.memory)) (sym same)) move.is;
+          moved =
+              subst (IsMove (machine_of d.hart d.memory))
+              (ap (λ (a : Result Stepped AllocError). effect_with a m) e
+              ∙ ap (λ (x : Debugged). effect_with (Ok stepped) (machine_of x.hart x.memory)) (sym same)) move.is;
           settles = (ap (λ x. Ok (tick_of stepped f.instr d.hart.pc x)) (sym same), ap (settled stepped f.instr d.hart.pc) (sym same));
         });
       }
 
 by_check : (d : Debugged) (due : Bool) → d.check_due ≡ due → HasTick d
-by_check d true due = record { tick = entry_tick d; after = entry_checked d; is = is_due d (Ok (entry_tick d)) (entry_checked d) due (refl, refl) }
+by_check d true due =
+    record { tick = entry_tick d; after = entry_checked d; is = is_due d (Ok (entry_tick d)) (entry_checked d) due (refl, refl) }
 by_check d false due = moves d due (the_move (machine_of d.hart d.memory))
 
 pub the_tick : (d : Debugged) → HasTick d

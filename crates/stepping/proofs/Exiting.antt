@@ -20,7 +20,8 @@ no_end hit met = by hit.source hit.instruction met where
   by false false true = tt
   by false false false = tt
 
-of_stepped : (stepped : Stepped) (instr : Option Instr) (pc : ℕ) (d : Debugged) → HasCode (Ok stepped) → HasSignedCode (tick_of stepped instr pc d).outcome
+of_stepped : (stepped : Stepped) (instr : Option Instr) (pc : ℕ) (d : Debugged) → HasCode (Ok stepped)
+    → HasSignedCode (tick_of stepped instr pc d).outcome
 of_stepped Retired instr pc d h = no_end _ _
 of_stepped (Printed number) instr pc d h = no_end _ _
 of_stepped Break instr pc d h = tt
@@ -33,15 +34,21 @@ IsAnswer answer tick = answer ≡ Ok tick
 one_tick : (tick other : Tick) → IsAnswer (Ok tick) other → tick ≡ other
 one_tick tick other e = cc
 
-of_answer : (answer : Result Stepped AllocError) (before after : Debugged) (instr : Option Instr) (tick : Tick) → HasCode answer → Settles before instr answer (Ok tick) after → HasSignedCode tick.outcome
+of_answer : (answer : Result Stepped AllocError) (before after : Debugged) (instr : Option Instr) (tick : Tick) → HasCode answer
+    → Settles before instr answer (Ok tick) after → HasSignedCode tick.outcome
 of_answer (Ok stepped) before after instr tick h s =
     let is : Tick = tick_of stepped instr before.hart.pc (moved_as before after) in
-    subst (λ (t : Tick). HasSignedCode t.outcome) (sym (one_tick tick is s.0)) (of_stepped stepped instr before.hart.pc (moved_as before after) h)
+    subst (λ (t : Tick). HasSignedCode t.outcome) (sym (one_tick tick is s.0))
+    (of_stepped stepped instr before.hart.pc (moved_as before after) h)
 of_answer (Err error) before after instr tick h s = absurd (let e : Ok tick ≡ Err error = s.0 in cc)
 
 pub ends_with_codes : EndsWithCodes
 ends_with_codes before after tick t = go before.check_due t where
-  go : (due : Bool) → MatchBool due (IsAnswer (Ok tick) (entry_tick before) × (after ≡ entry_checked before)) (Moves before (Ok tick) after) → HasSignedCode tick.outcome
+  go : (due : Bool) → MatchBool due (IsAnswer (Ok tick) (entry_tick before) × (after ≡ entry_checked before)) (Moves before (Ok tick) after)
+      → HasSignedCode tick.outcome
   go true h =
       subst (λ (t : Tick). HasSignedCode t.outcome) (sym (one_tick tick (entry_tick before) h.0)) (no_end (hit_at_pc before) false)
-  go false h = of_answer h.stepped before after h.instr tick (exit_codes_are_words (machine_of before.hart before.memory) (record { answer = h.stepped; machine = machine_of after.hart after.memory }) h.moved) h.settles
+  go false h =
+      of_answer h.stepped before after h.instr tick
+      (exit_codes_are_words (machine_of before.hart before.memory)
+      (record { answer = h.stepped; machine = machine_of after.hart after.memory }) h.moved) h.settles

@@ -18,32 +18,49 @@ use Rattle.stepping.specs.declared.tick.Tick.{Tick}
 use Rattle.stepping.proofs.Moving.{moves_on}
 
 -- a tick is the check at the entry, or a move
-pub entry_advances : (before after : Debugged) (ending : Option RunEnd) → before.check_due ≡ true → IsEnding (Ok (entry_tick before)) ending → after ≡ entry_checked before → Advances before ending after
+pub entry_advances : (before after : Debugged) (ending : Option RunEnd) → before.check_due ≡ true → IsEnding (Ok (entry_tick before)) ending
+    → after ≡ entry_checked before → Advances before ending after
 entry_advances before after ending due e a = record { answer = Ok (entry_tick before); is_ending = e; tick = rw due (refl, a) }
 
-pub moves_advance : (before after : Debugged) (ending : Option RunEnd) → before.check_due ≡ false → MovesOn before ending after → Advances before ending after
+pub moves_advance : (before after : Debugged) (ending : Option RunEnd) → before.check_due ≡ false → MovesOn before ending after
+    → Advances before ending after
 moves_advance before after ending due m = record {
   answer = m.answer;
   is_ending = m.is_ending;
-  tick = subst (λ (t : Bool). MatchBool t ((m.answer ≡ Ok (entry_tick before)) × (after ≡ entry_checked before)) (Moves before m.answer after)) (sym due) m.moves;
+  tick =
+      subst (λ (t : Bool). MatchBool t ((m.answer ≡ Ok (entry_tick before)) × (after ≡ entry_checked before)) (Moves before m.answer after))
+      (sym due) m.moves;
 }
 
 -- what a move comes to, by an instruction with the same marks
-tick_so : (s : Stepped) (jump instr : Option Instr) (pc : ℕ) (d : Debugged) → HasMarksOf jump instr → tick_of s jump pc d ≡ tick_of s instr pc d
-tick_so Retired jump instr pc d same = ap (λ (k : Kept). record { printed = None; outcome = outcome_of (hit_at_pc d) (is_met d.goal d.start d.table d.hart.pc k.depth) }) (same d.calls pc)
-tick_so (Printed number) jump instr pc d same = ap (λ (k : Kept). record { printed = Some number; outcome = outcome_of (hit_at_pc d) (is_met d.goal d.start d.table d.hart.pc k.depth) }) (same d.calls pc)
+tick_so : (s : Stepped) (jump instr : Option Instr) (pc : ℕ) (d : Debugged) → HasMarksOf jump instr
+    → tick_of s jump pc d ≡ tick_of s instr pc d
+tick_so Retired jump instr pc d same =
+    ap (λ (k : Kept). record { printed = None; outcome = outcome_of (hit_at_pc d) (is_met d.goal d.start d.table d.hart.pc k.depth) })
+    (same d.calls pc)
+tick_so (Printed number) jump instr pc d same =
+    ap (λ (k : Kept). record {
+      printed = Some number;
+      outcome = outcome_of (hit_at_pc d) (is_met d.goal d.start d.table d.hart.pc k.depth);
+    }) (same d.calls pc)
 tick_so Break jump instr pc d same = refl
 tick_so (Exit code) jump instr pc d same = refl
 tick_so (Trap cause) jump instr pc d same = refl
 
-settled_so : (s : Stepped) (jump instr : Option Instr) (pc : ℕ) (d : Debugged) → HasMarksOf jump instr → settled s jump pc d ≡ settled s instr pc d
+settled_so : (s : Stepped) (jump instr : Option Instr) (pc : ℕ) (d : Debugged) → HasMarksOf jump instr
+    → settled s jump pc d ≡ settled s instr pc d
 settled_so Retired jump instr pc d same = ap (λ (k : Kept). with_check (record d { calls = k; retired = d.retired + 1 })) (same d.calls pc)
-settled_so (Printed number) jump instr pc d same = ap (λ (k : Kept). with_check (record d { calls = k; retired = d.retired + 1 })) (same d.calls pc)
+settled_so (Printed number) jump instr pc d same =
+    ap (λ (k : Kept). with_check (record d { calls = k; retired = d.retired + 1 })) (same d.calls pc)
 settled_so Break jump instr pc d same = ap (λ (k : Kept). with_check (record d { calls = k; retired = d.retired + 1 })) (same d.calls pc)
 settled_so (Exit code) jump instr pc d same = refl
 settled_so (Trap cause) jump instr pc d same = refl
 
-pub settles_advance : (before moved after : Debugged) (jump instr : Option Instr) (s : Stepped) (pc : ℕ) (ending : Option RunEnd) → HasMarksOf jump instr → before.check_due ≡ false → before.hart.pc ≡ pc → IsDecodedAtPc (machine_of before.hart before.memory) instr → IsMove (machine_of before.hart before.memory) (record { answer = Ok s; machine = machine_of moved.hart moved.memory }) → moved ≡ moved_as before moved → IsEnding (Ok (tick_of s jump pc moved)) ending → after ≡ settled s jump pc moved → Advances before ending after
+pub settles_advance : (before moved after : Debugged) (jump instr : Option Instr) (s : Stepped) (pc : ℕ) (ending : Option RunEnd)
+    → HasMarksOf jump instr → before.check_due ≡ false → before.hart.pc ≡ pc → IsDecodedAtPc (machine_of before.hart before.memory) instr
+    → IsMove (machine_of before.hart before.memory) (record { answer = Ok s; machine = machine_of moved.hart moved.memory })
+    → moved ≡ moved_as before moved → IsEnding (Ok (tick_of s jump pc moved)) ending → after ≡ settled s jump pc moved
+    → Advances before ending after
 settles_advance before moved after jump instr s pc ending same due at d m rest e a =
     let told = subst (λ (t : Tick). IsEnding (Ok t) ending) (tick_so s jump instr pc moved same) e in
     let ends = subst (λ (x : Debugged). IsEnding (Ok (tick_of s instr pc x)) ending) rest told in
@@ -52,7 +69,11 @@ settles_advance before moved after jump instr s pc ending same due at d m rest e
     moves_advance before after ending due (moves_on before after moved.hart moved.memory instr s pc ending at d m ends leaves)
 
 -- an instruction that has retired, and a look at pc
-pub looks_advance : (before moved noted after : Debugged) (jump instr : Option Instr) (pc : ℕ) (ending : Option RunEnd) → HasMarksOf jump instr → before.check_due ≡ false → before.hart.pc ≡ pc → IsDecodedAtPc (machine_of before.hart before.memory) instr → IsMove (machine_of before.hart before.memory) (record { answer = Ok Retired; machine = machine_of moved.hart moved.memory }) → moved ≡ moved_as before moved → RetiresQuietly false jump pc moved noted → IsEnding (Ok (record { printed = None; outcome = seen noted })) ending → after ≡ with_check noted → Advances before ending after
+pub looks_advance : (before moved noted after : Debugged) (jump instr : Option Instr) (pc : ℕ) (ending : Option RunEnd)
+    → HasMarksOf jump instr → before.check_due ≡ false → before.hart.pc ≡ pc → IsDecodedAtPc (machine_of before.hart before.memory) instr
+    → IsMove (machine_of before.hart before.memory) (record { answer = Ok Retired; machine = machine_of moved.hart moved.memory })
+    → moved ≡ moved_as before moved → RetiresQuietly false jump pc moved noted
+    → IsEnding (Ok (record { printed = None; outcome = seen noted })) ending → after ≡ with_check noted → Advances before ending after
 looks_advance before moved noted after jump instr pc ending same due at d m rest n e a =
     let ends = subst (λ (x : Debugged). IsEnding (Ok (record { printed = None; outcome = seen x })) ending) n e in
     let leaves = subst (λ (x : Debugged). after ≡ with_check x) n a in
@@ -75,12 +96,15 @@ goes_more n before middle after h t =
     subst (λ k. Goes k before after) (sym (add-one n)) one
 
 -- the last one
-pub ends_run : (most went : ℕ) (before middle after : Debugged) (ending : RunEnd) → went < most → Goes went before middle → Advances middle (Some ending) after → IsRun most before (record { went = went; ending = ending }) after
+pub ends_run : (most went : ℕ) (before middle after : Debugged) (ending : RunEnd) → went < most → Goes went before middle
+    → Advances middle (Some ending) after → IsRun most before (record { went = went; ending = ending }) after
 ends_run most went before middle after Spent lt h t = absurd t.is_ending
-ends_run most went before middle after (Ticked tick) lt h t = record { middle = middle; goes = h; ends = (lt, (t.is_ending.1, ticked middle after tick t)) }
+ends_run most went before middle after (Ticked tick) lt h t =
+    record { middle = middle; goes = h; ends = (lt, (t.is_ending.1, ticked middle after tick t)) }
 ends_run most went before middle after NoMemory lt h t = record { middle = middle; goes = h; ends = (lt, no_memory middle after t) }
 
-pub all_went : (most went : ℕ) (before after : Debugged) → went ≤ most → most ≤ went → Goes went before after → IsRun most before (record { went = most; ending = Spent }) after
+pub all_went : (most went : ℕ) (before after : Debugged) → went ≤ most → most ≤ went → Goes went before after
+    → IsRun most before (record { went = most; ending = Spent }) after
 all_went most went before after a b h =
     let e : went ≡ most = omega (arith, a, b) in
     record { middle = after; goes = subst (λ k. Goes k before after) e h; ends = (refl, refl) }
@@ -88,7 +112,8 @@ all_went most went before after a b h =
 -- at most one instruction retires in a tick
 pub one_retires : (before after : Debugged) (ending : Option RunEnd) → Advances before ending after → after.retired ≤ before.retired + 1
 one_retires before after ending h = by_due before.check_due h.tick where
-  by_stepped : (m : Moves before h.answer after) (s : Result Stepped AllocError) → Settles before m.instr s h.answer after → after.retired ≤ before.retired + 1
+  by_stepped : (m : Moves before h.answer after) (s : Result Stepped AllocError) → Settles before m.instr s h.answer after
+      → after.retired ≤ before.retired + 1
   by_stepped m (Ok Retired) e = omega (arith, ap (λ (d : Debugged). d.retired) e.1)
   by_stepped m (Ok (Printed number)) e = omega (arith, ap (λ (d : Debugged). d.retired) e.1)
   by_stepped m (Ok Break) e = omega (arith, ap (λ (d : Debugged). d.retired) e.1)
@@ -96,12 +121,14 @@ one_retires before after ending h = by_due before.check_due h.tick where
   by_stepped m (Ok (Trap cause)) e = omega (arith, ap (λ (d : Debugged). d.retired) e.1)
   by_stepped m (Err error) e = omega (arith, ap (λ (d : Debugged). d.retired) e.1)
 
-  by_due : (t : Bool) → MatchBool t ((h.answer ≡ Ok (entry_tick before)) × (after ≡ entry_checked before)) (Moves before h.answer after) → after.retired ≤ before.retired + 1
+  by_due : (t : Bool) → MatchBool t ((h.answer ≡ Ok (entry_tick before)) × (after ≡ entry_checked before)) (Moves before h.answer after)
+      → after.retired ≤ before.retired + 1
   by_due true e = omega (arith, ap (λ (d : Debugged). d.retired) e.1)
   by_due false m = by_stepped m m.stepped m.settles
 
 -- a run of one tick that ends with it
-pub one_ticked : (before after : Debugged) (ran : Ran) (tick : Tick) → ran.ending ≡ Ticked tick → IsRun 1 before ran after → IsTick before (Ok tick) after
+pub one_ticked : (before after : Debugged) (ran : Ran) (tick : Tick) → ran.ending ≡ Ticked tick → IsRun 1 before ran after
+    → IsTick before (Ok tick) after
 one_ticked before after ran tick e h =
     let ends : EndsRun 1 ran.went (Ticked tick) h.middle after = subst (λ (x : RunEnd). EndsRun 1 ran.went x h.middle after) e h.ends in
     let none : ran.went ≡ 0 = omega (arith, ends.0) in

@@ -11,15 +11,19 @@ use Rattle.stepping.specs.Goals.{is_met}
 use Rattle.stepping.specs.Running.{IsOutOfReach, IsQuiet}
 use Rattle.stepping.specs.Ticks.{Debugged, outcome_of}
 
-pub quiet : (d : Debugged) → (list_any (is_at d.hart.pc) d.lists.source || list_any (is_at d.hart.pc) d.lists.instructions) ≡ false → is_met d.goal d.start d.table d.hart.pc d.calls.depth ≡ false → IsQuiet d
+pub quiet : (d : Debugged) → (list_any (is_at d.hart.pc) d.lists.source || list_any (is_at d.hart.pc) d.lists.instructions) ≡ false
+    → is_met d.goal d.start d.table d.hart.pc d.calls.depth ≡ false → IsQuiet d
 quiet d none unmet = record {
-  went = ap (λ (h : Hit). outcome_of h (is_met d.goal d.start d.table d.hart.pc d.calls.depth)) (no_hit d.hart.pc d.hart d.memory d.lists none)
+  went =
+      ap (λ (h : Hit). outcome_of h (is_met d.goal d.start d.table d.hart.pc d.calls.depth)) (no_hit d.hart.pc d.hart d.memory d.lists none)
       ∙ ap (λ (met : Bool). outcome_of (record { source = false; instruction = false }) met) unmet;
   checked = ap (λ (l : Lists). record d { lists = l }) (no_check d.hart.pc d.hart d.memory d.lists none);
 }
 
 -- the same, by what the two tests answer
-pub quiet_where : (d : Debugged) (has : Bool) (out depth : ℕ) → has ≡ false → has ≡ (list_any (is_at d.hart.pc) d.lists.source || list_any (is_at d.hart.pc) d.lists.instructions) → depth ≡ d.calls.depth → IsOutOfReach out d.goal d.start → d.calls.depth ≤ 2 ^ 62 → OnTrue (nat_le out depth) (IsQuiet d)
+pub quiet_where : (d : Debugged) (has : Bool) (out depth : ℕ) → has ≡ false
+    → has ≡ (list_any (is_at d.hart.pc) d.lists.source || list_any (is_at d.hart.pc) d.lists.instructions) → depth ≡ d.calls.depth
+    → IsOutOfReach out d.goal d.start → d.calls.depth ≤ 2 ^ 62 → OnTrue (nat_le out depth) (IsQuiet d)
 quiet_where d has out depth h e at unmet few = go (nat_le out depth) refl where
   within : nat_le out depth ≡ true → out ≤ depth
   within t = grind (arith, nat_tests)

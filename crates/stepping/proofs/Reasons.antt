@@ -112,7 +112,8 @@ next_place before (Stopped Goal) x l none = omega arith
 next_place before (Ended c) x l none = omega (arith, l)
 next_place before Went x l none = absurd x
 
-last_place : (before : Debugged) (other : Outcome) → Applies other before → 5 ≤ place other → (MeetsInstruction before → ⊥) → 6 ≤ place other
+last_place : (before : Debugged) (other : Outcome) → Applies other before → 5 ≤ place other → (MeetsInstruction before → ⊥)
+    → 6 ≤ place other
 last_place before (Stopped Instruction) x l none = absurd (none x)
 last_place before (Stopped Source) x l none = omega (arith, l)
 last_place before (Stopped (Exception c)) x l none = omega (arith, l)
@@ -142,12 +143,14 @@ module _ (before after : Debugged) (moves : Advances before after) where
 
   no_source : at_source ≡ false → MeetsSource before → ⊥
   no_source e m =
-      let stops : OneStops before.lists.source after = subst (λ (d : Debugged). OneStops before.lists.source d) (advance_equal before m.0 after m.1.0 moves) m.1.1 in
+      let stops : OneStops before.lists.source after = subst (λ (d : Debugged). OneStops before.lists.source d)
+      (advance_equal before m.0 after m.1.0 moves) m.1.1 in
       let never : true ≡ false = sym stops ∙ e in cc
 
   no_instruction : at_instruction ≡ false → MeetsInstruction before → ⊥
   no_instruction e m =
-      let stops : OneStops before.lists.instructions after = subst (λ (d : Debugged). OneStops before.lists.instructions d) (advance_equal before m.0 after m.1.0 moves) m.1.1 in
+      let stops : OneStops before.lists.instructions after = subst (λ (d : Debugged). OneStops before.lists.instructions d)
+      (advance_equal before m.0 after m.1.0 moves) m.1.1 in
       let never : true ≡ false = sym stops ∙ e in cc
 
   no_goal : at_goal after ≡ false → MeetsGoal before → ⊥
@@ -155,11 +158,24 @@ module _ (before after : Debugged) (moves : Advances before after) where
       let met : IsTrue (at_goal after) = subst (λ (d : Debugged). IsTrue (at_goal d)) (advance_equal before m.0 after m.1.0 moves) m.1.1 in
       let never : true ≡ false = sym met ∙ e in cc
 
-  retired_says : ((other : Outcome) → Applies other before → 4 ≤ place other) → (source instruction goal : Bool) → at_source ≡ source → at_instruction ≡ instruction → at_goal after ≡ goal → SaysOnce (outcome_of (record { source = source; instruction = instruction }) goal) before after
+  retired_says : ((other : Outcome) → Applies other before → 4 ≤ place other) → (source instruction goal : Bool) → at_source ≡ source
+      → at_instruction ≡ instruction → at_goal after ≡ goal
+      → SaysOnce (outcome_of (record { source = source; instruction = instruction }) goal) before after
   retired_says low true instruction goal s i g = (record { applies = (after, (moves, s)); first = low }, moves)
-  retired_says low false true goal s i g = (record { applies = (after, (moves, i)); first = λ other x. next_place before other x (low other x) (no_source s) }, moves)
-  retired_says low false false true s i g = (record { applies = (after, (moves, g)); first = λ other x. last_place before other x (next_place before other x (low other x) (no_source s)) (no_instruction i) }, moves)
-  retired_says low false false false s i g = (λ other x. no_place before other x (last_place before other x (next_place before other x (low other x) (no_source s)) (no_instruction i)) (no_goal g), moves)
+  retired_says low false true goal s i g =
+      (record { applies = (after, (moves, i)); first = λ other x. next_place before other x (low other x) (no_source s) }, moves)
+  retired_says low false false true s i g = (
+    record {
+      applies = (after, (moves, g));
+      first = λ other x. last_place before other x (next_place before other x (low other x) (no_source s)) (no_instruction i);
+    },
+    moves,
+  )
+  retired_says low false false false s i g = (
+    λ other x. no_place before other x
+        (last_place before other x (next_place before other x (low other x) (no_source s)) (no_instruction i)) (no_goal g),
+    moves,
+  )
 
 -- ---- one tick
 
@@ -169,19 +185,43 @@ outcome_in other (Err error) = other
 
 pub one_says : (before after : Debugged) (tick : Tick) → Moves before (Ok tick) after → SaysOnce tick.outcome before after
 one_says before after tick m = go m.stepped m.moved m.settles where
-  answered : (s : Stepped) → IsMove (machine_of before.hart before.memory) (record { answer = Ok s; machine = machine_of after.hart after.memory }) → Answers before s
+  answered : (s : Stepped)
+      → IsMove (machine_of before.hart before.memory) (record { answer = Ok s; machine = machine_of after.hart after.memory })
+      → Answers before s
   answered s i = (machine_of after.hart after.memory, i)
 
-  went : (s : Stepped) → IsTrue (has_retired s) → lowest s ≡ 4 → IsMove (machine_of before.hart before.memory) (record { answer = Ok s; machine = machine_of after.hart after.memory }) → after ≡ settled s m.instr before.hart.pc (moved_as before after) → after ≡ gone_on m.instr before.hart.pc (moved_as before after) → SaysOnce (went_on m.instr before.hart.pc (moved_as before after)) before after
+  went : (s : Stepped) → IsTrue (has_retired s) → lowest s ≡ 4
+      → IsMove (machine_of before.hart before.memory) (record { answer = Ok s; machine = machine_of after.hart after.memory })
+      → after ≡ settled s m.instr before.hart.pc (moved_as before after) → after ≡ gone_on m.instr before.hart.pc (moved_as before after)
+      → SaysOnce (went_on m.instr before.hart.pc (moved_as before after)) before after
   went s r l i e g =
       let moves : Advances before after = (advances_so before after m.instr s m.fetched i r e).1.1 in
-      let low : (other : Outcome) → Applies other before → 4 ≤ place other = λ other x. subst (λ (n : ℕ). n ≤ place other) l (above before s (answered s i) other x) in
-      retired_says before after moves low (at_source before after moves) (at_instruction before after moves) (meets_goal m.instr before.hart.pc (moved_as before after)) refl refl (ap (at_goal before after moves) g)
+      let low : (other : Outcome) → Applies other before
+      → 4 ≤ place other = λ other x. subst (λ (n : ℕ). n ≤ place other) l (above before s (answered s i) other x) in
+      retired_says before after moves low (at_source before after moves) (at_instruction before after moves)
+      (meets_goal m.instr before.hart.pc (moved_as before after)) refl refl (ap (at_goal before after moves) g)
 
-  go : (s : Result Stepped AllocError) → IsMove (machine_of before.hart before.memory) (record { answer = s; machine = machine_of after.hart after.memory }) → Settles before m.instr s (Ok tick) after → SaysOnce tick.outcome before after
+  go : (s : Result Stepped AllocError)
+      → IsMove (machine_of before.hart before.memory) (record { answer = s; machine = machine_of after.hart after.memory })
+      → Settles before m.instr s (Ok tick) after → SaysOnce tick.outcome before after
   go (Err error) i t = absurd (let never = t.0 in cc)
-  go (Ok (Trap cause)) i t = subst (λ (o : Outcome). SaysOnce o before after) (sym (ap (outcome_in Went) t.0)) (record { applies = answered (Trap cause) i; first = above before (Trap cause) (answered (Trap cause) i) }, stays_so before after (Trap cause) refl i t.1)
-  go (Ok (Exit code)) i t = subst (λ (o : Outcome). SaysOnce o before after) (sym (ap (outcome_in Went) t.0)) (record { applies = answered (Exit code) i; first = above before (Exit code) (answered (Exit code) i) }, stays_so before after (Exit code) refl i t.1)
-  go (Ok Break) i t = subst (λ (o : Outcome). SaysOnce o before after) (sym (ap (outcome_in Went) t.0)) (record { applies = answered Break i; first = above before Break (answered Break i) }, (advances_so before after m.instr Break m.fetched i refl t.1).1.1)
+  go (Ok (Trap cause)) i t =
+      subst (λ (o : Outcome). SaysOnce o before after) (sym (ap (outcome_in Went) t.0)) (
+        record { applies = answered (Trap cause) i; first = above before (Trap cause) (answered (Trap cause) i) },
+        stays_so before after
+            (Trap cause) refl i t.1,
+      )
+  go (Ok (Exit code)) i t =
+      subst (λ (o : Outcome). SaysOnce o before after) (sym (ap (outcome_in Went) t.0)) (
+        record { applies = answered (Exit code) i; first = above before (Exit code) (answered (Exit code) i) },
+        stays_so before after
+            (Exit code) refl i t.1,
+      )
+  go (Ok Break) i t =
+      subst (λ (o : Outcome). SaysOnce o before after) (sym (ap (outcome_in Went) t.0)) (
+        record { applies = answered Break i; first = above before Break (answered Break i) },
+        (advances_so before after m.instr Break m.fetched i refl t.1).1.1,
+      )
   go (Ok Retired) i t = subst (λ (o : Outcome). SaysOnce o before after) (sym (ap (outcome_in Went) t.0)) (went Retired refl refl i t.1 t.1)
-  go (Ok (Printed number)) i t = subst (λ (o : Outcome). SaysOnce o before after) (sym (ap (outcome_in Went) t.0)) (went (Printed number) refl refl i t.1 t.1)
+  go (Ok (Printed number)) i t =
+      subst (λ (o : Outcome). SaysOnce o before after) (sym (ap (outcome_in Went) t.0)) (went (Printed number) refl refl i t.1 t.1)

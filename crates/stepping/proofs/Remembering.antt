@@ -23,13 +23,16 @@ abbrev Grown : Debugged → Debugged → List Retired → Type 0
 Grown before after retired = (added : List Retired) × (IsAdded before added × Remembers after (retired ++ added))
 
 -- nothing is added where the calls and the count stay
-same : (before after : Debugged) (retired : List Retired) → after.calls ≡ before.calls → after.retired ≡ before.retired → Remembers before retired → Grown before after retired
+same : (before after : Debugged) (retired : List Retired) → after.calls ≡ before.calls → after.retired ≡ before.retired
+    → Remembers before retired → Grown before after retired
 same before after retired c n h = (
   [],
   (
     inl refl,
     record {
-      calls = subst (λ (xs : List Retired). StandsFor after.calls xs) (sym (append-nil retired)) (subst (λ (k : Kept). StandsFor k retired) (sym c) h.calls);
+      calls =
+          subst (λ (xs : List Retired). StandsFor after.calls xs) (sym (append-nil retired))
+          (subst (λ (k : Kept). StandsFor k retired) (sym c) h.calls);
       count = ap length (append-nil retired) ∙ h.count ∙ sym n;
     },
   ),
@@ -54,17 +57,26 @@ nothing = None
 
 pub none_retires : (m : Machine) (e : Effect) → IsFetched m None → IsMove m e → GoesOn e.answer
 none_retires m e f i = go (word_at m.memory m.pc) f i where
-  go : (w : Result ℕ MemFault) → MatchResult w (λ word. IsDecoding word None) (λ fault. nothing ≡ None) → MatchResult w (λ word. ((j : Instr) → Encodes j word → e ≡ effect_of j m) × (IsIllegal word → e ≡ trapped Illegal m)) (λ f. e ≡ fetch_fault f m) → GoesOn e.answer
+  go : (w : Result ℕ MemFault) → MatchResult w (λ word. IsDecoding word None) (λ fault. nothing ≡ None)
+      → MatchResult w (λ word. ((j : Instr) → Encodes j word → e ≡ effect_of j m) × (IsIllegal word → e ≡ trapped Illegal m)) (λ f. e ≡ fetch_fault f m)
+      → GoesOn e.answer
   go (Ok word) d h = subst (λ (x : Effect). GoesOn x.answer) (sym (h.1 d)) tt
   go (Err f) d h = subst (λ (x : Effect). GoesOn x.answer) (sym h) (faults_stay f m)
 
 -- an instruction retired
-one_more : (before after : Debugged) (retired : List Retired) (instr : Option Instr) (s : Result Stepped AllocError) → (s ≡ Ok stepped.Retired) ⊎ (((number : ℤ) × (s ≡ Ok (stepped.Printed number))) ⊎ (s ≡ Ok stepped.Break)) → IsFetched (machine_of before.hart before.memory) instr → IsMove (machine_of before.hart before.memory) (record { answer = s; machine = machine_of after.hart after.memory }) → after ≡ gone_on instr before.hart.pc (moved_as before after) → Remembers before retired → Grown before after retired
-one_more before after retired None s which f m a h = absurd (never s which (none_retires (machine_of before.hart before.memory) (record { answer = s; machine = machine_of after.hart after.memory }) f m)) where
-  never : (s : Result Stepped AllocError) → (s ≡ Ok stepped.Retired) ⊎ (((number : ℤ) × (s ≡ Ok (stepped.Printed number))) ⊎ (s ≡ Ok stepped.Break)) → GoesOn s → ⊥
-  never s (inl e) g = subst GoesOn e g
-  never s (inr (inl (number, e))) g = subst GoesOn e g
-  never s (inr (inr e)) g = subst GoesOn e g
+one_more : (before after : Debugged) (retired : List Retired) (instr : Option Instr) (s : Result Stepped AllocError)
+    → (s ≡ Ok stepped.Retired) ⊎ (((number : ℤ) × (s ≡ Ok (stepped.Printed number))) ⊎ (s ≡ Ok stepped.Break))
+    → IsFetched (machine_of before.hart before.memory) instr
+    → IsMove (machine_of before.hart before.memory) (record { answer = s; machine = machine_of after.hart after.memory })
+    → after ≡ gone_on instr before.hart.pc (moved_as before after) → Remembers before retired → Grown before after retired
+one_more before after retired None s which f m a h =
+    absurd (never s which
+    (none_retires (machine_of before.hart before.memory) (record { answer = s; machine = machine_of after.hart after.memory }) f m)) where
+      never : (s : Result Stepped AllocError)
+          → (s ≡ Ok stepped.Retired) ⊎ (((number : ℤ) × (s ≡ Ok (stepped.Printed number))) ⊎ (s ≡ Ok stepped.Break)) → GoesOn s → ⊥
+      never s (inl e) g = subst GoesOn e g
+      never s (inr (inl (number, e))) g = subst GoesOn e g
+      never s (inr (inr e)) g = subst GoesOn e g
 one_more before after retired (Some instr) s which f m a h =
     let pc = before.hart.pc in
     let stands = noted_stands before.calls retired instr pc h.calls in
@@ -80,19 +92,26 @@ one_more before after retired (Some instr) s which f m a h =
       ),
     )
 
-moved_on : (before after : Debugged) (answer : Result Tick AllocError) (retired : List Retired) → Remembers before retired → Moves before answer after → Grown before after retired
+moved_on : (before after : Debugged) (answer : Result Tick AllocError) (retired : List Retired) → Remembers before retired
+    → Moves before answer after → Grown before after retired
 moved_on before after answer retired h m = go m.stepped refl m.moved m.settles where
-  go : (s : Result Stepped AllocError) → s ≡ s → IsMove (machine_of before.hart before.memory) (record { answer = s; machine = machine_of after.hart after.memory }) → Settles before m.instr s answer after → Grown before after retired
+  go : (s : Result Stepped AllocError) → s ≡ s
+      → IsMove (machine_of before.hart before.memory) (record { answer = s; machine = machine_of after.hart after.memory })
+      → Settles before m.instr s answer after → Grown before after retired
   go (Err error) e i t = same before after retired (ap (λ (d : Debugged). d.calls) t.1) (ap (λ (d : Debugged). d.retired) t.1) h
-  go (Ok (stepped.Exit code)) e i t = same before after retired (ap (λ (d : Debugged). d.calls) t.1) (ap (λ (d : Debugged). d.retired) t.1) h
-  go (Ok (stepped.Trap cause)) e i t = same before after retired (ap (λ (d : Debugged). d.calls) t.1) (ap (λ (d : Debugged). d.retired) t.1) h
+  go (Ok (stepped.Exit code)) e i t =
+      same before after retired (ap (λ (d : Debugged). d.calls) t.1) (ap (λ (d : Debugged). d.retired) t.1) h
+  go (Ok (stepped.Trap cause)) e i t =
+      same before after retired (ap (λ (d : Debugged). d.calls) t.1) (ap (λ (d : Debugged). d.retired) t.1) h
   go (Ok stepped.Retired) e i t = one_more before after retired m.instr (Ok stepped.Retired) (inl refl) m.fetched i t.1 h
-  go (Ok (stepped.Printed number)) e i t = one_more before after retired m.instr (Ok (stepped.Printed number)) (inr (inl (number, refl))) m.fetched i t.1 h
+  go (Ok (stepped.Printed number)) e i t =
+      one_more before after retired m.instr (Ok (stepped.Printed number)) (inr (inl (number, refl))) m.fetched i t.1 h
   go (Ok stepped.Break) e i t = one_more before after retired m.instr (Ok stepped.Break) (inr (inr refl)) m.fetched i t.1 h
 
 pub ticks_remember : TicksRemember
 ticks_remember before after answer retired h t = go before.check_due t where
-  go : (due : Bool) → MatchBool due ((answer ≡ Ok (entry_tick before)) × (after ≡ entry_checked before)) (Moves before answer after) → Grown before after retired
+  go : (due : Bool) → MatchBool due ((answer ≡ Ok (entry_tick before)) × (after ≡ entry_checked before)) (Moves before answer after)
+      → Grown before after retired
   go true x = same before after retired (ap (λ (d : Debugged). d.calls) x.1) (ap (λ (d : Debugged). d.retired) x.1) h
   go false x = moved_on before after answer retired h x
 

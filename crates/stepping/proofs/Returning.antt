@@ -61,7 +61,8 @@ with_marks-returned depth addresses (Called pc within after) h =
     let called : List ℕ = take 256 (pc ∷ addresses) in
     let returned : List ℕ = drop 1 (take (256 - height_of within) called) in
     let called_fit : length called ≤ 256 = omega (arith, length-take 256 (pc ∷ addresses)) in
-    let returned_fit : length returned ≤ 256 = omega (arith, length-drop 1 (take (256 - height_of within) called), length-take (256 - height_of within) called) in
+    let returned_fit : length returned ≤ 256 = omega
+    (arith, length-drop 1 (take (256 - height_of within) called), length-take (256 - height_of within) called) in
     let as_before : depth + 1 - 1 ≡ depth = omega arith in
     with_marks-append (kept_of (depth + 1) called) (marks_in within) (Pop ∷ marks_in after)
     ∙ ap (λ (kept : Kept). with_marks kept (Pop ∷ marks_in after)) (with_marks-returned (depth + 1) called within called_fit)
@@ -76,12 +77,15 @@ length-calls_of retired =
     let now : Keeps (with_marks nothing_kept (marks_of retired)) (marks_of retired) = marks_keep nothing_kept [] (marks_of retired) start in
     subst (λ (l : List ℕ). length l ≤ 256) now.calls (within_limit nothing_kept (marks_of retired) (omega arith))
 
-returns_undo_calls : (before since : List Retired) (calls : Returned) → marks_of since ≡ marks_in calls → Keeps (left_by (depth_of before) (calls_of before) (height_of calls)) (marks_of (before ++ since))
+returns_undo_calls : (before since : List Retired) (calls : Returned) → marks_of since ≡ marks_in calls
+    → Keeps (left_by (depth_of before) (calls_of before) (height_of calls)) (marks_of (before ++ since))
 returns_undo_calls before since calls e =
     let kept : Kept = kept_of (depth_of before) (calls_of before) in
     let of_before : Keeps kept (marks_of before) = record { depth = refl; calls = refl } in
-    let left : with_marks kept (marks_in calls) ≡ left_by (depth_of before) (calls_of before) (height_of calls) = with_marks-returned (depth_of before) (calls_of before) calls (length-calls_of before) in
-    let all : marks_of (before ++ since) ≡ marks_of before ++ marks_in calls = flat_map-append (λ r. marks_at r.instr r.pc) before since ∙ ap (λ (l : List Mark). marks_of before ++ l) e in
+    let left : with_marks kept (marks_in calls) ≡ left_by (depth_of before) (calls_of before) (height_of calls) = with_marks-returned
+    (depth_of before) (calls_of before) calls (length-calls_of before) in
+    let all : marks_of (before ++ since) ≡ marks_of before ++ marks_in calls = flat_map-append (λ r. marks_at r.instr r.pc) before since
+    ∙ ap (λ (l : List Mark). marks_of before ++ l) e in
     subst (λ (marks : List Mark). Keeps (left_by (depth_of before) (calls_of before) (height_of calls)) marks) (sym all)
     (subst (λ (k : Kept). Keeps k (marks_of before ++ marks_in calls)) left (marks_keep kept (marks_of before) (marks_in calls) of_before))
 

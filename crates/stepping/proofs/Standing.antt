@@ -38,7 +38,8 @@ marks_keep kept marks (mark ∷ more) h =
     (marks_keep (with_mark kept mark) (marks ++ mark ∷ []) more (mark_keeps kept marks mark h))
 
 -- the marks of one instruction more
-pub marks_of-more : (retired : List Retired) (instr : Instr) (pc : ℕ) → marks_of (with_retired retired instr pc) ≡ marks_of retired ++ marks_at instr pc
+pub marks_of-more : (retired : List Retired) (instr : Instr) (pc : ℕ)
+    → marks_of (with_retired retired instr pc) ≡ marks_of retired ++ marks_at instr pc
 marks_of-more retired instr pc =
     flat_map-append (λ r. marks_at r.instr r.pc) retired (record { instr = instr; pc = pc } ∷ [])
     ∙ ap (λ (l : List Mark). marks_of retired ++ l) (append-nil (marks_at instr pc))
@@ -47,12 +48,17 @@ marks_of-more retired instr pc =
 pub nothing_stands : StandsFor nothing_kept []
 nothing_stands = record { depth = refl; calls = refl }
 
-pub noted_stands : (kept : Kept) (retired : List Retired) (instr : Instr) (pc : ℕ) → StandsFor kept retired → StandsFor (noted kept instr pc) (with_retired retired instr pc)
+pub noted_stands : (kept : Kept) (retired : List Retired) (instr : Instr) (pc : ℕ) → StandsFor kept retired
+    → StandsFor (noted kept instr pc) (with_retired retired instr pc)
 noted_stands kept retired instr pc h =
-    let keeps : Keeps (noted kept instr pc) (marks_of retired ++ marks_at instr pc) = marks_keep kept (marks_of retired) (marks_at instr pc) (record { depth = h.depth; calls = h.calls }) in
-    let all : Keeps (noted kept instr pc) (marks_of (with_retired retired instr pc)) = subst (λ (marks : List Mark). Keeps (noted kept instr pc) marks) (sym (marks_of-more retired instr pc)) keeps in
+    let keeps : Keeps (noted kept instr pc) (marks_of retired ++ marks_at instr pc) = marks_keep kept (marks_of retired) (marks_at instr pc)
+    (record { depth = h.depth; calls = h.calls }) in
+    let all : Keeps (noted kept instr pc) (marks_of (with_retired retired instr pc)) = subst
+    (λ (marks : List Mark). Keeps (noted kept instr pc) marks) (sym (marks_of-more retired instr pc)) keeps in
     record { depth = all.depth; calls = all.calls }
 
 -- what was noted, as a value that is equal to it, stands for it
-pub notes : (kept new : Kept) (instr : Instr) (pc : ℕ) → new ≡ noted kept instr pc → (retired : List Retired) → StandsFor kept retired → StandsFor new (with_retired retired instr pc)
-notes kept new instr pc e retired h = subst (λ (k : Kept). StandsFor k (with_retired retired instr pc)) (sym e) (noted_stands kept retired instr pc h)
+pub notes : (kept new : Kept) (instr : Instr) (pc : ℕ) → new ≡ noted kept instr pc → (retired : List Retired) → StandsFor kept retired
+    → StandsFor new (with_retired retired instr pc)
+notes kept new instr pc e retired h =
+    subst (λ (k : Kept). StandsFor k (with_retired retired instr pc)) (sym e) (noted_stands kept retired instr pc h)

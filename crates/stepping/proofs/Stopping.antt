@@ -14,7 +14,8 @@ use Rattle.stepping.specs.declared.tick.Reason.TheVariants.{Exception, Ebreak, S
 use Rattle.stepping.proofs.Advancing.{Made, advance_answers, after_equal, after_lower, after_ready, answers_equal}
 
 -- what applies at the next instruction, at another machine after as many moves
-pub applies_here : (k : ℕ) (start before : Debugged) (outcome : Outcome) → After k start before → AppliesAt (suc k) outcome start → Applies outcome before
+pub applies_here : (k : ℕ) (start before : Debugged) (outcome : Outcome) → After k start before → AppliesAt (suc k) outcome start
+    → Applies outcome before
 applies_here k start before outcome a x = subst (λ (d : Debugged). Applies outcome d) (after_equal k start x.0 before x.1.0 a) x.1.1
 
 -- ---- one number and one reason
@@ -26,8 +27,10 @@ other_place Source = (λ e. omega (arith, e), λ e. omega (arith, e))
 other_place Instruction = (λ e. omega (arith, e), λ e. omega (arith, e))
 other_place Goal = (λ e. omega (arith, e), λ e. omega (arith, e))
 
-same_reason : (o p : Outcome) → place o ≡ place p → ((c d : Cause) → o ≡ Stopped (Exception c) → p ≡ Stopped (Exception d) → c ≡ d) → ((c d : ℤ) → o ≡ Ended c → p ≡ Ended d → c ≡ d) → o ≡ p
-same_reason (Stopped (Exception c)) (Stopped (Exception d)) e causes codes = ap (λ (x : Cause). Stopped (Exception x)) (causes c d refl refl)
+same_reason : (o p : Outcome) → place o ≡ place p → ((c d : Cause) → o ≡ Stopped (Exception c) → p ≡ Stopped (Exception d) → c ≡ d)
+    → ((c d : ℤ) → o ≡ Ended c → p ≡ Ended d → c ≡ d) → o ≡ p
+same_reason (Stopped (Exception c)) (Stopped (Exception d)) e causes codes =
+    ap (λ (x : Cause). Stopped (Exception x)) (causes c d refl refl)
 same_reason (Ended c) (Ended d) e causes codes = ap (λ (x : ℤ). Ended x) (codes c d refl refl)
 same_reason (Stopped Ebreak) (Stopped Ebreak) e causes codes = refl
 same_reason (Stopped Source) (Stopped Source) e causes codes = refl
@@ -38,15 +41,18 @@ same_reason (Ended c) (Stopped reason) e causes codes = absurd ((other_place rea
 same_reason Went (Stopped reason) e causes codes = absurd ((other_place reason).1 (sym e))
 same_reason _ _ e causes codes = absurd (omega (arith, e))
 
-reason_equal : (n : ℕ) (outcome another : Outcome) (start : Debugged) → AppliesAt n outcome start → AppliesAt n another start → place outcome ≡ place another → outcome ≡ another
+reason_equal : (n : ℕ) (outcome another : Outcome) (start : Debugged) → AppliesAt n outcome start → AppliesAt n another start
+    → place outcome ≡ place another → outcome ≡ another
 reason_equal zero outcome another start x y e = same_reason outcome another e
     (λ c d o p. absurd (subst (λ (r : Outcome). AppliesAtEntry r start) o x.1))
     (λ c d o p. absurd (subst (λ (r : Outcome). AppliesAtEntry r start) o x.1))
 reason_equal (suc n) outcome another start x y e =
     let here : Applies another x.0 = applies_here n start x.0 another x.1.0 y in
     same_reason outcome another e
-    (λ c d o p. let same : Trap c ≡ Trap d = answers_equal x.0 (Trap c) (Trap d) (subst (λ (r : Outcome). Applies r x.0) o x.1.1) (subst (λ (r : Outcome). Applies r x.0) p here) in cc)
-    (λ c d o p. let same : Exit c ≡ Exit d = answers_equal x.0 (Exit c) (Exit d) (subst (λ (r : Outcome). Applies r x.0) o x.1.1) (subst (λ (r : Outcome). Applies r x.0) p here) in cc)
+    (λ c d o p. let same : Trap c ≡ Trap d = answers_equal x.0 (Trap c) (Trap d) (subst (λ (r : Outcome). Applies r x.0) o x.1.1)
+    (subst (λ (r : Outcome). Applies r x.0) p here) in cc)
+    (λ c d o p. let same : Exit c ≡ Exit d = answers_equal x.0 (Exit c) (Exit d) (subst (λ (r : Outcome). Applies r x.0) o x.1.1)
+    (subst (λ (r : Outcome). Applies r x.0) p here) in cc)
 
 pub stop_is_unique : StopIsUnique
 stop_is_unique n other outcome another start a b =
@@ -61,9 +67,11 @@ stop_is_unique n other outcome another start a b =
 
 apart : (before after : Debugged) (outcome : Outcome) → place outcome ≤ 2 → Applies outcome before → Advances before after → ⊥
 apart before after (Stopped (Exception cause)) l x m =
-    let never : true ≡ false = sym m.retires ∙ ap has_retired (answers_equal before m.answer (Trap cause) (advance_answers before after m) x) in cc
+    let never : true ≡ false = sym m.retires
+    ∙ ap has_retired (answers_equal before m.answer (Trap cause) (advance_answers before after m) x) in cc
 apart before after (Ended code) l x m =
-    let never : true ≡ false = sym m.retires ∙ ap has_retired (answers_equal before m.answer (Exit code) (advance_answers before after m) x) in cc
+    let never : true ≡ false = sym m.retires
+    ∙ ap has_retired (answers_equal before m.answer (Exit code) (advance_answers before after m) x) in cc
 apart before after (Stopped Ebreak) l x m = omega (arith, l)
 apart before after (Stopped Source) l x m = omega (arith, l)
 apart before after (Stopped Instruction) l x m = omega (arith, l)
@@ -92,23 +100,27 @@ join (suc j) k (suc all) start middle after e h a = (a.0, (join j k all start mi
 split : (j k all : ℕ) (start middle after : Debugged) → all ≡ k + j → After k start middle → After all start after → After j middle after
 split zero k all start middle after e h a =
     let same : all ≡ k = omega (arith, e) in
-    after_equal k start after middle (subst (λ (n : ℕ). After n start after) same a) h ∙ sym (entered_again middle (after_ready k start middle h))
+    after_equal k start after middle (subst (λ (n : ℕ). After n start after) same a) h
+    ∙ sym (entered_again middle (after_ready k start middle h))
 split (suc j) k zero start middle after e h a = absurd (omega (arith, e))
 split (suc j) k (suc all) start middle after e h a = (a.0, (split j k all start middle a.0 (omega (arith, e)) h a.1.0, a.1.1))
 
 -- what applies at a number of the middle, and at that of the start
-join_applies : (j k all : ℕ) (outcome : Outcome) (start middle : Debugged) → all ≡ k + suc j → After k start middle → AppliesAt (suc j) outcome middle → AppliesAt all outcome start
+join_applies : (j k all : ℕ) (outcome : Outcome) (start middle : Debugged) → all ≡ k + suc j → After k start middle
+    → AppliesAt (suc j) outcome middle → AppliesAt all outcome start
 join_applies j k zero outcome start middle e h x = absurd (omega (arith, e))
 join_applies j k (suc all) outcome start middle e h x = (x.0, (join j k all start middle x.0 (omega (arith, e)) h x.1.0, x.1.1))
 
-split_applies : (j k all : ℕ) (outcome : Outcome) (start middle : Debugged) → all ≡ k + suc j → After k start middle → AppliesAt all outcome start → AppliesAt (suc j) outcome middle
+split_applies : (j k all : ℕ) (outcome : Outcome) (start middle : Debugged) → all ≡ k + suc j → After k start middle
+    → AppliesAt all outcome start → AppliesAt (suc j) outcome middle
 split_applies j k zero outcome start middle e h x = absurd (omega (arith, e))
 split_applies j k (suc all) outcome start middle e h x = (x.0, (split j k all start middle x.0 (omega (arith, e)) h x.1.0, x.1.1))
 
 none_at_entry : (k : ℕ) (outcome : Outcome) (start middle : Debugged) → After k start middle → AppliesAt 0 outcome middle → ⊥
 none_at_entry k outcome start middle h x = let never : true ≡ false = sym x.0 ∙ after_ready k start middle h in cc
 
-join_stops : (k n : ℕ) (outcome : Outcome) (start middle : Debugged) → After k start middle → NoneBelow (suc k) start → StopsAt n outcome middle → StopsAt (k + n) outcome start
+join_stops : (k n : ℕ) (outcome : Outcome) (start middle : Debugged) → After k start middle → NoneBelow (suc k) start
+    → StopsAt n outcome middle → StopsAt (k + n) outcome start
 join_stops k zero outcome start middle h none s = absurd (none_at_entry k outcome start middle h s.applies)
 join_stops k (suc j) outcome start middle h none s = record {
   applies = join_applies j k (k + suc j) outcome start middle refl h s.applies;
@@ -121,9 +133,11 @@ join_stops k (suc j) outcome start middle h none s = record {
     go true d = none lower other (d.0 refl) x
     go false d =
         let past : (lower < suc k → ⊥) = not_from_Decides false d refl in
-        s.least (suc (lower - k - 1)) other (omega (arith, past, l)) (split_applies (lower - k - 1) k lower other start middle (omega (arith, past)) h x)
+        s.least (suc (lower - k - 1)) other (omega (arith, past, l))
+        (split_applies (lower - k - 1) k lower other start middle (omega (arith, past)) h x)
 
-split_stops : (k n : ℕ) (outcome : Outcome) (start middle : Debugged) → After k start middle → NoneBelow (suc k) start → StopsAt (k + n) outcome start → StopsAt n outcome middle
+split_stops : (k n : ℕ) (outcome : Outcome) (start middle : Debugged) → After k start middle → NoneBelow (suc k) start
+    → StopsAt (k + n) outcome start → StopsAt n outcome middle
 split_stops k zero outcome start middle h none s = absurd (none (k + 0) outcome (omega arith) s.applies)
 split_stops k (suc j) outcome start middle h none s = record {
   applies = split_applies j k (k + suc j) outcome start middle refl h s.applies;
@@ -132,7 +146,8 @@ split_stops k (suc j) outcome start middle h none s = record {
 } where
   lower_none : NoneBelow (suc j) middle
   lower_none zero other l x = none_at_entry k other start middle h x
-  lower_none (suc lower) other l x = s.least (k + suc lower) other (omega (arith, l)) (join_applies lower k (k + suc lower) other start middle refl h x)
+  lower_none (suc lower) other l x =
+      s.least (k + suc lower) other (omega (arith, l)) (join_applies lower k (k + suc lower) other start middle refl h x)
 
 pub counts_anew : CountsAnew
 counts_anew k n outcome start middle h none = (join_stops k n outcome start middle h none, split_stops k n outcome start middle h none)

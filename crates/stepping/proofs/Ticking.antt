@@ -26,30 +26,43 @@ use Rattle.stepping.proofs.Stopping.{applies_here, stop_is_unique}
 abbrev Ready : ℕ → Debugged → Debugged → Type 0
 Ready k start before = NoneBelow (suc k) start × After k start before
 
-none_there : (k : ℕ) (start before : Debugged) → Ready k start before → ((other : Outcome) → Applies other before → ⊥) → NoneBelow (suc (suc k)) start
+none_there : (k : ℕ) (start before : Debugged) → Ready k start before → ((other : Outcome) → Applies other before → ⊥)
+    → NoneBelow (suc (suc k)) start
 none_there k start before ready none lower outcome l x = go (eqb lower (suc k)) (Decides-eqb lower (suc k)) where
   go : (same : Bool) → Decides same (lower ≡ suc k) → ⊥
   go true d = none outcome (applies_here k start before outcome ready.1 (subst (λ n. AppliesAt n outcome start) (d.0 refl) x))
-  go false d = let differs : (lower ≡ suc k → ⊥) = not_from_Decides false d refl in let less : lower < suc k = omega (arith, l, differs) in ready.0 lower outcome less x
+  go false d =
+      let differs : (lower ≡ suc k → ⊥) = not_from_Decides false d refl in let less : lower < suc k = omega (arith, l, differs) in
+      ready.0 lower outcome less x
 
-stops_there : (k : ℕ) (start before : Debugged) (outcome : Outcome) → Ready k start before → Applies outcome before → ((other : Outcome) → Applies other before → place outcome ≤ place other) → StopsAt (suc k) outcome start
+stops_there : (k : ℕ) (start before : Debugged) (outcome : Outcome) → Ready k start before → Applies outcome before
+    → ((other : Outcome) → Applies other before → place outcome ≤ place other) → StopsAt (suc k) outcome start
 stops_there k start before outcome ready a f = record {
   applies = (before, (ready.1, a));
   first = λ other x. f other (applies_here k start before other ready.1 x);
   least = ready.0;
 }
 
-next_says : (k : ℕ) (start before after : Debugged) (outcome : Outcome) → Ready k start before → SaysOnce outcome before after → Says (suc k) outcome start after
+next_says : (k : ℕ) (start before after : Debugged) (outcome : Outcome) → Ready k start before → SaysOnce outcome before after
+    → Says (suc k) outcome start after
 next_says k start before after Went r s = (none_there k start before r s.0, (before, (r.1, s.1)))
-next_says k start before after (Stopped (Exception cause)) r s = (stops_there k start before (Stopped (Exception cause)) r s.0.applies s.0.first, (before, (r.1, s.1)))
+next_says k start before after (Stopped (Exception cause)) r s =
+    (stops_there k start before (Stopped (Exception cause)) r s.0.applies s.0.first, (before, (r.1, s.1)))
 next_says k start before after (Ended code) r s = (stops_there k start before (Ended code) r s.0.applies s.0.first, (before, (r.1, s.1)))
-next_says k start before after (Stopped Ebreak) r s = (stops_there k start before (Stopped Ebreak) r s.0.applies s.0.first, (before, (r.1, s.1)))
-next_says k start before after (Stopped Source) r s = (stops_there k start before (Stopped Source) r s.0.applies s.0.first, (before, (r.1, s.1)))
-next_says k start before after (Stopped Instruction) r s = (stops_there k start before (Stopped Instruction) r s.0.applies s.0.first, (before, (r.1, s.1)))
-next_says k start before after (Stopped Goal) r s = (stops_there k start before (Stopped Goal) r s.0.applies s.0.first, (before, (r.1, s.1)))
+next_says k start before after (Stopped Ebreak) r s =
+    (stops_there k start before (Stopped Ebreak) r s.0.applies s.0.first, (before, (r.1, s.1)))
+next_says k start before after (Stopped Source) r s =
+    (stops_there k start before (Stopped Source) r s.0.applies s.0.first, (before, (r.1, s.1)))
+next_says k start before after (Stopped Instruction) r s =
+    (stops_there k start before (Stopped Instruction) r s.0.applies s.0.first, (before, (r.1, s.1)))
+next_says k start before after (Stopped Goal) r s =
+    (stops_there k start before (Stopped Goal) r s.0.applies s.0.first, (before, (r.1, s.1)))
 
-tick_says : (k : ℕ) (start before after : Debugged) (tick : Tick) → Ready k start before → IsTick before (Ok tick) after → Says (suc k) tick.outcome start after
-tick_says k start before after tick r t = next_says k start before after tick.outcome r (one_says before after tick (ticks_by_moves before after (Ok tick) (after_ready k start before r.1) t))
+tick_says : (k : ℕ) (start before after : Debugged) (tick : Tick) → Ready k start before → IsTick before (Ok tick) after
+    → Says (suc k) tick.outcome start after
+tick_says k start before after tick r t =
+    next_says k start before after tick.outcome r
+    (one_says before after tick (ticks_by_moves before after (Ok tick) (after_ready k start before r.1) t))
 
 -- ---- the check at the entry
 
@@ -60,7 +73,8 @@ no_entry start e (suc lower) outcome l x = absurd (omega (arith, l))
 ready_at_start : (start : Debugged) → start.check_due ≡ false → Ready 0 start start
 ready_at_start start e = (no_entry start e, rw e refl)
 
-no_source : (start : Debugged) → list_any (stops start.hart.pc start.hart start.memory) start.lists.source ≡ false → (other : Outcome) → AppliesAtEntry other start → 5 ≤ place other
+no_source : (start : Debugged) → list_any (stops start.hart.pc start.hart start.memory) start.lists.source ≡ false → (other : Outcome)
+    → AppliesAtEntry other start → 5 ≤ place other
 no_source start e (Stopped Source) x = let never : true ≡ false = sym x ∙ e in cc
 no_source start e (Stopped Instruction) x = omega arith
 no_source start e (Stopped (Exception c)) x = absurd x
@@ -69,7 +83,9 @@ no_source start e (Stopped Goal) x = absurd x
 no_source start e (Ended c) x = absurd x
 no_source start e Went x = absurd x
 
-nothing : (start : Debugged) → list_any (stops start.hart.pc start.hart start.memory) start.lists.source ≡ false → list_any (stops start.hart.pc start.hart start.memory) start.lists.instructions ≡ false → (other : Outcome) → AppliesAtEntry other start → ⊥
+nothing : (start : Debugged) → list_any (stops start.hart.pc start.hart start.memory) start.lists.source ≡ false
+    → list_any (stops start.hart.pc start.hart start.memory) start.lists.instructions ≡ false → (other : Outcome)
+    → AppliesAtEntry other start → ⊥
 nothing start e f (Stopped Source) x = let never : true ≡ false = sym x ∙ e in cc
 nothing start e f (Stopped Instruction) x = let never : true ≡ false = sym x ∙ f in cc
 nothing start e f (Stopped (Exception c)) x = x
@@ -90,9 +106,14 @@ at_entry start Went x = absurd x
 none_lower : (start : Debugged) → NoneBelow 0 start
 none_lower start lower outcome l x = absurd (omega (arith, l))
 
-entry_outcome_says : (start after : Debugged) → start.check_due ≡ true → After 0 start after → (source instruction : Bool) → list_any (stops start.hart.pc start.hart start.memory) start.lists.source ≡ source → list_any (stops start.hart.pc start.hart start.memory) start.lists.instructions ≡ instruction → Says 0 (outcome_of (record { source = source; instruction = instruction }) false) start after
-entry_outcome_says start after due a true instruction s i = (record { applies = (due, s); first = λ other x. at_entry start other x.1; least = none_lower start }, a)
-entry_outcome_says start after due a false true s i = (record { applies = (due, i); first = λ other x. no_source start s other x.1; least = none_lower start }, a)
+entry_outcome_says : (start after : Debugged) → start.check_due ≡ true → After 0 start after → (source instruction : Bool)
+    → list_any (stops start.hart.pc start.hart start.memory) start.lists.source ≡ source
+    → list_any (stops start.hart.pc start.hart start.memory) start.lists.instructions ≡ instruction
+    → Says 0 (outcome_of (record { source = source; instruction = instruction }) false) start after
+entry_outcome_says start after due a true instruction s i =
+    (record { applies = (due, s); first = λ other x. at_entry start other x.1; least = none_lower start }, a)
+entry_outcome_says start after due a false true s i =
+    (record { applies = (due, i); first = λ other x. no_source start s other x.1; least = none_lower start }, a)
 entry_outcome_says start after due a false false s i = (none, a) where
   none : NoneBelow 1 start
   none zero outcome l x = nothing start s i outcome x.1
@@ -102,13 +123,17 @@ abbrev outcome_in : Outcome → Result Tick AllocError → Outcome
 outcome_in other (Ok tick) = tick.outcome
 outcome_in other (Err error) = other
 
-by_entry : (start after : Debugged) (answer : Result Tick AllocError) → start.check_due ≡ true → IsTick start answer after → (answer ≡ Ok (entry_tick start)) × (after ≡ entry_checked start)
+by_entry : (start after : Debugged) (answer : Result Tick AllocError) → start.check_due ≡ true → IsTick start answer after
+    → (answer ≡ Ok (entry_tick start)) × (after ≡ entry_checked start)
 by_entry start after answer e t = go start.check_due e t where
-  go : (due : Bool) → due ≡ true → MatchBool due ((answer ≡ Ok (entry_tick start)) × (after ≡ entry_checked start)) (Moves start answer after) → (answer ≡ Ok (entry_tick start)) × (after ≡ entry_checked start)
+  go : (due : Bool) → due ≡ true
+      → MatchBool due ((answer ≡ Ok (entry_tick start)) × (after ≡ entry_checked start)) (Moves start answer after)
+      → (answer ≡ Ok (entry_tick start)) × (after ≡ entry_checked start)
   go true e h = h
   go false e h = cc
 
-entry_says : (start after : Debugged) (tick : Tick) → start.check_due ≡ true → IsTick start (Ok tick) after → Says 0 tick.outcome start after
+entry_says : (start after : Debugged) (tick : Tick) → start.check_due ≡ true → IsTick start (Ok tick) after
+    → Says 0 tick.outcome start after
 entry_says start after tick due t =
     let h = by_entry start after (Ok tick) due t in
     let left : After 0 start after = rw due h.1 in
@@ -123,7 +148,8 @@ ReadyFor true zero start before = before ≡ start
 ReadyFor true (suc k) start before = Ready k start before
 ReadyFor false ticks start before = Ready ticks start before
 
-numbered : (due : Bool) (ticks : ℕ) (start before after : Debugged) (tick : Tick) → start.check_due ≡ due → ReadyFor due ticks start before → IsTick before (Ok tick) after → Says (if due then ticks else suc ticks) tick.outcome start after
+numbered : (due : Bool) (ticks : ℕ) (start before after : Debugged) (tick : Tick) → start.check_due ≡ due → ReadyFor due ticks start before
+    → IsTick before (Ok tick) after → Says (if due then ticks else suc ticks) tick.outcome start after
 numbered true zero start before after tick e r t = entry_says start after tick e (subst (λ (d : Debugged). IsTick d (Ok tick) after) r t)
 numbered true (suc k) start before after tick e r t = tick_says k start before after tick r t
 numbered false ticks start before after tick e r t = tick_says ticks start before after tick r t
@@ -131,7 +157,8 @@ numbered false ticks start before after tick e r t = tick_says ticks start befor
 abbrev went_with : Option ℤ → Tick
 went_with printed = record { printed = printed; outcome = Went }
 
-ready_after : (due : Bool) (ticks : ℕ) (start before : Debugged) → start.check_due ≡ due → GoOn ticks start before → ReadyFor due ticks start before
+ready_after : (due : Bool) (ticks : ℕ) (start before : Debugged) → start.check_due ≡ due → GoOn ticks start before
+    → ReadyFor due ticks start before
 ready_after true zero start before e g = g
 ready_after false zero start before e g = subst (λ (d : Debugged). Ready 0 start d) (sym g) (ready_at_start start e)
 ready_after true (suc k) start before e g =
@@ -142,7 +169,8 @@ ready_after false (suc k) start before e g =
     numbered false k start g.0 before (went_with g.2.1.0) e (ready_after false k start g.0 e g.2.0) went
 
 pub ticks_say_where : TicksSayWhere
-ticks_say_where ticks start before after tick g t = numbered start.check_due ticks start before after tick refl (ready_after start.check_due ticks start before refl g) t
+ticks_say_where ticks start before after tick g t =
+    numbered start.check_due ticks start before after tick refl (ready_after start.check_due ticks start before refl g) t
 
 -- ---- a tick up to the number at which a run stops
 
@@ -153,7 +181,8 @@ answered (Err error) o = let never : false ≡ true = o in cc
 abbrev Settled : ℕ → ℕ → Outcome → Result Tick AllocError → Type 0
 Settled k n outcome answer = ((k < n) × AnswersWith Went answer) ⊎ ((k ≡ n) × AnswersWith outcome answer)
 
-says_so : (k n : ℕ) (outcome told : Outcome) (start after : Debugged) (tick : Tick) (answer : Result Tick AllocError) → answer ≡ Ok tick → tick.outcome ≡ told → StopsAt n outcome start → Says k told start after → Settled k n outcome answer
+says_so : (k n : ℕ) (outcome told : Outcome) (start after : Debugged) (tick : Tick) (answer : Result Tick AllocError) → answer ≡ Ok tick
+    → tick.outcome ≡ told → StopsAt n outcome start → Says k told start after → Settled k n outcome answer
 says_so k n outcome Went start after tick answer a e stop s =
     let reached : (n < suc k → ⊥) = λ l. s.0 n outcome l stop.applies in
     inl (omega (arith, reached), (tick.printed, a ∙ ap (λ (o : Outcome). Ok (record { printed = tick.printed; outcome = o })) e))
@@ -169,7 +198,8 @@ runs_stop_there ticks n outcome start before after answer stop g t =
     let ready = ready_after start.check_due ticks start before refl g in
     let ok = answered answer (each_tick_answers before after answer t) in
     let tick : IsTick before (Ok ok.0) after = subst (λ a. IsTick before a after) ok.1 t in
-    says_so (number_after ticks start) n outcome ok.0.outcome start after ok.0 answer ok.1 refl stop (numbered start.check_due ticks start before after ok.0 refl ready tick)
+    says_so (number_after ticks start) n outcome ok.0.outcome start after ok.0 answer ok.1 refl stop
+    (numbered start.check_due ticks start before after ok.0 refl ready tick)
 
 -- ---- many ticks in one call
 
@@ -177,7 +207,8 @@ plain_ticks_go_on : (ticks : ℕ) (start after : Debugged) → Goes ticks start 
 plain_ticks_go_on zero start after g = g
 plain_ticks_go_on (suc k) start after g = (g.0, Ok plain_tick, (plain_ticks_go_on k start g.0 g.1.0, (None, refl), g.1.1))
 
-none_so_far : (due : Bool) (ticks : ℕ) (start before : Debugged) → start.check_due ≡ due → ReadyFor due ticks start before → NoneBelow (if due then ticks else suc ticks) start
+none_so_far : (due : Bool) (ticks : ℕ) (start before : Debugged) → start.check_due ≡ due → ReadyFor due ticks start before
+    → NoneBelow (if due then ticks else suc ticks) start
 none_so_far true zero start before e r = none_lower start
 none_so_far true (suc k) start before e r = r.0
 none_so_far false ticks start before e r = r.0

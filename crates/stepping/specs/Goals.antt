@@ -22,6 +22,13 @@ abbrev pub is_place : Granularity → Table → ℕ → Bool
 is_place Instruction table pc = true
 is_place Line table pc = starts table pc || is_absent (line_of table pc)
 
+-- whether a goal's step may end at pc, whatever the depth is
+abbrev pub may_end : Goal → Table → ℕ → Bool
+may_end Go table pc = true
+may_end (In granularity) table pc = is_place granularity table pc
+may_end (Over granularity) table pc = is_place granularity table pc
+may_end (Out granularity) table pc = true
+
 -- whether a goal is met at pc, by the depth at the start of the run and the depth now
 abbrev pub is_met : Goal → ℕ → Table → ℕ → ℕ → Bool
 is_met Go start table pc depth = false

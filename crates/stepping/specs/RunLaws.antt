@@ -91,7 +91,7 @@ abbrev pub TicksSayWhere : Type 0
 TicksSayWhere = (ticks : ℕ) (start before after : Debugged) (tick : Tick) → GoOn ticks start before →
     IsTick before (Ok tick) after → Says (number_after ticks start) tick.outcome start after
 
--- And ticks say all of it. Where a run stops at a number, those before it go on, and the one at it gives the reason.
+-- Ticks say all of it: where a run stops at a number, those before it go on, and the one at it gives the reason.
 abbrev pub RunsStopThere : Type 0
 RunsStopThere = (ticks n : ℕ) (outcome : Outcome) (start before after : Debugged) (answer : Result Tick AllocError) →
     StopsAt n outcome start → GoOn ticks start before → IsTick before answer after →

@@ -1,10 +1,10 @@
 -- What holds of every machine that is debugged, and how a run goes on or ends: cited by private clauses alone.
-use Rattle.std.specs.Prelude.{◌≡◌, ◌≢◌, ℕ, ◌+◌, ◌%◌, ◌^◌, ◌≤◌, Bool, true, false, Option}
+use Rattle.std.specs.Prelude.{◌≡◌, ◌≢◌, ℕ, ◌+◌, ◌%◌, ◌^◌, ◌<◌, ◌≤◌, Bool, true, false, Option}
 use Rattle.std.specs.Prelude.{Some, None, Result, Ok, Err, alloc_error}
 use Rattle.std.specs.declared.alloc.AllocError.{AllocError}
 use Rattle.image.specs.Lines.{Table}
 use Rattle.stepping.specs.Calls.{Kept}
-use Rattle.stepping.specs.Goals.{is_met}
+use Rattle.stepping.specs.Goals.{is_met, may_end}
 use Rattle.stepping.specs.Plain.{plain_tick}
 use Rattle.rv32i.specs.declared.instr.Instr.{Instr}
 use Rattle.rv32i.specs.declared.stepped.Stepped.TheVariants.{Retired}
@@ -23,6 +23,11 @@ use Rattle.stepping.specs.declared.tick.Tick.{Tick}
 abbrev pub IsOutOfReach : ℕ → Goal → ℕ → Type 0
 IsOutOfReach from goal start = (table : Table) (pc depth : ℕ) → from ≤ depth → depth ≤ 2 ^ 62
     → is_met goal start table pc depth ≡ false
+
+-- With fewer open calls it is not: it is met wherever its step may end.
+abbrev pub IsInReach : ℕ → Goal → ℕ → Type 0
+IsInReach from goal start = (table : Table) (pc depth : ℕ) → depth < from → may_end goal table pc ≡ true
+    → is_met goal start table pc depth ≡ true
 
 -- its memory has a size that memory can have, no more calls are open than instructions have retired, and it is known
 -- from where on the goal is out of reach

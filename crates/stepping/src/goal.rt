@@ -2,7 +2,7 @@
 
 ghost use Rattle.std.specs.Prelude.{◌≡◌};
 ghost use Rattle.stepping.specs.Goals.{is_met, is_place};
-ghost use Rattle.stepping.specs.Running.{IsOutOfReach};
+ghost use Rattle.stepping.specs.Running.{IsInReach, IsOutOfReach};
 
 use image::LineTable;
 
@@ -43,7 +43,8 @@ impl Goal {
 
     /// From how many open calls on the goal is out of reach, by the depth at the start of the run.
     pub(crate) fn out_of_reach(self, start: u64) -> u64
-        ensures { IsOutOfReach result self start }
+        ensures above { IsOutOfReach result self start }
+        ensures below { IsInReach result self start }
     {
         match self {
             Goal::Go => 0,

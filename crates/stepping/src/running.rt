@@ -1,6 +1,6 @@
 //! The ticks of a run. After most moves there is nothing to report: no breakpoint is at the new pc, and the goal is out of reach.
 
-ghost use Rattle.std.specs.Prelude.{◌≡◌, ◌+◌, ◌^◌, ◌<◌, ◌≤◌, IsOk};
+ghost use Rattle.std.specs.Prelude.{◌≡◌, ◌+◌, ◌^◌, ◌<◌, ◌≤◌, IsOk, true};
 ghost use Rattle.std.specs.Bool.{OnTrue};
 ghost use Rattle.image.specs.Memory.{word_at};
 ghost use Rattle.rv32i.specs.Machine.{IsDecodedAtPc, IsMove, machine_of};
@@ -88,8 +88,9 @@ impl Runner {
         }
     }
 
-    /// The check at the entry, whether it is due or not: the breakpoints at pc are looked at, and nothing moves.
+    /// The check at the entry, which is due: the breakpoints at pc are looked at, and nothing moves.
     pub fn check(&mut self) -> Tick
+        requires { self.old.check_due ≡ true }
         ensures tick { result ≡ entry_tick self.old }
         ensures state { self.new ≡ entry_checked self.old }
     {
@@ -101,10 +102,11 @@ impl Runner {
         }
     }
 
-    // The same, and how a run ends with it.
+    // The check at the entry, and how a run ends with it.
     #[cold]
     #[inline(never)]
     fn check_entry(&mut self) -> Option<RunEnd>
+        requires { self.old.check_due ≡ true }
         ensures ending { IsEnding (Ok (entry_tick self.old)) result }
         ensures state { self.new ≡ entry_checked self.old }
     {
@@ -139,7 +141,7 @@ impl Runner {
         ending_of(tick)
     }
 
-    // The same, as a tick.
+    // The tick of a move that was made, from this pc.
     fn tick_after(&mut self, stepped: Stepped, instr: &Option<Instr>, pc: u32) -> Tick
         requires { self.old.retired < 2 ^ 62 }
         ensures tick { result ≡ tick_of stepped instr.now pc self.old }
@@ -251,7 +253,7 @@ fn jump_in(instr: &Option<Instr>) -> Option<Instr>
     }
 }
 
-// The same of an instruction.
+// An instruction where it is a jump.
 #[inline]
 fn jump_of(instr: &Instr) -> Option<Instr>
     ensures { HasMarksOf result (Some instr.now) }

@@ -8,5 +8,14 @@ use Rattle.debuggee.proofs.program.Program.new.Goals as goal
 
 pub returns : goal.returns
 returns c =
-    let with_machine : Debugged → Program = λ d. record { image = c.args.image; path = c.args.path; stop_on_entry = c.args.stop_on_entry; run = Stopped Entry; mark = None; machine = d; owed = None } in
+    let with_machine : Debugged
+    → Program = λ d. record {
+      image = c.args.image;
+      path = c.args.path;
+      stop_on_entry = c.args.stop_on_entry;
+      run = Stopped Entry;
+      mark = None;
+      machine = d;
+      owed = None;
+    } in
     ap with_machine (just_is c.args.image c.args.size _ c.in_ok-runner.ensures)

@@ -19,18 +19,24 @@ loop-went-preserved-in-None c =
 pub returns-in-Some-clause-run : goal.returns-in-Some-clause-run
 returns-in-Some-clause-run c =
     let due = subst (λ (d : Debugged). d.check_due ≡ true) c.self.view_is c.if-self.true in
-    ends_run c.args.most c.loop-went.went _ _ _ c.in-Some.ending c.loop-went-test.true c.loop-went.invariant.goes (entry_advances _ _ _ due c.in-Some.ensures.ending c.in-Some.ensures.state)
+    ends_run c.args.most c.loop-went.went _ _ _ c.in-Some.ending c.loop-went-test.true c.loop-went.invariant.goes
+    (entry_advances _ _ _ due c.in-Some.ensures.ending c.in-Some.ensures.state)
 
 pub returns-in-Some-fault-clause-run : goal.returns-in-Some-fault-clause-run
 returns-in-Some-fault-clause-run c =
     let due = subst (λ (d : Debugged). d.check_due ≡ false) c.self.view_is c.if-self.false in
-    ends_run c.args.most c.loop-went.went _ _ _ c.in-Some-fault.ending c.loop-went-test.true c.loop-went.invariant.goes (moves_advance _ _ _ due c.in-Some-fault.ensures.moves)
+    ends_run c.args.most c.loop-went.went _ _ _ c.in-Some-fault.ending c.loop-went-test.true c.loop-went.invariant.goes
+    (moves_advance _ _ _ due c.in-Some-fault.ensures.moves)
 
 pub loop-went-preserved-then-retires_quietly : goal.loop-went-preserved-then-retires_quietly
 loop-went-preserved-then-retires_quietly c =
     let due = subst (λ (d : Debugged). d.check_due ≡ false) c.self.view_is c.if-self.false in
     let at = ap (λ (d : Debugged). d.hart.pc) (sym c.self.view_is) in
-    let moves = subst (λ (s : Stepped). IsMove (machine_of c.loop-went.self.hart c.loop-went.self.memory) (record { answer = Ok s; machine = machine_of c.move_by.new.self.hart c.move_by.new.self.memory })) c.in-Ok-Retired.field-0-is c.in-Ok-Retired.ensures.moves in
+    let moves = subst (λ (s : Stepped). IsMove (machine_of c.loop-went.self.hart c.loop-went.self.memory)
+    (record {
+      answer = Ok s;
+      machine = machine_of c.move_by.new.self.hart c.move_by.new.self.memory;
+    })) c.in-Ok-Retired.field-0-is c.in-Ok-Retired.ensures.moves in
     let advanced = settles_advance _ _ _ c.jump_in-jump.result _ _ _ _ c.jump_in-jump.ensures due at c.move_by.ensures.decoded moves c.move_by.ensures.rest (ap Ok c.if-retires_quietly.ensures.0) c.if-retires_quietly.ensures.1 in
     record {
       goes = goes_more c.loop-went.went _ _ _ c.loop-went.invariant.goes advanced;
@@ -43,12 +49,20 @@ returns-in-Some-slow-clause-run c =
     let at = ap (λ (d : Debugged). d.hart.pc) (sym c.self.view_is) in
     let advanced : Advances c.loop-went.self c.match-move_by.slow c.match-move_by.self = elim c.match-move_by.branch [
       | in-Ok-Retired+else-retires_quietly w ↦
-          rw w.slow-is (rw w.self-is (looks_advance _ _ _ _ c.jump_in-jump.result _ _ _ c.jump_in-jump.ensures due at c.move_by.ensures.decoded (subst (λ (s : Stepped). IsMove (machine_of c.loop-went.self.hart c.loop-went.self.memory) (record { answer = Ok s; machine = machine_of c.move_by.new.self.hart c.move_by.new.self.memory })) w.in-Ok-Retired.field-0-is w.in-Ok-Retired.ensures.moves) c.move_by.ensures.rest w.if-retires_quietly.ensures w.look_closely-slow.ensures.ending w.look_closely-slow.ensures.state))
+          rw w.slow-is (rw w.self-is
+          (looks_advance _ _ _ _ c.jump_in-jump.result _ _ _ c.jump_in-jump.ensures due at c.move_by.ensures.decoded
+          (subst (λ (s : Stepped). IsMove (machine_of c.loop-went.self.hart c.loop-went.self.memory)
+          (record {
+            answer = Ok s;
+            machine = machine_of c.move_by.new.self.hart c.move_by.new.self.memory;
+          })) w.in-Ok-Retired.field-0-is w.in-Ok-Retired.ensures.moves) c.move_by.ensures.rest w.if-retires_quietly.ensures w.look_closely-slow.ensures.ending w.look_closely-slow.ensures.state))
       | in-Ok-move_by w ↦
-          rw w.slow-is (rw w.self-is (settles_advance _ _ _ c.jump_in-jump.result _ _ _ _ c.jump_in-jump.ensures due at c.move_by.ensures.decoded w.in-Ok-move_by.ensures.moves c.move_by.ensures.rest w.settle-slow.ensures.ending w.settle-slow.ensures.state))
+          rw w.slow-is (rw w.self-is
+          (settles_advance _ _ _ c.jump_in-jump.result _ _ _ _ c.jump_in-jump.ensures due at c.move_by.ensures.decoded w.in-Ok-move_by.ensures.moves c.move_by.ensures.rest w.settle-slow.ensures.ending w.settle-slow.ensures.state))
       | in-Err-move_by w ↦ let never : false ≡ true = w.in-Err-move_by.ensures.answers in cc
     ] in
-    ends_run c.args.most c.loop-went.went _ _ _ c.in-Some-slow.ending c.loop-went-test.true c.loop-went.invariant.goes (subst (λ e. Advances c.loop-went.self e c.match-move_by.self) c.in-Some-slow.is advanced)
+    ends_run c.args.most c.loop-went.went _ _ _ c.in-Some-slow.ending c.loop-went-test.true c.loop-went.invariant.goes
+    (subst (λ e. Advances c.loop-went.self e c.match-move_by.self) c.in-Some-slow.is advanced)
 
 pub loop-went-preserved : goal.loop-went-preserved
 loop-went-preserved c =
@@ -56,9 +70,16 @@ loop-went-preserved c =
     let at = ap (λ (d : Debugged). d.hart.pc) (sym c.self.view_is) in
     let advanced : Advances c.loop-went.self c.match-move_by.slow c.match-move_by.self = elim c.match-move_by.branch [
       | in-Ok-Retired+else-retires_quietly w ↦
-          rw w.slow-is (rw w.self-is (looks_advance _ _ _ _ c.jump_in-jump.result _ _ _ c.jump_in-jump.ensures due at c.move_by.ensures.decoded (subst (λ (s : Stepped). IsMove (machine_of c.loop-went.self.hart c.loop-went.self.memory) (record { answer = Ok s; machine = machine_of c.move_by.new.self.hart c.move_by.new.self.memory })) w.in-Ok-Retired.field-0-is w.in-Ok-Retired.ensures.moves) c.move_by.ensures.rest w.if-retires_quietly.ensures w.look_closely-slow.ensures.ending w.look_closely-slow.ensures.state))
+          rw w.slow-is (rw w.self-is
+          (looks_advance _ _ _ _ c.jump_in-jump.result _ _ _ c.jump_in-jump.ensures due at c.move_by.ensures.decoded
+          (subst (λ (s : Stepped). IsMove (machine_of c.loop-went.self.hart c.loop-went.self.memory)
+          (record {
+            answer = Ok s;
+            machine = machine_of c.move_by.new.self.hart c.move_by.new.self.memory;
+          })) w.in-Ok-Retired.field-0-is w.in-Ok-Retired.ensures.moves) c.move_by.ensures.rest w.if-retires_quietly.ensures w.look_closely-slow.ensures.ending w.look_closely-slow.ensures.state))
       | in-Ok-move_by w ↦
-          rw w.slow-is (rw w.self-is (settles_advance _ _ _ c.jump_in-jump.result _ _ _ _ c.jump_in-jump.ensures due at c.move_by.ensures.decoded w.in-Ok-move_by.ensures.moves c.move_by.ensures.rest w.settle-slow.ensures.ending w.settle-slow.ensures.state))
+          rw w.slow-is (rw w.self-is
+          (settles_advance _ _ _ c.jump_in-jump.result _ _ _ _ c.jump_in-jump.ensures due at c.move_by.ensures.decoded w.in-Ok-move_by.ensures.moves c.move_by.ensures.rest w.settle-slow.ensures.ending w.settle-slow.ensures.state))
       | in-Err-move_by w ↦ let never : false ≡ true = w.in-Err-move_by.ensures.answers in cc
     ] in
     let goes_on = subst (λ e. Advances c.loop-went.self e c.match-move_by.self) c.in_default.is advanced in
