@@ -17,7 +17,7 @@ use Rattle.debuggee.specs.declared.run.Run.{Run}
 use Rattle.session.specs.Beats.{IsFree, MeetsNext, Moved, Stretches, going, moves_of, unless_memory}
 use Rattle.session.specs.declared.event.SliceEnd.{SliceEnd}
 use Rattle.session.specs.declared.slices.Moves.{Moves}
-use Rattle.session.specs.Effects.{Slicing, after_beat, beats_on, next_beat}
+use Rattle.session.specs.Effects.{Slicing, after_beat, beat_may_lack, beats_on, next_beat}
 use Rattle.session.specs.Kept.{Kept, keepings}
 use Rattle.session.specs.Slices.{Beat, beat, is_runnable_by, moves_by, retires}
 use Rattle.session.proofs.Deciding.{free_beat}
@@ -216,7 +216,7 @@ pub moves_stretch : (left m : ℕ) (k new : Kept) (moves : Moves) → Moved left
 moves_stretch left m k new moves h e =
     let all : m + left ≤ m + left = omega arith in
     let next : MeetsNext left moves.moved None new = subst (λ (x : Option Tick). MeetsNext left moves.moved x new) e h.next in
-    record { count = moves.moved; goes = h.goes (m + left) m all; some = λ none. next }
+    record { count = moves.moved; goes = h.goes (m + left) m all; some = λ none. next; lacks = λ out. absurd (cc) }
 
 pub moves_then : (left m : ℕ) (k middle new : Kept) (moves : Moves) (end : Option SliceEnd) → Moved left k moves middle
     → Stretches (m + left) (m + moves.moved) middle (record { moved = 0; ending = end }) new → (end ≡ None → ⊥)
@@ -231,6 +231,7 @@ moves_then left m k middle new moves end h s some =
           ∙ s.goes
           ∙ (λ i. record { state = new; moved = sum i; ending = unless_memory end });
       some = λ none. absurd (some none);
+      lacks = λ out. ap (λ (x : ℕ). beat_may_lack (keepings.see new) (ltb x (m + left))) (sym sum) ∙ s.lacks out;
     }
 
 pub is_before : (left m moved : ℕ) → moved < left → ltb (m + moved) (m + left) ≡ true

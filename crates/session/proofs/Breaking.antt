@@ -24,7 +24,7 @@ use Rattle.handlers.specs.Given.{Answering}
 use Rattle.handlers.specs.Given.{Given}
 use Rattle.handlers.specs.Breaks.{replaces, sets_by, success_on}
 use Rattle.handlers.specs.Views.{view_of}
-use Rattle.session.specs.Laws.{initializes}
+use Rattle.session.specs.Kinds.{initializes}
 use Rattle.handlers.specs.Successes.{agreeing, refusing}
 use Rattle.session.proofs.Orderly.{AreWords}
 use Rattle.session.proofs.Reaching.{if_keeps}

@@ -41,7 +41,7 @@ use Rattle.handlers.specs.Demands.{has_none, run_of}
 use Rattle.handlers.specs.Disconnect as disconnect
 use Rattle.handlers.specs.Initialize as initialize
 use Rattle.handlers.specs.Launch.{assembles, error_text, loads}
-use Rattle.session.specs.Laws.{initializes, is_resume}
+use Rattle.session.specs.Kinds.{initializes, is_resume}
 use Rattle.handlers.specs.Looking.{issues, looks_on, seen_in}
 use Rattle.handlers.specs.Pause as pause
 use Rattle.handlers.specs.Phases.{is_active_in}

@@ -59,8 +59,11 @@ checks_there k p more is owed runnable room e due = (
   p,
   (
     is,
-    unmarked_beat p k more (record { program = is; owed = owed; runnable = runnable; room = room }) e
-        ∙ ap (λ (b : Bool). by_tests b more (leb k.now.limits.last_retired p.machine.retired) p k) due,
+    (
+      unmarked_beat p k more (record { program = is; owed = owed; runnable = runnable; room = room }) e
+          ∙ ap (λ (b : Bool). by_tests b more (leb k.now.limits.last_retired p.machine.retired) p k) due,
+      (due, owed),
+    ),
   ),
 )
 

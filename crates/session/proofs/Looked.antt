@@ -36,7 +36,8 @@ use Rattle.rv32i.specs.declared.hart.Hart.{Hart}
 use Rattle.handlers.specs.declared.terms.Terms.{Terms}
 use Rattle.handlers.specs.Given.{Answering}
 use Rattle.handlers.specs.Given.{Given}
-use Rattle.session.specs.Laws.{initializes}
+use Rattle.rv32i.specs.Names.{number_named}
+use Rattle.session.specs.Kinds.{initializes}
 use Rattle.replies.specs.declared.response.Outcome.TheVariants.{Done}
 use Rattle.handlers.specs.Looking.{issues, looks_on, seen_in, shows_by}
 use Rattle.handlers.specs.SetVariable.{sets_by, sets_on}
@@ -46,7 +47,7 @@ use Rattle.session.proofs.Breaking.{IsPlain}
 use Rattle.session.proofs.Reaching.{if_keeps}
 use Rattle.stepping.specs.Ticks.{Debugged}
 use Rattle.variables.specs.Numbers.{Numbers, found_in, has_room}
-use Rattle.variables.specs.Registers.{name_answer, number_of, unless_zero}
+use Rattle.variables.specs.Registers.{name_answer, unless_zero}
 use Rattle.variables.specs.Stack.{stack_words}
 use Rattle.variables.specs.Values.{value_of as value_in}
 use Rattle.variables.specs.declared.error.FindError.{FindError}
@@ -184,7 +185,7 @@ plain_unless_zero (Some number) = if_keeps (λ (r : Result ℕ Refusal). HasPlai
 
 plain_name : (name : List ℕ) → HasPlain (name_answer name)
 plain_name name =
-    if_keeps (λ (r : Result ℕ Refusal). HasPlain r) (bytes_eq name (codes "pc")) _ _ (λ _. refl) (λ _. plain_unless_zero (number_of name))
+    if_keeps (λ (r : Result ℕ Refusal). HasPlain r) (bytes_eq name (codes "pc")) _ _ (λ _. refl) (λ _. plain_unless_zero (number_named name))
 
 abbrev IsPlainSetting : Result Setting Refusal → Type 0
 IsPlainSetting result = MatchResult result (λ setting. initializes (Done setting.body) ≡ 0) (λ refusal. has_text refusal ≡ false)

@@ -1,5 +1,5 @@
 -- A slice, stretch by stretch.
-use Rattle.std.proofs.Common.{List, ◌≡◌, ℕ, ◌+◌, ◌-◌, ◌≤◌, Option, Some, None, Result, Ok, refl, sym, ap, ◌∙◌, subst, arith, ltb}
+use Rattle.std.proofs.Common.{List, ◌≡◌, ℕ, ◌+◌, ◌-◌, ◌≤◌, Option, Some, None, Result, Ok, refl, sym, ap, ◌∙◌, subst, arith, ltb, true}
 use Rattle.session.specs.declared.event.Applied.{Applied}
 use Rattle.session.specs.declared.event.Applied.TheVariants.{Slice as DidSlice}
 use Rattle.session.specs.declared.event.SliceEnd.{SliceEnd}
@@ -8,7 +8,7 @@ use Rattle.session.specs.declared.event.Event.TheVariants.{Slice}
 use Rattle.session.specs.declared.event.EventError.{EventError}
 use Rattle.session.specs.declared.slices.Step.{Step}
 use Rattle.session.specs.Beats.{Reached, Stretches, going, unless_memory, concluded}
-use Rattle.session.specs.Effects.{EndsWell, Slicing, answer, beats, beats_on, enough, from_here, ran_out_at, slice_answer, sliced}
+use Rattle.session.specs.Effects.{EndsWell, Slicing, answer, beat_may_lack, beats, beats_on, enough, from_here, ran_out_at, slice_answer, sliced}
 use Rattle.session.specs.Kept.{Kept, keepings, settled}
 use Rattle.session.proofs.Advancing.{beats_after}
 use Rattle.session.proofs.Enough.{is_sliced, not_after, Follows}
@@ -92,16 +92,18 @@ whole n count moved s new e h =
     )
 
 by_ending : (n count moved : ℕ) (s new : Kept) (e : SliceEnd)
-    → beats keepings n count s ≡ record { state = new; moved = moved; ending = unless_memory (Some e) } → EndsSo n moved s new e
-by_ending n count moved s new Spent h = whole n count moved s new Spent h
-by_ending n count moved s new Full h = whole n count moved s new Full h
-by_ending n count moved s new Idle h = whole n count moved s new Idle h
-by_ending n count moved s new Stopped h = whole n count moved s new Stopped h
-by_ending n count moved s new Ended h = whole n count moved s new Ended h
-by_ending n count moved s new NoMemory h = record {
+    → beats keepings n count s ≡ record { state = new; moved = moved; ending = unless_memory (Some e) }
+    → (e ≡ NoMemory → beat_may_lack (keepings.see new) (ltb moved n) ≡ true) → EndsSo n moved s new e
+by_ending n count moved s new Spent h may = whole n count moved s new Spent h
+by_ending n count moved s new Full h may = whole n count moved s new Full h
+by_ending n count moved s new Idle h may = whole n count moved s new Idle h
+by_ending n count moved s new Stopped h may = whole n count moved s new Stopped h
+by_ending n count moved s new Ended h may = whole n count moved s new Ended h
+by_ending n count moved s new NoMemory h may = record {
   count = count;
   goes_on = ap (λ (d : Slicing Kept). d.ending) h;
   moves = ap (λ (d : Slicing Kept). d.moved) h;
+  lacks = ap (λ (d : Slicing Kept). beat_may_lack (keepings.see d.state) (ltb d.moved n)) h ∙ may refl;
   holds = sym (ap (λ (d : Slicing Kept). d.state) h);
 }
 
@@ -115,6 +117,10 @@ slice_ends n i m s k new step e r t is =
       moved = m + step.moved;
       ending = unless_memory x;
     } in d) is)
+    (λ out. let within = r.within in
+    let all : m + (n - m) ≡ n = omega (arith, within) in
+    ap (λ (x : ℕ). beat_may_lack (keepings.see new) (ltb (m + step.moved) x)) (sym all)
+    ∙ t.lacks (is ∙ ap (λ (x : SliceEnd). Some x) out))
 
 pub has_ended : (n i m : ℕ) (s k : Kept) → Reached n i s m k → enough n ≤ i → ⊥
 has_ended n i m s k r le =

@@ -1,15 +1,23 @@
 -- Beats of a slice: one, or many of which there is nothing to tell.
-use Rattle.std.proofs.Common.{◌≡◌, ℕ, ◌+◌, Bool, true, false, ltb, [], ◌∷◌, Option, Some, None, refl, sym, ap, ◌∙◌, arith}
+use Rattle.std.proofs.Common.{◌≡◌, ℕ, ◌+◌, Bool, true, false, cond, ltb, List, [], ◌∷◌, map, Option, Some, None, refl, sym, ap, ◌∙◌, subst, arith}
+use Rattle.std.proofs.lemmas.Bool.{or_left, or_right}
+use Rattle.replies.specs.declared.event.Event.{Event as Told}
+use Rattle.replies.specs.declared.event.Event.TheVariants as event
+use Rattle.handlers.specs.Telling.{stop_event}
+use Rattle.session.specs.Acts.{Now, Tell}
+use Rattle.session.specs.Outcomes.{is_owed, is_owed_by, needs_memory}
+use Rattle.session.specs.Phases.{is_active}
 use Rattle.std.proofs.lemmas.Bool.Decides.{nat_tests}
-use Rattle.debuggee.specs.Programs.{Program, entered, next_tick, stays}
+use Rattle.debuggee.specs.Programs.{Program, ended, entered, next_tick, stays, stopped}
+use Rattle.debuggee.specs.declared.run.Why.TheVariants as why
 use Rattle.debuggee.specs.declared.run.Why.{Why}
 use Rattle.session.specs.declared.event.SliceEnd.{SliceEnd}
 use Rattle.session.specs.declared.event.SliceEnd.TheVariants as ending
 use Rattle.session.specs.declared.slices.Next.TheVariants as next
 use Rattle.session.specs.Beats.{Decides, IsFree, Stretches, going, owed_of, unless_memory}
-use Rattle.session.specs.Effects.{Slicing, after_beat, beats_on, performed}
+use Rattle.session.specs.Effects.{Slicing, after_beat, beat_may_lack, beats_on, performed}
 use Rattle.session.specs.Kept.{Kept, keepings}
-use Rattle.session.specs.Slices.{Beat, beat, beat_by, beat_of, becomes, concludes, ending_of, ends, halts, moves_by, stops, telling}
+use Rattle.session.specs.Slices.{Beat, beat, beat_by, beat_of, becomes, concludes, ending_of, ends, halts, moves_by, stops, telling, tells as telling_of}
 use Rattle.stepping.specs.declared.tick.Outcome.{Outcome}
 use Rattle.stepping.specs.declared.tick.Outcome.TheVariants.{Went, Stopped, Ended}
 use Rattle.stepping.specs.declared.tick.Tick.{Tick}
@@ -30,6 +38,9 @@ one_beat : (n m : ℕ) (k : Kept) → beats_on keepings n 1 (going k m)
     }
 one_beat n m k = refl
 
+never_lacks : (e : Option SliceEnd) → e ≡ Some ending.NoMemory → Ends e → ⊥
+never_lacks e out same = let none : unless_memory (Some ending.NoMemory) ≡ Some ending.NoMemory = subst Ends out same in cc
+
 pub stretches_by : (n m : ℕ) (more : Bool) (k new : Kept) (b : Beat) → ltb m n ≡ more → beat (keepings.see k) more ≡ b → Ends b.ending
     → new ≡ after_beat keepings b k → Stretches n m k (record { moved = b.moved; ending = b.ending }) new
 stretches_by n m more k new b lt is ends e = record {
@@ -40,15 +51,44 @@ stretches_by n m more k new b lt is ends e = record {
       ∙ ap (λ (c : Beat). let d : Slicing Kept = record { state = after_beat keepings c k; moved = m + c.moved; ending = c.ending } in d) is
       ∙ (λ j. record { state = sym e j; moved = m + b.moved; ending = sym ends j });
   some = λ none. omega arith;
+  lacks = λ out. absurd (never_lacks b.ending out ends);
 }
 
 -- memory was lacking, and nothing happened
-pub lacks_memory : (n m : ℕ) (k new : Kept) → new ≡ k → Stretches n m k (record { moved = 0; ending = Some ending.NoMemory }) new
-lacks_memory n m k new e = record {
-  count = 0;
-  goes = (λ j. record { state = sym e j; moved = (let none : m ≡ m + 0 = omega arith in none) j; ending = None });
-  some = λ none. absurd (cc);
-}
+lacks_memory : (n m : ℕ) (more : Bool) (k new : Kept) → ltb m n ≡ more → new ≡ k → beat_may_lack (keepings.see k) more ≡ true
+    → Stretches n m k (record { moved = 0; ending = Some ending.NoMemory }) new
+lacks_memory n m more k new lt e may =
+    let none : m ≡ m + 0 = omega arith in
+    record {
+      count = 0;
+      goes = (λ j. record { state = sym e j; moved = none j; ending = None });
+      some = λ none. absurd (cc);
+      lacks = λ _. ap (λ (x : Kept). beat_may_lack (keepings.see x) (ltb (m + 0) n)) e
+          ∙ ap (λ (x : ℕ). beat_may_lack (keepings.see k) (ltb x n)) (sym none)
+          ∙ ap (beat_may_lack (keepings.see k)) lt ∙ may;
+    }
+
+owes_some : (program : Option Program) (tick : Tick) → owed_of program ≡ Some tick → is_owed program ≡ true
+owes_some None tick e = absurd (cc)
+owes_some (Some p) tick e = ap is_owed_by e
+
+-- something was owed
+pub lacks_telling : (n m : ℕ) (k new : Kept) (tick : Tick) → owed_of k.now.debuggee.program ≡ Some tick → new ≡ k
+    → Stretches n m k (record { moved = 0; ending = Some ending.NoMemory }) new
+lacks_telling n m k new tick owes e =
+    lacks_memory n m (ltb m n) k new refl e (or_left _ _ (owes_some k.now.debuggee.program tick owes))
+
+-- an editor that has said all would have been told
+acts_need : (now : Now) (p : Program) (e : Told) (es : List Told) → is_active now.link ≡ true
+    → needs_memory (becomes now p ∷ telling_of now (e ∷ es)) ≡ true
+acts_need now p e es active = ap (λ (b : Bool). needs_memory (becomes now p ∷ cond b (map Tell (e ∷ es)) [])) active
+
+pub lacks_stopping : (n m : ℕ) (k new : Kept) (reason : Why) (more : Bool) → ltb m n ≡ more → Decides (next.Stop reason) k more
+    → is_active k.now.link ≡ true → new ≡ k → Stretches n m k (record { moved = 0; ending = Some ending.NoMemory }) new
+lacks_stopping n m k new reason more lt d active e =
+    lacks_memory n m more k new lt e
+    (or_right (is_owed k.now.debuggee.program) _
+    (ap (λ (b : Beat). needs_memory b.acts) d.1.1 ∙ acts_need k.now (stopped reason d.0) (stop_event reason []) [] active))
 
 -- the slice ends
 pub ends_there : (n m : ℕ) (more : Bool) (k : Kept) (e : SliceEnd) → ltb m n ≡ more → Decides (next.End e) k more
@@ -96,7 +136,16 @@ pub checks_there : (n m : ℕ) (k new : Kept) (more : Bool) → ltb m n ≡ more
     → ((p : Program) → k.now.debuggee.program ≡ Some p → new ≡ performed keepings (becomes k.now (entered p) ∷ []) k)
     → Stretches n m k (record { moved = 0; ending = None }) new
 checks_there n m k new more lt d e =
-    stretches_by n m more k new (record { acts = becomes k.now (entered d.0) ∷ []; moved = 0; ending = None }) lt d.1.1 refl (e d.0 d.1.0)
+    stretches_by n m more k new (record { acts = becomes k.now (entered d.0) ∷ []; moved = 0; ending = None }) lt d.1.1.0 refl (e d.0 d.1.0)
+
+some_same : (p q : Program) → Some p ≡ Some q → p ≡ q
+some_same p q e = cc
+
+-- the check is due, and nothing is owed
+pub is_due : (k : Kept) (more : Bool) (p : Program) → Decides next.Check k more → k.now.debuggee.program ≡ Some p
+    → (p.machine.check_due ≡ true) × (p.owed ≡ None)
+is_due k more p d is =
+    subst (λ (q : Program). (q.machine.check_due ≡ true) × (q.owed ≡ None)) (some_same d.0 p (sym d.1.0 ∙ is)) d.1.1.1
 
 -- ---- an instruction that stays
 
@@ -120,3 +169,22 @@ meets_next n m k new tick lt d e =
     stretches_by n m true k new (concluding k p tick.outcome) lt
     (free_beat p k free ∙ ap (λ (t : Tick). moves_by k.now p t.outcome) d.1.1.0 ∙ stays_beat k p tick.outcome d.1.1.1)
     (outcome_ends tick.outcome) (e p free.program)
+
+concluding_needs : (now : Now) (p : Program) (outcome : Outcome) → stays outcome ≡ true → is_active now.link ≡ true
+    → needs_memory (concludes now p outcome []) ≡ true
+concluding_needs now p Went so active = absurd (let no : false ≡ true = so in cc)
+concluding_needs now p (Stopped reason) so active = acts_need now (stopped (why.Met reason) p) (stop_event (why.Met reason) []) [] active
+concluding_needs now p (Ended code) so active =
+    acts_need now (ended (Some code) p) (event.Exited (record { exit_code = code })) (event.Terminated ∷ []) active
+
+pub lacks_meeting : (n m : ℕ) (k new : Kept) (tick : Tick) → ltb m n ≡ true
+    → (p : Program) × (IsFree p k × ((next_tick p ≡ tick) × (stays tick.outcome ≡ true))) → is_active k.now.link ≡ true → new ≡ k
+    → Stretches n m k (record { moved = 0; ending = Some ending.NoMemory }) new
+unfolding concluding
+lacks_meeting n m k new tick lt d active e =
+    let p = d.0 in
+    lacks_memory n m true k new lt e
+    (or_right (is_owed k.now.debuggee.program) _
+    (ap (λ (b : Beat). needs_memory b.acts)
+    (free_beat p k d.1.0 ∙ ap (λ (t : Tick). moves_by k.now p t.outcome) d.1.1.0 ∙ stays_beat k p tick.outcome d.1.1.1)
+    ∙ concluding_needs k.now p tick.outcome d.1.1.1 active))

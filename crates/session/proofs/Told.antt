@@ -11,7 +11,8 @@ use Rattle.session.specs.declared.pending.Pending.{Pending}
 use Rattle.session.specs.Acts.{Act, Become, Tell}
 use Rattle.session.specs.Beats.{concluded, outcome_events, printed_events, queued_with, tick_events}
 use Rattle.session.specs.Effects.{performed}
-use Rattle.session.specs.Kept.{Drafted, Kept, draft_told, keepings, kept_said}
+use Rattle.session.specs.Kept.{Drafted, Kept, draft_on, draft_told, drafted_all, keepings, kept_said}
+use Rattle.session.specs.declared.limits.Limits.{Limits}
 use Rattle.session.specs.Phases.{is_active}
 use Rattle.session.specs.Slices.{concludes, halts, prints, telling}
 use Rattle.handlers.specs.Telling.{exit_events, stop_event}
@@ -117,3 +118,28 @@ pub stop_so : {E : Type 0} (result : Result (Unit {0}) E) (old new : Kept) (reas
 stop_so (Err e) old new reason draft drafts h = tt
 stop_so (Ok x) old new reason draft drafts h =
     λ p there. h p there ∙ ap (λ (d : Drafted). queued_with d (stopped reason p) old) drafts ∙ sym (stop_tells old p reason [])
+
+pub conclude_so : {E : Type 0} (result : Result (Unit {0}) E) (old new : Kept) (outcome : Outcome) (draft : Drafted) → stays outcome ≡ true
+    → draft ≡ draft_told old.now.limits old.now.link (outcome_events outcome [])
+    → OnOk result ((p : Program) → old.now.debuggee.program ≡ Some p → new ≡ queued_with draft (concluded outcome p) old)
+    → OnOk result ((p : Program) → old.now.debuggee.program ≡ Some p → new ≡ performed keepings (concludes old.now p outcome []) old)
+conclude_so (Err e) old new outcome draft so drafts h = tt
+conclude_so (Ok x) old new outcome draft so drafts h =
+    λ p there. h p there ∙ ap (λ (d : Drafted). queued_with d (concluded outcome p) old) drafts ∙ sym (end_tells old p outcome so)
+
+-- what is drafted has bytes only where an editor is told
+pub told_somebody : (limits : Limits) (link : Option Link) (events : List Event) (d : Drafted) → d ≡ draft_told limits link events
+    → (d.bytes ≡ [] → ⊥) → is_active link ≡ true
+told_somebody limits link events d e some = by (is_active link) refl where
+  none : (l : Option Link) → (draft_on limits l).bytes ≡ []
+  none None = refl
+  none (Some l) = refl
+
+  by : (b : Bool) → is_active link ≡ b → is_active link ≡ true
+  by true is = is
+  by false is = absurd (some (ap (λ (x : Drafted). x.bytes) e
+      ∙ ap (λ (b : Bool). (cond b (drafted_all limits events (draft_on limits link)) (draft_on limits link)).bytes) is ∙ none link))
+
+pub told_where_some : (active : Bool) (bytes : List ℕ) → (active ≡ false → bytes ≡ []) → (bytes ≡ [] → ⊥) → active ≡ true
+told_where_some true bytes none some = refl
+told_where_some false bytes none some = absurd (some (none refl))

@@ -14,7 +14,7 @@ use Rattle.session.specs.declared.slices.Next.{Next}
 use Rattle.session.specs.declared.slices.Next.TheVariants as next
 use Rattle.session.specs.declared.slices.Step.{Step}
 use Rattle.session.specs.declared.state.TheConstants.{FULL}
-use Rattle.session.specs.Effects.{Slicing, beats, beats_on}
+use Rattle.session.specs.Effects.{Slicing, beat_may_lack, beats, beats_on}
 use Rattle.session.specs.Kept.{Drafted, Kept, keepings, settled}
 use Rattle.session.specs.Slices.{beat, ends, is_runnable_by, stops, becomes}
 use Rattle.handlers.specs.Telling.{exit_events, output_event, stop_event}
@@ -88,7 +88,8 @@ Decides (next.End e) k more = (beat (keepings.see k) more ≡ ends e) × (unless
 Decides (next.Stop reason) k more =
     (p : Program) × ((k.now.debuggee.program ≡ Some p) × (beat (keepings.see k) more ≡ stops k.now p reason))
 Decides next.Check k more = (p : Program) × ((k.now.debuggee.program ≡ Some p)
-    × (beat (keepings.see k) more ≡ record { acts = becomes k.now (entered p) ∷ []; moved = 0; ending = None }))
+    × ((beat (keepings.see k) more ≡ record { acts = becomes k.now (entered p) ∷ []; moved = 0; ending = None })
+    × ((p.machine.check_due ≡ true) × (p.owed ≡ None))))
 Decides next.Advance k more = (more ≡ true) × ((p : Program) × IsFree p k)
 
 -- ---- many beats
@@ -103,6 +104,7 @@ pub record Stretches (n moved : ℕ) (old : Kept) (step : Step) (new : Kept) : T
   pub goes : beats_on keepings n count (going old moved)
       ≡ record { state = new; moved = moved + step.moved; ending = unless_memory step.ending }
   pub some : step.ending ≡ None → 1 ≤ count
+  pub lacks : step.ending ≡ Some ending.NoMemory → beat_may_lack (keepings.see new) (nat_lt (moved + step.moved) n) ≡ true
 
 -- what would come next: some move was made, or the next one is known
 abbrev pub MeetsNext : ℕ → ℕ → Option Tick → Kept → Type 0

@@ -1,5 +1,6 @@
 -- What a session is made of: how much memory a machine gets, and the program that is there from the beginning.
 use Rattle.std.specs.Prelude.{◌≡◌, ℕ, false, List, Option, Some, None, Result, Ok, Err, ⊤}
+use Rattle.assembler.specs.Program.{whole_error}
 use Rattle.assembler.specs.Assembled.{assembled}
 use Rattle.assembler.specs.Placed.{error_of}
 use Rattle.assembler.specs.declared.error.AsmError.{AsmError}
@@ -26,17 +27,17 @@ abbrev pub HasError : Option (List ℕ × List ℕ) → ℕ → AsmError → Typ
 HasError None size error = ⊥
 HasError (Some program) size error = error_of program.1 size ≡ Some error
 
--- one is given
-abbrev pub IsGiven : Option (List ℕ × List ℕ) → Type 0
-IsGiven None = ⊥
-IsGiven (Some program) = ⊤
+-- one is given, of which each line has to be read: it is not too long, and it is UTF-8
+abbrev pub IsWhole : Option (List ℕ × List ℕ) → Type 0
+IsWhole None = ⊥
+IsWhole (Some program) = whole_error program.1 ≡ None
 
 -- A program is loaded exactly where its text has no error; else the error is what is wrong with it, or that no memory
 -- was left.
 abbrev pub LoadsOne : List ℕ → List ℕ → ℕ → Result Program ConfigError → Type 0
 LoadsOne path text size (Ok p) = (error_of text size ≡ None) × (p ≡ given path text size)
 LoadsOne path text size (Err (Assembly error)) = error_of text size ≡ Some error
-LoadsOne path text size (Err NoMemory) = ⊤
+LoadsOne path text size (Err NoMemory) = whole_error text ≡ None
 LoadsOne path text size (Err BadMemorySize) = ⊥
 LoadsOne path text size (Err BadLimit) = ⊥
 
@@ -44,6 +45,6 @@ LoadsOne path text size (Err BadLimit) = ⊥
 abbrev pub Loads : Option (List ℕ × List ℕ) → ℕ → Result (Option Program) ConfigError → Type 0
 Loads program size (Ok loaded) = HasImage program size × (loaded ≡ first_program program size)
 Loads program size (Err (Assembly error)) = HasError program size error
-Loads program size (Err NoMemory) = IsGiven program
+Loads program size (Err NoMemory) = IsWhole program
 Loads program size (Err BadMemorySize) = ⊥
 Loads program size (Err BadLimit) = ⊥

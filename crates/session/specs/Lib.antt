@@ -1,4 +1,4 @@
--- What a session is, what events do to it, and what follows for every list of events. First what a request is answered.
+-- What a session is, and what events do to it. First what a request is answered.
 
 -- the requests that wait: which join, which are repeats, what a `cancel` does
 pub mod Arrivals
@@ -10,6 +10,8 @@ pub mod References
 pub mod Acts
 -- the answer to a request: the refusals in their order, or its success
 pub mod Refusals
+-- what kind of answer it is
+pub mod Kinds
 -- the frame of a message with its number
 pub mod Writing
 -- ---- events
@@ -29,8 +31,6 @@ pub mod Sessions
 pub mod Shown
 -- what a snapshot keeps of it
 pub mod Snapshots
--- a whole session, computed: the bytes that it gets and those that it sends
-pub mod Example
 -- a prefix of a list
 pub mod Prefixes
 -- what the code keeps, which sessions that stands for (`Stands`), and what a call does for each of them (`Happens`);
@@ -40,11 +40,6 @@ pub mod Preparing
 pub mod Beats
 -- what a session is at first
 pub mod Begins
--- ---- what follows
--- what holds after every list of events
-pub mod Laws
--- how long references last
-pub mod Lifetimes
 -- ---- of the layers below
 -- frames, and each fault of one
 pub use Rattle.framing.specs.Frames

@@ -55,11 +55,15 @@ impl Buffer {
         self.slots.bytes.truncate(kept);
     }
 
-    /// Puts bytes after those that wait. Where no memory is left, nothing changes.
+    /// Puts bytes after those that wait. Where no memory is left, nothing changes; for no bytes it takes none.
     pub fn push(&mut self, more: &[u8]) -> Result<(), AllocError>
         ensures ok { OnOk result (self.new ≡ self.old ++ more.now) }
         ensures err { OnErr result (self.new ≡ self.old) }
+        ensures some { OnErr result (more.now ≡ [] → ⊥) }
     {
+        if more.is_empty() {
+            return Ok(());
+        }
         self.slots.push(more)
     }
 

@@ -69,6 +69,7 @@ pub(crate) fn first_program(
 }
 
 // A program, loaded.
+#[tactic(auto, using(crate::proofs::Whole::whole_image))]
 fn load(alloc: Global, path: Text, text: &[u8], size: u32) -> Result<Program, ConfigError>
     requires { IsSize size }
     ensures { spec.LoadsOne path text.now size result }

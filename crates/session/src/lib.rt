@@ -8,7 +8,6 @@ mod config;
 mod draft;
 mod event;
 mod feeding;
-pub mod laws;
 mod limits;
 mod link;
 mod pending;

@@ -1,5 +1,5 @@
 //! The program is given time.
-ghost use Rattle.std.specs.Prelude.{◌≡◌, nat_lt, true, ◌++◌, ◌+◌, ◌*◌, ◌<◌, ◌≤◌, ℕ, Some, None, Ok, [], ◌∷◌, IfOk, OnOk, OnErr, Bool};
+ghost use Rattle.std.specs.Prelude.{◌≡◌, nat_lt, true, ◌++◌, ◌+◌, ◌*◌, ◌<◌, ◌≤◌, ℕ, Some, None, Ok, [], ◌∷◌, IfOk, OnOk, OnErr, Bool, false};
 ghost use Rattle.session.specs.declared.event.Event.TheVariants as event;
 ghost use Rattle.session.specs.declared.event.Applied.TheVariants as applied;
 ghost use Rattle.debuggee.specs.Programs.{Program as AProgram, entered, next_tick, stays};
@@ -143,7 +143,7 @@ impl State {
     }
 
     // What is owed is told.
-    #[tactic(auto, using(crate::proofs::Stretching::tells, crate::proofs::Stretching::lacks_memory))]
+    #[tactic(auto, using(crate::proofs::Stretching::tells, crate::proofs::Stretching::lacks_telling))]
     fn step_telling(&mut self, tick: Tick) -> Step
         requires { owed_of self.old.now.debuggee.program ≡ Some tick }
         ensures moved { result.moved ≡ 0 }
@@ -159,7 +159,7 @@ impl State {
     }
 
     // The program stops.
-    #[tactic(auto, using(crate::proofs::Stretching::stops_there, crate::proofs::Stretching::lacks_memory))]
+    #[tactic(auto, using(crate::proofs::Stretching::stops_there, crate::proofs::Stretching::lacks_stopping))]
     fn step_stopping(&mut self, why: Why, more: bool) -> Step
         requires { Decides (a_next.Stop why) self.old more }
         ensures moved { result.moved ≡ 0 }
@@ -172,7 +172,7 @@ impl State {
     }
 
     // The check at the entry is made.
-    #[tactic(auto, using(crate::proofs::Stretching::checks_there))]
+    #[tactic(auto, using(crate::proofs::Stretching::checks_there, crate::proofs::Stretching::is_due))]
     fn step_checking(&mut self, more: bool) -> Step
         requires { Decides a_next.Check self.old more }
         ensures moved { result.moved ≡ 0 }
@@ -186,6 +186,7 @@ impl State {
     }
 
     fn check(&mut self)
+        requires due { (p : AProgram) → self.old.now.debuggee.program ≡ Some p → (p.machine.check_due ≡ true) × (p.owed ≡ None) }
         ensures { (p : AProgram) → self.old.now.debuggee.program ≡ Some p
             → self.new ≡ performed keepings (spec.becomes self.old.now (entered p) ∷ []) self.old }
     {
@@ -234,7 +235,7 @@ impl State {
     }
 
     // The instruction that comes next traps, or ends the program: that is made and told.
-    #[tactic(auto, using(crate::proofs::Stretching::meets_next, crate::proofs::Stretching::lacks_memory))]
+    #[tactic(auto, using(crate::proofs::Stretching::meets_next, crate::proofs::Stretching::lacks_meeting))]
     fn meet(&mut self, tick: Tick) -> Option<SliceEnd>
         requires { (p : AProgram) × (IsFree p self.old × ((next_tick p ≡ tick) × (stays tick.outcome ≡ true))) }
         ensures stretches { (n moved : ℕ) → nat_lt moved n ≡ true
@@ -277,12 +278,13 @@ impl State {
         }
     }
 
-    /// What is owed is told: all of it or nothing.
-    #[tactic(auto, using(crate::proofs::Told::tick_tells))]
+    /// What is owed is told: all of it or nothing. It needs memory only where there is an editor to tell.
+    #[tactic(auto, using(crate::proofs::Told::tick_tells, crate::proofs::Told::told_where_some))]
     pub(crate) fn tell(&mut self, tick: Tick) -> Result<(), AllocError>
         ensures ok { OnOk result ((p : AProgram) → self.old.now.debuggee.program ≡ Some p
             → self.new ≡ performed keepings (spec.telling self.old.now p tick) self.old) }
         ensures err { OnErr result (self.new ≡ self.old) }
+        ensures told { OnErr result (is_active self.old.now.link ≡ true) }
     {
         let draft = self.draft_tick(tick)?;
         self.queue_and(&draft, Made::Told(tick))
@@ -293,6 +295,7 @@ impl State {
         ensures ok { OnOk result ((p : AProgram) → self.old.now.debuggee.program ≡ Some p
             → self.new ≡ queued_with draft.now (after_made made p) self.old) }
         ensures err { OnErr result (self.new ≡ self.old) }
+        ensures some { OnErr result (draft.now.bytes ≡ [] → ⊥) }
     {
         self.buffer.push(draft.bytes())?;
         if let Some(program) = &mut self.program {
@@ -304,8 +307,10 @@ impl State {
 
     // What is told of a tick, written.
     fn draft_tick(&self, tick: Tick) -> Result<Draft, AllocError>
-        ensures { IfOk result (λ d. (p : AProgram) → self.now.now.debuggee.program ≡ Some p
+        ensures ok { IfOk result (λ d. (p : AProgram) → self.now.now.debuggee.program ≡ Some p
             → d ≡ draft_told self.now.now.limits self.now.now.link (tick_events tick p.machine.lists.ids)) }
+        ensures empty { is_active self.now.now.link ≡ false → IfOk result (λ d. d.bytes ≡ []) }
+        ensures told { OnErr result (is_active self.now.now.link ≡ true) }
     {
         let mut draft = Draft::new(self.alloc, self.limits, self.link);
         if !self.is_told() {
@@ -338,12 +343,13 @@ impl State {
         }
     }
 
-    // The program stops, and the editor is told: both or none.
-    #[tactic(auto, using(crate::proofs::Told::stop_tells))]
+    // The program stops, and the editor is told: both or none. It needs memory only where there is an editor to tell.
+    #[tactic(auto, using(crate::proofs::Told::stop_tells, crate::proofs::Told::told_somebody))]
     fn stop(&mut self, why: Why) -> Result<(), AllocError>
         ensures ok { OnOk result ((p : AProgram) → self.old.now.debuggee.program ≡ Some p
             → self.new ≡ performed keepings (spec.halts self.old.now p why []) self.old) }
         ensures err { OnErr result (self.new ≡ self.old) }
+        ensures told { OnErr result (is_active self.old.now.link ≡ true) }
     {
         let draft = self.draft_stop(why)?;
         self.queue_and(&draft, Made::Stopped(why))
@@ -351,7 +357,8 @@ impl State {
 
     // A stop that no breakpoint made, written.
     fn draft_stop(&self, why: Why) -> Result<Draft, AllocError>
-        ensures { IfOk result (λ d. d ≡ draft_told self.now.now.limits self.now.now.link (stop_event why [] ∷ [])) }
+        ensures ok { IfOk result (λ d. d ≡ draft_told self.now.now.limits self.now.now.link (stop_event why [] ∷ [])) }
+        ensures told { OnErr result (is_active self.now.now.link ≡ true) }
     {
         let mut draft = Draft::new(self.alloc, self.limits, self.link);
         if self.is_told() {
@@ -361,13 +368,15 @@ impl State {
         Ok(draft)
     }
 
-    // What the instruction that comes next comes to is made, and the editor is told: both or none.
-    #[tactic(auto, using(crate::proofs::Told::end_tells))]
+    // What the instruction that comes next comes to is made, and the editor is told: both or none. It needs memory only where there is
+    // an editor to tell.
+    #[tactic(auto, using(crate::proofs::Told::end_tells, crate::proofs::Told::told_somebody))]
     fn conclude(&mut self, outcome: Outcome) -> Result<(), AllocError>
         requires { stays outcome ≡ true }
         ensures ok { OnOk result ((p : AProgram) → self.old.now.debuggee.program ≡ Some p
             → self.new ≡ performed keepings (spec.concludes self.old.now p outcome []) self.old) }
         ensures err { OnErr result (self.new ≡ self.old) }
+        ensures told { OnErr result (is_active self.old.now.link ≡ true) }
     {
         let draft = self.draft_outcome(outcome)?;
         self.queue_and(&draft, Made::Met(outcome))
@@ -375,7 +384,8 @@ impl State {
 
     // The events of what a tick came to that hit no breakpoint, written, where the editor is told.
     fn draft_outcome(&self, outcome: Outcome) -> Result<Draft, AllocError>
-        ensures { IfOk result (λ d. d ≡ draft_told self.now.now.limits self.now.now.link (outcome_events outcome [])) }
+        ensures ok { IfOk result (λ d. d ≡ draft_told self.now.now.limits self.now.now.link (outcome_events outcome [])) }
+        ensures told { OnErr result (is_active self.now.now.link ≡ true) }
     {
         let mut draft = Draft::new(self.alloc, self.limits, self.link);
         if !self.is_told() {

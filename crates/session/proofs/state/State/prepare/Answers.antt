@@ -3,4 +3,6 @@ use Rattle.session.proofs.Drafting.{prepared_so}
 use Rattle.session.proofs.state.State.prepare.Goals as goal
 
 pub returns : goal.returns
-returns c = prepared_so c.args.self.now.now c.lent.result c.args.link.terms (option_copied c.args.file) c.args.first.now c.in_ok-answer.answer c.in_ok-draft.draft c.lent.ensures c.in_ok-answer.ensures c.in_ok-draft.ensures
+returns c =
+    prepared_so c.args.self.now.now c.lent.result c.args.link.terms
+    (option_copied c.args.file) c.args.first.now c.in_ok-answer.answer c.in_ok-draft.draft c.lent.ensures c.in_ok-answer.ensures c.in_ok-draft.ensures

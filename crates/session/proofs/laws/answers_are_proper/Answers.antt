@@ -1,5 +1,0 @@
-use Rattle.session.proofs.Proper.{answers_are_proper as proved}
-use Rattle.session.proofs.laws.answers_are_proper.Goals as goal
-
-pub returns : goal.returns
-returns c = proved

@@ -1,5 +1,0 @@
-use Rattle.session.proofs.Order.{answers_in_order as proved}
-use Rattle.session.proofs.laws.answers_in_order.Goals as goal
-
-pub returns : goal.returns
-returns c = proved

@@ -1,5 +1,0 @@
-use Rattle.session.proofs.Cuts.{cuts_do_not_matter as proved}
-use Rattle.session.proofs.laws.cuts_do_not_matter.Goals as goal
-
-pub returns : goal.returns
-returns c = proved

@@ -1,5 +1,0 @@
-use Rattle.session.proofs.Waiting.{every_byte_is_taken_or_waits as proved}
-use Rattle.session.proofs.laws.every_byte_is_taken_or_waits.Goals as goal
-
-pub returns : goal.returns
-returns c = proved

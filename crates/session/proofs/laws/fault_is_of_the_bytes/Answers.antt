@@ -1,5 +1,0 @@
-use Rattle.session.proofs.Cuts.{fault_is_of_the_bytes as proved}
-use Rattle.session.proofs.laws.fault_is_of_the_bytes.Goals as goal
-
-pub returns : goal.returns
-returns c = proved

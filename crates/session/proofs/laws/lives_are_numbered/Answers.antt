@@ -1,5 +1,0 @@
-use Rattle.session.proofs.Waiting.{lives_are_numbered as proved}
-use Rattle.session.proofs.laws.lives_are_numbered.Goals as goal
-
-pub returns : goal.returns
-returns c = proved

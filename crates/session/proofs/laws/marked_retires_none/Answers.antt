@@ -1,8 +1,0 @@
-use Rattle.session.proofs.Paused.{marked_retires_none, pause_marks}
-use Rattle.session.proofs.laws.marked_retires_none.Goals as goal
-
-pub returns-clause-marked : goal.returns-clause-marked
-returns-clause-marked c = marked_retires_none
-
-pub returns-clause-pause : goal.returns-clause-pause
-returns-clause-pause c = pause_marks

@@ -1,5 +1,0 @@
-use Rattle.session.proofs.Issuing.{references_rise as proved}
-use Rattle.session.proofs.laws.references_rise.Goals as goal
-
-pub returns : goal.returns
-returns c = proved

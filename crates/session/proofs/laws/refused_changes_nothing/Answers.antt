@@ -1,5 +1,0 @@
-use Rattle.session.proofs.Refusing.{refused_changes_nothing as proved}
-use Rattle.session.proofs.laws.refused_changes_nothing.Goals as goal
-
-pub returns : goal.returns
-returns c = proved

@@ -1,5 +1,0 @@
-use Rattle.session.proofs.Runs.{runs_are_told as proved}
-use Rattle.session.proofs.laws.runs_are_told.Goals as goal
-
-pub returns : goal.returns
-returns c = proved

@@ -1,5 +1,0 @@
-use Rattle.session.proofs.Joined.{slices_join as proved}
-use Rattle.session.proofs.laws.slices_join.Goals as goal
-
-pub returns : goal.returns
-returns c = proved

@@ -1,0 +1,103 @@
+-- What is kept where an act does something is kept by acts.
+use Rattle.std.proofs.Common.{◌≡◌, ℕ, ◌<◌, false, ltb, List, [], ◌∷◌, Option, Some, None, ltb-true}
+use Rattle.replies.specs.declared.message.Message.{Message}
+use Rattle.replies.specs.declared.message.Message.TheVariants.{Response, Event as IsEvent}
+use Rattle.replies.specs.declared.response.Outcome.{Outcome}
+use Rattle.session.specs.declared.link.Link.{Link}
+use Rattle.session.specs.declared.pending.Pending.{Pending}
+use Rattle.handlers.specs.declared.terms.Terms.{Terms}
+use Rattle.debuggee.specs.Programs.{Debuggee}
+use Rattle.replies.specs.declared.event.Event.{Event}
+use Rattle.handlers.specs.Given.{Answering}
+use Rattle.session.specs.Acts.{Open, Close, Accept, Agree, Become, Refer, Reply, Tell, HangUp, Take, numbered, accepted, read_on, refers}
+use Rattle.session.specs.References.{past_referred}
+use Rattle.session.specs.Refusals.{response_to}
+use Rattle.variables.specs.Laws.{Call}
+use Rattle.session.specs.Sessions.{Session, said_next, with_said, with_piece, replied_on, accepted_on, agreed_on, said_on, opened_on, hung_on, referred_on, performed_on}
+use Rattle.session.proofs.Reaching.{if_keeps, KeptByActs}
+
+-- a session once an answer's change is made and its references are issued, before it is queued
+abbrev pub with_change : Answering → Session → Session
+with_change a s = record s {
+  now = refers (record s.now { debuggee = a.debuggee }) a.references;
+  references = past_referred s.now.connections a.references s.references;
+}
+
+-- a session on that connection, on which these requests wait
+abbrev pub on : Option Link → Session → Session
+on l s = record s { now = record s.now { link = l } }
+
+abbrev pub on_with : Option Link → List Pending → Session → Session
+on_with l pending s = record s { now = record s.now { link = l; arrivals = record s.now.arrivals { pending = pending } } }
+
+-- the session after a message
+abbrev pub saying : Link → Message → List Pending → Session → Session
+saying l m rest s = record s { now = numbered s.now l rest; life = with_said s.life (said_next s.now l m) }
+
+-- and after a piece
+abbrev pub accepting : Link → List ℕ → Session → Session
+accepting l piece s = record s { now = accepted s.now (read_on s.now piece) l; life = with_piece s.life s.now piece }
+
+-- What keeps P act by act, but for answers: what each act does where it does something.
+pub record KeptByOthers (P : Session → Type 0) : Type 0 where
+  pub opens : (s : Session) → P (on None s) → P (performed_on Open (on None s))
+  pub closes : (s : Session) → P s → P (performed_on Close s)
+  pub accepts : (l : Link) (piece : List ℕ) (s : Session) → l.is_closing ≡ false → P (on (Some l) s) → P (accepting l piece (on (Some l) s))
+  pub agrees : (l : Link) (terms : Terms) (s : Session) → P (on (Some l) s) → P (performed_on (Agree terms) (on (Some l) s))
+  pub refers : (l : Link) (call : Option Call) (s : Session) → P (on (Some l) s) → P (performed_on (Refer call) (on (Some l) s))
+  pub becomes : (d : Debuggee) (s : Session) → P s → P (performed_on (Become d) s)
+  pub tells : (l : Link) (event : Event) (s : Session) → l.seq < s.now.limits.last_seq → P (on (Some l) s)
+      → P (saying l (IsEvent event) s.now.arrivals.pending (on (Some l) s))
+  pub hangs : (l : Link) (s : Session) → P (on (Some l) s) → P (performed_on HangUp (on (Some l) s))
+  pub takes : (n : ℕ) (s : Session) → P s → P (performed_on (Take n) s)
+
+-- and for answers
+abbrev pub KeptByAnswers : (Session → Type 0) → Type 0
+KeptByAnswers P =
+    (l : Link) (p : Pending) (rest : List Pending) (outcome : Outcome) (s : Session) → l.seq < s.now.limits.last_seq → P
+    (on_with (Some l) (p ∷ rest) s) → P (saying l (Response (response_to p.ask outcome)) rest (on_with (Some l) (p ∷ rest) s))
+
+module _ (P : Session → Type 0) (k : KeptByOthers P) (says : KeptByAnswers P) where
+  opens_by : (l : Option Link) (s : Session) → P (on l s) → P (opened_on l (on l s))
+  opens_by (Some l) s h = h
+  opens_by None s h = k.opens s h
+
+  accepts_by : (l : Option Link) (piece : List ℕ) (s : Session) → P (on l s) → P (accepted_on l piece (on l s))
+  accepts_by None piece s h = h
+  accepts_by (Some l) piece s h = if_keeps P l.is_closing _ _ (λ _. h) (λ e. k.accepts l piece s e h)
+
+  agrees_by : (l : Option Link) (terms : Terms) (s : Session) → P (on l s) → P (agreed_on l terms (on l s))
+  agrees_by None terms s h = h
+  agrees_by (Some l) terms s h = k.agrees l terms s h
+
+  refers_by : (l : Option Link) (call : Option Call) (s : Session) → P (on l s) → P (referred_on l call (on l s))
+  refers_by None call s h = h
+  refers_by (Some l) call s h = k.refers l call s h
+
+  tells_by : (l : Option Link) (event : Event) (s : Session) → P (on l s) → P (said_on l (IsEvent event) s.now.arrivals.pending (on l s))
+  tells_by None event s h = h
+  tells_by (Some l) event s h =
+      if_keeps P (ltb l.seq s.now.limits.last_seq) _ _ (λ e. k.tells l event s (ltb-true l.seq s.now.limits.last_seq e) h) (λ _. h)
+
+  hangs_by : (l : Option Link) (s : Session) → P (on l s) → P (hung_on l (on l s))
+  hangs_by None s h = h
+  hangs_by (Some l) s h = k.hangs l s h
+
+  replies_by : (l : Option Link) (pending : List Pending) (outcome : Outcome) (s : Session) → P (on_with l pending s)
+      → P (replied_on pending outcome (on_with l pending s))
+  replies_by l [] outcome s h = h
+  replies_by None (p ∷ rest) outcome s h = h
+  replies_by (Some l) (p ∷ rest) outcome s h =
+      if_keeps P (ltb l.seq s.now.limits.last_seq) _ _ (λ e. says l p rest outcome s (ltb-true l.seq s.now.limits.last_seq e) h) (λ _. h)
+
+  pub by_forms : KeptByActs P
+  by_forms Open s h = opens_by s.now.link s h
+  by_forms Close s h = k.closes s h
+  by_forms (Accept piece) s h = accepts_by s.now.link piece s h
+  by_forms (Agree terms) s h = agrees_by s.now.link terms s h
+  by_forms (Refer call) s h = refers_by s.now.link call s h
+  by_forms (Become d) s h = k.becomes d s h
+  by_forms (Tell event) s h = tells_by s.now.link event s h
+  by_forms (Reply outcome) s h = replies_by s.now.link s.now.arrivals.pending outcome s h
+  by_forms HangUp s h = hangs_by s.now.link s h
+  by_forms (Take n) s h = k.takes n s h

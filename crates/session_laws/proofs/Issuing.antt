@@ -1,0 +1,141 @@
+-- What is kept of references stands for all that were ever issued, each on its connection.
+use Rattle.std.proofs.Common.{◌≡◌, ℕ, ◌+◌, ◌≤◌, List, [], ◌∷◌, map, Option, Some, None, refl, sym, ap, ◌∙◌, subst, arith}
+use Rattle.std.specs.Prelude.{All, ⊤}
+use Rattle.std.proofs.lemmas.List.{length-map}
+use Rattle.std.proofs.lemmas.List.Elements.{All-cons, All-nil, All-weaker}
+use Rattle.session.specs.declared.event.Event.{Event}
+use Rattle.session.specs.declared.link.Link.{Link}
+use Rattle.session_laws.specs.Lifetimes.{ReferencesRise, ReferencesStand}
+use Rattle.session.specs.References.{Reference, References, ended, issued_all, issued_one, past_of, past_referred, referred, unless_issued, without_connection}
+use Rattle.session.specs.Sessions.{Beginning, Session, After}
+use Rattle.session_laws.proofs.ByForms.{KeptByAnswers, KeptByOthers, by_forms}
+use Rattle.session.proofs.Reaching.{reached_by_acts}
+use Rattle.variables.specs.Laws.{Call, down_from}
+use Rattle.variables.specs.Laws.Call.{EndStop, Issue}
+use Rattle.variables.specs.Numbers.{Numbers, StandsFor}
+use Rattle.variables.specs.References as variables
+use Rattle.variables.specs.References.{Issued, Past, next_number, number_of}
+use Rattle.variables.specs.declared.target.Target.{Target}
+use Rattle.variables.proofs.Calls.{Falls, falls}
+use Rattle.variables.proofs.Standing.{all_stand, ended_stands, nothing_stands}
+
+-- ---- without the connections, it is the same
+
+one_as : (number : Option ℕ) (connection : ℕ) (all : References) (target : Target)
+    → past_of (unless_issued number connection all target) ≡ variables.unless_issued number (past_of all) target
+one_as None connection all target = refl
+one_as (Some number) connection all target = refl
+
+all_as : (connection : ℕ) (all : References) (targets : List Target)
+    → past_of (issued_all connection all targets) ≡ variables.issued_all (past_of all) targets
+all_as connection all [] = refl
+all_as connection all (target ∷ others) =
+    all_as connection (issued_one connection all target) others
+    ∙ ap (λ (past : Past). variables.issued_all past others) (one_as (number_of (past_of all) target) connection all target)
+
+stands_after : (call : Option Call) (connection : ℕ) (numbers : Numbers) (all : References) → StandsFor numbers (past_of all)
+    → StandsFor (referred call numbers) (past_of (past_referred connection call all))
+stands_after None connection numbers all h = h
+stands_after (Some (Issue targets)) connection numbers all h =
+    subst (StandsFor _) (sym (all_as connection all targets)) (all_stand numbers (past_of all) targets h)
+stands_after (Some EndStop) connection numbers all h = ended_stands numbers (past_of all) h
+
+-- ---- what is issued in a stop is issued on its connection
+
+abbrev pub Here : Option Link → Type 0
+Here None = ⊥
+Here (Some link) = ⊤
+
+-- none is of a later stop, and what is of this one came on this connection
+abbrev pub IsMade : Option Link → ℕ → ℕ → Reference → Type 0
+IsMade link connection stop r = (r.stop ≤ stop) × (r.stop ≡ stop → Here link × (r.connection ≡ connection))
+
+abbrev pub AreMade : Option Link → ℕ → References → Type 0
+AreMade link connection all = All (IsMade link connection all.stop) all.issued
+
+made_one : (number : Option ℕ) (link : Link) (connection : ℕ) (all : References) (target : Target) → AreMade (Some link) connection all
+    → AreMade (Some link) connection (unless_issued number connection all target)
+made_one None link connection all target h =
+    let made : Reference → Type 0 = IsMade (Some link) connection all.stop in
+    All-cons made (record { number = next_number (past_of all); target = target; stop = all.stop; connection = connection }) all.issued
+    (let same : all.stop ≤ all.stop = omega arith in same, λ same. (tt, refl)) h
+made_one (Some number) link connection all target h = h
+
+made_all : (link : Link) (connection : ℕ) (all : References) (targets : List Target) → AreMade (Some link) connection all
+    → AreMade (Some link) connection (issued_all connection all targets)
+made_all link connection all [] h = h
+made_all link connection all (target ∷ others) h =
+    made_all link connection (issued_one connection all target) others
+    (made_one (number_of (past_of all) target) link connection all target h)
+
+made_ended : (link other : Option Link) (connection : ℕ) (all : References) → AreMade link connection all
+    → AreMade other connection (ended all)
+made_ended link other connection all h =
+    All-weaker (IsMade link connection all.stop) (IsMade other connection (all.stop + 1))
+    (λ r made. (let least = made.0 in omega (arith, least), λ same. absurd (let least = made.0 in omega (arith, least, same)))) all.issued h
+
+made_after : (call : Option Call) (link : Link) (connection : ℕ) (all : References) → AreMade (Some link) connection all
+    → AreMade (Some link) connection (past_referred connection call all)
+made_after None link connection all h = h
+made_after (Some (Issue targets)) link connection all h = made_all link connection all targets h
+made_after (Some EndStop) link connection all h = made_ended (Some link) (Some link) connection all h
+
+-- on a connection that begins, nothing was issued
+made_opened : (here : Type 0) (connection other : ℕ) (all : References) → AreMade None connection all
+    → All (λ (r : Reference). (r.stop ≤ all.stop) × (r.stop ≡ all.stop → here × (r.connection ≡ other))) all.issued
+made_opened here connection other all h =
+    All-weaker (IsMade None connection all.stop)
+    (λ (r : Reference). (r.stop ≤ all.stop) × (r.stop ≡ all.stop → here × (r.connection ≡ other)))
+    (λ r made. (made.0, λ same. absurd (made.1 same).0)) all.issued h
+
+-- ---- every session
+
+pub record Refers (s : Session) : Type 0 where
+  pub stands : StandsFor s.now.numbers (past_of s.references)
+  pub made : AreMade s.now.link s.now.connections s.references
+
+refers : KeptByOthers Refers
+refers = record {
+  opens = λ s h. record { stands = h.stands; made = made_opened ⊤ s.now.connections (s.now.connections + 1) s.references h.made };
+  closes =
+      λ s h. record {
+        stands = ended_stands s.now.numbers (past_of s.references) h.stands;
+        made = made_ended s.now.link None s.now.connections s.references h.made;
+      };
+  accepts = λ l piece s e h. record { stands = h.stands; made = h.made };
+  agrees = λ l terms s h. record { stands = h.stands; made = h.made };
+  refers = λ l call s h. record {
+    stands = stands_after call s.now.connections s.now.numbers s.references h.stands;
+    made = made_after call l s.now.connections s.references h.made;
+  };
+  becomes = λ d s h. record { stands = h.stands; made = h.made };
+  tells = λ l event s few h. record { stands = h.stands; made = h.made };
+  hangs = λ l s h. record { stands = h.stands; made = h.made };
+  takes = λ n s h. record { stands = h.stands; made = h.made };
+}
+
+refers_answers : KeptByAnswers Refers
+refers_answers = λ l p rest outcome s few h. record { stands = h.stands; made = h.made }
+
+pub always_refers : (from : Beginning) (events : List Event) → Refers (After from events)
+always_refers from events =
+    reached_by_acts Refers (by_forms Refers refers refers_answers) from
+    (record { stands = nothing_stands from.limits.last_ref; made = All-nil (IsMade None 0 0) }) events
+
+-- ---- numbers rise
+
+same_numbers : (issued : List Reference)
+    → map (λ (i : Issued). i.number) (map without_connection issued) ≡ map (λ (r : Reference). r.number) issued
+same_numbers [] = refl
+same_numbers (r ∷ issued) = ap (λ (l : List ℕ). r.number ∷ l) (same_numbers issued)
+
+pub references_rise : (from : Beginning) (events : List Event) → ReferencesRise (After from events)
+references_rise from events =
+    let s = After from events in
+    let issued = s.references.issued in
+    let h : Falls (map without_connection issued) = falls s.references.stop (map without_connection issued)
+    (always_refers from events).stands.order in
+    sym (same_numbers issued) ∙ h.numbers ∙ ap down_from (length-map issued without_connection)
+
+pub references_stand : (from : Beginning) (events : List Event) → ReferencesStand (After from events)
+references_stand from events = (always_refers from events).stands

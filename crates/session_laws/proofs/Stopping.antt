@@ -1,0 +1,386 @@
+-- A slice stops where a run stops.
+use Rattle.std.proofs.Common.{◌≡◌, ℕ, ℤ, zero, suc, ◌+◌, Bool, true, false, cond, leb, ltb, [], ◌∷◌, length, Option, Some, None, Result, Ok, MatchBool, refl, sym, ap, ◌∙◌, subst, arith}
+use Rattle.std.specs.Prelude.{IsTrue, not}
+use Rattle.std.specs.declared.alloc.AllocError.{AllocError}
+use Rattle.breakpoints.specs.declared.breakpoint.Hit.{Hit}
+use Rattle.debuggee.specs.Programs.{Program, ended, entered, is_running, moved, next_tick, owing, owing_by, stays, stopped, told, why_marked}
+use Rattle.debuggee.specs.declared.run.Mark.{Mark}
+use Rattle.debuggee.specs.declared.run.Mark.TheVariants as mark
+use Rattle.debuggee.specs.declared.run.Run.{Run}
+use Rattle.debuggee.specs.declared.run.Run.TheVariants as run
+use Rattle.debuggee.specs.declared.run.Why.{Why}
+use Rattle.debuggee.specs.declared.run.Why.TheVariants as why
+use Rattle.debuggee.proofs.Advancing.{going_names_none}
+use Rattle.handlers.specs.Telling.{exit_events, stop_event}
+use Rattle.rv32i.specs.declared.stepped.Cause.{Cause}
+use Rattle.session.specs.Beats.{concluded}
+use Rattle.session.specs.Effects.{Slicing, beats, enough, next_by, performed, sliced}
+use Rattle.session.specs.Sessions.{Session, histories, waiting_of}
+use Rattle.session.specs.Slices.{Beat, beat_by, beat_of, becomes, ending_of, ends, exits, goes, goes_unless, is_runnable_by, moves_by, retires, stops, telling, tells}
+use Rattle.session.specs.declared.event.SliceEnd.{SliceEnd}
+use Rattle.session.specs.declared.event.SliceEnd.TheVariants as ending
+use Rattle.session.specs.declared.state.TheConstants.{FULL}
+use Rattle.session_laws.specs.Stopping.{SaysWhere, SaysWhereIn, SlicesStopThere, next_number}
+use Rattle.stepping.proofs.Existing.{the_tick}
+use Rattle.stepping.proofs.Ticking.{ticks_say_where}
+use Rattle.stepping.specs.RunLaws.{GoOn, Says, number_after}
+use Rattle.stepping.specs.Stopping.{NoneBelow, StopsAt}
+use Rattle.stepping.specs.Ticks.{Debugged, IsTick, Moves, hit_at_pc, outcome_of, entry_checked, entry_tick}
+use Rattle.stepping.specs.declared.tick.Outcome.{Outcome}
+use Rattle.stepping.specs.declared.tick.Outcome.TheVariants.{Went, Stopped, Ended}
+use Rattle.stepping.specs.declared.tick.Reason.TheVariants as met
+use Rattle.stepping.specs.declared.tick.Tick.{Tick}
+use Rattle.session.proofs.Advancing.{move_retires}
+use Rattle.session.proofs.ByMove.{by_move}
+use Rattle.session.proofs.Reaching.{if_keeps}
+use Rattle.session_laws.proofs.Joined.{becomes_program, program_of, slices_end, telling_program, tells_only}
+
+-- ---- the ticks of a run that goes on
+
+-- no reason applies at the number of any of them
+no_entry : (start : Debugged) → start.check_due ≡ false → NoneBelow 1 start
+no_entry start due zero outcome less a = absurd (let no : IsTrue start.check_due = a.0 in let never : true ≡ false = sym no ∙ due in cc)
+no_entry start due (suc k) outcome less a = absurd (omega (arith, less))
+
+none_at_first : (start : Debugged) → NoneBelow (number_after 0 start) start
+none_at_first start = by start.check_due refl where
+  by : (due : Bool) → start.check_due ≡ due → NoneBelow (cond due 0 1) start
+  by true due = λ lower outcome less. absurd (omega (arith, less))
+  by false due = no_entry start due
+
+next_after : (due : Bool) (ticks : ℕ) → cond due (suc ticks) (suc (suc ticks)) ≡ suc (cond due ticks (suc ticks))
+next_after true ticks = refl
+next_after false ticks = refl
+
+none_yet : (ticks : ℕ) (start now : Debugged) → GoOn ticks start now → NoneBelow (number_after ticks start) start
+none_yet zero start now goes = none_at_first start
+none_yet (suc ticks) start now g =
+    subst (λ (n : ℕ). NoneBelow n start) (sym (next_after start.check_due ticks))
+    (ticks_say_where ticks start g.0 now (record { printed = g.2.1.0; outcome = Went }) g.2.0
+    (subst (λ (r : Result Tick AllocError). IsTick g.0 r now) g.2.1.1 g.2.2)).0
+
+-- ---- how far a slice is
+
+-- the run goes on, and owes nothing
+record Going (start : Debugged) (made : ℕ) (p : Program) : Type 0 where
+  ticks : ℕ
+  goes : GoOn ticks start p.machine
+  owed : p.owed ≡ None
+  running : is_running p.run ≡ true
+  count : next_number made p.machine ≡ number_after ticks start
+
+-- what its last tick came to is owed
+record Owing (start : Debugged) (made : ℕ) (p : Program) (tick : Tick) : Type 0 where
+  ticks : ℕ
+  before : Debugged
+  goes : GoOn ticks start before
+  is : IsTick before (Ok tick) p.machine
+  owed : p.owed ≡ Some tick
+  running : is_running p.run ≡ true
+  count : made ≡ number_after ticks start
+  due : p.machine.check_due ≡ false
+  stay : stays tick.outcome ≡ false
+
+-- where a slice goes on, by what is owed
+Middle : Debugged → ℕ → Program → Option Tick → Type 0
+Middle start made p None = Going start made p
+Middle start made p (Some tick) = Owing start made p tick
+
+-- a program after some beats, by whether they ended the slice
+Far : Debugged → ℕ → Option Program → Option SliceEnd → Type 0
+Far start made None e = ⊥
+Far start made (Some p) (Some e) = SaysWhere made p.run start p.machine
+Far start made (Some p) None = Middle start made p p.owed
+
+zero_more : (n : ℕ) → n ≡ n + 0
+zero_more n = omega arith
+
+-- ---- what a tick comes to
+
+-- a tick of a run that goes on, and that leaves this program
+record Ticked (start : Debugged) (made : ℕ) (p : Program) (tick : Tick) : Type 0 where
+  ticks : ℕ
+  before : Debugged
+  goes : GoOn ticks start before
+  is : IsTick before (Ok tick) p.machine
+  running : is_running p.run ≡ true
+  count : made ≡ number_after ticks start
+  due : p.machine.check_due ≡ false
+  stay : stays tick.outcome ≡ false
+
+-- the run goes on after it
+goes_after : (start : Debugged) (made : ℕ) (p q : Program) (tick : Tick) → Ticked start made p tick → tick.outcome ≡ Went
+    → q.machine ≡ p.machine → q.owed ≡ None → q.run ≡ p.run → Going start made q
+goes_after start made p q tick t went same owed run = record {
+  ticks = suc t.ticks;
+  goes = (
+    t.before,
+    Ok tick,
+    (
+      t.goes,
+      (tick.printed, ap (λ (o : Outcome). let r : Result Tick AllocError = Ok (record { printed = tick.printed; outcome = o }) in r) went),
+      subst (λ (d : Debugged). IsTick t.before (Ok tick) d) (sym same) t.is,
+    ),
+  );
+  owed = owed;
+  running = ap is_running run ∙ t.running;
+  count =
+      ap (λ (due : Bool). cond due made (suc made)) (ap (λ (d : Debugged). d.check_due) same ∙ t.due)
+      ∙ ap suc t.count ∙ sym (next_after start.check_due t.ticks);
+}
+
+owes : (start : Debugged) (made : ℕ) (p : Program) (tick : Tick) → Ticked start made p tick → p.owed ≡ Some tick → Owing start made p tick
+owes start made p tick t e = record {
+  ticks = t.ticks;
+  before = t.before;
+  goes = t.goes;
+  is = t.is;
+  owed = e;
+  running = t.running;
+  count = t.count;
+  due = t.due;
+  stay = t.stay;
+}
+
+owed_by : (start : Debugged) (made : ℕ) (p : Program) (printed : Option ℤ) (outcome : Outcome)
+    → Ticked start made p (record { printed = printed; outcome = outcome }) → p.owed ≡ owing_by printed outcome
+    → Middle start made p (owing_by printed outcome)
+unfolding Middle
+owed_by start made p None Went t e = goes_after start made p p (record { printed = None; outcome = Went }) t refl refl e refl
+owed_by start made p (Some number) Went t e = owes start made p (record { printed = Some number; outcome = Went }) t e
+owed_by start made p None (Stopped reason) t e = owes start made p (record { printed = None; outcome = Stopped reason }) t e
+owed_by start made p (Some number) (Stopped reason) t e = owes start made p (record { printed = Some number; outcome = Stopped reason }) t e
+owed_by start made p None (Ended code) t e = owes start made p (record { printed = None; outcome = Ended code }) t e
+owed_by start made p (Some number) (Ended code) t e = owes start made p (record { printed = Some number; outcome = Ended code }) t e
+
+middle_after : (start : Debugged) (made : ℕ) (p : Program) (tick : Tick) → Ticked start made p tick → p.owed ≡ owing tick
+    → Middle start made p p.owed
+middle_after start made p tick t e =
+    subst (Middle start made p) (sym e) (owed_by start made p tick.printed tick.outcome t e)
+
+-- ---- a beat
+
+-- what a beat makes of how far a slice is
+FarBy : Debugged → ℕ → Session → Beat → Type 0
+FarBy start made s b = Far start (made + b.moved) (program_of (performed histories b.acts s)) b.ending
+
+still_far : (start : Debugged) (made : ℕ) (program : Option Program) (e : Option SliceEnd) → Far start made program e → Far start (made + 0) program e
+still_far start made program e h = subst (λ (n : ℕ). Far start n program e) (zero_more made) h
+
+-- none of the moves that were made met a reason
+none_by : (start : Debugged) (made : ℕ) (p : Program) → Going start made p → NoneBelow (next_number made p.machine) start
+none_by start made p g = subst (λ (n : ℕ). NoneBelow n start) (sym g.count) (none_yet g.ticks start p.machine g.goes)
+
+runs_on : (r : Run) (start : Debugged) (made : ℕ) (d : Debugged) → is_running r ≡ true → NoneBelow (next_number made d) start
+    → SaysWhere made r start d
+runs_on run.Running start made d runs none = none
+runs_on (run.Stopped why) start made d runs none = absurd (let no : false ≡ true = runs in cc)
+runs_on (run.Ended code) start made d runs none = absurd (let no : false ≡ true = runs in cc)
+
+idle_far : (start : Debugged) (made : ℕ) (s : Session) (p : Program) (e : SliceEnd) → program_of s ≡ Some p → Going start made p
+    → FarBy start made s (ends e)
+unfolding FarBy Far
+idle_far start made s p e is g =
+    still_far start made (program_of s) (Some e)
+    (subst (λ (x : Option Program). Far start made x (Some e)) (sym is) (runs_on p.run start made p.machine g.running (none_by start made p g)))
+
+-- the program stops, but not for a reason of its machine
+is_outer : Why → Bool
+is_outer (why.Met reason) = false
+is_outer other = true
+
+stops_far : (start : Debugged) (made : ℕ) (s : Session) (p : Program) (w : Why) → SaysWhere made (run.Stopped w) start p.machine
+    → FarBy start made s (stops s.now p w)
+unfolding FarBy Far
+stops_far start made s p w says =
+    still_far start made _ (Some ending.Stopped)
+    (subst (λ (x : Option Program). Far start made x (Some ending.Stopped))
+    (sym (becomes_program s.now (stopped w p) (tells s.now (stop_event w [] ∷ [])) s (tells_only s.now (stop_event w [] ∷ [])))) says)
+
+-- an instruction that stays is met
+stay_says : (start : Debugged) (made : ℕ) (p : Program) (outcome : Outcome) → Going start made p → p.machine.check_due ≡ false
+    → (next_tick p).outcome ≡ outcome → Says (suc made) outcome start (moved p).machine
+stay_says start made p outcome g due e =
+    subst (λ (n : ℕ). Says n outcome start (moved p).machine)
+    (sym (ap (λ (b : Bool). cond b made (suc made)) (sym due) ∙ g.count))
+    (subst (λ (o : Outcome). Says (number_after g.ticks start) o start (moved p).machine) e
+    (ticks_say_where g.ticks start p.machine (moved p).machine (next_tick p) g.goes (the_tick p.machine).is))
+
+trap_far : (start : Debugged) (made : ℕ) (s : Session) (p : Program) (cause : Cause) → Going start made p → p.machine.check_due ≡ false
+    → (next_tick p).outcome ≡ Stopped (met.Exception cause) → FarBy start made s (stops s.now p (why.Met (met.Exception cause)))
+trap_far start made s p cause g due e =
+    stops_far start made s p (why.Met (met.Exception cause)) (stay_says start made p (Stopped (met.Exception cause)) g due e).0
+
+exit_far : (start : Debugged) (made : ℕ) (s : Session) (p : Program) (code : ℤ) → Going start made p → p.machine.check_due ≡ false
+    → (next_tick p).outcome ≡ Ended code
+    → FarBy start made s (record { acts = exits s.now p code; moved = 0; ending = Some ending.Ended })
+unfolding FarBy Far
+exit_far start made s p code g due e =
+    still_far start made _ (Some ending.Ended)
+    (subst (λ (x : Option Program). Far start made x (Some ending.Ended))
+    (sym (becomes_program s.now (ended (Some code) p) (tells s.now (exit_events code)) s (tells_only s.now (exit_events code))))
+    (stay_says start made p (Ended code) g due e).0)
+
+retire_far : (start : Debugged) (made : ℕ) (s : Session) (p : Program) → Going start made p → p.machine.check_due ≡ false
+    → stays (next_tick p).outcome ≡ false → FarBy start made s (retires s.now p)
+unfolding FarBy Far
+retire_far start made s p g due stay =
+    middle_after start (made + 1) (moved p) (next_tick p) (record {
+      ticks = g.ticks;
+      before = p.machine;
+      goes = g.goes;
+      is = (the_tick p.machine).is;
+      running = g.running;
+      count =
+          (let more : made + 1 ≡ suc made = omega arith in more)
+          ∙ ap (λ (b : Bool). cond b made (suc made)) (sym due) ∙ g.count;
+      due = (move_retires p due stay).0 ∙ due;
+      stay = stay;
+    }) refl
+
+entry_is : (d : Debugged) → d.check_due ≡ true → IsTick d (Ok (entry_tick d)) (entry_checked d)
+entry_is d due =
+    let answer : Result Tick AllocError = Ok (entry_tick d) in
+    subst (λ (b : Bool). MatchBool b ((answer ≡ Ok (entry_tick d)) × (entry_checked d ≡ entry_checked d)) (Moves d answer (entry_checked d)))
+    (sym due) (refl, refl)
+
+entry_stays : (hit : Hit) → stays (outcome_of hit false) ≡ false
+entry_stays hit = by hit.source hit.instruction where
+  by : (source instruction : Bool) → stays (outcome_of (record { source = source; instruction = instruction }) false) ≡ false
+  by true instruction = refl
+  by false true = refl
+  by false false = refl
+
+entry_far : (start : Debugged) (made : ℕ) (s : Session) (p : Program) → Going start made p → p.machine.check_due ≡ true
+    → FarBy start made s (record { acts = becomes s.now (entered p) ∷ []; moved = 0; ending = None })
+unfolding FarBy Far
+entry_far start made s p g due = still_far start made (Some (entered p)) None
+    (middle_after start made (entered p) (entry_tick p.machine) (record {
+      ticks = g.ticks;
+      before = p.machine;
+      goes = g.goes;
+      is = entry_is p.machine due;
+      running = g.running;
+      count = ap (λ (b : Bool). cond b made (suc made)) (sym due) ∙ g.count;
+      due = refl;
+      stay = entry_stays (hit_at_pc p.machine);
+    }) refl)
+
+move_far : (start : Debugged) (made : ℕ) (s : Session) (p : Program) → Going start made p → p.machine.check_due ≡ false
+    → FarBy start made s (moves_by s.now p (next_tick p).outcome)
+move_far start made s p g due =
+    by_move (λ o b. (next_tick p).outcome ≡ o → FarBy start made s b) s.now p (next_tick p).outcome
+    (λ o stay e. retire_far start made s p g due (ap stays e ∙ stay)) (λ cause e. trap_far start made s p cause g due e)
+    (λ code e. exit_far start made s p code g due e) refl
+
+go_far : (start : Debugged) (made : ℕ) (s : Session) (p : Program) (more : Bool) → program_of s ≡ Some p → Going start made p
+    → FarBy start made s (goes s.now p more)
+go_far start made s p more is g =
+    if_keeps (FarBy start made s) p.machine.check_due _ _ (λ due. entry_far start made s p g due)
+    (λ due. if_keeps (FarBy start made s) (not more) _ _ (λ _. idle_far start made s p ending.Spent is g)
+    (λ _. if_keeps (FarBy start made s) (leb s.now.limits.last_retired p.machine.retired) _ _
+    (λ _. stops_far start made s p why.Limit (none_by start made p g)) (λ _. move_far start made s p g due)))
+
+marked_says : (m : Mark) (start : Debugged) (made : ℕ) (d : Debugged) → NoneBelow (next_number made d) start
+    → SaysWhere made (run.Stopped (why_marked m)) start d
+marked_says mark.Entry start made d none = none
+marked_says mark.Pause start made d none = none
+marked_says mark.Hold start made d none = none
+
+mark_far : (start : Debugged) (made : ℕ) (s : Session) (p : Program) (m : Option Mark) (more : Bool) → program_of s ≡ Some p
+    → Going start made p → FarBy start made s (goes_unless m s.now p more)
+mark_far start made s p None more is g = go_far start made s p more is g
+mark_far start made s p (Some m) more is g =
+    stops_far start made s p (why_marked m) (marked_says m start made p.machine (none_by start made p g))
+
+-- what is owed is told
+told_machine : (p : Program) → p.machine.lists.ids ≡ [] → (told p).machine ≡ p.machine
+told_machine p none = λ j. record p.machine { lists = record p.machine.lists { ids = sym none j } }
+
+tick_far : (start : Debugged) (made : ℕ) (s : Session) (p : Program) (tick : Tick) → Owing start made p tick
+    → FarBy start made s (record { acts = telling s.now p tick; moved = 0; ending = ending_of tick.outcome })
+unfolding FarBy Far Middle
+tick_far start made s p tick o = by tick.outcome refl where
+  says : Says made tick.outcome start p.machine
+  says = subst (λ (n : ℕ). Says n tick.outcome start p.machine) (sym o.count) (ticks_say_where o.ticks start o.before p.machine tick o.goes o.is)
+
+  ticked : Ticked start made p tick
+  ticked = record {
+    ticks = o.ticks;
+    before = o.before;
+    goes = o.goes;
+    is = o.is;
+    running = o.running;
+    count = o.count;
+    due = o.due;
+    stay = o.stay;
+  }
+
+  left : (outcome : Outcome) → tick.outcome ≡ outcome → program_of (performed histories (telling s.now p tick) s) ≡ Some (concluded outcome (told p))
+  left outcome e = telling_program s.now p tick s ∙ ap (λ (x : Outcome). let q : Option Program = Some (concluded x (told p)) in q) e
+
+  by : (outcome : Outcome) → tick.outcome ≡ outcome → Far start (made + 0) (program_of (performed histories (telling s.now p tick) s)) (ending_of tick.outcome)
+  by Went e =
+      still_far start made _ (ending_of tick.outcome)
+      (subst (λ (x : Option SliceEnd). Far start made (program_of (performed histories (telling s.now p tick) s)) x) (sym (ap ending_of e))
+      (subst (λ (x : Option Program). Far start made x None) (sym (left Went e))
+      (goes_after start made p (told p) tick ticked e (told_machine p (going_names_none o.before p.machine tick e o.is)) refl refl)))
+  by (Stopped reason) e =
+      let stay : stays (Stopped reason) ≡ false = sym (ap stays e) ∙ o.stay in
+      still_far start made _ (ending_of tick.outcome)
+      (subst (λ (x : Option SliceEnd). Far start made (program_of (performed histories (telling s.now p tick) s)) x) (sym (ap ending_of e))
+      (subst (λ (x : Option Program). Far start made x (Some ending.Stopped)) (sym (left (Stopped reason) e))
+      (subst (λ (b : Bool). StopsAt (cond b (suc made) made) (Stopped reason) start) (sym stay)
+      (subst (λ (x : Outcome). Says made x start p.machine) e says).0)))
+  by (Ended code) e = absurd (let no : true ≡ false = sym (ap stays e) ∙ o.stay in cc)
+
+owed_far : (owed : Option Tick) (start : Debugged) (made : ℕ) (s : Session) (p : Program) (more : Bool) → program_of s ≡ Some p
+    → Middle start made p owed → FarBy start made s (beat_by owed (histories.see s) p more)
+unfolding Middle
+owed_far (Some tick) start made s p more is o = tick_far start made s p tick o
+owed_far None start made s p more is g =
+    if_keeps (FarBy start made s) (not (is_runnable_by s.now.link p.run)) _ _ (λ _. idle_far start made s p ending.Idle is g)
+    (λ _. if_keeps (FarBy start made s) (ltb FULL (length (waiting_of s))) _ _ (λ _. idle_far start made s p ending.Full is g)
+    (λ _. mark_far start made s p p.mark more is g))
+
+beat_far : (program : Option Program) (start : Debugged) (made : ℕ) (s : Session) (more : Bool) → program_of s ≡ program
+    → Far start made program None → FarBy start made s (beat_of program (histories.see s) more)
+unfolding Far
+beat_far None start made s more is h = absurd h
+beat_far (Some p) start made s more is h = owed_far p.owed start made s p more is h
+
+-- ---- a slice
+
+next_far : (n : ℕ) (d : Slicing Session) (e : Option SliceEnd) (start : Debugged) → d.ending ≡ e
+    → Far start d.moved (program_of d.state) d.ending
+    → let next = next_by histories n e d in Far start next.moved (program_of next.state) next.ending
+unfolding FarBy
+next_far n d (Some e) start is h = h
+next_far n d None start is h =
+    beat_far (program_of d.state) start d.moved d.state (ltb d.moved n) refl (subst (Far start d.moved (program_of d.state)) is h)
+
+beats_far : (n k : ℕ) (s : Session) (start : Debugged) → Far start 0 (program_of s) None
+    → let d = beats histories n k s in Far start d.moved (program_of d.state) d.ending
+beats_far n zero s start h = h
+beats_far n (suc k) s start h =
+    next_far n (beats histories n k s) (beats histories n k s).ending start refl (beats_far n k s start h)
+
+begins_far : (p : Program) → is_running p.run ≡ true → p.owed ≡ None → Middle p.machine 0 p p.owed
+unfolding Middle
+begins_far p runs owed = subst (Middle p.machine 0 p) (sym owed)
+    (record { ticks = 0; goes = refl; owed = owed; running = runs; count = refl })
+
+says_by : (program : Option Program) (e : Option SliceEnd) (start : Debugged) (made : ℕ) → (e ≡ None → ⊥) → Far start made program e
+    → SaysWhereIn made program start
+unfolding Far
+says_by None e start made ended h = absurd h
+says_by (Some p) None start made ended h = absurd (ended refl)
+says_by (Some p) (Some e) start made ended h = h
+
+pub slices_stop_there : (s : Session) → SlicesStopThere s
+unfolding Far
+slices_stop_there s p n is runs owed =
+    let d = sliced histories n s in
+    says_by (program_of d.state) d.ending p.machine d.moved (slices_end s n).0
+    (beats_far n (enough n) s p.machine
+    (subst (λ (x : Option Program). Far p.machine 0 x None) (sym is) (begins_far p runs owed)))

@@ -1,0 +1,129 @@
+-- What has retired, as long as the program lasts.
+--
+-- A session keeps no instruction that has retired. Of all that retired since the program was loaded or restarted there
+-- is a list all the same: a list of events settles it, event by event, and a slice beat by beat. In a beat one
+-- instruction retires or none; where one does it is the one at pc. A success of `launch` or of `restart` begins the list
+-- anew. The call stack that an editor sees, and the count of instructions, are those of this list.
+--
+-- Each word has one decoding (the laws `each_word_is_decoded` and `instruction_is_unique` of `rv32i`). `the_decoding` is
+-- that one.
+use Rattle.std.specs.Prelude.{◌≡◌, ℕ, zero, suc, nat_lt, Bool, true, false, ◌&&◌, if◌then◌else◌, List, [], ◌∷◌, ◌++◌}
+use Rattle.std.specs.Prelude.{Option, Some, None, Result, Ok, Err}
+use Rattle.answers.specs.StackTrace.{addresses}
+use Rattle.debuggee.specs.Programs.{Program}
+use Rattle.image.specs.Memory.{word_at}
+use Rattle.image.specs.declared.fault.MemFault.{MemFault}
+use Rattle.protocol.specs.declared.command.Command.{Command}
+use Rattle.protocol.specs.declared.command.Command.TheVariants as command
+use Rattle.rv32i.proofs.Moving.{the_decoding}
+use Rattle.rv32i.specs.declared.instr.Instr.{Instr}
+use Rattle.session.specs.declared.event.Event.{Event}
+use Rattle.session.specs.declared.event.Event.TheVariants.{Connect, Recv, Turn, Slice, Hold, Sent, DropConnection}
+use Rattle.session.specs.declared.event.SliceEnd.{SliceEnd}
+use Rattle.session.specs.declared.pending.Ask.{Ask}
+use Rattle.session.specs.declared.pending.Ask.TheVariants.{Request, Bad}
+use Rattle.session.specs.Effects.{Slicing, beats, enough}
+use Rattle.session.specs.Kinds.{is_success}
+use Rattle.session.specs.Sessions.{After, Beginning, Effect, Session, histories, start}
+use Rattle.session.specs.Slices.{beat}
+use Rattle.session_laws.specs.Turns.{Answered, answered}
+use Rattle.stepping.specs.Calls.{calls_of}
+use Rattle.stepping.specs.Marks.{Retired}
+use Rattle.stepping.specs.Past.{Remembers}
+use Rattle.stepping.specs.Ticks.{Debugged}
+
+-- ---- a beat
+
+-- the instruction of the word that was fetched, if there is one
+abbrev pub decoded : Result ℕ MemFault → Option Instr
+decoded (Ok word) = (the_decoding word).instr
+decoded (Err fault) = None
+
+-- an instruction with its address, if there is one
+abbrev pub at_address : ℕ → Option Instr → List Retired
+at_address pc None = []
+at_address pc (Some instr) = record { instr = instr; pc = pc } ∷ []
+
+-- the instruction at pc
+abbrev pub at_pc : Debugged → List Retired
+at_pc d = at_address d.hart.pc (decoded (word_at d.memory d.hart.pc))
+
+abbrev pub next_of : Option Program → List Retired
+next_of None = []
+next_of (Some p) = at_pc p.machine
+
+-- what has retired after a beat, by how many instructions retire in it
+abbrev pub and_next : ℕ → Option Program → List Retired → List Retired
+and_next zero program retired = retired
+and_next (suc n) program retired = retired ++ next_of program
+
+-- ---- a slice
+
+abbrev pub after_next : ℕ → Option SliceEnd → Slicing Session → List Retired → List Retired
+after_next n (Some e) d retired = retired
+after_next n None d retired =
+    and_next (beat (histories.see d.state) (nat_lt d.moved n)).moved d.state.now.debuggee.program retired
+
+-- after so many beats of a slice of n moves
+abbrev pub retired_in : ℕ → ℕ → Session → List Retired → List Retired
+retired_in n zero s retired = retired
+retired_in n (suc k) s retired =
+    after_next n (beats histories n k s).ending (beats histories n k s) (retired_in n k s retired)
+
+-- ---- a turn
+
+-- whether a request has the program loaded, or loaded anew
+abbrev pub loads : Command → Bool
+loads (command.Launch arguments) = true
+loads command.Restart = true
+loads other = false
+
+abbrev pub asks_to_load : Ask → Bool
+asks_to_load (Request r) = loads r.command
+asks_to_load (Bad seq name refusal) = false
+
+-- whether an answer says that it was
+abbrev pub begins_anew : Answered → Bool
+begins_anew a = asks_to_load a.request.ask && is_success a.answer.outcome
+
+abbrev pub after_answer : Option Answered → List Retired → List Retired
+after_answer None retired = retired
+after_answer (Some a) retired = if begins_anew a then [] else retired
+
+-- ---- events
+
+-- what has retired after an event
+abbrev pub and_retired : Session → Event → List Retired → List Retired
+and_retired s Connect retired = retired
+and_retired s (Recv piece) retired = retired
+and_retired s (Turn file) retired = after_answer (answered (histories.see s) file) retired
+and_retired s (Slice n) retired = retired_in n (enough n) s retired
+and_retired s Hold retired = retired
+and_retired s (Sent n) retired = retired
+and_retired s DropConnection retired = retired
+
+abbrev pub retired_after : List Event → Session → List Retired → List Retired
+retired_after [] s retired = retired
+retired_after (e ∷ events) s retired = retired_after events (Effect s e) (and_retired s e retired)
+
+-- All that has retired since the program was loaded or restarted, each instruction with its address, the oldest first.
+abbrev pub retired_of : Beginning → List Event → List Retired
+retired_of from events = retired_after events (start from) []
+
+-- ---- the law
+
+-- these have retired in the machine of the program; none has where there is no program
+abbrev pub IsPast : Option Program → List Retired → Type 0
+IsPast None retired = retired ≡ []
+IsPast (Some p) retired = Remembers p.machine retired
+
+-- Whatever happens, the depth, the calls and the count of the program's machine are those of what has retired.
+abbrev pub PastIsRemembered : Type 0
+PastIsRemembered = (from : Beginning) (events : List Event)
+    → IsPast (After from events).now.debuggee.program (retired_of from events)
+
+-- The frames of the program are at pc, and at the calls that are kept of what has retired, the newest first.
+abbrev pub FramesAreOfThePast : Type 0
+FramesAreOfThePast = (from : Beginning) (events : List Event) (p : Program)
+    → (After from events).now.debuggee.program ≡ Some p
+    → addresses p.machine ≡ p.machine.hart.pc ∷ calls_of (retired_of from events)

@@ -1,0 +1,44 @@
+-- Where a slice stops: there where a run stops, and for that reason.
+--
+-- Where a run of a debugged machine stops is said of the machine alone (`StopsAt` of `stepping`): at the least number of
+-- moves at which a reason applies, for the first of the reasons there. A slice makes moves of such a run, counted from
+-- the machine that it begins with: whatever was done to that before, as breakpoints that were set, is in it. Where
+-- the slice leaves the program stopped or ended for a reason, the run stops there; where it does not, for none
+-- of the moves that were made does a reason apply. So a slice that is granted as many moves as the number stops there,
+-- unless it ends before: by a mark or a limit, or while many bytes wait.
+use Rattle.std.specs.Prelude.{◌≡◌, ℕ, suc, true, if◌then◌else◌, Option, Some, None}
+use Rattle.debuggee.specs.Programs.{Program, is_running, stays}
+use Rattle.debuggee.specs.declared.run.Run.{Run}
+use Rattle.debuggee.specs.declared.run.Run.TheVariants.{Stopped as StandsStill, Ended as HasEnded}
+use Rattle.debuggee.specs.declared.run.Why.TheVariants as why
+use Rattle.session.specs.Effects.{sliced}
+use Rattle.session.specs.Sessions.{Session, histories}
+use Rattle.stepping.specs.Stopping.{NoneBelow, StopsAt}
+use Rattle.stepping.specs.Ticks.{Debugged}
+use Rattle.stepping.specs.declared.tick.Outcome.{Outcome}
+use Rattle.stepping.specs.declared.tick.Outcome.TheVariants.{Stopped, Ended}
+
+-- the number that comes next after so many moves: the one of the check at the entry as long as that is due
+abbrev pub next_number : ℕ → Debugged → ℕ
+next_number moved d = if d.check_due then moved else suc moved
+
+-- the number of the last tick after so many moves, by what it came to: an instruction that stays was met by one more
+abbrev pub number_of : ℕ → Outcome → ℕ
+number_of moved outcome = if stays outcome then suc moved else moved
+
+-- what so many moves from a machine say of its run, by how the program runs then
+abbrev pub SaysWhere : ℕ → Run → Debugged → Debugged → Type 0
+SaysWhere moved (StandsStill (why.Met reason)) start now =
+    StopsAt (number_of moved (Stopped reason)) (Stopped reason) start
+SaysWhere moved (HasEnded (Some code)) start now = StopsAt (suc moved) (Ended code) start
+SaysWhere moved other start now = NoneBelow (next_number moved now) start
+
+-- what a slice says of the run that it goes on with
+abbrev pub SaysWhereIn : ℕ → Option Program → Debugged → Type 0
+SaysWhereIn moved None start = ⊥
+SaysWhereIn moved (Some p) start = SaysWhere moved p.run start p.machine
+
+-- What a slice says is so, where the program runs and owes nothing when it begins.
+abbrev pub SlicesStopThere : Session → Type 0
+SlicesStopThere s = (p : Program) (n : ℕ) → s.now.debuggee.program ≡ Some p → is_running p.run ≡ true → p.owed ≡ None →
+    SaysWhereIn (sliced histories n s).moved (sliced histories n s).state.now.debuggee.program p.machine

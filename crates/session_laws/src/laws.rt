@@ -1,0 +1,119 @@
+//! What holds of a session after any list of events, as theorems: functions that do nothing, whose
+//! clauses say it.
+ghost use Rattle.std.specs.Prelude.{List};
+ghost use Rattle.session.specs.declared.event.Event.{Event as AnEvent};
+ghost use Rattle.session.specs.Sessions.{After, Beginning as ABeginning, Session as ASession};
+ghost use Rattle.session_laws.specs.Laws as law;
+ghost use Rattle.session_laws.specs.Stopping.{SlicesStopThere};
+ghost use Rattle.session_laws.specs.Retiring.{FramesAreOfThePast, PastIsRemembered};
+ghost use Rattle.session_laws.specs.Lifetimes.{ReferencesLast, ReferencesRise, ReferencesStand};
+
+/// Whatever happens, the life of the last connection that was made is at the place that is its number.
+pub fn lives_are_numbered()
+    ensures { (from : ABeginning) (events : List AnEvent) → law.LivesAreNumbered (After from events) }
+{}
+
+/// Whatever happens, the bytes that were taken of a connection are a prefix of its bytes, and on the
+/// present connection the bytes that wait are the rest: none is lost, doubled or changed.
+pub fn every_byte_is_taken_or_waits()
+    ensures { (from : ABeginning) (events : List AnEvent) → law.EveryByteIsTakenOrWaits (After from events) }
+{}
+
+/// Whatever happens, the messages of a connection have the numbers 1, 2, 3 and so on.
+pub fn numbers_rise()
+    ensures { (from : ABeginning) (events : List AnEvent) → law.NumbersRise (After from events) }
+{}
+
+/// Whatever happens, the requests of a connection have one answer each, in the order in which they
+/// came, for a prefix of them; the others wait, as long as there are numbers for answers.
+pub fn answers_in_order()
+    ensures { (from : ABeginning) (events : List AnEvent) → law.AnswersInOrder (After from events) }
+{}
+
+/// Whatever happens, the requests that came on a connection are those of the bytes that were
+/// accepted on it.
+pub fn requests_are_read()
+    ensures { (from : ABeginning) (events : List AnEvent) → law.RequestsAreRead (After from events) }
+{}
+
+/// Whatever happens, what closed the last connection is the fault of the bytes that were accepted on
+/// it, if they have one.
+pub fn fault_is_of_the_bytes()
+    ensures { (from : ABeginning) (events : List AnEvent) → law.FaultIsOfTheBytes (After from events) }
+{}
+
+/// Whatever happened, two pieces leave what they leave as one.
+pub fn cuts_do_not_matter()
+    ensures { (from : ABeginning) (events : List AnEvent) → law.CutsDoNotMatter (After from events) }
+{}
+
+/// An event that is refused changes nothing.
+pub fn refused_changes_nothing()
+    ensures { (s : ASession) → law.RefusedChangesNothing s }
+{}
+
+/// Whatever happens, each answer is a message that an adapter may send.
+pub fn answers_are_proper()
+    ensures { (from : ABeginning) (events : List AnEvent) → law.AnswersAreProper (After from events) }
+{}
+
+/// Whatever happens, `initialize` succeeds once at most on a connection.
+pub fn initializes_once()
+    ensures { (from : ABeginning) (events : List AnEvent) → law.InitializesOnce (After from events) }
+{}
+
+/// Whatever happens, each message says of the program's run what was so of the program when it was queued: a stop that
+/// it stood still, and why; a success of `continue`, of a step and of `restart` that it ran; an exit with which code it
+/// had ended.
+pub fn runs_are_told()
+    ensures { (from : ABeginning) (events : List AnEvent) → law.RunsAreTold (After from events) }
+{}
+
+/// Two slices, one after the other, leave what one of all their moves leaves, and as many instructions
+/// retire in them.
+pub fn slices_join()
+    ensures { (s : ASession) → law.SlicesJoin s }
+{}
+
+/// Each slice ends within the beats that are enough for its moves, so that more of them would change nothing.
+pub fn slices_end()
+    ensures { (s : ASession) → law.SlicesEnd s }
+{}
+
+/// A slice leaves the program stopped, or ended, for a reason of its machine exactly where a run of that machine stops, counted from the
+/// machine that the slice begins with: at the least number of moves at which a reason applies, for the first of the reasons there. Where it
+/// leaves it otherwise, none applied.
+pub fn slices_stop_there()
+    ensures { (s : ASession) → SlicesStopThere s }
+{}
+
+/// A program that runs and is marked to stop retires no instruction: whatever happens, until it does not run, or its editor leaves, which
+/// is when its connection ends or a `disconnect` succeeds. A turn that answers a `pause` with success leaves it marked.
+pub fn marked_retires_none()
+    ensures marked { (s : ASession) → law.MarkedRetiresNone s }
+    ensures pause { (s : ASession) → law.PauseMarks s }
+{}
+
+/// Whatever happens, the depth, the calls and the count of the program's machine are those of all that has retired since it was loaded or
+/// restarted; and its frames are at pc and at the calls that are kept of these instructions, the newest first.
+pub fn past_is_remembered()
+    ensures past { PastIsRemembered }
+    ensures frames { FramesAreOfThePast }
+{}
+
+/// Whatever happens, references have the numbers 1, 2, 3 and so on: none is issued twice.
+pub fn references_rise()
+    ensures { (from : ABeginning) (events : List AnEvent) → ReferencesRise (After from events) }
+{}
+
+/// Whatever happens, the numbers of the present stop are those of all references that were ever issued.
+pub fn references_stand()
+    ensures { (from : ABeginning) (events : List AnEvent) → ReferencesStand (After from events) }
+{}
+
+/// Whatever happened, a request that names a frame or a scope succeeds only with a number that was issued in this stop, on this
+/// connection; it is refused as stale exactly where nothing comes before and the number was issued in an earlier stop, and as unknown
+/// exactly where nothing comes before and the number was never issued, or in this stop for something of another kind.
+pub fn references_last()
+    ensures { (from : ABeginning) (events : List AnEvent) → ReferencesLast (After from events) }
+{}
