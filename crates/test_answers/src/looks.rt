@@ -6,7 +6,8 @@ ghost use Rattle.answers.specs.Looking.{looks_in};
 use crate::program::{Program, request_in, show_answer};
 use answers::{Look, look, set_variable, write_memory};
 use protocol::{Command, Request, SetVariableArguments, WriteMemoryArguments};
-use std::alloc::{AllocError, Global};
+use std::alloc::Global;
+use test_targets::{target_of, targets_of};
 use testing::{Fault, Line, bytes_of, called, parsed};
 use variables::{Handles, IssueError, Target};
 
@@ -196,20 +197,4 @@ fn show_targets(targets: &[Target], line: &mut Line) -> Result<(), Fault> {
         }
     }
     Ok(())
-}
-
-fn targets_of(alloc: Global, words: &[&str]) -> Result<Vec<Target>, Fault> {
-    let mut targets = Vec::with_capacity(alloc, words.len())?;
-    for word in words {
-        targets.push(target_of(word)?).map_err(AllocError::from)?;
-    }
-    Ok(targets)
-}
-
-fn target_of(word: &str) -> Result<Target, Fault> {
-    match word {
-        "registers" => Ok(Target::Registers),
-        "stack" => Ok(Target::Stack),
-        frame => Ok(Target::Frame(parsed(frame)?)),
-    }
 }

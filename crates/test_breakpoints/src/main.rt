@@ -1,7 +1,6 @@
 //! Plays breakpoints, on a hart and a memory of 65,536 bytes.
 //!
-//! - `set NUMBER VALUE`: sets a register, 1 to 31; `go ADDRESS`: sets pc.
-//! - `write ADDRESS BYTES`: writes into memory; each byte of it is 0 at the start.
+//! - what changes the machine, as `test_hart` says.
 //! - `source BREAKPOINT..`, `instructions BREAKPOINT..`: sets a list, as `lists` says.
 //! - `check`: looks at the breakpoints at pc: whether those of source lines stop, whether those of instructions do, and the ids
 //!   of those that do.
@@ -13,30 +12,22 @@
 mod lists;
 
 use breakpoints::Breaks;
-use image::{MemFault, Memory};
 use lists::list_of;
-use rv32i::Hart;
 use std::alloc::Global;
 use std::process::ExitCode;
-use testing::{Fault, Player, bytes_of, called, parsed, play, shown};
+use test_hart::Machine;
+use testing::{Fault, Player, called, parsed, play, shown};
 
 /// A stopped machine with its breakpoints.
 #[derive(Drop)]
-struct Machine {
-    hart: Hart,
-    memory: Memory,
+struct Watched {
+    machine: Machine,
     breaks: Breaks,
 }
 
-impl Player for Machine {
+impl Player for Watched {
     fn answer(&mut self, alloc: Global, arguments: &[&str]) -> Result<String, Fault> {
         match arguments {
-            ["set", register, value] => self.set(alloc, parsed(register)?, parsed(value)?),
-            ["go", address] => {
-                self.hart.pc = parsed(address)?;
-                shown(alloc, "ok")
-            }
-            ["write", address, bytes] => self.write(alloc, parsed(address)?, bytes),
             ["source", list @ ..] => {
                 called(self.breaks.set_source(list_of(alloc, list)?))?;
                 shown(alloc, "ok")
@@ -47,29 +38,12 @@ impl Player for Machine {
             }
             [name] => self.call(alloc, name),
             ["has", address] => shown(alloc, self.breaks.has(parsed(address)?)),
-            _ => Err(Fault::NoCommand),
+            change => self.machine.change(alloc, change),
         }
     }
 }
 
-impl Machine {
-    fn set(&mut self, alloc: Global, register: u32, value: u32) -> Result<String, Fault> {
-        if register == 0 || register >= 32 {
-            return Err(Fault::NoCommand);
-        }
-        self.hart.x[register as usize] = value;
-        shown(alloc, "ok")
-    }
-
-    fn write(&mut self, alloc: Global, address: u32, bytes: &str) -> Result<String, Fault> {
-        let bytes = bytes_of(alloc, bytes)?;
-        match self.memory.write(address, &bytes) {
-            Ok(()) => shown(alloc, "ok"),
-            Err(MemFault::NoMemory) => Err(Fault::NoMemoryInCall),
-            Err(_) => Err(Fault::NoCommand),
-        }
-    }
-
+impl Watched {
     /// A call without arguments.
     fn call(&mut self, alloc: Global, name: &str) -> Result<String, Fault> {
         match name {
@@ -92,7 +66,8 @@ impl Machine {
     }
 
     fn check(&mut self, alloc: Global) -> Result<String, Fault> {
-        let hit = self.breaks.check(self.hart.pc, &self.hart, &self.memory);
+        let Machine { hart, memory } = &self.machine;
+        let hit = self.breaks.check(hart.pc, hart, memory);
         let answer = format!(in alloc; "{} {}", hit.source, hit.instruction)?;
         with_ids(answer, alloc, self.breaks.ids())
     }
@@ -109,18 +84,10 @@ fn with_ids(answer: String, alloc: Global, ids: &[u32]) -> Result<String, Fault>
 }
 
 fn main(rt: HostRuntime) -> ExitCode {
-    match Memory::new(rt.alloc(), 65536, 65536) {
-        Ok(memory) => {
-            let hart = Hart::new(65536, 0);
+    match Machine::new(rt.alloc()) {
+        Ok(machine) => {
             let breaks = Breaks::new(rt.alloc());
-            play(
-                &rt,
-                &mut Machine {
-                    hart,
-                    memory,
-                    breaks,
-                },
-            )
+            play(&rt, &mut Watched { machine, breaks })
         }
         Err(error) => ExitCode::from(Fault::from(error).status()),
     }

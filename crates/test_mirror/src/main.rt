@@ -6,11 +6,12 @@
 //! - a query by its name, with its arguments.
 #![tactic(auto)]
 
-use mirror::{BreakInfo, FrameInfo, Mirror, MirrorError};
+use mirror::{Mirror, MirrorError};
 use protocol::{Incoming, MessageError, Request, read_request};
 use std::alloc::Global;
 use std::process::ExitCode;
-use testing::{Fault, Line, Player, bytes_of, parsed, play, shown};
+use test_facts::{break_of, frame_of, value_of};
+use testing::{Fault, Player, bytes_of, parsed, play, shown};
 
 /// What is played. The first mirror was told nothing.
 #[derive(Drop)]
@@ -62,10 +63,10 @@ impl Watcher {
                 break_of(alloc, self.mirror.instruction_break(parsed(index)?))
             }
             ["frame", index] => frame_of(alloc, self.mirror.frame(parsed(index)?)),
-            ["register", number] => optional(alloc, self.mirror.register(parsed(number)?)),
+            ["register", number] => value_of(alloc, self.mirror.register(parsed(number)?)),
             ["byte", address] => {
                 let byte = self.mirror.byte(parsed(address)?);
-                optional(alloc, byte.map(u32::from))
+                value_of(alloc, byte.map(u32::from))
             }
             _ => Err(Fault::NoCommand),
         }
@@ -87,37 +88,4 @@ fn done(alloc: Global, answer: Result<(), MirrorError>) -> Result<String, Fault>
         Err(MirrorError::NoMemory) => Err(Fault::NoMemoryInCall),
         Err(error) => Ok(format!(in alloc; "{error:?}: {error}")?),
     }
-}
-
-/// A breakpoint: its number and its address.
-fn break_of(alloc: Global, found: Option<BreakInfo>) -> Result<String, Fault> {
-    match found {
-        Some(found) => {
-            let mut line = Line::new(alloc);
-            line.value(found.id)?;
-            line.value(found.address)?;
-            Ok(line.into_string())
-        }
-        None => shown(alloc, "none"),
-    }
-}
-
-/// A frame: its number, its address and its name.
-fn frame_of(alloc: Global, found: Option<&FrameInfo>) -> Result<String, Fault> {
-    match found {
-        Some(found) => {
-            let mut line = Line::new(alloc);
-            line.value(found.id)?;
-            line.value(found.address)?;
-            line.word(found.name.as_str())?;
-            Ok(line.into_string())
-        }
-        None => shown(alloc, "none"),
-    }
-}
-
-fn optional(alloc: Global, value: Option<u32>) -> Result<String, Fault> {
-    let mut line = Line::new(alloc);
-    line.optional(value)?;
-    Ok(line.into_string())
 }

@@ -11,10 +11,11 @@ mod texts;
 
 use protocol::Text;
 use session::{
-    Applied, Bytes, Config, ConfigError, Event, EventError, Limits, LinkFault, Session, SliceEnd,
+    Applied, Bytes, Config, ConfigError, EventError, Limits, LinkFault, Session, SliceEnd,
 };
 use std::alloc::Global;
 use std::process::ExitCode;
+use test_events::event_of;
 use testing::{Fault, Player, bytes_of, hexadecimal, parsed, play, shown};
 use texts::text_of;
 
@@ -192,19 +193,5 @@ fn link_fault_of(alloc: Global, fault: Option<LinkFault>) -> Result<String, Faul
     match fault {
         Some(fault) => Ok(format!(in alloc; "{fault:?}")?),
         None => shown(alloc, "none"),
-    }
-}
-
-fn event_of(alloc: Global, arguments: &[&str]) -> Result<Event, Fault> {
-    match arguments {
-        ["connect"] => Ok(Event::Connect),
-        ["recv", piece] => Ok(Event::Recv(Bytes::from_vec(bytes_of(alloc, piece)?))),
-        ["turn"] => Ok(Event::Turn(None)),
-        ["turn", file] => Ok(Event::Turn(Some(Bytes::from_vec(bytes_of(alloc, file)?)))),
-        ["slice", moves] => Ok(Event::Slice(parsed(moves)?)),
-        ["hold"] => Ok(Event::Hold),
-        ["sent", count] => Ok(Event::Sent(parsed(count)?)),
-        ["drop"] => Ok(Event::DropConnection),
-        _ => Err(Fault::NoCommand),
     }
 }

@@ -1,7 +1,8 @@
 //! What there is to see of a session, by a snapshot.
-use session::{BreakInfo, FrameInfo, Session, Snapshot};
+use session::{Session, Snapshot};
 use std::alloc::Global;
-use testing::{Fault, Line, parsed, shown};
+use test_facts::{break_of, frame_of, value_of};
+use testing::{Fault, parsed, shown};
 
 /// Takes a snapshot, and answers a query of it. `printed` makes it that of the program as it ran, and answers how it runs then.
 pub(crate) fn seen(alloc: Global, session: &Session, query: &[&str]) -> Result<String, Fault> {
@@ -27,44 +28,11 @@ fn answer(alloc: Global, snapshot: &Snapshot, query: &[&str]) -> Result<String, 
         }
         ["instruction_break", index] => break_of(alloc, snapshot.instruction_break(parsed(index)?)),
         ["frame", index] => frame_of(alloc, snapshot.frame(parsed(index)?)),
-        ["register", number] => optional(alloc, snapshot.register(parsed(number)?)),
+        ["register", number] => value_of(alloc, snapshot.register(parsed(number)?)),
         ["byte", address] => {
             let byte = snapshot.byte(parsed(address)?);
-            optional(alloc, byte.map(u32::from))
+            value_of(alloc, byte.map(u32::from))
         }
         _ => Err(Fault::NoCommand),
     }
-}
-
-/// A breakpoint: its number and its address.
-fn break_of(alloc: Global, found: Option<BreakInfo>) -> Result<String, Fault> {
-    match found {
-        Some(found) => {
-            let mut line = Line::new(alloc);
-            line.value(found.id)?;
-            line.value(found.address)?;
-            Ok(line.into_string())
-        }
-        None => shown(alloc, "none"),
-    }
-}
-
-/// A frame: its number, its address and its name.
-fn frame_of(alloc: Global, found: Option<&FrameInfo>) -> Result<String, Fault> {
-    match found {
-        Some(found) => {
-            let mut line = Line::new(alloc);
-            line.value(found.id)?;
-            line.value(found.address)?;
-            line.word(found.name.as_str())?;
-            Ok(line.into_string())
-        }
-        None => shown(alloc, "none"),
-    }
-}
-
-fn optional(alloc: Global, value: Option<u32>) -> Result<String, Fault> {
-    let mut line = Line::new(alloc);
-    line.optional(value)?;
-    Ok(line.into_string())
 }

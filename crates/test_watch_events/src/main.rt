@@ -13,6 +13,7 @@ use protocol::Text;
 use session::{Bytes, Config, Event, Limits};
 use std::alloc::{AllocError, Global};
 use std::process::ExitCode;
+use test_events::event_of;
 use testing::{Fault, Player, bytes_of, parsed, play, shown};
 use watch_events::{WatchError, Watched, queued, watch};
 
@@ -121,19 +122,5 @@ fn error_of(alloc: Global, error: WatchError) -> Result<String, Fault> {
     match error {
         WatchError::NoMemory => Err(Fault::NoMemoryInCall),
         error => Ok(format!(in alloc; "{error:?}: {error}")?),
-    }
-}
-
-fn event_of(alloc: Global, arguments: &[&str]) -> Result<Event, Fault> {
-    match arguments {
-        ["connect"] => Ok(Event::Connect),
-        ["recv", piece] => Ok(Event::Recv(Bytes::from_vec(bytes_of(alloc, piece)?))),
-        ["turn"] => Ok(Event::Turn(None)),
-        ["turn", file] => Ok(Event::Turn(Some(Bytes::from_vec(bytes_of(alloc, file)?)))),
-        ["slice", moves] => Ok(Event::Slice(parsed(moves)?)),
-        ["hold"] => Ok(Event::Hold),
-        ["sent", count] => Ok(Event::Sent(parsed(count)?)),
-        ["drop"] => Ok(Event::DropConnection),
-        _ => Err(Fault::NoCommand),
     }
 }
