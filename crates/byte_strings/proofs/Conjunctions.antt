@@ -25,4 +25,5 @@ reverse_next x xs = reverse-append (x ∷ []) xs
 
 pub all_reverse : (p : ℕ → Bool) (xs : List ℕ) → list_all p xs ≡ true → list_all p (reverse xs) ≡ true
 all_reverse p [] h = refl
-all_reverse p (x ∷ xs) h = rw (reverse_next x xs) (all_append p (reverse xs) (x ∷ []) (all_reverse p xs (and_right (p x) _ h)) (rw (and_left (p x) _ h) refl))
+all_reverse p (x ∷ xs) h =
+    rw (reverse_next x xs) (all_append p (reverse xs) (x ∷ []) (all_reverse p xs (and_right (p x) _ h)) (rw (and_left (p x) _ h) refl))

@@ -11,7 +11,8 @@ begins_blank [] = false
 begins_blank (b ∷ text) = is_blank b
 
 -- leading blanks go, and nothing else
-pub blanks_go : (before rest : List ℕ) → list_all is_blank before ≡ true → without_leading_blanks (before ++ rest) ≡ without_leading_blanks rest
+pub blanks_go : (before rest : List ℕ) → list_all is_blank before ≡ true
+    → without_leading_blanks (before ++ rest) ≡ without_leading_blanks rest
 blanks_go [] rest h = refl
 blanks_go (b ∷ before) rest h = rw (and_left (is_blank b) _ h) (blanks_go before rest (and_right (is_blank b) _ h))
 
@@ -42,7 +43,9 @@ pub led : (text : List ℕ) → Led text
 led [] = record { blanks = []; all = refl; parted = refl; some = λ h. cc }
 led (b ∷ text) =
     let others = led text in
-    let P : Bool → Type 0 = λ t. is_blank b ≡ t → (bs : List ℕ) × ((list_all is_blank bs ≡ true) × (b ∷ text ≡ bs ++ cond t (without_leading_blanks text) (b ∷ text)) × (t ≡ true → 0 < length bs)) in
+    let P : Bool → Type 0 = λ t. is_blank b ≡ t
+    → (bs : List ℕ) × ((list_all is_blank bs ≡ true) × (b ∷ text ≡ bs ++ cond t (without_leading_blanks text) (b ∷ text)) ×
+    (t ≡ true → 0 < length bs)) in
     let go : P (is_blank b) = elim (is_blank b) as P [
       | true ↦ λ t. (b ∷ others.blanks, (and_both _ _ t others.all, ap (λ (l : List ℕ). b ∷ l) others.parted, λ h. omega arith))
       | false ↦ λ t. ([], (refl, refl, λ h. cc))
@@ -90,10 +93,13 @@ prefix_begins (b ∷ prefix) rest text e h = sym (ap begins_blank e) ∙ h
 -- what is left begins with no blank, and ends with none
 pub trimmed_begins : (text : List ℕ) → begins_blank (trimmed text) ≡ false
 trimmed_begins text =
-    let back = ended (without_leading_blanks text) in prefix_begins (trimmed text) back.after (without_leading_blanks text) back.parted (none_left text)
+    let back = ended (without_leading_blanks text) in
+    prefix_begins (trimmed text) back.after (without_leading_blanks text) back.parted (none_left text)
 
 pub trimmed_ends : (text : List ℕ) → begins_blank (reverse (trimmed text)) ≡ false
-trimmed_ends text = ap begins_blank (reverse-reverse (without_leading_blanks (reverse (without_leading_blanks text)))) ∙ none_left (reverse (without_leading_blanks text))
+trimmed_ends text =
+    ap begins_blank (reverse-reverse (without_leading_blanks (reverse (without_leading_blanks text))))
+    ∙ none_left (reverse (without_leading_blanks text))
 
 -- and such a text stays as it is
 pub bare : (text : List ℕ) → begins_blank text ≡ false → begins_blank (reverse text) ≡ false → trimmed text ≡ text
@@ -106,14 +112,18 @@ pub all_gone : (text : List ℕ) → list_all is_blank text ≡ true → without
 all_gone text h = ap without_leading_blanks (sym (append-nil text)) ∙ blanks_go text [] h
 
 -- what stands between blanks
-pub between : (before text after : List ℕ) → list_all is_blank before ≡ true → list_all is_blank after ≡ true → trimmed text ≡ text → trimmed (before ++ text ++ after) ≡ text
+pub between : (before text after : List ℕ) → list_all is_blank before ≡ true → list_all is_blank after ≡ true → trimmed text ≡ text
+    → trimmed (before ++ text ++ after) ≡ text
 between before [] after a b h =
-    let none : without_leading_blanks (before ++ [] ++ after) ≡ [] = ap (λ (l : List ℕ). without_leading_blanks (l ++ after)) (append-nil before) ∙ all_gone (before ++ after) (all_append is_blank before after a b) in
+    let none : without_leading_blanks (before ++ [] ++ after) ≡ [] = ap (λ (l : List ℕ). without_leading_blanks (l ++ after))
+    (append-nil before) ∙ all_gone (before ++ after) (all_append is_blank before after a b) in
     ap without_trailing_blanks none
 between before (c ∷ text) after a b h =
     let whole : List ℕ = c ∷ text in
     let first : begins_blank whole ≡ false = sym (ap begins_blank h) ∙ trimmed_begins whole in
     let last : begins_blank (reverse whole) ≡ false = sym (ap (λ l. begins_blank (reverse l)) h) ∙ trimmed_ends whole in
-    let lead : without_leading_blanks (before ++ whole ++ after) ≡ whole ++ after = ap without_leading_blanks (append_assoc before whole after) ∙ blanks_go before (whole ++ after) a ∙ others_stay (whole ++ after) first in
-    let tail : without_leading_blanks (reverse (whole ++ after)) ≡ reverse whole = ap without_leading_blanks (reverse-append whole after) ∙ blanks_go (reverse after) (reverse whole) (all_reverse is_blank after b) ∙ others_stay (reverse whole) last in
+    let lead : without_leading_blanks (before ++ whole ++ after) ≡ whole ++ after = ap without_leading_blanks
+    (append_assoc before whole after) ∙ blanks_go before (whole ++ after) a ∙ others_stay (whole ++ after) first in
+    let tail : without_leading_blanks (reverse (whole ++ after)) ≡ reverse whole = ap without_leading_blanks (reverse-append whole after)
+    ∙ blanks_go (reverse after) (reverse whole) (all_reverse is_blank after b) ∙ others_stay (reverse whole) last in
     ap without_trailing_blanks lead ∙ ap reverse tail ∙ reverse-reverse whole

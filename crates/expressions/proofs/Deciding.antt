@@ -15,7 +15,8 @@ some_or d None = d
 some_or d (Some tree) = tree
 
 -- the tokens of a text are found, and then its tree
-pub is_tree : (text : List ℕ) (tokens : List Token) (tree : Tree) → Spelled tokens (lexemes [] text) → parsed tokens ≡ Some tree → IsTreeOf text tree
+pub is_tree : (text : List ℕ) (tokens : List Token) (tree : Tree) → Spelled tokens (lexemes [] text) → parsed tokens ≡ Some tree
+    → IsTreeOf text tree
 is_tree text tokens tree s e =
     let both = found_is_tree tokens tree e in
     record { tokens = subst (λ (x : List Token). IsTokens x text) (sym both.0) (divides text [] tokens s); grouped = both.1 }
@@ -24,7 +25,8 @@ is_tree text tokens tree s e =
 pub spelled_by_tree : (text : List ℕ) (tree : Tree) → IsTreeOf text tree → Spelled (tokens_of tree) (lexemes [] text)
 spelled_by_tree text tree h = gone_through (tokens_of tree) text h.tokens
 
-pub no_tree : (text : List ℕ) (tokens : List Token) → Spelled tokens (lexemes [] text) → parsed tokens ≡ None → (tree : Tree) → IsTreeOf text tree → ⊥
+pub no_tree : (text : List ℕ) (tokens : List Token) → Spelled tokens (lexemes [] text) → parsed tokens ≡ None → (tree : Tree)
+    → IsTreeOf text tree → ⊥
 no_tree text tokens s e tree h =
     let same : tokens_of tree ≡ tokens = spelled_same (tokens_of tree) tokens (lexemes [] text) (spelled_by_tree text tree h) s in
     let some : None ≡ Some tree = sym e ∙ ap parsed (sym same) ∙ tree_found tree h.grouped in cc
@@ -32,7 +34,8 @@ no_tree text tokens s e tree h =
 pub unique : TreeIsUnique
 unfolding some_or
 unique text tree other h k =
-    let same : tokens_of tree ≡ tokens_of other = spelled_same (tokens_of tree) (tokens_of other) (lexemes [] text) (spelled_by_tree text tree h) (spelled_by_tree text other k) in
+    let same : tokens_of tree ≡ tokens_of other = spelled_same (tokens_of tree) (tokens_of other) (lexemes [] text)
+    (spelled_by_tree text tree h) (spelled_by_tree text other k) in
     let both : Some tree ≡ Some other = sym (tree_found tree h.grouped) ∙ ap parsed same ∙ tree_found other k.grouped in
     ap (some_or tree) both
 
@@ -41,9 +44,13 @@ no_tokens text none tree h = none (tokens_of tree) (spelled_by_tree text tree h)
 
 -- ---- the same, of what the code has found
 
-pub none_spelled : (text bytes : List ℕ) (found : Option (List Token)) → bytes ≡ text → found ≡ None → SpelledOrNot bytes found → (tree : Tree) → IsTreeOf text tree → ⊥
+pub none_spelled : (text bytes : List ℕ) (found : Option (List Token)) → bytes ≡ text → found ≡ None → SpelledOrNot bytes found
+    → (tree : Tree) → IsTreeOf text tree → ⊥
 none_spelled text bytes found same none h =
-    no_tokens text (subst (λ (x : List ℕ). (tokens : List Token) → Spelled tokens (lexemes [] x) → ⊥) same (subst (SpelledOrNot bytes) none h))
+    no_tokens text (subst (λ (x : List ℕ). (tokens : List Token) → Spelled tokens (lexemes [] x) → ⊥) same
+    (subst (SpelledOrNot bytes) none h))
 
-pub some_spelled : (text bytes : List ℕ) (found : Option (List Token)) (tokens : List Token) → bytes ≡ text → found ≡ Some tokens → SpelledOrNot bytes found → Spelled tokens (lexemes [] text)
-some_spelled text bytes found tokens same some h = subst (λ (x : List ℕ). Spelled tokens (lexemes [] x)) same (subst (SpelledOrNot bytes) some h)
+pub some_spelled : (text bytes : List ℕ) (found : Option (List Token)) (tokens : List Token) → bytes ≡ text → found ≡ Some tokens
+    → SpelledOrNot bytes found → Spelled tokens (lexemes [] text)
+some_spelled text bytes found tokens same some h =
+    subst (λ (x : List ℕ). Spelled tokens (lexemes [] x)) same (subst (SpelledOrNot bytes) some h)

@@ -37,7 +37,8 @@ ended_longest token bytes s = record { spelled = s; longest = λ more after some
   none [] after some e = absurd (some refl)
   none (x ∷ more) after some e = cc
 
-stopped_longest : (token : Token) (bytes : List ℕ) (b : ℕ) (rest : List ℕ) → Spells token bytes → is_lexeme (bytes ++ b ∷ []) ≡ false → IsLongest token bytes (b ∷ rest)
+stopped_longest : (token : Token) (bytes : List ℕ) (b : ℕ) (rest : List ℕ) → Spells token bytes → is_lexeme (bytes ++ b ∷ []) ≡ false
+    → IsLongest token bytes (b ∷ rest)
 unfolding head_of
 stopped_longest token bytes b rest s t = record { spelled = s; longest = λ more after some e. none more after some e } where
   none : (more after : List ℕ) → more ≢ [] → b ∷ rest ≡ more ++ after → is_lexeme (bytes ++ more) ≡ false
@@ -46,7 +47,8 @@ stopped_longest token bytes b rest s t = record { spelled = s; longest = λ more
       let same : b ≡ x = ap (head_of 0) e in
       let P : Bool → Type 0 = λ v. is_lexeme (bytes ++ x ∷ more) ≡ v → v ≡ false in
       let go : P (is_lexeme (bytes ++ x ∷ more)) = elim (is_lexeme (bytes ++ x ∷ more)) as P [
-        | true ↦ λ v. absurd (both_ways (is_lexeme (bytes ++ b ∷ [])) t (ap (λ y. is_lexeme (bytes ++ y ∷ [])) same ∙ lexeme_begins bytes x more v))
+        | true ↦ λ v. absurd
+            (both_ways (is_lexeme (bytes ++ b ∷ [])) t (ap (λ y. is_lexeme (bytes ++ y ∷ [])) same ∙ lexeme_begins bytes x more v))
         | false ↦ λ v. refl
       ] in go refl
 
@@ -54,13 +56,15 @@ pub divides : (text begun : List ℕ) (tokens : List Token) → Spelled tokens (
 divides [] [] [] h = refl
 divides [] [] (token ∷ tokens) h = absurd h
 divides [] (b ∷ begun) [] h = absurd h
-divides [] (b ∷ begun) (token ∷ []) h = ([], (record { blanks = []; bytes = b ∷ begun; blank = refl; parts = refl; longest = ended_longest token (b ∷ begun) h.0 }, refl))
+divides [] (b ∷ begun) (token ∷ []) h =
+    ([], (record { blanks = []; bytes = b ∷ begun; blank = refl; parts = refl; longest = ended_longest token (b ∷ begun) h.0 }, refl))
 divides [] (b ∷ begun) (token ∷ other ∷ tokens) h = absurd h.1
 divides (b ∷ text) begun tokens h =
     let P : Bool → Type 0 = λ t. is_lexeme (begun ++ b ∷ []) ≡ t → IsTokens tokens (begun ++ b ∷ text) in
     let goes : is_lexeme (begun ++ b ∷ []) ≡ true → IsTokens tokens (begun ++ b ∷ text) = λ t.
     let step : lexemes begun (b ∷ text) ≡ lexemes (begun ++ b ∷ []) text = rw t refl in
-    subst (IsTokens tokens) (append_assoc begun (b ∷ []) text) (divides text (begun ++ b ∷ []) tokens (subst (λ (x : List (List ℕ)). Spelled tokens x) step h)) in
+    subst (IsTokens tokens) (append_assoc begun (b ∷ []) text)
+    (divides text (begun ++ b ∷ []) tokens (subst (λ (x : List (List ℕ)). Spelled tokens x) step h)) in
     let rest : (others : List Token) → Spelled others (lexemes (begins_with b) text) → IsTokens others (b ∷ text) = λ others s.
     let Q : Bool → Type 0 = λ t. is_blank b ≡ t → Spelled others (lexemes (cond t [] (b ∷ [])) text) → IsTokens others (b ∷ text) in
     let go : Q (is_blank b) = elim (is_blank b) as Q [
@@ -72,10 +76,25 @@ divides (b ∷ text) begun tokens h =
     let go : P (is_lexeme (begun ++ b ∷ [])) = elim (is_lexeme (begun ++ b ∷ [])) as P [ true ↦ goes | false ↦ stops ] in
     go refl
   where
-    ended : (begun : List ℕ) (tokens : List Token) → is_lexeme (begun ++ b ∷ []) ≡ false → Spelled tokens (with_first begun (lexemes (begins_with b) text)) → ((others : List Token) → Spelled others (lexemes (begins_with b) text) → IsTokens others (b ∷ text)) → IsTokens tokens (begun ++ b ∷ text)
+    ended : (begun : List ℕ) (tokens : List Token) → is_lexeme (begun ++ b ∷ []) ≡ false
+        → Spelled tokens (with_first begun (lexemes (begins_with b) text))
+        → ((others : List Token) → Spelled others (lexemes (begins_with b) text) → IsTokens others (b ∷ text))
+        → IsTokens tokens (begun ++ b ∷ text)
     ended [] tokens t s rest = rest tokens s
     ended (a ∷ begun) [] t s rest = absurd s
-    ended (a ∷ begun) (token ∷ tokens) t s rest = (b ∷ text, (record { blanks = []; bytes = a ∷ begun; blank = refl; parts = refl; longest = stopped_longest token (a ∷ begun) b text s.0 t }, rest tokens s.1))
+    ended (a ∷ begun) (token ∷ tokens) t s rest = (
+      b ∷ text,
+      (
+        record {
+          blanks = [];
+          bytes = a ∷ begun;
+          blank = refl;
+          parts = refl;
+          longest = stopped_longest token (a ∷ begun) b text s.0 t;
+        },
+        rest tokens s.1,
+      ),
+    )
 
 -- ---- what is divided by the rules is gone through so
 
@@ -120,7 +139,8 @@ first_lexeme token bytes [] h = some_bytes bytes [] (token_lexeme token bytes h.
 first_lexeme token bytes (c ∷ rest) h =
     let none : c ∷ [] ≢ [] = λ e. absurd (cons_is_some c [] e) in
     let t : is_lexeme (bytes ++ c ∷ []) ≡ false = h.longest (c ∷ []) rest none refl in
-    lexemes_end bytes c rest t ∙ some_bytes bytes (lexemes (begins_with c) rest) (token_lexeme token bytes h.spelled) ∙ ap (λ (x : List (List ℕ)). bytes ∷ x) (sym (restarted c rest))
+    lexemes_end bytes c rest t ∙ some_bytes bytes (lexemes (begins_with c) rest) (token_lexeme token bytes h.spelled)
+    ∙ ap (λ (x : List (List ℕ)). bytes ∷ x) (sym (restarted c rest))
   where
     cons_is_some : (c : ℕ) (rest : List ℕ) → c ∷ rest ≡ [] → ⊥
     cons_is_some c rest e = cc
@@ -132,5 +152,6 @@ gone_through [] text h =
 gone_through (token ∷ tokens) text h =
     let b = h.1.0 in
     let bytes = b.bytes in
-    let all : lexemes [] text ≡ bytes ∷ lexemes [] h.0 = ap (lexemes []) b.parts ∙ skipped b.blanks (bytes ++ h.0) b.blank ∙ run [] bytes h.0 (token_lexeme token bytes b.longest.spelled) ∙ first_lexeme token bytes h.0 b.longest in
+    let all : lexemes [] text ≡ bytes ∷ lexemes [] h.0 = ap (lexemes []) b.parts ∙ skipped b.blanks (bytes ++ h.0) b.blank
+    ∙ run [] bytes h.0 (token_lexeme token bytes b.longest.spelled) ∙ first_lexeme token bytes h.0 b.longest in
     subst (λ (x : List (List ℕ)). Spelled (token ∷ tokens) x) (sym all) (b.longest.spelled, gone_through tokens h.0 h.1.1)

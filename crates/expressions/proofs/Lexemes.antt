@@ -4,7 +4,7 @@ use Rattle.std.specs.Char.{is_digit}
 use Rattle.std.specs.Str.Parse.{digits_value}
 use Rattle.numerals.specs.declared.NumeralError.TheVariants.{Malformed}
 use Rattle.std.specs.List.{list_all}
-use Rattle.std.proofs.lemmas.Bool.{and_parts, eqb-true}
+use Rattle.std.proofs.lemmas.Bool.{and_from, and_parts, or_left, or_right, eqb-true}
 use Rattle.std.proofs.lemmas.Bool.Decides.{nat_tests}
 use Rattle.byte_strings.specs.Blanks.{is_blank}
 use Rattle.numerals.specs.Numerals.{magnitude, magnitude_by, numeral, within}
@@ -21,30 +21,19 @@ use Rattle.byte_strings.proofs.Below.{all_below}
 
 -- ---- choices
 
-either : (x y : Bool) → (x || y) ≡ true → (x ≡ true) ⊎ (y ≡ true)
+pub either : (x y : Bool) → (x || y) ≡ true → (x ≡ true) ⊎ (y ≡ true)
 either true y h = inl refl
 either false y h = inr h
-
-or_left : (x y : Bool) → x ≡ true → (x || y) ≡ true
-or_left true y h = refl
-or_left false y h = cc
-
-or_right : (x y : Bool) → y ≡ true → (x || y) ≡ true
-or_right true y h = refl
-or_right false y h = h
-
-and_both : (x y : Bool) → x ≡ true → y ≡ true → (x && y) ≡ true
-and_both true y a b = b
-and_both false y a b = cc
 
 -- ---- what a lexeme begins with is one
 
 word_begins : (p : List ℕ) (b : ℕ) (more : List ℕ) → is_word (p ++ b ∷ more) ≡ true → is_word (p ++ b ∷ []) ≡ true
-word_begins [] b more h = and_both (is_word_byte b) true (and_parts (is_word_byte b) _ h).0 refl
-word_begins (a ∷ p) b more h = and_both (is_word_byte a) _ (and_parts (is_word_byte a) _ h).0 (go p (and_parts (is_word_byte a) _ h).1) where
-  go : (q : List ℕ) → list_all is_word_byte (q ++ b ∷ more) ≡ true → list_all is_word_byte (q ++ b ∷ []) ≡ true
-  go [] e = and_both (is_word_byte b) true (and_parts (is_word_byte b) _ e).0 refl
-  go (c ∷ q) e = and_both (is_word_byte c) _ (and_parts (is_word_byte c) _ e).0 (go q (and_parts (is_word_byte c) _ e).1)
+word_begins [] b more h = and_from (is_word_byte b) true (and_parts (is_word_byte b) _ h).0 refl
+word_begins (a ∷ p) b more h =
+    and_from (is_word_byte a) _ (and_parts (is_word_byte a) _ h).0 (go p (and_parts (is_word_byte a) _ h).1) where
+      go : (q : List ℕ) → list_all is_word_byte (q ++ b ∷ more) ≡ true → list_all is_word_byte (q ++ b ∷ []) ≡ true
+      go [] e = and_from (is_word_byte b) true (and_parts (is_word_byte b) _ e).0 refl
+      go (c ∷ q) e = and_from (is_word_byte c) _ (and_parts (is_word_byte c) _ e).0 (go q (and_parts (is_word_byte c) _ e).1)
 
 pair_begins : (a b : ℕ) → is_sign_pair a b ≡ true → is_sign_byte a ≡ true
 pair_begins a b h = grind (arith, nat_tests)
@@ -80,13 +69,15 @@ blank_is_none b h =
 digit_is_word_byte : (c radix : ℕ) → radix ≤ 16 → is_digit c radix ≡ true → is_word_byte c ≡ true
 digit_is_word_byte c radix h d = grind (arith, nat_tests)
 
-digits_are_word : (radix : ℕ) (digits : List ℕ) → radix ≤ 16 → list_all (λ c. is_digit c radix) digits ≡ true → list_all is_word_byte digits ≡ true
+digits_are_word : (radix : ℕ) (digits : List ℕ) → radix ≤ 16 → list_all (λ c. is_digit c radix) digits ≡ true
+    → list_all is_word_byte digits ≡ true
 digits_are_word radix [] h d = refl
 digits_are_word radix (c ∷ digits) h d =
     let parts = and_parts (is_digit c radix) _ d in
-    and_both (is_word_byte c) _ (digit_is_word_byte c radix h parts.0) (digits_are_word radix digits h parts.1)
+    and_from (is_word_byte c) _ (digit_is_word_byte c radix h parts.0) (digits_are_word radix digits h parts.1)
 
-numeral_digits : (radix : ℕ) (digits : List ℕ) (n : ℕ) → radix ≤ 16 → numeral radix digits ≡ Ok n → (not (length digits == 0) ≡ true) × (list_all is_word_byte digits ≡ true)
+numeral_digits : (radix : ℕ) (digits : List ℕ) (n : ℕ) → radix ≤ 16 → numeral radix digits ≡ Ok n
+    → (not (length digits == 0) ≡ true) × (list_all is_word_byte digits ≡ true)
 numeral_digits radix digits n h e =
     let test = not (length digits == 0) && list_all (λ c. is_digit c radix) digits in
     let parts : test ≡ true = passes test e in
@@ -105,7 +96,8 @@ number_word : (bytes : List ℕ) (n : ℕ) → magnitude bytes ≡ Ok n → is_w
 number_word [] n e = numeral_word 10 [] n (omega arith) e
 number_word (a ∷ []) n e = numeral_word 10 (a ∷ []) n (omega arith) e
 number_word (a ∷ b ∷ digits) n e = go ((a == 48) && (b == 120)) refl e where
-  go : (t : Bool) → ((a == 48) && (b == 120)) ≡ t → magnitude_by (a ∷ b ∷ digits) (cond t (Some digits) None) ≡ Ok n → is_word (a ∷ b ∷ digits) ≡ true
+  go : (t : Bool) → ((a == 48) && (b == 120)) ≡ t → magnitude_by (a ∷ b ∷ digits) (cond t (Some digits) None) ≡ Ok n
+      → is_word (a ∷ b ∷ digits) ≡ true
   go true t x =
       let parts = and_parts (a == 48) (b == 120) t in
       let rest : list_all is_word_byte digits ≡ true = (numeral_digits 16 digits n (omega arith) x).1 in

@@ -12,4 +12,5 @@ spelled_same [] (other ∷ others) (bytes ∷ list) a b = absurd a
 spelled_same (token ∷ tokens) others [] a b = absurd a
 spelled_same (token ∷ tokens) [] (bytes ∷ list) a b = absurd b
 spelled_same (token ∷ tokens) (other ∷ others) (bytes ∷ list) a b =
-    ap (λ (x : Token). x ∷ tokens) (one_token token other bytes a.0 b.0) ∙ ap (λ (x : List Token). other ∷ x) (spelled_same tokens others list a.1 b.1)
+    ap (λ (x : Token). x ∷ tokens) (one_token token other bytes a.0 b.0)
+    ∙ ap (λ (x : List Token). other ∷ x) (spelled_same tokens others list a.1 b.1)

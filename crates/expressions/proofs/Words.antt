@@ -50,18 +50,24 @@ not_none : {A : Type 0} (o : Option A) (a : A) → o ≡ None → o ≡ Some a �
 not_none o a n s = let e : None ≡ Some a = sym n ∙ s in cc
 
 -- bytes that are no sign, not `pc`, no number and no register spell nothing
-pub unspelled : (bytes : List ℕ) → sign_in bytes ≡ None → (bytes ≡ codes "pc" → ⊥) → ((n : ℕ) → magnitude bytes ≡ Ok n → ⊥) → ((r : ℕ) → Names bytes r → ⊥) → (token : Token) → Spells token bytes → ⊥
+pub unspelled : (bytes : List ℕ) → sign_in bytes ≡ None → (bytes ≡ codes "pc" → ⊥) → ((n : ℕ) → magnitude bytes ≡ Ok n → ⊥)
+    → ((r : ℕ) → Names bytes r → ⊥) → (token : Token) → Spells token bytes → ⊥
 unspelled bytes sign pc number register (t.Number n) h = number n h
 unspelled bytes sign pc number register (t.Register r) h = register r h
 unspelled bytes sign pc number register t.Pc h = pc h
-unspelled bytes sign pc number register (t.Infix operator) h = not_none (sign_in bytes) (t.Infix operator) sign (ap sign_in h ∙ infix_found operator)
+unspelled bytes sign pc number register (t.Infix operator) h =
+    not_none (sign_in bytes) (t.Infix operator) sign (ap sign_in h ∙ infix_found operator)
 unspelled bytes sign pc number register t.Tilde h = not_none (sign_in bytes) t.Tilde sign (ap sign_in h)
 unspelled bytes sign pc number register t.Bang h = not_none (sign_in bytes) t.Bang sign (ap sign_in h)
-unspelled bytes sign pc number register (t.Open bracket) h = not_none (sign_in bytes) (t.Open bracket) sign (ap sign_in h ∙ open_found bracket)
-unspelled bytes sign pc number register (t.Close bracket) h = not_none (sign_in bytes) (t.Close bracket) sign (ap sign_in h ∙ close_found bracket)
+unspelled bytes sign pc number register (t.Open bracket) h =
+    not_none (sign_in bytes) (t.Open bracket) sign (ap sign_in h ∙ open_found bracket)
+unspelled bytes sign pc number register (t.Close bracket) h =
+    not_none (sign_in bytes) (t.Close bracket) sign (ap sign_in h ∙ close_found bracket)
 
 -- the same, where a register was looked for last
-pub word_or_not : (bytes : List ℕ) (found : Option Token) → sign_in bytes ≡ None → (bytes ≡ codes "pc" → ⊥) → ((n : ℕ) → magnitude bytes ≡ Ok n → ⊥) → IfSome found (λ token. Spells token bytes) → MatchOption found ((r : ℕ) → Names bytes r → ⊥) (λ token. ⊤) → SpellsOrNot bytes found
+pub word_or_not : (bytes : List ℕ) (found : Option Token) → sign_in bytes ≡ None → (bytes ≡ codes "pc" → ⊥)
+    → ((n : ℕ) → magnitude bytes ≡ Ok n → ⊥) → IfSome found (λ token. Spells token bytes)
+    → MatchOption found ((r : ℕ) → Names bytes r → ⊥) (λ token. ⊤) → SpellsOrNot bytes found
 word_or_not bytes None sign pc number some none = unspelled bytes sign pc number none
 word_or_not bytes (Some token) sign pc number some none = some
 
@@ -80,9 +86,11 @@ unfolding is_ascii
 ascii_is_utf8 text h = IsUtf8-from_ascii text (ascii_at text h)
 
 -- a test that each name passes, by trying all
-pub named_passes : (p : List ℕ → Bool) → all_below 32 (λ n. p (name_of n) && p (numbered_name_of n)) ≡ true → p (codes "fp") ≡ true → (name : List ℕ) (r : ℕ) → Names name r → p name ≡ true
+pub named_passes : (p : List ℕ → Bool) → all_below 32 (λ n. p (name_of n) && p (numbered_name_of n)) ≡ true → p (codes "fp") ≡ true
+    → (name : List ℕ) (r : ℕ) → Names name r → p name ≡ true
 named_passes p all fp name r h =
-    let both = and_parts (p (name_of r)) (p (numbered_name_of r)) (all_below_at (λ n. p (name_of n) && p (numbered_name_of n)) 32 r all h.0) in
+    let both = and_parts (p (name_of r)) (p (numbered_name_of r))
+    (all_below_at (λ n. p (name_of n) && p (numbered_name_of n)) 32 r all h.0) in
     let P : Type 0 = p name ≡ true in
     elim h.1 as (λ _. P) [
       | inl e ↦ ap p e ∙ both.0
@@ -107,13 +115,16 @@ register_or None rest = rest
 register_or (Some r) rest = Some (t.Register r)
 
 register_of : List ℕ → Option ℕ
-register_of bytes = if bytes_eq bytes (codes "fp") then Some 8 else first_of (position (λ name. bytes_eq bytes name) names) (position (λ name. bytes_eq bytes name) numbered_names) where
-  first_of : Option ℕ → Option ℕ → Option ℕ
-  first_of None other = other
-  first_of (Some n) other = Some n
+register_of bytes =
+    if bytes_eq bytes (codes "fp") then Some 8 else first_of (position (λ name. bytes_eq bytes name) names)
+    (position (λ name. bytes_eq bytes name) numbered_names) where
+      first_of : Option ℕ → Option ℕ → Option ℕ
+      first_of None other = other
+      first_of (Some n) other = Some n
 
 token_of : List ℕ → Option Token
-token_of bytes = number_or (magnitude bytes) (if bytes_eq bytes (codes "pc") then Some t.Pc else register_or (register_of bytes) (sign_in bytes))
+token_of bytes =
+    number_or (magnitude bytes) (if bytes_eq bytes (codes "pc") then Some t.Pc else register_or (register_of bytes) (sign_in bytes))
 
 is_register : Option Token → ℕ → Bool
 is_register (Some (t.Register m)) n = m == n
@@ -141,7 +152,8 @@ fp_found = refl
 
 register_found : (bytes : List ℕ) (r : ℕ) → Names bytes r → token_of bytes ≡ Some (t.Register r)
 register_found bytes r h =
-    let both = and_parts (is_register (token_of (name_of r)) r) (is_register (token_of (numbered_name_of r)) r) (all_below_at (λ n. is_register (token_of (name_of n)) n && is_register (token_of (numbered_name_of n)) n) 32 r registers_found h.0) in
+    let both = and_parts (is_register (token_of (name_of r)) r) (is_register (token_of (numbered_name_of r)) r)
+    (all_below_at (λ n. is_register (token_of (name_of n)) n && is_register (token_of (numbered_name_of n)) n) 32 r registers_found h.0) in
     let P : Type 0 = token_of bytes ≡ Some (t.Register r) in
     elim h.1 as (λ _. P) [
       | inl e ↦ ap token_of e ∙ is_register_so (token_of (name_of r)) r both.0
@@ -182,7 +194,8 @@ close_only Square = refl
 
 token_found : (token : Token) (bytes : List ℕ) → Spells token bytes → token_of bytes ≡ Some token
 unfolding token_of number_or register_or register_of
-token_found (t.Number n) bytes h = ap (λ found. number_or found (if bytes_eq bytes (codes "pc") then Some t.Pc else register_or (register_of bytes) (sign_in bytes))) h
+token_found (t.Number n) bytes h =
+    ap (λ found. number_or found (if bytes_eq bytes (codes "pc") then Some t.Pc else register_or (register_of bytes) (sign_in bytes))) h
 token_found (t.Register r) bytes h = register_found bytes r h
 token_found t.Pc bytes h = ap token_of h
 token_found (t.Infix operator) bytes h = ap token_of h ∙ infix_only operator

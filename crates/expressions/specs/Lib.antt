@@ -6,8 +6,9 @@ pub mod Trees
 pub mod Texts
 -- the value of an expression
 pub mod Values
--- What follows is cited by private clauses alone. The tree that the code keeps as the grammar's.
+-- the tree that the code keeps, as the grammar's
 pub mod Nodes
+-- ---- for private clauses alone
 -- how the code divides a text
 pub mod Scanning
 -- how the code finds the tree

@@ -24,7 +24,8 @@ mark_first [] h = absurd (false≢true h)
 mark_first (a ∷ []) h = absurd (false≢true h)
 mark_first (a ∷ b ∷ []) h = absurd (false≢true h)
 mark_first (a ∷ b ∷ c ∷ []) h = absurd (false≢true h)
-mark_first (a ∷ b ∷ c ∷ d ∷ bytes) h = let q = four a b c d h in record { first = q.0; second = q.1; third = q.2; fourth = q.3; room = omega arith }
+mark_first (a ∷ b ∷ c ∷ d ∷ bytes) h =
+    let q = four a b c d h in record { first = q.0; second = q.1; third = q.2; fourth = q.3; room = omega arith }
 
 begins_there : (bytes : List ℕ) → MarkAt bytes 0 → begins_with_end bytes ≡ true
 begins_there [] m = absurd (omega (arith, m.room))
@@ -62,10 +63,12 @@ some_suc (Some n) size h = (n, refl, cc)
 pub mark_at : (bytes : List ℕ) (size : ℕ) → end_of bytes ≡ Some size → (at : ℕ) × (size ≡ at + 4) × MarkAt bytes at
 mark_at [] size h = cc
 mark_at (b ∷ bytes) size h =
-    let P : Bool → Type 0 = λ t. begins_with_end (b ∷ bytes) ≡ t → cond t (Some 4) (option_map suc (end_of bytes)) ≡ Some size → (at : ℕ) × (size ≡ at + 4) × MarkAt (b ∷ bytes) at in
+    let P : Bool → Type 0 = λ t. begins_with_end (b ∷ bytes) ≡ t → cond t (Some 4) (option_map suc (end_of bytes)) ≡ Some size
+    → (at : ℕ) × (size ≡ at + 4) × MarkAt (b ∷ bytes) at in
     let go : P (begins_with_end (b ∷ bytes)) = elim (begins_with_end (b ∷ bytes)) as P [
       | true ↦ λ t e. (0, cc, mark_first (b ∷ bytes) t)
-      | false ↦ λ t e. let n = some_suc (end_of bytes) size e in let m = mark_at bytes n.0 n.1 in (suc m.0, omega (arith, n.2, m.1), later b bytes m.0 m.2)
+      | false ↦ λ t e. let n =
+          some_suc (end_of bytes) size e in let m = mark_at bytes n.0 n.1 in (suc m.0, omega (arith, n.2, m.1), later b bytes m.0 m.2)
     ] in go refl h
 
 -- where there is a mark, the first end is no later
@@ -117,7 +120,8 @@ no_size bytes i past h = by_end (end_of bytes) (λ size e.
     omega (arith, m.1, room, lt, h))
 
 -- the bytes round i, as the code reads them
-pub mark_to : (bytes : List ℕ) (i : ℕ) → get_or bytes (i - 3) 0 ≡ 13 → get_or bytes (i - 2) 0 ≡ 10 → get_or bytes (i - 1) 0 ≡ 13 → get_or bytes i 0 ≡ 10 → 3 ≤ i → i < length bytes → MarkAt bytes (i - 3)
+pub mark_to : (bytes : List ℕ) (i : ℕ) → get_or bytes (i - 3) 0 ≡ 13 → get_or bytes (i - 2) 0 ≡ 10 → get_or bytes (i - 1) 0 ≡ 13
+    → get_or bytes i 0 ≡ 10 → 3 ≤ i → i < length bytes → MarkAt bytes (i - 3)
 mark_to bytes i a b c d from room =
     let x : i - 3 + 1 ≡ i - 2 = omega arith in
     let y : i - 3 + 2 ≡ i - 1 = omega arith in
@@ -193,7 +197,8 @@ end_keeps a b size e =
 pub end_later : (a b : List ℕ) → end_of a ≡ None → EndsPast (length a) (a ++ b)
 end_later a b none size e =
     let m = mark_at (a ++ b) size e in
-    let after : m.0 + 4 ≤ length a → ⊥ = λ room. (let here = end_by a m.0 (had_mark a b m.0 m.2 room) in none_is here.0 (sym none ∙ here.1)) in
+    let after : m.0 + 4 ≤ length a
+    → ⊥ = λ room. (let here = end_by a m.0 (had_mark a b m.0 m.2 room) in none_is here.0 (sym none ∙ here.1)) in
     omega (arith, m.1, after) where
       none_is : (n : ℕ) → (let x : Option ℕ = None in x) ≡ Some n → ⊥
       none_is n h = cc

@@ -18,7 +18,8 @@ not_broken Waits h = refl
 not_broken (Breaks fault) h = absurd (h fault refl)
 not_broken (Begins size n) h = refl
 
-pub known_is : (s : Start) → ((fault : FrameError) × (s ≡ Breaks fault)) ⊎ ((size : ℕ) × (n : ℕ) × (s ≡ Begins size n)) → is_waiting s ≡ false
+pub known_is : (s : Start) → ((fault : FrameError) × (s ≡ Breaks fault)) ⊎ ((size : ℕ) × (n : ℕ) × (s ≡ Begins size n))
+    → is_waiting s ≡ false
 known_is s (inl e) = ap is_waiting e.1
 known_is s (inr e) = ap is_waiting e.2
 
@@ -48,10 +49,12 @@ fields_fault limit (Some fields) h = length_fault limit (length_fields fields) h
 
 start_fault : (size : ℕ) (r : Result ℕ FrameError) → NotMemory r → start_by size r ≡ Breaks NoMemory → ⊥
 start_fault size (Ok n) other h = cc
-start_fault size (Err fault) other h = let e : fault ≡ NoMemory = cc in other (ap (λ (x : FrameError). let r : Result ℕ FrameError = Err x in r) e)
+start_fault size (Err fault) other h =
+    let e : fault ≡ NoMemory = cc in other (ap (λ (x : FrameError). let r : Result ℕ FrameError = Err x in r) e)
 
 at_fault : (limit : ℕ) (bytes : List ℕ) (size : Option ℕ) → start_at limit bytes size ≡ Breaks NoMemory → ⊥
-at_fault limit bytes (Some k) h = start_fault k (content_length limit (take (k - 4) bytes)) (fields_fault limit (fields_in (lines_of (take (k - 4) bytes)))) h
+at_fault limit bytes (Some k) h =
+    start_fault k (content_length limit (take (k - 4) bytes)) (fields_fault limit (fields_in (lines_of (take (k - 4) bytes)))) h
 at_fault limit bytes None h =
     let P : Bool → Type 0 = λ t. cond t Waits (Breaks HeaderTooLong) ≡ Breaks NoMemory → ⊥ in
     let go : P (ltb (length bytes) 4096) = elim (ltb (length bytes) 4096) as P [ true ↦ waits_is | false ↦ long_is ] in go h where
@@ -70,13 +73,17 @@ abbrev held_at : ℕ → List (List ℕ) → Start → List ℕ → Option Befor
 held_at limit waiting start rest before = record { limit = limit; waiting = waiting; tail = tail_by start rest; before = before }
 
 abbrev gone_on : ℕ → List (List ℕ) → List (List ℕ) → Tail → Tail → Unframed
-gone_on limit now waiting tail old = record { limit = limit; waiting = now; tail = tail; before = Some (record { waiting = waiting; tail = old }) }
+gone_on limit now waiting tail old =
+    record { limit = limit; waiting = now; tail = tail; before = Some (record { waiting = waiting; tail = old }) }
 
-fed_partial : (limit : ℕ) (waiting : List (List ℕ)) (rest piece : List ℕ) (before : Option Before) (bodies : List (List ℕ)) (tail : Tail) → reading_of limit (rest ++ piece) ≡ record { bodies = bodies; tail = tail }
+fed_partial : (limit : ℕ) (waiting : List (List ℕ)) (rest piece : List ℕ) (before : Option Before) (bodies : List (List ℕ)) (tail : Tail)
+    → reading_of limit (rest ++ piece) ≡ record { bodies = bodies; tail = tail }
     → fed (record { limit = limit; waiting = waiting; tail = Partial rest; before = before }) piece ≡ gone_on limit (waiting ++ bodies) waiting tail (Partial rest)
-fed_partial limit waiting rest piece before bodies tail h = ap (λ (r : Reading). gone_on limit (waiting ++ r.bodies) waiting r.tail (Partial rest)) h
+fed_partial limit waiting rest piece before bodies tail h =
+    ap (λ (r : Reading). gone_on limit (waiting ++ r.bodies) waiting r.tail (Partial rest)) h
 
-fed_is : (limit : ℕ) (waiting : List (List ℕ)) (start : Start) (rest piece : List ℕ) (before : Option Before) (bodies : List (List ℕ)) (tail : Tail) → is_broken start ≡ false → reading_of limit (rest ++ piece) ≡ record { bodies = bodies; tail = tail }
+fed_is : (limit : ℕ) (waiting : List (List ℕ)) (start : Start) (rest piece : List ℕ) (before : Option Before) (bodies : List (List ℕ)) (tail : Tail)
+    → is_broken start ≡ false → reading_of limit (rest ++ piece) ≡ record { bodies = bodies; tail = tail }
     → fed (held_at limit waiting start rest before) piece ≡ gone_on limit (waiting ++ bodies) waiting tail (tail_by start rest)
 fed_is limit waiting Waits rest piece before bodies tail whole h = fed_partial limit waiting rest piece before bodies tail h
 fed_is limit waiting (Begins size n) rest piece before bodies tail whole h = fed_partial limit waiting rest piece before bodies tail h
@@ -86,7 +93,8 @@ fed_is limit waiting (Breaks fault) rest piece before bodies tail whole h = absu
 
 -- The bodies that wait now, how the next frame starts and what came of it, and what the mark goes back to, are what a
 -- piece makes of the bodies that waited and of what had come.
-pub record Went (limit : ℕ) (waiting : List (List ℕ)) (start : Start) (rest piece : List ℕ) (now : List (List ℕ)) (next : Start) (left : ℕ) (waited : List (List ℕ)) (prefix : List ℕ) : Type 0 where
+pub record Went (limit : ℕ) (waiting : List (List ℕ)) (start : Start) (rest piece : List ℕ) (now : List (List ℕ)) (next : Start) (left : ℕ)
+    (waited : List (List ℕ)) (prefix : List ℕ) : Type 0 where
   pub bodies : List (List ℕ)
   pub whole : is_broken start ≡ false
   pub parts : Parts limit (rest ++ piece) bodies next left
@@ -105,11 +113,13 @@ went_fed limit waiting start rest piece before now next left waited prefix tail 
     ap (λ (n : List (List ℕ)). gone_on limit n waited tail (tail_by start prefix)) w.added
     ∙ ap (λ (n : List (List ℕ)). gone_on limit (waiting ++ w.bodies) n tail (tail_by start prefix)) w.waited_is
     ∙ ap (λ (t : Tail). gone_on limit (waiting ++ w.bodies) waiting t (tail_by start prefix)) tail_is
-    ∙ ap (λ (l : List ℕ). gone_on limit (waiting ++ w.bodies) waiting (tail_by next (after_frames left (rest ++ piece))) (tail_by start l)) w.prefix_is
+    ∙ ap (λ (l : List ℕ). gone_on limit (waiting ++ w.bodies) waiting (tail_by next (after_frames left (rest ++ piece)))
+    (tail_by start l)) w.prefix_is
     ∙ sym (fed_is limit waiting start rest piece before w.bodies (tail_by next (after_frames left (rest ++ piece))) w.whole w.parts.reads)
 
 -- a fault is answered
-feeds_fault : (T : Type 0) (old : Unframed) (piece : List ℕ) (new : Unframed) (fault : FrameError) → new ≡ fed old piece → fault_of new.tail ≡ Some fault → (fault ≡ NoMemory → new ≡ old) → Feeds {T = T} old piece (Err fault) new
+feeds_fault : (T : Type 0) (old : Unframed) (piece : List ℕ) (new : Unframed) (fault : FrameError) → new ≡ fed old piece
+    → fault_of new.tail ≡ Some fault → (fault ≡ NoMemory → new ≡ old) → Feeds {T = T} old piece (Err fault) new
 feeds_fault T old piece new Header e f m = (e, f)
 feeds_fault T old piece new NoLength e f m = (e, f)
 feeds_fault T old piece new TwoLengths e f m = (e, f)
@@ -128,9 +138,11 @@ pub fault_came : (T : Type 0) (old : Unframed) (limit : ℕ) (waiting : List (Li
 fault_came T old limit waiting start rest piece before now next left waited prefix kept fault was w breaks =
     let new : Unframed = gone_on limit now waited (tail_by next kept) (tail_by start prefix) in
     let e : new ≡ fed old piece =
-    went_fed limit waiting start rest piece before now next left waited prefix (tail_by next kept) w (broken_tail next fault kept (after_frames left (rest ++ piece)) breaks) ∙ ap (λ (o : Unframed). fed o piece) was in
+    went_fed limit waiting start rest piece before now next left waited prefix (tail_by next kept) w
+    (broken_tail next fault kept (after_frames left (rest ++ piece)) breaks) ∙ ap (λ (o : Unframed). fed o piece) was in
     let f : fault_of (tail_by next kept) ≡ Some fault = ap (λ s. fault_of (tail_by s kept)) breaks in
-    feeds_fault T old piece new fault e f (λ m. absurd (no_memory_fault limit (after_frames left (rest ++ piece)) (sym w.parts.starts ∙ breaks ∙ ap (λ x. Breaks x) m)))
+    feeds_fault T old piece new fault e f
+    (λ m. absurd (no_memory_fault limit (after_frames left (rest ++ piece)) (sym w.parts.starts ∙ breaks ∙ ap (λ x. Breaks x) m)))
 
 -- a piece that brings none
 no_fault_by : (next : Start) (rest : List ℕ) → is_broken next ≡ false → fault_of (tail_by next rest) ≡ None
@@ -141,14 +153,20 @@ no_fault_by (Breaks fault) rest h = absurd (not_false h) where
   not_false e = cc
 
 pub piece_came : (T : Type 0) (x : T) (old : Unframed) (limit : ℕ) (waiting : List (List ℕ)) (start : Start) (rest piece : List ℕ) (before : Option Before) (now : List (List ℕ)) (next : Start) (left : ℕ) (waited : List (List ℕ)) (prefix kept : List ℕ)
-    → held_at limit waiting start rest before ≡ old → Went limit waiting start rest piece now next left waited prefix → is_broken next ≡ false → kept ≡ after_frames left (rest ++ piece)
+    → held_at limit waiting start rest before ≡ old → Went limit waiting start rest piece now next left waited prefix
+    → is_broken next ≡ false → kept ≡ after_frames left (rest ++ piece)
     → Feeds {T = T} old piece (Ok x) (gone_on limit now waited (tail_by next kept) (tail_by start prefix))
-piece_came T x old limit waiting start rest piece before now next left waited prefix kept was w some kept_is =
-    (went_fed limit waiting start rest piece before now next left waited prefix (tail_by next kept) w (ap (tail_by next) kept_is) ∙ ap (λ (o : Unframed). fed o piece) was, no_fault_by next kept some)
+piece_came T x old limit waiting start rest piece before now next left waited prefix kept was w some kept_is = (
+  went_fed limit waiting start rest piece before now next left waited prefix (tail_by next kept) w (ap (tail_by next) kept_is)
+      ∙ ap (λ (o : Unframed). fed o piece) was,
+  no_fault_by next kept some,
+)
 
 -- a piece after a fault
-fed_broken : (limit : ℕ) (waiting : List (List ℕ)) (rest piece : List ℕ) (before : Option Before) (fault : FrameError) → fed (held_at limit waiting (Breaks fault) rest before) piece ≡ gone_on limit waiting waiting (Faulty fault) (Faulty fault)
-fed_broken limit waiting rest piece before fault = ap (λ (n : List (List ℕ)). gone_on limit n waiting (Faulty fault) (Faulty fault)) (append-nil waiting)
+fed_broken : (limit : ℕ) (waiting : List (List ℕ)) (rest piece : List ℕ) (before : Option Before) (fault : FrameError)
+    → fed (held_at limit waiting (Breaks fault) rest before) piece ≡ gone_on limit waiting waiting (Faulty fault) (Faulty fault)
+fed_broken limit waiting rest piece before fault =
+    ap (λ (n : List (List ℕ)). gone_on limit n waiting (Faulty fault) (Faulty fault)) (append-nil waiting)
 
 pub fault_stays : (old : Unframed) (limit : ℕ) (waiting : List (List ℕ)) (start : Start) (rest : List ℕ) (before : Option Before) (now waited : List (List ℕ)) (kept prefix piece : List ℕ)
     → held_at limit waiting start rest before ≡ old → is_broken start ≡ true → now ≡ waiting → waited ≡ waiting
@@ -161,15 +179,19 @@ fault_stays old limit waiting (Breaks fault) rest before now waited kept prefix 
 fault_stays old limit waiting Waits rest before now waited kept prefix piece was broken now_is waited_is = absurd (not_true broken) where
   not_true : false ≡ true → ⊥
   not_true e = cc
-fault_stays old limit waiting (Begins size n) rest before now waited kept prefix piece was broken now_is waited_is = absurd (not_true broken) where
-  not_true : false ≡ true → ⊥
-  not_true e = cc
+fault_stays old limit waiting (Begins size n) rest before now waited kept prefix piece was broken now_is waited_is =
+    absurd (not_true broken) where
+      not_true : false ≡ true → ⊥
+      not_true e = cc
 
 pub fault_stayed : (T : Type 0) (old : Unframed) (limit : ℕ) (waiting : List (List ℕ)) (start : Start) (rest piece : List ℕ) (before : Option Before) (new : Unframed) (fault : FrameError)
-    → held_at limit waiting start rest before ≡ old → start ≡ Breaks fault → (start ≡ Breaks NoMemory → ⊥) → new ≡ fed old piece → Feeds {T = T} old piece (Err fault) new
+    → held_at limit waiting start rest before ≡ old → start ≡ Breaks fault → (start ≡ Breaks NoMemory → ⊥) → new ≡ fed old piece
+    → Feeds {T = T} old piece (Err fault) new
 fault_stayed T old limit waiting start rest piece before new fault was breaks other e =
-    let held : fed (held_at limit waiting (Breaks fault) rest before) piece ≡ fed old piece = ap (λ (s : Start). fed (held_at limit waiting s rest before) piece) (sym breaks) ∙ ap (λ (o : Unframed). fed o piece) was in
-    feeds_fault T old piece new fault e (ap (λ (k : Unframed). fault_of k.tail) (e ∙ sym held)) (λ m. absurd (other (breaks ∙ ap (λ x. Breaks x) m)))
+    let held : fed (held_at limit waiting (Breaks fault) rest before) piece ≡ fed old piece = ap
+    (λ (s : Start). fed (held_at limit waiting s rest before) piece) (sym breaks) ∙ ap (λ (o : Unframed). fed o piece) was in
+    feeds_fault T old piece new fault e (ap (λ (k : Unframed). fault_of k.tail) (e ∙ sym held))
+    (λ m. absurd (other (breaks ∙ ap (λ x. Breaks x) m)))
 
 pub broken_by : (start : Start) (rest : List ℕ) → IsSome (fault_of (tail_by start rest)) → is_broken start ≡ true
 broken_by Waits rest h = h

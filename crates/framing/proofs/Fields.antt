@@ -76,7 +76,8 @@ line_first (c ∷ d ∷ text) more h =
     let others = line_first (d ∷ text) more (and_right (not_cr c) _ h) in
     rw t (ap (onto_first c) others)
 
-pub lines_are : (f : Field) (fields : List Field) → list_all is_field (f ∷ fields) ≡ true → lines_of (text_of_fields f fields) ≡ map text_of_field (f ∷ fields)
+pub lines_are : (f : Field) (fields : List Field) → list_all is_field (f ∷ fields) ≡ true
+    → lines_of (text_of_fields f fields) ≡ map text_of_field (f ∷ fields)
 lines_are f [] h = line_alone (text_of_field f) (field_not_cr f (and_left (is_field f) _ h))
 lines_are f (g ∷ fields) h =
     line_first (text_of_field f) (text_of_fields g fields) (field_not_cr f (and_left (is_field f) _ h))
@@ -108,8 +109,10 @@ field_is f h =
     let p = position_is f.name f.value (name_all f.name (and_left _ _ h)) in
     let prefix : take (length f.name) (text_of_field f) ≡ f.name = take_at f.name (58 ∷ f.value) (length f.name) refl in
     let colon : f.name ++ 58 ∷ f.value ≡ (f.name ++ 58 ∷ []) ++ f.value = sym (append_assoc f.name (58 ∷ []) f.value) in
-    let back : drop (length f.name + 1) (text_of_field f) ≡ f.value = ap (drop (length f.name + 1)) colon ∙ drop_at (f.name ++ 58 ∷ []) f.value (length f.name + 1) (length-append f.name (58 ∷ [])) in
-    ap (field_at (text_of_field f)) p ∙ ap (λ (x : List ℕ). field_of x (drop (length f.name + 1) (text_of_field f))) prefix ∙ ap (field_of f.name) back ∙ field_back f h
+    let back : drop (length f.name + 1) (text_of_field f) ≡ f.value = ap (drop (length f.name + 1)) colon
+    ∙ drop_at (f.name ++ 58 ∷ []) f.value (length f.name + 1) (length-append f.name (58 ∷ [])) in
+    ap (field_at (text_of_field f)) p ∙ ap (λ (x : List ℕ). field_of x (drop (length f.name + 1) (text_of_field f))) prefix
+    ∙ ap (field_of f.name) back ∙ field_back f h
 
 pub fields_are : (fields : List Field) → list_all is_field fields ≡ true → fields_in (map text_of_field fields) ≡ Some fields
 fields_are [] h = refl
@@ -155,13 +158,17 @@ line_end_no c more h =
       third c [] h = refl
       third c (d ∷ more) h = let t : eqb c 13 ≡ false = grind (arith, nat_tests) in rw t refl
 
-nonempty_line : (f : Field) (more : List ℕ) → is_field f ≡ true → end_of (13 ∷ 10 ∷ (text_of_field f ++ more)) ≡ option_map suc (option_map suc (end_of (text_of_field f ++ more)))
+nonempty_line : (f : Field) (more : List ℕ) → is_field f ≡ true
+    → end_of (13 ∷ 10 ∷ (text_of_field f ++ more)) ≡ option_map suc (option_map suc (end_of (text_of_field f ++ more)))
 nonempty_line f more h = first_byte f.name f.value more (and_left _ _ h) where
-  first_byte : (name value more : List ℕ) → is_name name ≡ true → end_of (13 ∷ 10 ∷ ((name ++ 58 ∷ value) ++ more)) ≡ option_map suc (option_map suc (end_of ((name ++ 58 ∷ value) ++ more)))
+  first_byte : (name value more : List ℕ) → is_name name ≡ true
+      → end_of (13 ∷ 10 ∷ ((name ++ 58 ∷ value) ++ more)) ≡ option_map suc (option_map suc (end_of ((name ++ 58 ∷ value) ++ more)))
   first_byte [] value more h = cc
-  first_byte (c ∷ name) value more h = line_end_no c ((name ++ 58 ∷ value) ++ more) (name_not_cr c (and_left (is_name_byte c) _ (name_all (c ∷ name) h)))
+  first_byte (c ∷ name) value more h =
+      line_end_no c ((name ++ 58 ∷ value) ++ more) (name_not_cr c (and_left (is_name_byte c) _ (name_all (c ∷ name) h)))
 
-pub end_is : (f : Field) (fields : List Field) (more : List ℕ) → list_all is_field (f ∷ fields) ≡ true → end_of ((text_of_fields f fields ++ end_mark) ++ more) ≡ Some (length (text_of_fields f fields ++ end_mark))
+pub end_is : (f : Field) (fields : List Field) (more : List ℕ) → list_all is_field (f ∷ fields) ≡ true
+    → end_of ((text_of_fields f fields ++ end_mark) ++ more) ≡ Some (length (text_of_fields f fields ++ end_mark))
 end_is f [] more h =
     ap end_of (append_assoc (text_of_field f) end_mark more)
     ∙ end_past (text_of_field f) (end_mark ++ more) (field_not_cr f (and_left (is_field f) _ h))
@@ -169,19 +176,27 @@ end_is f [] more h =
 end_is f (g ∷ fields) more h =
     let others = text_of_fields g fields ++ end_mark in
     let shape : (text_of_fields f (g ∷ fields) ++ end_mark) ++ more ≡ text_of_field f ++ (13 ∷ 10 ∷ (others ++ more)) =
-    ap (λ (x : List ℕ). x ++ more) (append_assoc (text_of_field f) (13 ∷ 10 ∷ text_of_fields g fields) end_mark) ∙ append_assoc (text_of_field f) (13 ∷ 10 ∷ others) more in
-    let skip : end_of (13 ∷ 10 ∷ (others ++ more)) ≡ option_map suc (option_map suc (end_of (others ++ more))) = skip_line g fields more (and_right (is_field f) _ h) in
+    ap (λ (x : List ℕ). x ++ more) (append_assoc (text_of_field f) (13 ∷ 10 ∷ text_of_fields g fields) end_mark)
+    ∙ append_assoc (text_of_field f) (13 ∷ 10 ∷ others) more in
+    let skip : end_of (13 ∷ 10 ∷ (others ++ more)) ≡ option_map suc (option_map suc (end_of (others ++ more))) = skip_line g fields more
+    (and_right (is_field f) _ h) in
     let size : length (text_of_fields f (g ∷ fields) ++ end_mark) ≡ length (text_of_field f) + suc (suc (length others)) =
-    ap length (append_assoc (text_of_field f) (13 ∷ 10 ∷ text_of_fields g fields) end_mark) ∙ length-append (text_of_field f) (13 ∷ 10 ∷ others) in
+    ap length (append_assoc (text_of_field f) (13 ∷ 10 ∷ text_of_fields g fields) end_mark)
+    ∙ length-append (text_of_field f) (13 ∷ 10 ∷ others) in
     ap end_of shape
     ∙ end_past (text_of_field f) (13 ∷ 10 ∷ (others ++ more)) (field_not_cr f (and_left (is_field f) _ h))
-    ∙ ap (further (length (text_of_field f))) (skip ∙ ap (λ (o : Option ℕ). option_map suc (option_map suc o)) (end_is g fields more (and_right (is_field f) _ h)))
+    ∙ ap (further (length (text_of_field f)))
+    (skip ∙ ap (λ (o : Option ℕ). option_map suc (option_map suc o)) (end_is g fields more (and_right (is_field f) _ h)))
     ∙ ap (λ k. Some k) (sym size) where
-      skip_line : (g : Field) (fields : List Field) (more : List ℕ) → list_all is_field (g ∷ fields) ≡ true → end_of (13 ∷ 10 ∷ ((text_of_fields g fields ++ end_mark) ++ more)) ≡ option_map suc (option_map suc (end_of ((text_of_fields g fields ++ end_mark) ++ more)))
-      skip_line g [] more h = rw (append_assoc (text_of_field g) end_mark more) (nonempty_line g (end_mark ++ more) (and_left (is_field g) _ h))
+      skip_line : (g : Field) (fields : List Field) (more : List ℕ) → list_all is_field (g ∷ fields) ≡ true
+          → end_of (13 ∷ 10 ∷ ((text_of_fields g fields ++ end_mark) ++ more)) ≡ option_map suc (option_map suc (end_of ((text_of_fields g fields ++ end_mark) ++ more)))
+      skip_line g [] more h =
+          rw (append_assoc (text_of_field g) end_mark more) (nonempty_line g (end_mark ++ more) (and_left (is_field g) _ h))
       skip_line g (k ∷ fields) more h =
-          let e : (text_of_fields g (k ∷ fields) ++ end_mark) ++ more ≡ text_of_field g ++ (13 ∷ 10 ∷ ((text_of_fields k fields ++ end_mark) ++ more)) =
-          ap (λ (x : List ℕ). x ++ more) (append_assoc (text_of_field g) (13 ∷ 10 ∷ text_of_fields k fields) end_mark) ∙ append_assoc (text_of_field g) (13 ∷ 10 ∷ (text_of_fields k fields ++ end_mark)) more in
+          let e : (text_of_fields g (k ∷ fields) ++ end_mark) ++ more ≡ text_of_field g ++
+          (13 ∷ 10 ∷ ((text_of_fields k fields ++ end_mark) ++ more)) =
+          ap (λ (x : List ℕ). x ++ more) (append_assoc (text_of_field g) (13 ∷ 10 ∷ text_of_fields k fields) end_mark)
+          ∙ append_assoc (text_of_field g) (13 ∷ 10 ∷ (text_of_fields k fields ++ end_mark)) more in
           ap (λ (x : List ℕ). end_of (13 ∷ 10 ∷ x)) e
           ∙ nonempty_line g (13 ∷ 10 ∷ ((text_of_fields k fields ++ end_mark) ++ more)) (and_left (is_field g) _ h)
           ∙ ap (λ (x : List ℕ). option_map suc (option_map suc (end_of x))) (sym e)
@@ -202,7 +217,13 @@ line_onto c (line ∷ lines) = tt
 has_line : (text : List ℕ) → HasLine (lines_of text)
 has_line [] = tt
 has_line (c ∷ []) = tt
-has_line (c ∷ d ∷ text) = elim (eqb c 13 && eqb d 10) as (λ t. HasLine (cond t ([] ∷ lines_of text) (onto_first c (lines_of (d ∷ text))))) [ true ↦ tt | false ↦ line_onto c (lines_of (d ∷ text)) ]
+has_line (c ∷ d ∷ text) =
+    elim (eqb c 13 && eqb d 10) as
+    (λ t. HasLine (cond t ([] ∷ lines_of text) (onto_first c (lines_of (d ∷ text))))) [
+      | true ↦ tt
+      | false ↦ line_onto c
+          (lines_of (d ∷ text))
+    ]
 
 joined_onto : (c : ℕ) (lines : List (List ℕ)) → HasLine lines → joined (onto_first c lines) ≡ c ∷ joined lines
 joined_onto c [] h = absurd h
@@ -215,10 +236,12 @@ pub joined_lines : (text : List ℕ) → joined (lines_of text) ≡ text ++ end_
 joined_lines [] = refl
 joined_lines (c ∷ []) = refl
 joined_lines (c ∷ d ∷ text) =
-    let P : Bool → Type 0 = λ t. (eqb c 13 && eqb d 10) ≡ t → joined (cond t ([] ∷ lines_of text) (onto_first c (lines_of (d ∷ text)))) ≡ c ∷ d ∷ (text ++ end_of_line) in
+    let P : Bool → Type 0 = λ t. (eqb c 13 && eqb d 10) ≡ t
+    → joined (cond t ([] ∷ lines_of text) (onto_first c (lines_of (d ∷ text)))) ≡ c ∷ d ∷ (text ++ end_of_line) in
     let go : P (eqb c 13 && eqb d 10) = elim (eqb c 13 && eqb d 10) as P [
       | true ↦ λ t. (let b = both_are c d t in
-          ap (λ (x : List ℕ). 13 ∷ 10 ∷ x) (joined_lines text) ∙ ap (λ (x : ℕ). x ∷ 10 ∷ (text ++ end_of_line)) (sym b.0) ∙ ap (λ (x : ℕ). c ∷ x ∷ (text ++ end_of_line)) (sym b.1))
+          ap (λ (x : List ℕ). 13 ∷ 10 ∷ x) (joined_lines text) ∙ ap (λ (x : ℕ). x ∷ 10 ∷ (text ++ end_of_line)) (sym b.0)
+          ∙ ap (λ (x : ℕ). c ∷ x ∷ (text ++ end_of_line)) (sym b.1))
       | false ↦ λ t. joined_onto c (lines_of (d ∷ text)) (has_line (d ∷ text)) ∙ ap (λ (x : List ℕ). c ∷ x) (joined_lines (d ∷ text))
     ] in go refl
 
@@ -227,10 +250,12 @@ pub record Spells (line : List ℕ) (f : Field) : Type 0 where
   pub field : is_field f ≡ true
   pub text : line ≡ text_of_field f
 
-field_of_is : (name value : List ℕ) (f : Field) → field_of name value ≡ Some f → (is_field f ≡ true) × (name ++ 58 ∷ value ≡ text_of_field f)
+field_of_is : (name value : List ℕ) (f : Field) → field_of name value ≡ Some f
+    → (is_field f ≡ true) × (name ++ 58 ∷ value ≡ text_of_field f)
 field_of_is name value f h =
     let made : Field = record { name = name; value = value } in
-    let P : Bool → Type 0 = λ t. is_field made ≡ t → cond t (Some made) None ≡ Some f → (is_field f ≡ true) × (name ++ 58 ∷ value ≡ text_of_field f) in
+    let P : Bool → Type 0 = λ t. is_field made ≡ t → cond t (Some made) None ≡ Some f
+    → (is_field f ≡ true) × (name ++ 58 ∷ value ≡ text_of_field f) in
     let go : P (is_field made) = elim (is_field made) as P [
       | true ↦ λ t e. (let same : made ≡ f = made_is made f e in (ap (λ (x : Field). is_field x) (sym same) ∙ t, ap text_of_field same))
       | false ↦ λ t e. absurd (none_is f e)
@@ -241,21 +266,25 @@ field_of_is name value f h =
       none_is : (b : Field) → (let x : Option Field = None in x) ≡ Some b → ⊥
       none_is b e = cc
 
-colon_there : (line : List ℕ) → prefix_len (λ b. not (eqb b 58)) line < length line → get_or line (prefix_len (λ b. not (eqb b 58)) line) 0 ≡ 58
+colon_there : (line : List ℕ) → prefix_len (λ b. not (eqb b 58)) line < length line
+    → get_or line (prefix_len (λ b. not (eqb b 58)) line) 0 ≡ 58
 colon_there [] l = absurd (omega arith)
 colon_there (b ∷ line) l =
     let n = prefix_len (λ b. not (eqb b 58)) line in
-    let P : Bool → Type 0 = λ t. eqb b 58 ≡ t → cond (not t) (1 + n) 0 < suc (length line) → get_or (b ∷ line) (cond (not t) (1 + n) 0) 0 ≡ 58 in
+    let P : Bool → Type 0 = λ t. eqb b 58 ≡ t → cond (not t) (1 + n) 0 < suc (length line)
+    → get_or (b ∷ line) (cond (not t) (1 + n) 0) 0 ≡ 58 in
     let go : P (eqb b 58) = elim (eqb b 58) as P [
       | true ↦ λ t l. grind (arith, nat_tests)
       | false ↦ λ t l. (let e : 1 + n ≡ suc n = omega arith in ap (λ k. get_or (b ∷ line) k 0) e ∙ colon_there line (omega arith))
     ] in go refl l
 
-spells_at : (line : List ℕ) (f : Field) (n : ℕ) → n < length line → get_or line n 0 ≡ 58 → field_of (take n line) (drop (n + 1) line) ≡ Some f → Spells line f
+spells_at : (line : List ℕ) (f : Field) (n : ℕ) → n < length line → get_or line n 0 ≡ 58
+    → field_of (take n line) (drop (n + 1) line) ≡ Some f → Spells line f
 spells_at line f n l colon h =
     let r = field_of_is (take n line) (drop (n + 1) line) f h in
     let parted : line ≡ take n line ++ 58 ∷ drop (n + 1) line =
-    sym (take-append-drop n line) ∙ ap (λ (x : List ℕ). take n line ++ x) (drop_more line n 0 l) ∙ ap (λ (x : ℕ). take n line ++ x ∷ drop (n + 1) line) colon in
+    sym (take-append-drop n line) ∙ ap (λ (x : List ℕ). take n line ++ x) (drop_more line n 0 l)
+    ∙ ap (λ (x : ℕ). take n line ++ x ∷ drop (n + 1) line) colon in
     record { field = r.0; text = parted ∙ r.1 }
 
 pub field_spells : (line : List ℕ) (f : Field) → field_in line ≡ Some f → Spells line f
@@ -274,7 +303,8 @@ pub record SpellAll (lines : List (List ℕ)) (fields : List Field) : Type 0 whe
   pub each : list_all is_field fields ≡ true
   pub text : joined lines ≡ flat_map line_of fields
 
-spell_more : (line : List ℕ) (lines : List (List ℕ)) (o : Option Field) (os : Option (List Field)) (fields : List Field) → field_in line ≡ o → fields_in lines ≡ os → with_field o os ≡ Some fields
+spell_more : (line : List ℕ) (lines : List (List ℕ)) (o : Option Field) (os : Option (List Field)) (fields : List Field) → field_in line ≡ o
+    → fields_in lines ≡ os → with_field o os ≡ Some fields
     → ((fs : List Field) → fields_in lines ≡ Some fs → SpellAll lines fs) → SpellAll (line ∷ lines) fields
 spell_more line lines None os fields a b h others = absurd (none_is fields h) where
   none_is : (b : List Field) → (let x : Option (List Field) = None in x) ≡ Some b → ⊥
@@ -286,19 +316,24 @@ spell_more line lines (Some f) (Some fs) fields a b h others =
     let first = field_spells line f a in
     let rest = others fs b in
     let same : f ∷ fs ≡ fields = some_is (f ∷ fs) fields h in
-    let text : joined (line ∷ lines) ≡ flat_map line_of (f ∷ fs) = ap (λ (x : List ℕ). (x ++ end_of_line) ++ joined lines) first.text ∙ ap (λ (x : List ℕ). line_of f ++ x) rest.text in
-    subst (SpellAll (line ∷ lines)) same (let r : SpellAll (line ∷ lines) (f ∷ fs) = record { each = and_both _ _ first.field rest.each; text = text } in r) where
+    let text : joined (line ∷ lines) ≡ flat_map line_of (f ∷ fs) = ap (λ (x : List ℕ). (x ++ end_of_line) ++ joined lines) first.text
+    ∙ ap (λ (x : List ℕ). line_of f ++ x) rest.text in
+    subst (SpellAll (line ∷ lines)) same
+    (let r : SpellAll (line ∷ lines) (f ∷ fs) = record { each = and_both _ _ first.field rest.each; text = text } in r) where
       some_is : (a b : List Field) → (let x : Option (List Field) = Some a in x) ≡ Some b → a ≡ b
       some_is a b e = cc
 
 pub fields_spell : (lines : List (List ℕ)) (fields : List Field) → fields_in lines ≡ Some fields → SpellAll lines fields
-fields_spell [] fields h = let same : [] ≡ fields = some_is [] fields h in subst (SpellAll []) same (record { each = refl; text = refl }) where
-  some_is : (a b : List Field) → (let x : Option (List Field) = Some a in x) ≡ Some b → a ≡ b
-  some_is a b e = cc
-fields_spell (line ∷ lines) fields h = spell_more line lines (field_in line) (fields_in lines) fields refl refl h (λ fs e. fields_spell lines fs e)
+fields_spell [] fields h =
+    let same : [] ≡ fields = some_is [] fields h in subst (SpellAll []) same (record { each = refl; text = refl }) where
+      some_is : (a b : List Field) → (let x : Option (List Field) = Some a in x) ≡ Some b → a ≡ b
+      some_is a b e = cc
+fields_spell (line ∷ lines) fields h =
+    spell_more line lines (field_in line) (fields_in lines) fields refl refl h (λ fs e. fields_spell lines fs e)
 
 -- a text whose lines are these fields is their header part, without its end
-pub header_from_text : (text : List ℕ) (fields : List Field) → fields_in (lines_of text) ≡ Some fields → (text ++ end_mark ≡ header_of fields) × (list_all is_field fields ≡ true)
+pub header_from_text : (text : List ℕ) (fields : List Field) → fields_in (lines_of text) ≡ Some fields
+    → (text ++ end_mark ≡ header_of fields) × (list_all is_field fields ≡ true)
 header_from_text text fields h =
     let s = fields_spell (lines_of text) fields h in
     (sym (append_assoc text end_of_line end_of_line) ∙ ap (λ (x : List ℕ). x ++ end_of_line) (sym (joined_lines text) ∙ s.text), s.each)

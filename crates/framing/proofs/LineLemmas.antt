@@ -49,7 +49,13 @@ some_onto c (line ∷ lines) = tt
 some_line : (text : List ℕ) → IsSome (lines_of text)
 some_line [] = tt
 some_line (c ∷ []) = tt
-some_line (c ∷ d ∷ text) = elim (eqb c 13 && eqb d 10) as (λ t. IsSome (cond t ([] ∷ lines_of text) (onto_first c (lines_of (d ∷ text))))) [ true ↦ tt | false ↦ some_onto c (lines_of (d ∷ text)) ]
+some_line (c ∷ d ∷ text) =
+    elim (eqb c 13 && eqb d 10) as
+    (λ t. IsSome (cond t ([] ∷ lines_of text) (onto_first c (lines_of (d ∷ text))))) [
+      | true ↦ tt
+      | false ↦ some_onto c
+          (lines_of (d ∷ text))
+    ]
 
 pub onto_none : (lines : List ℕ) → lines_of lines ≡ onto_line [] (lines_of lines)
 onto_none lines = onto_nothing (lines_of lines) (some_line lines)
@@ -60,10 +66,12 @@ onto_next prefix c [] = refl
 onto_next prefix c (line ∷ lines) = ap (λ x. x ∷ lines) (sym (append_assoc prefix (c ∷ []) line))
 
 -- two bytes before what is left
-two_left : (text : List ℕ) (i : ℕ) → 1 ≤ i → i < length text → drop (i - 1) text ≡ get_or text (i - 1) 0 ∷ get_or text i 0 ∷ drop (i + 1) text
+two_left : (text : List ℕ) (i : ℕ) → 1 ≤ i → i < length text
+    → drop (i - 1) text ≡ get_or text (i - 1) 0 ∷ get_or text i 0 ∷ drop (i + 1) text
 two_left text i from room =
     let e : i - 1 + 1 ≡ i = omega arith in
-    drop_more text (i - 1) 0 (omega arith) ∙ ap (λ n. get_or text (i - 1) 0 ∷ drop n text) e ∙ ap (λ x. get_or text (i - 1) 0 ∷ x) (drop_more text i 0 room)
+    drop_more text (i - 1) 0 (omega arith) ∙ ap (λ n. get_or text (i - 1) 0 ∷ drop n text) e
+    ∙ ap (λ x. get_or text (i - 1) 0 ∷ x) (drop_more text i 0 room)
 
 not_both : (c d : ℕ) → (c ≡ 13 → d ≡ 10 → ⊥) → (eqb c 13 && eqb d 10) ≡ false
 not_both c d none = grind (arith, nat_tests)
@@ -78,7 +86,8 @@ pub line_more : (text : List ℕ) (i : ℕ) → 1 ≤ i → i < length text → 
 line_more text i from room none h =
     let e : i - 1 + 1 ≡ i = omega arith in
     let left : drop i text ≡ get_or text i 0 ∷ drop (i + 1) text = drop_more text i 0 room in
-    let prefix : take i text ≡ take (i - 1) text ++ get_or text (i - 1) 0 ∷ [] = ap (λ n. take n text) (sym e) ∙ take_more text (i - 1) 0 (omega arith) in
+    let prefix : take i text ≡ take (i - 1) text ++ get_or text (i - 1) 0 ∷ [] = ap (λ n. take n text) (sym e)
+    ∙ take_more text (i - 1) 0 (omega arith) in
     h
     ∙ ap (λ x. onto_line (take (i - 1) text) (lines_of x)) (two_left text i from room)
     ∙ ap (onto_line (take (i - 1) text)) (no_end (get_or text (i - 1) 0) (get_or text i 0) (drop (i + 1) text) none)
@@ -103,7 +112,8 @@ short_line [] h = refl
 short_line (c ∷ []) h = refl
 short_line (c ∷ d ∷ rest) h = absurd (omega arith)
 
-pub line_all : (text : List ℕ) (i : ℕ) → length text ≤ i → lines_of text ≡ onto_line (take (i - 1) text) (lines_of (drop (i - 1) text)) → lines_of text ≡ text ∷ []
+pub line_all : (text : List ℕ) (i : ℕ) → length text ≤ i → lines_of text ≡ onto_line (take (i - 1) text) (lines_of (drop (i - 1) text))
+    → lines_of text ≡ text ∷ []
 line_all text i all h =
     let short : length (drop (i - 1) text) ≤ 1 = rw length-drop (omega arith) in
     h ∙ ap (onto_line (take (i - 1) text)) (short_line (drop (i - 1) text) short) ∙ ap (λ x. x ∷ []) (take-append-drop (i - 1) text)
@@ -111,15 +121,28 @@ line_all text i all h =
 -- nothing is known before the first line
 with_more : (fields : List Field) → with_fields More fields ≡ More
 with_more [] = refl
-with_more (f ∷ fields) = elim (names_length f.name) as (λ t. with_fields (cond t More More) fields ≡ More) [ true ↦ with_more fields | false ↦ with_more fields ]
+with_more (f ∷ fields) =
+    elim (names_length f.name) as (λ t. with_fields (cond t More More) fields ≡ More) [ true ↦ with_more fields | false ↦ with_more fields ]
 
-length_next : (limit : ℕ) (first : Field) (fields : List Field) → length_within limit (with_fields (one_more No first) fields) ≡ length_among limit (first ∷ length_fields fields)
+length_next : (limit : ℕ) (first : Field) (fields : List Field)
+    → length_within limit (with_fields (one_more No first) fields) ≡ length_among limit (first ∷ length_fields fields)
 length_next limit first [] = refl
-length_next limit first (f ∷ fields) = elim (names_length f.name) as (λ t. length_within limit (with_fields (cond t More (one_more No first)) fields) ≡ length_among limit (first ∷ cond t (f ∷ length_fields fields) (length_fields fields))) [ true ↦ ap (length_within limit) (with_more fields) | false ↦ length_next limit first fields ]
+length_next limit first (f ∷ fields) =
+    elim (names_length f.name) as
+    (λ t. length_within limit (with_fields (cond t More (one_more No first)) fields) ≡ length_among limit
+    (first ∷ cond t (f ∷ length_fields fields) (length_fields fields))) [
+      | true ↦ ap (length_within limit)
+          (with_more fields)
+      | false ↦ length_next limit first fields
+    ]
 
-pub length_start : (limit : ℕ) (fields : List Field) → length_within limit (with_fields No fields) ≡ length_among limit (length_fields fields)
+pub length_start : (limit : ℕ) (fields : List Field)
+    → length_within limit (with_fields No fields) ≡ length_among limit (length_fields fields)
 length_start limit [] = refl
-length_start limit (f ∷ fields) = elim (names_length f.name) as (λ t. length_within limit (with_fields (cond t (one_more No f) No) fields) ≡ length_among limit (cond t (f ∷ length_fields fields) (length_fields fields))) [ true ↦ length_next limit f fields | false ↦ length_start limit fields ]
+length_start limit (f ∷ fields) =
+    elim (names_length f.name) as
+    (λ t. length_within limit (with_fields (cond t (one_more No f) No) fields) ≡ length_among limit
+    (cond t (f ∷ length_fields fields) (length_fields fields))) [ true ↦ length_next limit f fields | false ↦ length_start limit fields ]
 
 by_fields : (limit : ℕ) (fields : Option (List Field)) → length_with limit No fields ≡ length_by limit fields
 by_fields limit None = refl

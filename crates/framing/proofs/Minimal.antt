@@ -27,7 +27,8 @@ value_byte c h = let r = digit_range c h in grind (arith, nat_tests)
 
 value_bytes : (digits : List ℕ) → list_all is_ascii_digit digits ≡ true → list_all is_value_byte digits ≡ true
 value_bytes [] h = refl
-value_bytes (d ∷ digits) h = and_both _ _ (value_byte d (and_left (is_ascii_digit d) _ h)) (value_bytes digits (and_right (is_ascii_digit d) _ h))
+value_bytes (d ∷ digits) h =
+    and_both _ _ (value_byte d (and_left (is_ascii_digit d) _ h)) (value_bytes digits (and_right (is_ascii_digit d) _ h))
 
 -- the one field of the smallest frame
 abbrev length_field : List ℕ → Field
@@ -41,13 +42,16 @@ head_is digits = ap (λ (x : List ℕ). x ++ end_of_line) (sym (append-nil ((cod
 
 head_long : (digits : List ℕ) → length (minimal_head digits) ≡ 20 + length digits
 head_long digits =
-    let a : length (minimal_head digits) ≡ length ((codes "Content-Length: " ++ digits) ++ end_of_line) + 2 = length-append ((codes "Content-Length: " ++ digits) ++ end_of_line) end_of_line in
-    let b : length ((codes "Content-Length: " ++ digits) ++ end_of_line) ≡ length (codes "Content-Length: " ++ digits) + 2 = length-append (codes "Content-Length: " ++ digits) end_of_line in
+    let a : length (minimal_head digits) ≡ length ((codes "Content-Length: " ++ digits) ++ end_of_line) + 2 = length-append
+    ((codes "Content-Length: " ++ digits) ++ end_of_line) end_of_line in
+    let b : length ((codes "Content-Length: " ++ digits) ++ end_of_line) ≡ length (codes "Content-Length: " ++ digits) + 2 = length-append
+    (codes "Content-Length: " ++ digits) end_of_line in
     let c : length (codes "Content-Length: " ++ digits) ≡ 16 + length digits = length-append (codes "Content-Length: ") digits in
     omega (arith, a, b, c)
 
 -- digits of a length within the limit say it
-digits_head : (limit n : ℕ) (digits : List ℕ) → n ≤ limit → n ≡ digits_value 10 digits → list_all is_ascii_digit digits ≡ true → 0 < length digits → length digits ≤ 10 → Head limit (minimal_head digits) n
+digits_head : (limit n : ℕ) (digits : List ℕ) → n ≤ limit → n ≡ digits_value 10 digits → list_all is_ascii_digit digits ≡ true
+    → 0 < length digits → length digits ≤ 10 → Head limit (minimal_head digits) n
 digits_head limit n digits small number each some few = record {
   fields = length_field digits ∷ [];
   field = length_field digits;
@@ -81,5 +85,6 @@ minimal_is_frame limit body h small =
       says = digits_head limit n (decimal n) small (sym d.1) (digits_are (decimal n) d.0.1) d.0.0 few;
     }
 
-pub minimal_is_read : (limit : ℕ) (body more : List ℕ) → limit < 2 ^ 32 → length body ≤ limit → reading_of limit (minimal_frame body ++ more) ≡ with_body body (reading_of limit more)
+pub minimal_is_read : (limit : ℕ) (body more : List ℕ) → limit < 2 ^ 32 → length body ≤ limit
+    → reading_of limit (minimal_frame body ++ more) ≡ with_body body (reading_of limit more)
 minimal_is_read limit body more h small = frame_first limit (minimal_frame body) body more (minimal_is_frame limit body h small)

@@ -41,15 +41,18 @@ start_by_is : (k size n : ℕ) (r : Result ℕ FrameError) → start_by k r ≡ 
 start_by_is k size n (Ok m) h = (cc, cc)
 start_by_is k size n (Err e) h = cc
 
-start_at_is : (limit : ℕ) (bytes : List ℕ) (o : Option ℕ) (size n : ℕ) → start_at limit bytes o ≡ Begins size n → (o ≡ Some size) × (content_length limit (take (size - 4) bytes) ≡ Ok n)
+start_at_is : (limit : ℕ) (bytes : List ℕ) (o : Option ℕ) (size n : ℕ) → start_at limit bytes o ≡ Begins size n
+    → (o ≡ Some size) × (content_length limit (take (size - 4) bytes) ≡ Ok n)
 start_at_is limit bytes None size n h =
-    let P : Bool → Type 0 = λ t. cond t Waits (Breaks HeaderTooLong) ≡ Begins size n → (None ≡ Some size) × (content_length limit (take (size - 4) bytes) ≡ Ok n) in
+    let P : Bool → Type 0 = λ t. cond t Waits (Breaks HeaderTooLong) ≡ Begins size n
+    → (None ≡ Some size) × (content_length limit (take (size - 4) bytes) ≡ Ok n) in
     let go : P (ltb (length bytes) 4096) = elim (ltb (length bytes) 4096) as P [ true ↦ λ e. cc | false ↦ λ e. cc ] in go h
 start_at_is limit bytes (Some k) size n h =
     let r = start_by_is k size n (content_length limit (take (k - 4) bytes)) h in
     (ap (λ x. Some x) r.0, ap (λ x. content_length limit (take (x - 4) bytes)) (sym r.0) ∙ r.1)
 
-pub begins_is : (limit : ℕ) (bytes : List ℕ) (size n : ℕ) → start_of limit bytes ≡ Begins size n → (size_of bytes ≡ Some size) × (content_length limit (take (size - 4) bytes) ≡ Ok n)
+pub begins_is : (limit : ℕ) (bytes : List ℕ) (size n : ℕ) → start_of limit bytes ≡ Begins size n
+    → (size_of bytes ≡ Some size) × (content_length limit (take (size - 4) bytes) ≡ Ok n)
 unfolding start_of
 begins_is limit bytes size n h = start_at_is limit bytes (size_of bytes) size n h
 
@@ -61,31 +64,40 @@ unfolding start_of
 starts_empty limit = refl
 
 -- more frames than bytes make no difference
-same_step : (f g : List ℕ → Reading) (limit : ℕ) (bytes : List ℕ) → ((rest : List ℕ) → length rest < length bytes → f rest ≡ g rest) → (s : Start) → s ≡ start_of limit bytes → reading_by f bytes s ≡ reading_by g bytes s
+same_step : (f g : List ℕ → Reading) (limit : ℕ) (bytes : List ℕ) → ((rest : List ℕ) → length rest < length bytes → f rest ≡ g rest)
+    → (s : Start) → s ≡ start_of limit bytes → reading_by f bytes s ≡ reading_by g bytes s
 same_step f g limit bytes same Waits e = refl
 same_step f g limit bytes same (Breaks fault) e = refl
 same_step f g limit bytes same (Begins size n) e =
     let room = begins_size limit bytes size n (sym e) in
-    let P : Bool → Type 0 = λ t. ltb (length bytes) (size + n) ≡ t → cond t (let r : Reading = record { bodies = []; tail = Partial bytes } in r) (with_body (take n (drop size bytes)) (f (drop (size + n) bytes))) ≡ cond t (let r : Reading = record { bodies = []; tail = Partial bytes } in r) (with_body (take n (drop size bytes)) (g (drop (size + n) bytes))) in
+    let P : Bool → Type 0 = λ t. ltb (length bytes) (size + n) ≡ t
+    → cond t (let r : Reading = record { bodies = []; tail = Partial bytes } in r)
+    (with_body (take n (drop size bytes)) (f (drop (size + n) bytes))) ≡ cond t
+    (let r : Reading = record { bodies = []; tail = Partial bytes } in r)
+    (with_body (take n (drop size bytes)) (g (drop (size + n) bytes))) in
     let go : P (ltb (length bytes) (size + n)) = elim (ltb (length bytes) (size + n)) as P [
       | true ↦ λ t. refl
       | false ↦ λ t. ap (with_body (take n (drop size bytes))) (same (drop (size + n) bytes) (rw length-drop (omega (arith, room))))
     ] in go refl
 
-same_frames : (f g : ℕ) (limit : ℕ) (bytes : List ℕ) → length bytes ≤ f → length bytes ≤ g → reading_within f limit bytes ≡ reading_within g limit bytes
+same_frames : (f g : ℕ) (limit : ℕ) (bytes : List ℕ) → length bytes ≤ f → length bytes ≤ g
+    → reading_within f limit bytes ≡ reading_within g limit bytes
 same_frames zero zero limit bytes a b = refl
 same_frames zero (suc g) limit [] a b = sym (ap (reading_by (reading_within g limit) []) (starts_empty limit))
 same_frames zero (suc g) limit (c ∷ bytes) a b = absurd (omega arith)
 same_frames (suc f) zero limit [] a b = ap (reading_by (reading_within f limit) []) (starts_empty limit)
 same_frames (suc f) zero limit (c ∷ bytes) a b = absurd (omega arith)
-same_frames (suc f) (suc g) limit bytes a b = same_step (reading_within f limit) (reading_within g limit) limit bytes (λ rest l. same_frames f g limit rest (omega arith) (omega arith)) (start_of limit bytes) refl
+same_frames (suc f) (suc g) limit bytes a b =
+    same_step (reading_within f limit) (reading_within g limit) limit bytes
+    (λ rest l. same_frames f g limit rest (omega arith) (omega arith)) (start_of limit bytes) refl
 
 -- a reading is that of the first frame, and then of the others
 pub reading_next : (limit : ℕ) (bytes : List ℕ) → reading_of limit bytes ≡ reading_by (reading_of limit) bytes (start_of limit bytes)
 unfolding reading_of
 reading_next limit bytes =
     same_frames (length bytes) (suc (length bytes)) limit bytes (omega arith) (omega arith)
-    ∙ same_step (reading_within (length bytes) limit) (reading_of limit) limit bytes (λ rest l. same_frames (length bytes) (length rest) limit rest (omega arith) (omega arith)) (start_of limit bytes) refl
+    ∙ same_step (reading_within (length bytes) limit) (reading_of limit) limit bytes
+    (λ rest l. same_frames (length bytes) (length rest) limit rest (omega arith) (omega arith)) (start_of limit bytes) refl
 
 abbrev pub Parted : Type 0
 Parted = Option (List ℕ × List ℕ)
@@ -100,20 +112,28 @@ none_some : (a b : List ℕ) → None ≡ some_of a b → ⊥
 none_some a b h = cc
 
 pub some_parts : (a b c d : List ℕ) → some_of a b ≡ some_of c d → (a ≡ c) × (b ≡ d)
-some_parts a b c d h = let e : (let p : List ℕ × List ℕ = (a, b) in p) ≡ (c, d) = cc in (ap (λ (p : List ℕ × List ℕ). p.0) e, ap (λ (p : List ℕ × List ℕ). p.1) e)
+some_parts a b c d h =
+    let e : (let p : List ℕ × List ℕ = (a, b) in p) ≡ (c, d) = cc in
+    (ap (λ (p : List ℕ × List ℕ). p.0) e, ap (λ (p : List ℕ × List ℕ). p.1) e)
 
 -- where no frame is whole, the tail is all there is
-by_none : (others : List ℕ → Reading) (bytes : List ℕ) (s : Start) → parts_of s bytes ≡ None → reading_by others bytes s ≡ record { bodies = []; tail = tail_by s bytes }
+by_none : (others : List ℕ → Reading) (bytes : List ℕ) (s : Start) → parts_of s bytes ≡ None
+    → reading_by others bytes s ≡ record { bodies = []; tail = tail_by s bytes }
 by_none others bytes Waits h = refl
 by_none others bytes (Breaks fault) h = refl
 by_none others bytes (Begins size n) h =
     let whole = take n (drop size bytes) in
     let rest = drop (size + n) bytes in
-    let P : Bool → Type 0 = λ t. cond t None (some_of whole rest) ≡ None → cond t (let r : Reading = record { bodies = []; tail = Partial bytes } in r) (with_body whole (others rest)) ≡ record { bodies = []; tail = Partial bytes } in
-    let go : P (ltb (length bytes) (size + n)) = elim (ltb (length bytes) (size + n)) as P [ true ↦ λ e. refl | false ↦ λ e. absurd (some_none whole rest e) ] in go h
+    let P : Bool → Type 0 = λ t. cond t None (some_of whole rest) ≡ None
+    → cond t (let r : Reading = record { bodies = []; tail = Partial bytes } in r) (with_body whole (others rest))
+    ≡ record { bodies = []; tail = Partial bytes } in
+    let go : P (ltb (length bytes) (size + n)) = elim
+    (ltb (length bytes) (size + n)) as P [ true ↦ λ e. refl | false ↦ λ e. absurd (some_none whole rest e) ] in go h
 
-pub reading_none : (limit : ℕ) (bytes : List ℕ) (s : Start) → s ≡ start_of limit bytes → parts_of s bytes ≡ None → reading_of limit bytes ≡ record { bodies = []; tail = tail_by s bytes }
-reading_none limit bytes s e h = reading_next limit bytes ∙ ap (reading_by (reading_of limit) bytes) (sym e) ∙ by_none (reading_of limit) bytes s h
+pub reading_none : (limit : ℕ) (bytes : List ℕ) (s : Start) → s ≡ start_of limit bytes → parts_of s bytes ≡ None
+    → reading_of limit bytes ≡ record { bodies = []; tail = tail_by s bytes }
+reading_none limit bytes s e h =
+    reading_next limit bytes ∙ ap (reading_by (reading_of limit) bytes) (sym e) ∙ by_none (reading_of limit) bytes s h
 
 -- where a frame is whole, its body comes before the others
 pub record OneFrame (limit : ℕ) (bytes body after : List ℕ) : Type 0 where
@@ -123,7 +143,8 @@ pub record OneFrame (limit : ℕ) (bytes body after : List ℕ) : Type 0 where
   pub after_is : after ≡ drop size bytes
   pub size_is : size + length after ≡ length bytes
 
-by_some : (limit : ℕ) (bytes body after : List ℕ) (s : Start) → s ≡ start_of limit bytes → parts_of s bytes ≡ Some (body, after) → OneFrame limit bytes body after
+by_some : (limit : ℕ) (bytes body after : List ℕ) (s : Start) → s ≡ start_of limit bytes → parts_of s bytes ≡ Some (body, after)
+    → OneFrame limit bytes body after
 by_some limit bytes body after Waits e h = cc
 by_some limit bytes body after (Breaks fault) e h = cc
 by_some limit bytes body after (Begins size n) e h =
@@ -131,7 +152,8 @@ by_some limit bytes body after (Begins size n) e h =
     let rest = drop (size + n) bytes in
     let room = begins_size limit bytes size n (sym e) in
     let P : Bool → Type 0 = λ t. ltb (length bytes) (size + n) ≡ t → cond t None (some_of whole rest) ≡ some_of body after
-    → cond t (let r : Reading = record { bodies = []; tail = Partial bytes } in r) (with_body whole (reading_of limit rest)) ≡ reading_of limit bytes → OneFrame limit bytes body after in
+    → cond t (let r : Reading = record { bodies = []; tail = Partial bytes } in r) (with_body whole (reading_of limit rest)) ≡ reading_of limit bytes
+    → OneFrame limit bytes body after in
     let go : P (ltb (length bytes) (size + n)) = elim (ltb (length bytes) (size + n)) as P [
       | true ↦ λ t q r. absurd (none_some body after q)
       | false ↦ λ t q r.
@@ -149,7 +171,8 @@ by_some limit bytes body after (Begins size n) e h =
           }
     ] in go refl h (sym (reading_next limit bytes ∙ ap (reading_by (reading_of limit) bytes) (sym e)))
 
-pub reading_some : (limit : ℕ) (bytes body after : List ℕ) (s : Start) → s ≡ start_of limit bytes → parts_of s bytes ≡ Some (body, after) → OneFrame limit bytes body after
+pub reading_some : (limit : ℕ) (bytes body after : List ℕ) (s : Start) → s ≡ start_of limit bytes → parts_of s bytes ≡ Some (body, after)
+    → OneFrame limit bytes body after
 reading_some limit bytes body after s e h = by_some limit bytes body after s e h
 
 -- How far the code has come: these bodies were found, and the rest starts so.
@@ -167,7 +190,9 @@ reached_start limit bytes start e = record {
   reads = refl;
 }
 
-pub reached_more : (limit : ℕ) (bytes : List ℕ) (bodies : List (List ℕ)) (start : Start) (rest body after : List ℕ) (next : Start) → Reached limit bytes bodies start rest → parts_of start rest ≡ Some (body, after) → next ≡ start_of limit after → Reached limit bytes (bodies ++ body ∷ []) next after
+pub reached_more : (limit : ℕ) (bytes : List ℕ) (bodies : List (List ℕ)) (start : Start) (rest body after : List ℕ) (next : Start)
+    → Reached limit bytes bodies start rest → parts_of start rest ≡ Some (body, after) → next ≡ start_of limit after
+    → Reached limit bytes (bodies ++ body ∷ []) next after
 reached_more limit bytes bodies start rest body after next r h e =
     let one = reading_some limit rest body after start r.starts h in
     let within : length rest ≤ length bytes = r.within in
@@ -179,20 +204,27 @@ reached_more limit bytes bodies start rest body after next r h e =
       starts = e;
       reads = with_more bodies body (reading_of limit after) ∙ ap (with_bodies bodies) (sym one.reads) ∙ r.reads;
     } where
-      with_more : (bodies : List (List ℕ)) (body : List ℕ) (x : Reading) → with_bodies (bodies ++ body ∷ []) x ≡ with_bodies bodies (with_body body x)
-      with_more bodies body x = ap (λ (l : List (List ℕ)). let y : Reading = record { bodies = l; tail = x.tail } in y) (append_assoc bodies (body ∷ []) x.bodies)
+      with_more : (bodies : List (List ℕ)) (body : List ℕ) (x : Reading)
+          → with_bodies (bodies ++ body ∷ []) x ≡ with_bodies bodies (with_body body x)
+      with_more bodies body x =
+          ap (λ (l : List (List ℕ)). let y : Reading = record { bodies = l; tail = x.tail } in y) (append_assoc bodies (body ∷ []) x.bodies)
 
-pub reached_end : (limit : ℕ) (bytes : List ℕ) (bodies : List (List ℕ)) (start : Start) (rest : List ℕ) → Reached limit bytes bodies start rest → parts_of start rest ≡ None → Parts limit bytes bodies start (length rest)
+pub reached_end : (limit : ℕ) (bytes : List ℕ) (bodies : List (List ℕ)) (start : Start) (rest : List ℕ)
+    → Reached limit bytes bodies start rest → parts_of start rest ≡ None → Parts limit bytes bodies start (length rest)
 reached_end limit bytes bodies start rest r h = record {
   within = r.within;
   starts = r.starts ∙ ap (start_of limit) r.there;
-  reads = sym r.reads ∙ ap (with_bodies bodies) (reading_none limit rest start r.starts h) ∙ with_none bodies (tail_by start rest) ∙ ap (λ x. let y : Reading = record { bodies = bodies; tail = tail_by start x } in y) r.there;
+  reads =
+      sym r.reads ∙ ap (with_bodies bodies) (reading_none limit rest start r.starts h) ∙ with_none bodies (tail_by start rest)
+      ∙ ap (λ x. let y : Reading = record { bodies = bodies; tail = tail_by start x } in y) r.there;
 } where
-  with_none : (bodies : List (List ℕ)) (tail : Tail) → with_bodies bodies (record { bodies = []; tail = tail }) ≡ record { bodies = bodies; tail = tail }
+  with_none : (bodies : List (List ℕ)) (tail : Tail)
+      → with_bodies bodies (record { bodies = []; tail = tail }) ≡ record { bodies = bodies; tail = tail }
   with_none bodies tail = ap (λ (l : List (List ℕ)). let y : Reading = record { bodies = l; tail = tail } in y) (append-nil bodies)
 
 -- bytes that make no frame whole
-pub no_frames : (limit : ℕ) (bytes : List ℕ) (start : Start) (waiting : List (Vec ℕ Global)) → start ≡ start_of limit bytes → parts_of start bytes ≡ None → TakesFrames limit bytes waiting waiting start (length bytes)
+pub no_frames : (limit : ℕ) (bytes : List ℕ) (start : Start) (waiting : List (Vec ℕ Global)) → start ≡ start_of limit bytes
+    → parts_of start bytes ≡ None → TakesFrames limit bytes waiting waiting start (length bytes)
 no_frames limit bytes start waiting e h = record {
   bodies = [];
   parts = reached_end limit bytes [] start bytes (reached_start limit bytes start e) h;
@@ -222,7 +254,8 @@ size_stays_none a b none long (Some size) e =
     let k_small : before.0 ≤ size = before.2 in
     absurd (no_some before.0 (sym none ∙ size_of_end a before.0 before.1 (omega arith)))
 
-text_keeps : (limit : ℕ) (a b : List ℕ) (size : ℕ) → size ≤ length a → start_by size (content_length limit (take (size - 4) (a ++ b))) ≡ start_by size (content_length limit (take (size - 4) a))
+text_keeps : (limit : ℕ) (a b : List ℕ) (size : ℕ) → size ≤ length a
+    → start_by size (content_length limit (take (size - 4) (a ++ b))) ≡ start_by size (content_length limit (take (size - 4) a))
 text_keeps limit a b size within = ap (λ t. start_by size (content_length limit t)) (take-append-le (size - 4) a b (omega arith))
 
 abbrev pub is_waiting : Start → Bool
@@ -230,11 +263,14 @@ is_waiting Waits = true
 is_waiting (Breaks fault) = false
 is_waiting (Begins size n) = false
 
-long_is : (limit : ℕ) (bytes : List ℕ) (size : Option ℕ) → size ≡ None → is_waiting (start_at limit bytes size) ≡ false → 4096 ≤ length bytes
+long_is : (limit : ℕ) (bytes : List ℕ) (size : Option ℕ) → size ≡ None → is_waiting (start_at limit bytes size) ≡ false
+    → 4096 ≤ length bytes
 long_is limit bytes (Some k) e h = absurd (no_some k (sym e))
 long_is limit bytes None e h =
-    let P : Bool → Type 0 = λ t. ltb (length bytes) 4096 ≡ t → is_waiting (cond t Waits (Breaks HeaderTooLong)) ≡ false → 4096 ≤ length bytes in
-    let go : P (ltb (length bytes) 4096) = elim (ltb (length bytes) 4096) as P [ true ↦ λ t f. absurd (false≢true (sym f)) | false ↦ λ t f. grind (arith, nat_tests) ] in go refl h
+    let P : Bool → Type 0 = λ t. ltb (length bytes) 4096 ≡ t → is_waiting (cond t Waits (Breaks HeaderTooLong)) ≡ false
+    → 4096 ≤ length bytes in
+    let go : P (ltb (length bytes) 4096) = elim
+    (ltb (length bytes) 4096) as P [ true ↦ λ t f. absurd (false≢true (sym f)) | false ↦ λ t f. grind (arith, nat_tests) ] in go refl h
 
 short_is : (limit : ℕ) (bytes : List ℕ) (size : Option ℕ) → start_at limit bytes size ≡ Waits → (size ≡ None) × (length bytes < 4096)
 short_is limit bytes (Some k) h = absurd (by_result (content_length limit (take (k - 4) bytes)) h) where
@@ -242,12 +278,16 @@ short_is limit bytes (Some k) h = absurd (by_result (content_length limit (take 
   by_result (Ok n) e = cc
   by_result (Err fault) e = cc
 short_is limit bytes None h =
-    let P : Bool → Type 0 = λ t. ltb (length bytes) 4096 ≡ t → cond t Waits (Breaks HeaderTooLong) ≡ Waits → (let x : Option ℕ = None in x ≡ None) × (length bytes < 4096) in
-    let go : P (ltb (length bytes) 4096) = elim (ltb (length bytes) 4096) as P [ true ↦ λ t e. (refl, grind (arith, nat_tests)) | false ↦ λ t e. absurd (breaks_is e) ] in go refl h where
+    let P : Bool → Type 0 = λ t. ltb (length bytes) 4096 ≡ t → cond t Waits (Breaks HeaderTooLong) ≡ Waits
+    → (let x : Option ℕ = None in x ≡ None) × (length bytes < 4096) in
+    let go : P (ltb (length bytes) 4096) = elim
+    (ltb (length bytes) 4096) as P [ true ↦ λ t e. (refl, grind (arith, nat_tests)) | false ↦ λ t e. absurd (breaks_is e) ] in
+    go refl h where
       breaks_is : Breaks HeaderTooLong ≡ Waits → ⊥
       breaks_is e = cc
 
-long_stays : (limit : ℕ) (a b : List ℕ) → size_of a ≡ None → 4096 ≤ length a → start_at limit (a ++ b) (size_of (a ++ b)) ≡ start_at limit a (size_of a)
+long_stays : (limit : ℕ) (a b : List ℕ) → size_of a ≡ None → 4096 ≤ length a
+    → start_at limit (a ++ b) (size_of (a ++ b)) ≡ start_at limit a (size_of a)
 long_stays limit a b none long =
     let gone : size_of (a ++ b) ≡ None = size_stays_none a b none long (size_of (a ++ b)) refl in
     let longer : length a ≤ length (a ++ b) = rw length-append (omega arith) in
@@ -255,7 +295,8 @@ long_stays limit a b none long =
     let u : ltb (length a) 4096 ≡ false = grind (arith, nat_tests) in
     ap (start_at limit (a ++ b)) gone ∙ (rw t (sym (ap (start_at limit a) none ∙ rw u refl)))
 
-starts_stay : (limit : ℕ) (a b : List ℕ) (size : Option ℕ) → size_of a ≡ size → is_waiting (start_at limit a size) ≡ false → start_at limit (a ++ b) (size_of (a ++ b)) ≡ start_at limit a size
+starts_stay : (limit : ℕ) (a b : List ℕ) (size : Option ℕ) → size_of a ≡ size → is_waiting (start_at limit a size) ≡ false
+    → start_at limit (a ++ b) (size_of (a ++ b)) ≡ start_at limit a size
 starts_stay limit a b (Some k) e h =
     ap (start_at limit (a ++ b)) (size_keeps a b k e) ∙ text_keeps limit a b k (size_room a k e).1
 starts_stay limit a b None e h = long_stays limit a b e (long_is limit a None refl h) ∙ ap (start_at limit a) e
@@ -281,12 +322,15 @@ pub waits_past : (limit : ℕ) (a b : List ℕ) → start_of limit a ≡ Waits �
 waits_past limit a b h = let w = waits_is limit a h in end_later a b (no_end_short a (end_of a) refl w.0 w.1)
 
 -- the same, for the first bytes of a list
-pub start_waits : (limit : ℕ) (bytes : List ℕ) (before : ℕ) → before ≤ length bytes → start_of limit (take before bytes) ≡ Waits → EndsPast before bytes
+pub start_waits : (limit : ℕ) (bytes : List ℕ) (before : ℕ) → before ≤ length bytes → start_of limit (take before bytes) ≡ Waits
+    → EndsPast before bytes
 start_waits limit bytes before within h =
     let n : length (take before bytes) ≡ before = length-take-le before bytes within in
     let past = waits_past limit (take before bytes) (drop before bytes) h in
     subst (λ (k : ℕ). EndsPast k bytes) n (subst (EndsPast (length (take before bytes))) (take-append-drop before bytes) past)
 
-pub start_stays : (limit : ℕ) (bytes : List ℕ) (before : ℕ) (s : Start) → s ≡ start_of limit (take before bytes) → is_waiting s ≡ false → s ≡ start_of limit bytes
+pub start_stays : (limit : ℕ) (bytes : List ℕ) (before : ℕ) (s : Start) → s ≡ start_of limit (take before bytes) → is_waiting s ≡ false
+    → s ≡ start_of limit bytes
 start_stays limit bytes before s e h =
-    e ∙ sym (starts_keep limit (take before bytes) (drop before bytes) (ap is_waiting (sym e) ∙ h)) ∙ ap (start_of limit) (take-append-drop before bytes)
+    e ∙ sym (starts_keep limit (take before bytes) (drop before bytes) (ap is_waiting (sym e) ∙ h))
+    ∙ ap (start_of limit) (take-append-drop before bytes)

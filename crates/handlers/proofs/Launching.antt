@@ -24,14 +24,16 @@ can_be_loaded text image size s p =
     let l = loadable text size image p in
     record { whole = s.whole; some = s.some; few = s.few; fits = l.fits; aligned = l.aligned }
 
-pub is_of_text : (text : List ℕ) (image : Image) (path : List ℕ) (stop : Bool) (size : ℕ) (p : Program) → Placed text size image → p ≡ just_loaded image path stop size → p ≡ just_loaded (assembled text) path stop size
+pub is_of_text : (text : List ℕ) (image : Image) (path : List ℕ) (stop : Bool) (size : ℕ) (p : Program) → Placed text size image
+    → p ≡ just_loaded image path stop size → p ≡ just_loaded (assembled text) path stop size
 is_of_text text image path stop size p h e = e ∙ ap (λ (i : Image). just_loaded i path stop size) (made text size image h)
 
 pub if_ok : {A B : Type 0} (P Q : A → Type 0) (r : Result A B) → ((a : A) → P a → Q a) → IfOk r P → IfOk r Q
 if_ok P Q (Ok a) f h = f a h
 if_ok P Q (Err b) f h = h
 
-pub loads_so : (given : Given) (terms seen : Terms) (arguments : LaunchArguments) (text : List ℕ) (p : Program) (path : List ℕ) → error_of text given.size ≡ None → seen ≡ terms → path ≡ arguments.program
+pub loads_so : (given : Given) (terms seen : Terms) (arguments : LaunchArguments) (text : List ℕ) (p : Program) (path : List ℕ)
+    → error_of text given.size ≡ None → seen ≡ terms → path ≡ arguments.program
     → p ≡ just_loaded (assembled text) path arguments.stop_on_entry given.size
     → answering_as given.debuggee (record { change = Load p; terms = record seen { phase = Configuring; launched = true }; outcome = Done Empty; event = Some Initialized; closes = false }) ≡ assembles given terms arguments text (error_of text given.size)
 loads_so given terms seen arguments text p path right same is_path e =

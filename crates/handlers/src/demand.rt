@@ -98,7 +98,7 @@ impl Demand {
         }
     }
 
-    /// The same, in these phases.
+    /// This demand, in these phases.
     pub(crate) fn taken_in(self, phases: Phases) -> Demand
         ensures { result ≡ spec.taken_in phases self }
     {

@@ -19,20 +19,20 @@ use Rattle.image.specs.declared.fault.MemFault.{MemFault}
 use Rattle.image.specs.declared.fault.MemFault.TheVariants.{Misaligned, Outside}
 use Rattle.facts.specs.Facts.{Facts}
 use Rattle.mirror.specs.Folding.{over, succeeded, valued}
-use Rattle.mirror.specs.Requests.{named, register_of}
+use Rattle.mirror.specs.Requests.{register_of}
 use Rattle.mirror.specs.declared.asked.Asked.TheVariants as asks
 use Rattle.protocol.specs.declared.refusal.Refusal.{Refusal}
 use Rattle.protocol.specs.declared.refusal.Refusal.TheVariants.{NotWritable, OutsideMemory, TooMuch}
 use Rattle.protocol.specs.declared.set_variable.SetVariableArguments.{SetVariableArguments}
 use Rattle.protocol.specs.declared.write_memory.WriteMemoryArguments.{WriteMemoryArguments}
 use Rattle.range_laws.specs.Machines.{AreRegisters}
-use Rattle.rv32i.specs.Names.{name_of}
+use Rattle.rv32i.specs.Names.{name_of, number_named}
 use Rattle.rv32i.specs.declared.hart.Hart.{Hart}
 use Rattle.session.proofs.Reaching.{if_keeps}
 use Rattle.handlers.specs.Phases.{is_active_in}
 use Rattle.handlers.specs.declared.terms.Terms.{Terms}
 use Rattle.variables.specs.Numbers.{Numbers}
-use Rattle.variables.specs.Registers.{name_answer, number_of, unless_zero}
+use Rattle.variables.specs.Registers.{name_answer, unless_zero}
 use Rattle.variables.specs.Values.{value_of}
 use Rattle.variables.specs.declared.target.Target.{Target}
 use Rattle.variables.specs.declared.target.Target.TheVariants as target
@@ -95,29 +95,25 @@ record IsRegister (name : List ℕ) (r : ℕ) : Type 0 where
 is_less : (r : ℕ) → r < 0 + 32 → ltb r 32 ≡ true
 is_less r less = grind (arith, nat_tests, less)
 
-number_less : (name : List ℕ) (r : ℕ) → number_of name ≡ Some r → ltb r 32 ≡ true
-unfolding number_of
+number_less : (name : List ℕ) (r : ℕ) → number_named name ≡ Some r → ltb r 32 ≡ true
+unfolding number_named
 number_less name r e = is_less r (in_range 0 32 (λ number. bytes_eq (name_of number) name) r e)
-
-number_named : (name : List ℕ) → number_of name ≡ named name
-unfolding number_of named
-number_named name = refl
 
 which : (name : List ℕ) (r : ℕ) → name_answer name ≡ Ok r → IsRegister name r
 which name r e = by (bytes_eq name (codes "pc")) refl e where
-  of_number : (found : Option ℕ) → number_of name ≡ found → unless_zero found ≡ Ok r → (found ≡ Some r) × (eqb r 0 ≡ false)
+  of_number : (found : Option ℕ) → number_named name ≡ found → unless_zero found ≡ Ok r → (found ≡ Some r) × (eqb r 0 ≡ false)
   of_number None f e = absurd (cc)
   of_number (Some m) f e = go (eqb m 0) refl e where
     go : (b : Bool) → eqb m 0 ≡ b → cond b (Err NotWritable) (Ok m) ≡ Ok r → (Some m ≡ Some r) × (eqb r 0 ≡ false)
     go true z e = absurd (cc)
     go false z e = let same : m ≡ r = cc in (ap (λ k. Some k) same, subst (λ (k : ℕ). eqb k 0 ≡ false) same z)
 
-  by : (b : Bool) → bytes_eq name (codes "pc") ≡ b → cond b (Err NotWritable) (unless_zero (number_of name)) ≡ Ok r → IsRegister name r
+  by : (b : Bool) → bytes_eq name (codes "pc") ≡ b → cond b (Err NotWritable) (unless_zero (number_named name)) ≡ Ok r → IsRegister name r
   by true pc e = absurd (cc)
   by false pc e =
-      let n = of_number (number_of name) refl e in
+      let n = of_number (number_named name) refl e in
       record {
-        named = ap (λ b. cond b (Some 32) (named name)) pc ∙ sym (number_named name) ∙ n.0;
+        named = ap (λ b. cond b (Some 32) (number_named name)) pc ∙ n.0;
         less = number_less name r n.0;
         some = n.1;
       }

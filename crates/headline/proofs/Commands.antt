@@ -9,7 +9,7 @@ use Rattle.protocol.specs.declared.command.Command.{Command}
 use Rattle.protocol.specs.declared.refusal.Refusal.{Refusal}
 use Rattle.session.proofs.Orderly.{OrderlyIn}
 use Rattle.session.proofs.Serving.{Meets}
-use Rattle.session.proofs.Turning.{BoundsIn}
+use Rattle.session_laws.proofs.Turning.{BoundsIn}
 use Rattle.range_laws.specs.Requests.{GivesBytes}
 use Rattle.handlers.specs.Given.{Answering}
 use Rattle.session.specs.Acts.{Now, Tell, given_of}

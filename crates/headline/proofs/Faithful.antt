@@ -8,14 +8,14 @@ use Rattle.mirror.specs.Folding.{folded}
 use Rattle.replies.specs.declared.event.Event.{Event as Told}
 use Rattle.replies.specs.declared.message.Message.{Message}
 use Rattle.replies.specs.declared.message.Message.TheVariants.{Response as IsResponse, Event as IsEvent}
-use Rattle.session.proofs.ByForms.{on, on_with, saying}
+use Rattle.session_laws.proofs.ByForms.{on, on_with, saying, with_change}
 use Rattle.session.proofs.Reaching.{if_keeps, performed_append}
 use Rattle.handlers.specs.Given.{Answering}
-use Rattle.session.specs.Acts.{Act, Become, Tell, refers}
+use Rattle.session.specs.Acts.{Act, Become, Tell}
 use Rattle.session.specs.Arrivals.{number_of}
 use Rattle.session.specs.Effects.{performed}
 use Rattle.session.specs.Outcomes.{answering, closing}
-use Rattle.session.specs.References.{past_referred, referred}
+use Rattle.session.specs.References.{referred}
 use Rattle.session.specs.Refusals.{response_to}
 use Rattle.session.specs.Sessions.{Life, Session, histories, hung_on, replied_on, said_next, snapshot_of, with_said}
 use Rattle.session.specs.declared.link.Link.{Link}
@@ -130,10 +130,7 @@ pub answering_faithful : (l : Link) (p : Pending) (rest : List Pending) (s : Ses
     → (l.seq < s.now.limits.last_seq → AnswerLeads s.now (known s.life) (remembered s.life.heard (number_of p.ask)) a)
     → Was (on_with (Some l) (p ∷ rest) s) → Faithful (performed histories (answering a) (on_with (Some l) (p ∷ rest) s))
 answering_faithful l p rest s a owes lead h =
-    let t : Session = record s {
-      now = refers (record s.now { debuggee = a.debuggee }) a.references;
-      references = past_referred s.now.connections a.references s.references;
-    } in
+    let t : Session = with_change a s in
     let k : Link = record l { terms = a.terms } in
     let u = on_with (Some k) (p ∷ rest) t in
     let m : Message = IsResponse (response_to p.ask a.outcome) in

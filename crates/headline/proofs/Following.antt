@@ -5,7 +5,7 @@ use mathlib.Core.Path.{fun_ext}
 use Rattle.debuggee.specs.Programs.{Program, entered, is_running, moved, next_tick, told, why_marked}
 use Rattle.debuggee.specs.declared.run.Mark.{Mark}
 use Rattle.debuggee.specs.declared.run.Why.TheVariants as why
-use Rattle.session.proofs.Joined.{program_of}
+use Rattle.session_laws.proofs.Joined.{program_of}
 use Rattle.session.proofs.Reaching.{if_keeps, performed_append}
 use Rattle.session.specs.Acts.{Act, Now}
 use Rattle.session.specs.Effects.{after_beat, performed}

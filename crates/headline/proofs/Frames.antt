@@ -114,7 +114,8 @@ module _ (limit : ℕ) (narrow : limit < 2 ^ 32) where
 
           Rest : Type 0
           Rest =
-              (reading_of limit (take (count - length (frame a)) (flat_map frame xs))).bodies ≡ map text (within (count - length (frame a)) xs)
+              (reading_of limit (take (count - length (frame a)) (flat_map frame xs))).bodies ≡ map text
+              (within (count - length (frame a)) xs)
 
           by : Rest → (b : Bool) → nat_le (length (frame a)) count ≡ b → P b
           by r true e =

@@ -18,18 +18,17 @@ use Rattle.session.specs.declared.pending.Fate.{Fate}
 use Rattle.session.specs.declared.pending.Fate.TheVariants.{Waits, Repeated, Cancelled, NamesNone}
 use Rattle.session.specs.declared.pending.Pending.{Pending}
 use Rattle.handlers.specs.Given.{Answering}
-use Rattle.session.specs.Acts.{Now, Tell, read_on, refers}
+use Rattle.session.specs.Acts.{Now, Tell, read_on}
 use Rattle.session.specs.Arrivals.{Arrivals, all_joined, asks_of, cancelled_by, cancels, fate_of_cancel, is_above, is_named, is_repeat, joined, number_of, pending_with}
 use Rattle.session.specs.Effects.{performed}
 use Rattle.session.specs.Outcomes.{answering, closing}
 use Rattle.session.specs.Refusals.{answer_to, response_to}
-use Rattle.session.specs.References.{past_referred}
 use Rattle.session.specs.Sessions.{After, Beginning, Said, Session, histories, hung_on, no_life, performed_on, replied_on, said_next, said_on}
 use Rattle.handlers.specs.declared.terms.Terms.{Terms}
-use Rattle.session.proofs.ByForms.{on, on_with, saying}
+use Rattle.session_laws.proofs.ByForms.{on, on_with, saying, with_change}
 use Rattle.session.proofs.Reaching.{each_life, if_keeps, performed_append}
 use Rattle.session.proofs.Serving.{of_answer}
-use Rattle.session.proofs.Turning.{KeptByEvents, reached_by_events}
+use Rattle.session_laws.proofs.Turning.{KeptByEvents, reached_by_events}
 use Rattle.headline.specs.Known.{AllKnown, IsKnown, IsKnownBy, IsKnownIn, SuccessesAreKnown, first_asked}
 
 -- ---- more requests come
@@ -267,10 +266,7 @@ answering_keeps : (l : Link) (p : Pending) (rest : List Pending) (s : Session) (
     → IsKnownBy s.life.heard (number_of p.ask) (response_to p.ask a.outcome).command a.outcome
     → Knows (on_with (Some l) (p ∷ rest) s) → Knows (performed histories (answering a) (on_with (Some l) (p ∷ rest) s))
 answering_keeps l p rest s a known h =
-    let t : Session = record s {
-      now = refers (record s.now { debuggee = a.debuggee }) a.references;
-      references = past_referred s.now.connections a.references s.references;
-    } in
+    let t : Session = with_change a s in
     let replied = replied_on (p ∷ rest) a.outcome (on_with (Some (record l { terms = a.terms })) (p ∷ rest) t) in
     let after : Knows replied = replied_keeps (record l { terms = a.terms }) p rest a.outcome t known
     (record { before = h.before; present = h.present; asks = h.asks }) in

@@ -196,7 +196,8 @@ module _ (f : Facts) (p : Program) (numbers : Numbers) (terms : Terms) (taken : 
         (subst (λ (wanted : List Wanted). Agrees
         (record f {
           source = listed path
-              (filter_map verified_at (entries_of (source.judged true table view.line_base) (source.entry view.line_base) next asked)) f.source;
+              (filter_map verified_at
+              (entries_of (source.judged true table view.line_base) (source.entry view.line_base) next asked)) f.source;
         })
         (Some (with_source wanted p)) numbers terms)
         (let same : list_of (source.judged true table view.line_base) source.wanted next asked ≡ list = cc in same)

@@ -20,7 +20,7 @@ use Rattle.mirror.specs.declared.error.MirrorError.{MirrorError}
 use Rattle.protocol.specs.declared.request.MessageError.{MessageError}
 use Rattle.protocol.specs.declared.request.Request.{Request as ARequest}
 use Rattle.replies.specs.Messages.{IsNumber, IsProper, text_of}
-use Rattle.session.proofs.Proper.{answers_are_proper}
+use Rattle.session_laws.proofs.Proper.{answers_are_proper}
 use Rattle.session.proofs.Reaching.{if_keeps}
 use Rattle.session.specs.Sessions.{After, Beginning, Life, Said, bytes_of, frame_said, life_of}
 use Rattle.session.specs.Writing.{frame_of}

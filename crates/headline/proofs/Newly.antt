@@ -15,7 +15,7 @@ use Rattle.replies.specs.declared.event.Event.{Event}
 use Rattle.replies.specs.declared.event.Event.TheVariants as event
 use Rattle.replies.specs.declared.message.Message.{Message}
 use Rattle.replies.specs.declared.message.Message.TheVariants.{Event as IsEvent}
-use Rattle.session.proofs.ByForms.{on}
+use Rattle.session_laws.proofs.ByForms.{on}
 use Rattle.session.proofs.Reaching.{if_keeps}
 use Rattle.session.specs.Acts.{Act, Become, Now, Tell}
 use Rattle.session.specs.Effects.{performed}

@@ -4,7 +4,7 @@ use Rattle.std.specs.Prelude.{All, nat_le}
 use Rattle.std.proofs.lemmas.Bool.{and_parts}
 use Rattle.std.proofs.lemmas.Bool.Decides.{nat_tests}
 use Rattle.std.proofs.lemmas.List.Elements.{All-push, All-nil}
-use Rattle.session.proofs.ByForms.{KeptByAnswers, KeptByOthers, by_forms}
+use Rattle.session_laws.proofs.ByForms.{KeptByAnswers, KeptByOthers, by_forms}
 use Rattle.session.proofs.Reaching.{each_life, reached_by_acts}
 use Rattle.session.specs.Limits.{are_limits}
 use Rattle.session.specs.Sessions.{After, Beginning, Life, Said, Session, life_of, said_next}

@@ -12,19 +12,18 @@ use Rattle.replies.specs.declared.event.Event.{Event as Told}
 use Rattle.replies.specs.declared.event.Event.TheVariants as event
 use Rattle.replies.specs.declared.message.Message.{Message}
 use Rattle.replies.specs.declared.message.Message.TheVariants.{Response as IsResponse, Event as IsEvent}
-use Rattle.session.proofs.ByForms.{accepting, on, on_with}
+use Rattle.session_laws.proofs.ByForms.{accepting, on, on_with, with_change}
 use Rattle.session.proofs.Reaching.{each_life, if_keeps, performed_append, reached}
 use Rattle.session.proofs.Serving.{of_answer}
-use Rattle.session.proofs.Turning.{said_debuggee}
+use Rattle.session_laws.proofs.Turning.{said_debuggee}
 use Rattle.handlers.specs.Given.{Answering}
-use Rattle.session.specs.Acts.{Act, Become, Now, Seen, Tell, refers, given_of}
+use Rattle.session.specs.Acts.{Act, Become, Now, Seen, Tell, given_of}
 use Rattle.handlers.specs.ConfigurationDone.{run_events}
 use Rattle.handlers.specs.Demands.{run_of}
 use Rattle.session.specs.Effects.{beats, enough, next_by, performed}
-use Rattle.session.specs.Laws.{RunsAs}
+use Rattle.session_laws.specs.Laws.{RunsAs}
 use Rattle.session.specs.Outcomes.{Outcome, answering, answers_next, closing, next_turn, outcome_at, turn_by, turn_of}
 use Rattle.session.specs.Phases.{is_active}
-use Rattle.session.specs.References.{past_referred}
 use Rattle.session.specs.Refusals.{answer_to, response_to}
 use Rattle.session.specs.Sessions.{After, Beginning, Effect, Life, Said, Session, histories, hung_on, performed_on, said_next, said_on, waiting_of}
 use Rattle.session.specs.Slices.{Beat, beat, beat_by, beat_of, concludes, exits, goes, goes_unless, halts, is_runnable_by, moves_by, prints, telling, tells}
@@ -238,10 +237,7 @@ answering_prints : (l : Link) (p : Pending) (rest : List Pending) (s : Session) 
 answering_prints l p rest s a silent h =
     let m : Message = IsResponse (response_to p.ask a.outcome) in
     let t : Session = on_with (Some (record l { terms = a.terms })) (p ∷ rest)
-    (record s {
-      now = refers (record s.now { debuggee = a.debuggee }) a.references;
-      references = past_referred s.now.connections a.references s.references;
-    }) in
+    (with_change a s) in
     let replied : Session = said_on t.now.link m rest t in
     let after : Printed replied = says t.now.link m rest t tt (record { before = h.before; present = h.present }) in
     subst Printed (sym (performed_append (map Tell a.events) (closing a.closes) replied))

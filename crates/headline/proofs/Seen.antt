@@ -1,6 +1,6 @@
 -- There is to see at the end of an event what there was at each message that it queued.
 use Rattle.std.proofs.Common.{ℕ, List, Some, sym, ap, ◌∙◌}
-use Rattle.session.proofs.Joined.{at_end, program_of, histories_follow}
+use Rattle.session_laws.proofs.Joined.{at_end, program_of, histories_follow}
 use Rattle.session.proofs.Reaching.{reached}
 use Rattle.session.specs.Effects.{ended_as, enough}
 use Rattle.session.specs.Sessions.{After, Beginning, Effect, Session, histories}

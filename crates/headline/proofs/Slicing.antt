@@ -4,9 +4,9 @@ use Rattle.std.specs.Prelude.{not}
 use Rattle.debuggee.specs.Programs.{Debuggee, Program}
 use Rattle.debuggee.specs.declared.run.Mark.{Mark}
 use Rattle.replies.specs.declared.message.Message.TheVariants.{Event as IsEvent}
-use Rattle.session.proofs.Joined.{program_of}
+use Rattle.session_laws.proofs.Joined.{program_of}
 use Rattle.session.proofs.Reaching.{if_keeps}
-use Rattle.session.proofs.Turning.{said_debuggee}
+use Rattle.session_laws.proofs.Turning.{said_debuggee}
 use Rattle.session.specs.Acts.{Act, Become, Seen, Tell}
 use Rattle.session.specs.Effects.{Slicing, after_beat, beats, enough, from_here, next_by, performed, sliced}
 use Rattle.session.specs.Sessions.{Session, histories, performed_on}

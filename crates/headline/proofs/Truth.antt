@@ -5,12 +5,12 @@ use Rattle.debuggee.specs.Programs.{Debuggee, Program, left, marked, on_program,
 use Rattle.debuggee.specs.declared.run.Mark.TheVariants as mark
 use Rattle.facts.specs.Facts.{Facts, nothing_known}
 use Rattle.mirror.specs.declared.asked.Asked.{Asked}
-use Rattle.session.proofs.Asked.{IsRead}
-use Rattle.session.proofs.ByForms.{accepting, on, on_with}
+use Rattle.session_laws.proofs.Asked.{IsRead}
+use Rattle.session_laws.proofs.ByForms.{accepting, on, on_with}
 use Rattle.session.proofs.Orderly.{OrderlyIn}
 use Rattle.session.proofs.Reaching.{each_life, if_keeps, reached}
 use Rattle.session.proofs.Serving.{of_answer}
-use Rattle.session.proofs.Turning.{Both, BoundsIn, beat_keeps, begins_so, outcome_keeps}
+use Rattle.session_laws.proofs.Turning.{Both, BoundsIn, beat_keeps, begins_so, outcome_keeps}
 use Rattle.handlers.specs.Given.{Answering}
 use Rattle.session.specs.Acts.{Now, read_on, given_of}
 use Rattle.session.specs.Arrivals.{asks_of, number_of}

@@ -9,18 +9,17 @@ use Rattle.replies.specs.declared.event.Event.{Event as Told}
 use Rattle.replies.specs.declared.event.Event.TheVariants as event
 use Rattle.replies.specs.declared.message.Message.{Message}
 use Rattle.replies.specs.declared.message.Message.TheVariants.{Response as IsResponse}
-use Rattle.session.proofs.ByForms.{on, on_with}
-use Rattle.session.proofs.Joined.{program_of}
+use Rattle.session_laws.proofs.ByForms.{on, on_with, with_change}
+use Rattle.session_laws.proofs.Joined.{program_of}
 use Rattle.session.proofs.Reaching.{if_keeps, performed_append}
 use Rattle.session.proofs.Serving.{of_answer}
 use Rattle.handlers.specs.Given.{Answering}
-use Rattle.session.specs.Acts.{Now, refers, given_of}
+use Rattle.session.specs.Acts.{Now, given_of}
 use Rattle.handlers.specs.ConfigurationDone.{run_events}
 use Rattle.handlers.specs.Demands.{run_of}
 use Rattle.session.specs.Effects.{performed}
 use Rattle.session.specs.Outcomes.{Outcome, answering, answers_next, closing, done, next_turn, outcome_at, turn_by, turn_of}
 use Rattle.session.specs.Refusals.{answer_to, response_to}
-use Rattle.session.specs.References.{past_referred}
 use Rattle.session.specs.Sessions.{Effect, Session, histories, hung_on, replied_on}
 use Rattle.handlers.specs.Telling.{stop_event}
 use Rattle.session.specs.declared.event.Applied.TheVariants.{Turn as DidTurn}
@@ -107,10 +106,7 @@ closing_told false s t h = h
 module _ (l : Link) (p : Pending) (rest : List Pending) (s : Session) (a : Answering) (plain : All Plain a.events) where
   changed : Session
   changed =
-      record s {
-        now = refers (record s.now { debuggee = a.debuggee }) a.references;
-        references = past_referred s.now.connections a.references s.references;
-      }
+      with_change a s
 
   ready : Session
   ready = on_with (Some (record l { terms = a.terms })) (p ∷ rest) changed

@@ -8,7 +8,7 @@ use Rattle.answers.specs.Variables.{asked_of, body_by, of_kind, variables_in}
 use Rattle.debuggee.specs.Programs.{Program, is_running}
 use Rattle.facts.specs.Facts.{Facts}
 use Rattle.mirror.specs.Folding.{after_variable, after_variables, valued}
-use Rattle.mirror.specs.Requests.{named, register_of}
+use Rattle.mirror.specs.Requests.{register_of}
 use Rattle.mirror.specs.declared.asked.Asked.TheVariants as asks
 use Rattle.protocol.specs.declared.refusal.Refusal.{Refusal}
 use Rattle.protocol.specs.declared.filter.Filter.{Filter}
@@ -16,7 +16,7 @@ use Rattle.protocol.specs.declared.filter.Filter.TheVariants.{Indexed, Named}
 use Rattle.protocol.specs.declared.variables.VariablesArguments.{VariablesArguments}
 use Rattle.replies.specs.declared.response.ResponseBody.{ResponseBody}
 use Rattle.replies.specs.declared.variables.Variable.{Variable}
-use Rattle.rv32i.specs.Names.{name_of}
+use Rattle.rv32i.specs.Names.{name_of, number_named}
 use Rattle.rv32i.specs.declared.hart.Hart.{Hart}
 use Rattle.handlers.specs.Phases.{is_active_in}
 use Rattle.handlers.specs.declared.terms.Terms.{Terms}
@@ -98,7 +98,7 @@ all_numbers [] = true
 all_numbers (n ∷ ns) = is_number (register_of (name_of n)) n && all_numbers ns
 
 they_are : all_numbers register_numbers ≡ true
-unfolding all_numbers is_number named
+unfolding all_numbers is_number number_named
 they_are = refl
 
 both : (a b : Bool) → (a && b) ≡ true → (a ≡ true) × (b ≡ true)
@@ -143,7 +143,7 @@ registers_true hart =
     (counter_true hart)
 
 no_register : (rest : List ℕ) → register_of (codes "sp+" ++ rest) ≡ None
-unfolding named
+unfolding number_named
 no_register rest = refl
 
 word_true : (hart : Hart) (memory : List ℕ) (sp offset : ℕ) → IsTrueOf hart (word memory sp offset)

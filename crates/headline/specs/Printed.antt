@@ -7,7 +7,7 @@ use Rattle.debuggee.specs.Programs.{Debuggee, is_running}
 use Rattle.replies.specs.declared.event.Event.TheVariants as event
 use Rattle.replies.specs.declared.message.Message.{Message}
 use Rattle.replies.specs.declared.message.Message.TheVariants.{Response as IsResponse, Event as IsEvent}
-use Rattle.session.specs.Laws.{RunsAs}
+use Rattle.session_laws.specs.Laws.{RunsAs}
 use Rattle.session.specs.Sessions.{Session, Said, life_of}
 
 -- a message that tells what was printed is of a program that runs

@@ -11,7 +11,8 @@ pub record FoundAt {X : Type 0} (p : X → Bool) (xs : List X) (x : X) : Type 0 
   pub passes : p x ≡ true
   pub before : (j : ℕ) (d : X) → j < index → p (get_or xs j d) ≡ false
 
-before_suc : {X : Type 0} (p : X → Bool) (y : X) (ys : List X) (k : ℕ) → p y ≡ false → ((j : ℕ) (d : X) → j < k → p (get_or ys j d) ≡ false) → (j : ℕ) (d : X) → j < suc k → p (get_or (y ∷ ys) j d) ≡ false
+before_suc : {X : Type 0} (p : X → Bool) (y : X) (ys : List X) (k : ℕ) → p y ≡ false → ((j : ℕ) (d : X) → j < k → p (get_or ys j d) ≡ false)
+    → (j : ℕ) (d : X) → j < suc k → p (get_or (y ∷ ys) j d) ≡ false
 before_suc p y ys k fails before zero d h = fails
 before_suc p y ys k fails before (suc j) d h = before j d (omega arith)
 
@@ -26,7 +27,13 @@ found_at {X} p (y ∷ ys) x e =
       | false ↦ λ t e.
           let f = found_at p ys x e in
           let within : f.index < length ys = f.within in
-          record { index = suc f.index; within = omega arith; there = f.there; passes = f.passes; before = before_suc p y ys f.index t f.before }
+          record {
+            index = suc f.index;
+            within = omega arith;
+            there = f.there;
+            passes = f.passes;
+            before = before_suc p y ys f.index t f.before;
+          }
     ] in
     go refl e
 
@@ -40,21 +47,24 @@ all_fail {X} p (y ∷ ys) e j d h =
     ] in
     go refl e
 
-pub first_at : {X : Type 0} (p : X → Bool) (xs : List X) (k : ℕ) (d : X) → k < length xs → p (get_or xs k d) ≡ true → ((j : ℕ) → j < k → p (get_or xs j d) ≡ false) → find p xs ≡ Some (get_or xs k d)
+pub first_at : {X : Type 0} (p : X → Bool) (xs : List X) (k : ℕ) (d : X) → k < length xs → p (get_or xs k d) ≡ true
+    → ((j : ℕ) → j < k → p (get_or xs j d) ≡ false) → find p xs ≡ Some (get_or xs k d)
 first_at p [] k d within passes before = absurd (omega arith)
 first_at p (x ∷ xs) zero d within passes before = rw passes refl
 first_at p (x ∷ xs) (suc k) d within passes before =
     let fails : p x ≡ false = before 0 (omega arith) in
     rw fails (first_at p xs k d (omega arith) passes (λ j h. before (suc j) (omega arith)))
 
-pub none_found : {X : Type 0} (p : X → Bool) (xs : List X) → ((j : ℕ) (d : X) → j < length xs → p (get_or xs j d) ≡ false) → find p xs ≡ None
+pub none_found : {X : Type 0} (p : X → Bool) (xs : List X) → ((j : ℕ) (d : X) → j < length xs → p (get_or xs j d) ≡ false)
+    → find p xs ≡ None
 none_found p [] fail = refl
 none_found p (x ∷ xs) fail =
     let fails : p x ≡ false = fail 0 x (omega arith) in
     rw fails (none_found p xs (λ j d h. fail (suc j) d (omega arith)))
 
 -- where all before an index fail and none from there on does, the search finds what stands there
-pub found_from_point : {X : Type 0} (p q : X → Bool) (xs : List X) (k : ℕ) → ((x : X) → q x ≡ not (p x)) → k ≤ length xs → AllWithin (λ y. p y ≡ true) xs 0 k → AllWithin (λ y. p y ≡ false) xs k (length xs) → find q xs ≡ slice_get xs k
+pub found_from_point : {X : Type 0} (p q : X → Bool) (xs : List X) (k : ℕ) → ((x : X) → q x ≡ not (p x)) → k ≤ length xs
+    → AllWithin (λ y. p y ≡ true) xs 0 k → AllWithin (λ y. p y ≡ false) xs k (length xs) → find q xs ≡ slice_get xs k
 found_from_point p q [] k other bound low high = refl
 found_from_point p q (x ∷ xs) zero other bound low high =
     let fails : p x ≡ false = high 0 x (omega arith) (omega arith) in
@@ -63,4 +73,5 @@ found_from_point p q (x ∷ xs) zero other bound low high =
 found_from_point p q (x ∷ xs) (suc k) other bound low high =
     let holds : p x ≡ true = low 0 x (omega arith) (omega arith) in
     let fails : q x ≡ false = other x ∙ ap not holds in
-    rw fails (found_from_point p q xs k other (omega arith) (λ j d l h. low (suc j) d (omega arith) (omega arith)) (λ j d l h. high (suc j) d (omega arith) (omega arith)))
+    rw fails (found_from_point p q xs k other (omega arith) (λ j d l h. low (suc j) d (omega arith) (omega arith))
+    (λ j d l h. high (suc j) d (omega arith) (omega arith)))

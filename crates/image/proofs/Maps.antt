@@ -43,16 +43,21 @@ inside memory address count k h below =
     let both : (leb first_address address && leb (address + count) (first_address + length memory)) ≡ true = (rw none at h) in
     record { low = grind (arith, nat_tests); high = grind (arith, nat_tests) }
 
-at_or_above : (memory : List ℕ) (address : ℕ) → first_address ≤ address → byte_at memory address ≡ slice_get memory (address - first_address)
+at_or_above : (memory : List ℕ) (address : ℕ) → first_address ≤ address
+    → byte_at memory address ≡ slice_get memory (address - first_address)
 at_or_above memory address h = let e : ltb address first_address ≡ false = grind (arith, nat_tests) in rw e refl
 
-pub reads_bytes : (memory : List ℕ) (address count k : ℕ) → has_bytes memory address count ≡ true → k < count → slice_get (bytes_at memory address count) k ≡ byte_at memory (address + k)
+pub reads_bytes : (memory : List ℕ) (address count k : ℕ) → has_bytes memory address count ≡ true → k < count
+    → slice_get (bytes_at memory address count) k ≡ byte_at memory (address + k)
 reads_bytes memory address count k h below =
     let i = inside memory address count k h below in
     let low : first_address ≤ address = i.low in
-    get_take (drop (address - first_address) memory) count k below ∙ get_drop memory (address - first_address) k (address + k - first_address) (omega arith) ∙ sym (at_or_above memory (address + k) (omega arith))
+    get_take (drop (address - first_address) memory) count k below
+    ∙ get_drop memory (address - first_address) k (address + k - first_address) (omega arith)
+    ∙ sym (at_or_above memory (address + k) (omega arith))
 
-pub writes_bytes : (memory : List ℕ) (address k : ℕ) (bytes : List ℕ) → has_bytes memory address (length bytes) ≡ true → k < length bytes → byte_at (with_bytes memory address bytes) (address + k) ≡ slice_get bytes k
+pub writes_bytes : (memory : List ℕ) (address k : ℕ) (bytes : List ℕ) → has_bytes memory address (length bytes) ≡ true → k < length bytes
+    → byte_at (with_bytes memory address bytes) (address + k) ≡ slice_get bytes k
 writes_bytes memory address k bytes h below =
     let i = inside memory address (length bytes) k h below in
     let low : first_address ≤ address = i.low in
@@ -67,23 +72,31 @@ writes_bytes memory address k bytes h below =
 below_first : (memory : List ℕ) (address : ℕ) → address < first_address → byte_at memory address ≡ None
 below_first memory address h = let e : ltb address first_address ≡ true = grind (arith, nat_tests) in rw e refl
 
-pub same : (memory other : List ℕ) (address : ℕ) → (first_address ≤ address → slice_get other (address - first_address) ≡ slice_get memory (address - first_address)) → byte_at other address ≡ byte_at memory address
+pub same : (memory other : List ℕ) (address : ℕ)
+    → (first_address ≤ address → slice_get other (address - first_address) ≡ slice_get memory (address - first_address))
+    → byte_at other address ≡ byte_at memory address
 same memory other address h =
-    let P : Bool → Type 0 = λ t. ltb address first_address ≡ t → cond t None (slice_get other (address - first_address)) ≡ cond t None (slice_get memory (address - first_address)) in
-    let go : P (ltb address first_address) = elim (ltb address first_address) as P [ true ↦ λ t. refl | false ↦ λ t. h (grind (arith, nat_tests)) ] in
+    let P : Bool → Type 0 = λ t. ltb address first_address ≡ t
+    → cond t None (slice_get other (address - first_address)) ≡ cond t None (slice_get memory (address - first_address)) in
+    let go : P (ltb address first_address) = elim
+    (ltb address first_address) as P [ true ↦ λ t. refl | false ↦ λ t. h (grind (arith, nat_tests)) ] in
     go refl
 
-put_below : (m : List ℕ) (a k : ℕ) (bytes : List ℕ) → a ≤ length m → k < a → slice_get (take a m ++ bytes ++ drop (a + length bytes) m) k ≡ slice_get m k
+put_below : (m : List ℕ) (a k : ℕ) (bytes : List ℕ) → a ≤ length m → k < a
+    → slice_get (take a m ++ bytes ++ drop (a + length bytes) m) k ≡ slice_get m k
 put_below m a k bytes h below =
     let t : length (take a m) ≡ a = taken m a h in
     let joined : length (take a m ++ bytes) ≡ length (take a m) + length bytes = length-append (take a m) bytes in
-    get_first (take a m ++ bytes) (drop (a + length bytes) m) k (omega arith) ∙ get_first (take a m) bytes k (omega arith) ∙ get_take m a k below
+    get_first (take a m ++ bytes) (drop (a + length bytes) m) k (omega arith) ∙ get_first (take a m) bytes k (omega arith)
+    ∙ get_take m a k below
 
-put_above : (m : List ℕ) (a k : ℕ) (bytes : List ℕ) → a ≤ length m → a + length bytes ≤ k → slice_get (take a m ++ bytes ++ drop (a + length bytes) m) k ≡ slice_get m k
+put_above : (m : List ℕ) (a k : ℕ) (bytes : List ℕ) → a ≤ length m → a + length bytes ≤ k
+    → slice_get (take a m ++ bytes ++ drop (a + length bytes) m) k ≡ slice_get m k
 put_above m a k bytes h above =
     let t : length (take a m) ≡ a = taken m a h in
     let joined : length (take a m ++ bytes) ≡ length (take a m) + length bytes = length-append (take a m) bytes in
-    get_later (take a m ++ bytes) (drop (a + length bytes) m) (k - (a + length bytes)) k (omega arith) ∙ get_drop m (a + length bytes) (k - (a + length bytes)) k (omega arith)
+    get_later (take a m ++ bytes) (drop (a + length bytes) m) (k - (a + length bytes)) k (omega arith)
+    ∙ get_drop m (a + length bytes) (k - (a + length bytes)) k (omega arith)
 
 put_rest : (m : List ℕ) (a k : ℕ) → slice_get (take a m ++ [] ++ drop a m) k ≡ slice_get m k
 put_rest m zero k = refl
@@ -95,20 +108,26 @@ put_none : (m : List ℕ) (a k : ℕ) → slice_get (take a m ++ [] ++ drop (a +
 put_none m a k = let e : a + 0 ≡ a = omega arith in rw e (put_rest m a k)
 
 -- with no byte to write nothing changes, and else the address lies in memory
-pub keeps_below : (memory : List ℕ) (address other : ℕ) (bytes : List ℕ) → has_bytes memory address (length bytes) ≡ true → other < address → byte_at (with_bytes memory address bytes) other ≡ byte_at memory other
-keeps_below memory address other [] h below = same memory (with_bytes memory address []) other (λ low. put_none memory (address - first_address) (other - first_address))
+pub keeps_below : (memory : List ℕ) (address other : ℕ) (bytes : List ℕ) → has_bytes memory address (length bytes) ≡ true → other < address
+    → byte_at (with_bytes memory address bytes) other ≡ byte_at memory other
+keeps_below memory address other [] h below =
+    same memory (with_bytes memory address []) other (λ low. put_none memory (address - first_address) (other - first_address))
 keeps_below memory address other (b ∷ bytes) h below =
     let i = inside memory address (length (b ∷ bytes)) 0 h (omega arith) in
     let high : address + length (b ∷ bytes) ≤ first_address + length memory = i.high in
-    same memory (with_bytes memory address (b ∷ bytes)) other (λ low. put_below memory (address - first_address) (other - first_address) (b ∷ bytes) (omega arith) (omega arith))
+    same memory (with_bytes memory address (b ∷ bytes)) other
+    (λ low. put_below memory (address - first_address) (other - first_address) (b ∷ bytes) (omega arith) (omega arith))
 
-pub keeps_above : (memory : List ℕ) (address other : ℕ) (bytes : List ℕ) → has_bytes memory address (length bytes) ≡ true → address + length bytes ≤ other → byte_at (with_bytes memory address bytes) other ≡ byte_at memory other
-keeps_above memory address other [] h above = same memory (with_bytes memory address []) other (λ low. put_none memory (address - first_address) (other - first_address))
+pub keeps_above : (memory : List ℕ) (address other : ℕ) (bytes : List ℕ) → has_bytes memory address (length bytes) ≡ true
+    → address + length bytes ≤ other → byte_at (with_bytes memory address bytes) other ≡ byte_at memory other
+keeps_above memory address other [] h above =
+    same memory (with_bytes memory address []) other (λ low. put_none memory (address - first_address) (other - first_address))
 keeps_above memory address other (b ∷ bytes) h above =
     let i = inside memory address (length (b ∷ bytes)) 0 h (omega arith) in
     let low : first_address ≤ address = i.low in
     let high : address + length (b ∷ bytes) ≤ first_address + length memory = i.high in
-    same memory (with_bytes memory address (b ∷ bytes)) other (λ l. put_above memory (address - first_address) (other - first_address) (b ∷ bytes) (omega arith) (omega arith))
+    same memory (with_bytes memory address (b ∷ bytes)) other
+    (λ l. put_above memory (address - first_address) (other - first_address) (b ∷ bytes) (omega arith) (omega arith))
 
 -- which elements a list has
 element : (m : List ℕ) (k : ℕ) → is_some (slice_get m k) ≡ true → k < length m
@@ -127,9 +146,11 @@ copy_at value (suc size) zero h = refl
 copy_at value (suc size) (suc k) h = copy_at value size k (omega arith)
 
 -- an address that has a byte, and where it lies
-lies : (memory : List ℕ) (address : ℕ) → is_some (byte_at memory address) ≡ true → (first_address ≤ address) × (address < first_address + length memory)
+lies : (memory : List ℕ) (address : ℕ) → is_some (byte_at memory address) ≡ true
+    → (first_address ≤ address) × (address < first_address + length memory)
 lies memory address h =
-    let P : Bool → Type 0 = λ t. ltb address first_address ≡ t → is_some (cond t None (slice_get memory (address - first_address))) ≡ true → (first_address ≤ address) × (address < first_address + length memory) in
+    let P : Bool → Type 0 = λ t. ltb address first_address ≡ t → is_some (cond t None (slice_get memory (address - first_address))) ≡ true
+    → (first_address ≤ address) × (address < first_address + length memory) in
     let go : P (ltb address first_address) = elim (ltb address first_address) as P [
       | true ↦ λ t s. absurd (cc)
       | false ↦ λ t s.
@@ -138,20 +159,24 @@ lies memory address h =
           (low, omega (arith, e, low))
     ] in go refl h
 
-has_one : (memory : List ℕ) (address : ℕ) → first_address ≤ address → address < first_address + length memory → is_some (byte_at memory address) ≡ true
-has_one memory address low high = ap is_some (at_or_above memory address low) ∙ has_element memory (address - first_address) (omega (arith, low, high))
+has_one : (memory : List ℕ) (address : ℕ) → first_address ≤ address → address < first_address + length memory
+    → is_some (byte_at memory address) ≡ true
+has_one memory address low high =
+    ap is_some (at_or_above memory address low) ∙ has_element memory (address - first_address) (omega (arith, low, high))
 
 pub bytes_lie : BytesLieFromFirst
 bytes_lie memory address = (λ h. lies memory address h, λ (low, high). has_one memory address low high)
 
-each_has : (memory : List ℕ) (address count : ℕ) → has_bytes memory address count ≡ true → (k : ℕ) → k < count → is_some (byte_at memory (address + k)) ≡ true
+each_has : (memory : List ℕ) (address count : ℕ) → has_bytes memory address count ≡ true → (k : ℕ) → k < count
+    → is_some (byte_at memory (address + k)) ≡ true
 each_has memory address count h k below =
     let i = inside memory address count k h below in
     let low : first_address ≤ address = i.low in
     let high : address + count ≤ first_address + length memory = i.high in
     has_one memory (address + k) (omega arith) (omega arith)
 
-has_each : (memory : List ℕ) (address count : ℕ) → ((k : ℕ) → k < count → is_some (byte_at memory (address + k)) ≡ true) → has_bytes memory address count ≡ true
+has_each : (memory : List ℕ) (address count : ℕ) → ((k : ℕ) → k < count → is_some (byte_at memory (address + k)) ≡ true)
+    → has_bytes memory address count ≡ true
 has_each memory address zero h = refl
 has_each memory address (suc count) h =
     let first = lies memory (address + 0) (h 0 (omega arith)) in
@@ -167,4 +192,5 @@ pub bytes_are_there : EachHasByte
 bytes_are_there memory address count = (each_has memory address count, has_each memory address count)
 
 pub zeros_are_there : NewIsZero
-zeros_are_there size address low high = at_or_above (replicate size 0) address low ∙ copy_at 0 size (address - first_address) (omega (arith, low, high))
+zeros_are_there size address low high =
+    at_or_above (replicate size 0) address low ∙ copy_at 0 size (address - first_address) (omega (arith, low, high))

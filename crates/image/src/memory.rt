@@ -66,7 +66,7 @@ impl Memory {
         Ok(Memory { bytes })
     }
 
-    /// The same bytes. It fails where no memory is left.
+    /// A memory with these bytes. It fails where no memory is left.
     pub fn copied(&self, alloc: Global) -> Result<Memory, AllocError>
         ensures { IfOk result (λ copy. copy ≡ self.now) }
     {

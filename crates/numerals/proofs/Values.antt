@@ -12,10 +12,12 @@ pub value_more : (radix n : ℕ) (ds : List ℕ) → 0 < radix → n ≤ digits_
 value_more radix n [] h = omega arith
 value_more radix n (c ∷ ds) h =
     let one : n ≤ n * radix = le-mul_of_pos_right n h in
-    let rest : n * radix + digit_value c ≤ digits_value_after radix (n * radix + digit_value c) ds = value_more radix (n * radix + digit_value c) ds h in
+    let rest : n * radix + digit_value c ≤ digits_value_after radix (n * radix + digit_value c) ds = value_more radix
+    (n * radix + digit_value c) ds h in
     omega (arith, one, rest)
 
-pub value_past : (radix n i : ℕ) (ds : List ℕ) → 0 < radix → i < length ds → n * radix + digit_value (slice_index_or ds i 0) ≤ digits_value_after radix n (drop i ds)
+pub value_past : (radix n i : ℕ) (ds : List ℕ) → 0 < radix → i < length ds
+    → n * radix + digit_value (slice_index_or ds i 0) ≤ digits_value_after radix n (drop i ds)
 value_past radix n i [] h l = absurd (omega arith)
 value_past radix n zero (c ∷ ds) h l = value_more radix (n * radix + digit_value c) ds h
 value_past radix n (suc i) (c ∷ ds) h l = value_past radix n i ds h (omega arith)

@@ -44,14 +44,16 @@ numeral-ok text n h =
     let (full, digits) = both (not (length text == 0)) (list_all (λ c. is_digit c 10) text) passed in
     ((grind (arith, nat_tests, full), all_digits text digits), value)
   where
-    ways : (test fits : Bool) → cond test (cond fits (Ok (digits_value 10 text)) (Err TooLarge)) (Err Malformed) ≡ Ok n → (test ≡ true) × (digits_value 10 text ≡ n)
+    ways : (test fits : Bool) → cond test (cond fits (Ok (digits_value 10 text)) (Err TooLarge)) (Err Malformed) ≡ Ok n
+        → (test ≡ true) × (digits_value 10 text ≡ n)
     ways true true e = (refl, cc e)
     ways true false e = absurd (cc e)
     ways false fits e = absurd (cc e)
 
 -- the test says which numbers may be asked for
 pub is_offered-true : (kib : ℕ) → is_offered kib ≡ true → IsOffered kib
-is_offered-true kib passed = record { least = grind (arith, nat_tests); greatest = grind (arith, nat_tests); whole = grind (arith, nat_tests) }
+is_offered-true kib passed =
+    record { least = grind (arith, nat_tests); greatest = grind (arith, nat_tests); whole = grind (arith, nat_tests) }
 
 is_offered-false : (kib : ℕ) → is_offered kib ≡ false → ¬ IsOffered kib
 is_offered-false kib failed fits =

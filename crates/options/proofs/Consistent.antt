@@ -57,7 +57,8 @@ served (Some listen) program once (Some kib) fits options e = same _ options e (
   default = λ command. absurd (cc command);
 })
 
-run : (mode : Mode) (file : Option Text) → is_command mode ≡ true → (options : Options) → running mode file ≡ Ok options → IsConsistent options
+run : (mode : Mode) (file : Option Text) → is_command mode ≡ true → (options : Options) → running mode file ≡ Ok options
+    → IsConsistent options
 run mode None command options e = absurd (cc e)
 run Serve (Some file) command options e = absurd (cc command)
 run Asm (Some file) command options e = same _ options e (record {
@@ -77,23 +78,29 @@ run Watch (Some file) command options e = same _ options e (record {
   default = λ is. refl;
 })
 
-by_name : (is_asm : Bool) (file script : Option Text) (options : Options) → cond is_asm (running Asm file) (running Watch script) ≡ Ok options → IsConsistent options
+by_name : (is_asm : Bool) (file script : Option Text) (options : Options)
+    → cond is_asm (running Asm file) (running Watch script) ≡ Ok options → IsConsistent options
 by_name true file script options e = run Asm file refl options e
 by_name false file script options e = run Watch script refl options e
 
-by_command : (beside : Bool) (name : Text) (rows : List Row) (options : Options) (refusal : Kinds) → cond beside (Err refusal) (commanded name rows) ≡ Ok options → IsConsistent options
+by_command : (beside : Bool) (name : Text) (rows : List Row) (options : Options) (refusal : Kinds)
+    → cond beside (Err refusal) (commanded name rows) ≡ Ok options → IsConsistent options
 by_command true name rows options refusal e = absurd (cc e)
-by_command false name rows options refusal e = by_name (bytes_eq name (codes "asm")) (first_of (codes "FILE") rows) (first_of (codes "SCRIPT") rows) options e
+by_command false name rows options refusal e =
+    by_name (bytes_eq name (codes "asm")) (first_of (codes "FILE") rows) (first_of (codes "SCRIPT") rows) options e
 
-found : (rows : List Row) (command : Option (Text × List Row)) (options : Options) → asked_of rows command ≡ Ok options → IsConsistent options
+found : (rows : List Row) (command : Option (Text × List Row)) (options : Options) → asked_of rows command ≡ Ok options
+    → IsConsistent options
 found rows None options e = served (first_of (codes "listen") rows) (first_of (codes "program") rows) (is_set (codes "once") rows)
     (kib_for (first_of (codes "memory") rows)) (kib_for-some (first_of (codes "memory") rows)) options e
 found rows (Some command) options e = by_command (has_option rows) command.0 command.1 options _ e
 
-taken : (kinds : Kinds) (rows : List Row) (command : Option (Text × List Row)) (options : Options) → unless_refused kinds (asked_of rows command) ≡ Ok options → IsConsistent options
+taken : (kinds : Kinds) (rows : List Row) (command : Option (Text × List Row)) (options : Options)
+    → unless_refused kinds (asked_of rows command) ≡ Ok options → IsConsistent options
 taken [] rows command options e = found rows command options e
 taken (k ∷ ks) rows command options e = absurd (cc e)
 
 pub consistent : (words : List Text) (options : Options) → asked words ≡ Ok options → IsConsistent options
 unfolding asked
-consistent words options e = taken (fault_of command_line words) (matches_of command_line words) (subcommand_of command_line words) options e
+consistent words options e =
+    taken (fault_of command_line words) (matches_of command_line words) (subcommand_of command_line words) options e

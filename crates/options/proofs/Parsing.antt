@@ -12,7 +12,8 @@ use Rattle.options.specs.declared.asked.Options.{Options}
 use Rattle.options.specs.declared.fault.Fault.{Fault}
 
 -- clap says exactly which words it refuses
-pub fails : (app : App) (words : List Text) (r : Result ArgMatches Error) → app ≡ command_line → (is_simple_and_free app ≡ true → FailsBy (fault_of app words) r)
+pub fails : (app : App) (words : List Text) (r : Result ArgMatches Error) → app ≡ command_line
+    → (is_simple_and_free app ≡ true → FailsBy (fault_of app words) r)
     → FailsBy (fault_of command_line words) r
 fails app words r e h = subst (λ (a : App). FailsBy (fault_of a words) r) e (h (ap is_simple_and_free e ∙ is_exact))
 
@@ -36,24 +37,29 @@ among (k ∷ ks) found error (inr h) = inr (k ∷ ks, refl, h)
 
 -- what clap refuses is refused
 pub refused : (app : App) (words : List Text) (error : Error) (r : Result Options Error) → app ≡ command_line
-    → (is_simple_and_free app ≡ true → FailsBy {T = ArgMatches} (fault_of app words) (Err error)) → IsErrAnd r (λ e. e ≡ error) → Tells r (asked words)
+    → (is_simple_and_free app ≡ true → FailsBy {T = ArgMatches} (fault_of app words) (Err error)) → IsErrAnd r (λ e. e ≡ error)
+    → Tells r (asked words)
 unfolding asked
 refused app words error (Ok options) e h is = absurd is
-refused app words error (Err same) e h is = subst (λ (x : Error). Tells (Err x) (asked words)) (sym is) (own (fails app words (Err error) e h)) where
-  own : HasKind (fault_of command_line words) error → Tells (Err error) (asked words)
-  own kinds = among (fault_of command_line words) _ error kinds
+refused app words error (Err same) e h is =
+    subst (λ (x : Error). Tells (Err x) (asked words)) (sym is) (own (fails app words (Err error) e h)) where
+      own : HasKind (fault_of command_line words) error → Tells (Err error) (asked words)
+      own kinds = among (fault_of command_line words) _ error kinds
 
 -- what it takes is looked at by the rules
-pub taken : (app : App) (words : List Text) (m : ArgMatches) → app ≡ command_line → (is_simple_and_free app ≡ true → FailsBy (fault_of app words) (Ok m)) → HasMatchesOf app words m
+pub taken : (app : App) (words : List Text) (m : ArgMatches) → app ≡ command_line
+    → (is_simple_and_free app ≡ true → FailsBy (fault_of app words) (Ok m)) → HasMatchesOf app words m
     → asked words ≡ asked_of (rows_of (found_of m)) (subcommand_rows_of m)
 unfolding asked
 taken app words m e h has =
     let none = fails app words (Ok m) e h in
     let (rows, subcommand) = matches app words m e has in
-    ap (λ (ks : Kinds). unless_refused ks (asked_of (matches_of command_line words) (subcommand_of command_line words))) none ∙ ap₂ asked_of (sym rows) (sym subcommand)
+    ap (λ (ks : Kinds). unless_refused ks (asked_of (matches_of command_line words) (subcommand_of command_line words))) none
+    ∙ ap₂ asked_of (sym rows) (sym subcommand)
 
 -- a rule that is broken is reported
-pub broken : (words : List Text) (found : Result Options Kinds) (fault : Fault) (error : Error) → asked words ≡ found → Finds (Err fault) found
+pub broken : (words : List Text) (found : Result Options Kinds) (fault : Fault) (error : Error) → asked words ≡ found
+    → Finds (Err fault) found
     → (kind_of error ≡ kind.OutOfMemory) ⊎ (kind_of error ≡ kind_of_fault fault) → Tells (Err error) (asked words)
 broken words found fault error e finds (inl h) = inl h
 broken words found fault error e (inl none) (inr h) = inl (h ∙ none)

@@ -30,8 +30,8 @@ pub fn options(alloc: Global, words: &[String]) -> Result<Options, Usage>
     }
 }
 
-/// The same, with the error that says why there are no options, in clap's form: what the program prints,
-/// help and the version too. Its kind is `OutOfMemory` where no memory was left.
+/// The options that these words ask for, or why there are none, in clap's form: what the program prints,
+/// help and the version too. The kind of such an error is `OutOfMemory` where no memory was left.
 pub fn try_options(alloc: Global, words: &[String]) -> Result<Options, Error>
     ensures answers { Tells result (asked (map string_bytes words.now)) }
     ensures consistent { IfOk result IsConsistent }

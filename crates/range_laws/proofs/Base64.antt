@@ -27,7 +27,8 @@ IsTable dec = (x : ℕ) → (slice_index dec x ≡ 255) ⊎ IsSix (slice_index d
 
 standard_table : IsTable standard.decode_table
 standard_table x = elim (cases_lt x 256) [
-  | inl below ↦ IsDecodeTable_from standard.encode_table standard.decode_table (are_tables_inverse standard.encode_table standard.decode_table standard.padding.value standard.tables) x below
+  | inl below ↦ IsDecodeTable_from standard.encode_table standard.decode_table
+      (are_tables_inverse standard.encode_table standard.decode_table standard.padding.value standard.tables) x below
   | inr past ↦
       let none : slice_index standard.decode_table x ≡ 0 = get_or_past standard.decode_table x 0 past in
       inr (subst IsSix (sym none) (lit< tt))
@@ -56,23 +57,27 @@ neither (Some e) later h = cc
 
 symbol_six : (dec s : List ℕ) (i : ℕ) → IsTable dec → symbol_error dec s i ≡ None → IsSix (slice_index dec (slice_index s i))
 symbol_six dec s i table = by (eqb (slice_index dec (slice_index s i)) 255) refl where
-  by : (b : Bool) → eqb (slice_index dec (slice_index s i)) 255 ≡ b → cond b (Some (InvalidByte i (slice_index s i))) None ≡ None → IsSix (slice_index dec (slice_index s i))
+  by : (b : Bool) → eqb (slice_index dec (slice_index s i)) 255 ≡ b → cond b (Some (InvalidByte i (slice_index s i))) None ≡ None
+      → IsSix (slice_index dec (slice_index s i))
   by true e h = cc
   by false e h = six dec (slice_index s i) table e
 
 group_bytes_in_range : (dec s : List ℕ) (i : ℕ) → IsTable dec → group_error dec s i ≡ None → AreBytes (group_bytes dec s i)
 group_bytes_in_range dec s i table h =
-    let a = neither (symbol_error dec s i) (or_else (symbol_error dec s (i + 1)) (or_else (symbol_error dec s (i + 2)) (symbol_error dec s (i + 3)))) h in
+    let a = neither (symbol_error dec s i)
+    (or_else (symbol_error dec s (i + 1)) (or_else (symbol_error dec s (i + 2)) (symbol_error dec s (i + 3)))) h in
     let b = neither (symbol_error dec s (i + 1)) (or_else (symbol_error dec s (i + 2)) (symbol_error dec s (i + 3))) a.1 in
     let c = neither (symbol_error dec s (i + 2)) (symbol_error dec s (i + 3)) b.1 in
-    group_in_range _ _ _ _ (symbol_six dec s i table a.0) (symbol_six dec s (i + 1) table b.0) (symbol_six dec s (i + 2) table c.0) (symbol_six dec s (i + 3) table c.1)
+    group_in_range _ _ _ _ (symbol_six dec s i table a.0) (symbol_six dec s (i + 1) table b.0) (symbol_six dec s (i + 2) table c.0)
+    (symbol_six dec s (i + 3) table c.1)
 
 groups_in_range : (dec s : List ℕ) (q : ℕ) → IsTable dec → groups_error dec s q ≡ None → AreBytes (groups_bytes dec s q)
 unfolding groups_bytes groups_error
 groups_in_range dec s zero table h = All-nil IsByte
 groups_in_range dec s (suc q) table h =
     let both = neither (groups_error dec s q) (group_error dec s (4 * q)) h in
-    All-append IsByte (groups_bytes dec s q) (group_bytes dec s (4 * q)) (groups_in_range dec s q table both.0) (group_bytes_in_range dec s (4 * q) table both.1)
+    All-append IsByte (groups_bytes dec s q) (group_bytes dec s (4 * q)) (groups_in_range dec s q table both.0)
+    (group_bytes_in_range dec s (4 * q) table both.1)
 
 -- ---- the last group
 
@@ -110,11 +115,13 @@ push_sixes dec pad at st i b table h = by_pad (eqb b pad) (ltb i 2) (ltb 0 st.pa
   by_pad false early false true e = tt
   by_pad false early false false e = All-set IsSix st.morsels st.morsels_count (slice_index dec b) (six dec b table e) h
 
-scan_sixes : (dec : List ℕ) (pad at : ℕ) (r : Result Leftover DecodeError) (i : ℕ) (bytes : List ℕ) → IsTable dec → IfSixes r → IfSixes (scan_steps dec pad at r i bytes)
+scan_sixes : (dec : List ℕ) (pad at : ℕ) (r : Result Leftover DecodeError) (i : ℕ) (bytes : List ℕ) → IsTable dec → IfSixes r
+    → IfSixes (scan_steps dec pad at r i bytes)
 unfolding scan_steps
 scan_sixes dec pad at (Err e) i bytes table h = tt
 scan_sixes dec pad at (Ok st) i [] table h = h
-scan_sixes dec pad at (Ok st) i (b ∷ bytes) table h = scan_sixes dec pad at (push_leftover dec pad at st i b) (i + 1) bytes table (push_sixes dec pad at st i b table h)
+scan_sixes dec pad at (Ok st) i (b ∷ bytes) table h =
+    scan_sixes dec pad at (push_leftover dec pad at st i b) (i + 1) bytes table (push_sixes dec pad at st i b table h)
 
 morsel_six : (morsels : List ℕ) (i : ℕ) → All IsSix morsels → IsSix (slice_index morsels i)
 morsel_six morsels i h = elim (cases_lt i (length morsels)) [
@@ -125,28 +132,36 @@ morsel_six morsels i h = elim (cases_lt i (length morsels)) [
 leftover_in_range : (r : Result Leftover DecodeError) → IfSixes r → AreBytes (scan_bytes r)
 leftover_in_range (Err e) h = All-nil IsByte
 leftover_in_range (Ok st) h =
-    let group = group_in_range _ _ _ _ (morsel_six st.morsels 0 h) (morsel_six st.morsels 1 h) (morsel_six st.morsels 2 h) (morsel_six st.morsels 3 h) in
+    let group = group_in_range _ _ _ _ (morsel_six st.morsels 0 h) (morsel_six st.morsels 1 h) (morsel_six st.morsels 2 h)
+    (morsel_six st.morsels 3 h) in
     All-take IsByte (st.morsels_count * 6 / 8) _ group
 
 no_sixes : HasSixes no_leftover
-no_sixes = All-cons IsSix 0 (0 ∷ 0 ∷ 0 ∷ []) (lit< tt) (All-cons IsSix 0 (0 ∷ 0 ∷ []) (lit< tt) (All-cons IsSix 0 (0 ∷ []) (lit< tt) (All-cons IsSix 0 [] (lit< tt) (All-nil IsSix))))
+no_sixes =
+    All-cons IsSix 0 (0 ∷ 0 ∷ 0 ∷ []) (lit< tt)
+    (All-cons IsSix 0 (0 ∷ 0 ∷ []) (lit< tt) (All-cons IsSix 0 (0 ∷ []) (lit< tt) (All-cons IsSix 0 [] (lit< tt) (All-nil IsSix))))
 
 suffix_in_range : (dec s : List ℕ) (pad at : ℕ) → IsTable dec → AreBytes (suffix_bytes dec pad at s)
 suffix_in_range dec s pad at table = leftover_in_range (scan_last dec pad at s) (scan_sixes dec pad at (Ok no_leftover) 0 _ table no_sixes)
 
 -- ---- a text
 
-outcome_in_range : (error : Option DecodeError) (bytes : List ℕ) → (error ≡ None → AreBytes bytes) → IfSome (result_ok (decode_outcome error bytes)) AreBytes
+outcome_in_range : (error : Option DecodeError) (bytes : List ℕ) → (error ≡ None → AreBytes bytes)
+    → IfSome (result_ok (decode_outcome error bytes)) AreBytes
 outcome_in_range None bytes h = h refl
 outcome_in_range (Some e) bytes h = tt
 
-text_in_range : (dec s : List ℕ) (pad : ℕ) (allow : Bool) (mode : DecodePaddingMode) → IsTable dec → decode_error dec pad allow mode s ≡ None → AreBytes (decoded_bytes dec pad s)
+text_in_range : (dec s : List ℕ) (pad : ℕ) (allow : Bool) (mode : DecodePaddingMode) → IsTable dec
+    → decode_error dec pad allow mode s ≡ None → AreBytes (decoded_bytes dec pad s)
 text_in_range dec s pad allow mode table h =
     let q = groups_before_last (length s) in
     let first = neither (lone_error dec pad s) (or_else (groups_error dec s q) (suffix_error dec pad allow mode (4 * q) s)) h in
     let groups = neither (groups_error dec s q) (suffix_error dec pad allow mode (4 * q) s) first.1 in
-    All-append IsByte (groups_bytes dec s q) (suffix_bytes dec pad (4 * q) s) (groups_in_range dec s q table groups.0) (suffix_in_range dec s pad (4 * q) table)
+    All-append IsByte (groups_bytes dec s q) (suffix_bytes dec pad (4 * q) s) (groups_in_range dec s q table groups.0)
+    (suffix_in_range dec s pad (4 * q) table)
 
 pub decoded_in_range : (text : List ℕ) → IfSome (decoded_of standard text) AreBytes
 unfolding decoded_of
-decoded_in_range text = outcome_in_range _ _ (text_in_range standard.decode_table text standard.padding.value standard.config.decode_allow_trailing_bits standard.config.decode_padding_mode standard_table)
+decoded_in_range text =
+    outcome_in_range _ _
+    (text_in_range standard.decode_table text standard.padding.value standard.config.decode_allow_trailing_bits standard.config.decode_padding_mode standard_table)

@@ -63,7 +63,8 @@ marked_calls kept [] p h = h
 marked_calls kept (Push pc ∷ marks) p h = marked_calls (with_mark kept (Push pc)) marks p.1 (pushed_calls pc kept.calls p.0 h)
 marked_calls kept (Pop ∷ marks) p h = marked_calls (with_mark kept Pop) marks p (popped_calls kept.calls h)
 
-noted_calls : (kept : Kept) (instr : Option Instr) (pc : ℕ) → IsWord pc → CallsInRange kept.calls → CallsInRange (noted_if kept instr pc).calls
+noted_calls : (kept : Kept) (instr : Option Instr) (pc : ℕ) → IsWord pc → CallsInRange kept.calls
+    → CallsInRange (noted_if kept instr pc).calls
 noted_calls kept None pc w h = h
 noted_calls kept (Some instr) pc w h = marked_calls kept (marks_at instr pc) (placed instr pc w) h
 
@@ -81,17 +82,23 @@ settled_rest Break instr pc d w h = record { calls = noted_calls d.calls instr p
 settled_rest (Exit code) instr pc d w h = record { calls = h.calls; end = h.end }
 settled_rest (Trap cause) instr pc d w h = record { calls = h.calls; end = h.end }
 
-answer_in : (s : Result Stepped AllocError) (before after : Debugged) (instr : Option Instr) (answer : Result Tick AllocError) → Settles before instr s answer after → InRange (machine_of after.hart after.memory) → DebuggedInRange before → DebuggedInRange after
+answer_in : (s : Result Stepped AllocError) (before after : Debugged) (instr : Option Instr) (answer : Result Tick AllocError)
+    → Settles before instr s answer after → InRange (machine_of after.hart after.memory) → DebuggedInRange before → DebuggedInRange after
 answer_in (Ok s) before after instr answer e m h =
-    let rest : RestInRange after = subst RestInRange (sym e.1) (settled_rest s instr before.hart.pc (moved_as before after) h.machine.pc (record { calls = h.calls; end = h.end })) in
+    let rest : RestInRange after = subst RestInRange (sym e.1)
+    (settled_rest s instr before.hart.pc (moved_as before after) h.machine.pc (record { calls = h.calls; end = h.end })) in
     record { machine = m; calls = rest.calls; end = rest.end }
 answer_in (Err error) before after instr answer e m h = subst DebuggedInRange (sym e.1) h
 
 pub ticks_stay_in_range : TicksStayInRange
 ticks_stay_in_range before after answer t h = go before.check_due t where
-  go : (due : Bool) → MatchBool due ((answer ≡ Ok (entry_tick before)) × (after ≡ entry_checked before)) (Moves before answer after) → DebuggedInRange after
+  go : (due : Bool) → MatchBool due ((answer ≡ Ok (entry_tick before)) × (after ≡ entry_checked before)) (Moves before answer after)
+      → DebuggedInRange after
   go true e = subst DebuggedInRange (sym e.1) (record { machine = h.machine; calls = h.calls; end = h.end })
-  go false m = answer_in m.stepped before after m.instr answer m.settles (moves_stay_in_range (machine_of before.hart before.memory) (record { answer = m.stepped; machine = machine_of after.hart after.memory }) m.moved h.machine) h
+  go false m =
+      answer_in m.stepped before after m.instr answer m.settles
+      (moves_stay_in_range (machine_of before.hart before.memory)
+      (record { answer = m.stepped; machine = machine_of after.hart after.memory }) m.moved h.machine) h
 
 -- ---- loading
 
@@ -111,7 +118,8 @@ reloaded_is_in_range image d h k = loaded_is_in_range image d.size (not_hit d.li
 
 -- ---- writing
 
-written_by : (fault : Option MemFault) (after before : List ℕ) → AreBytes after → AreBytes before → AreBytes (memory_after fault after before)
+written_by : (fault : Option MemFault) (after before : List ℕ) → AreBytes after → AreBytes before
+    → AreBytes (memory_after fault after before)
 written_by None after before h k = h
 written_by (Some fault) after before h k = k
 
@@ -120,7 +128,9 @@ writes_stay_in_range d address bytes w h = record {
   machine = record {
     pc = h.machine.pc;
     x = h.machine.x;
-    memory = written_by (fault_at d.memory 1 address (length bytes)) (with_bytes d.memory address bytes) d.memory (bytes_in_range d.memory address bytes h.machine.memory w) h.machine.memory;
+    memory =
+        written_by (fault_at d.memory 1 address (length bytes)) (with_bytes d.memory address bytes) d.memory
+        (bytes_in_range d.memory address bytes h.machine.memory w) h.machine.memory;
   };
   calls = h.calls;
   end = h.end;

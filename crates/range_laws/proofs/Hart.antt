@@ -59,7 +59,8 @@ loads_in (Some Misaligned) rd v m w h = h
 loads_in (Some Outside) rd v m w h = h
 loads_in (Some NoMemory) rd v m w h = h
 
-stores_in : (fault : Option MemFault) (bytes : List ℕ) (address : ℕ) (m : Machine) → AreBytes bytes → InRange m → StaysIn (stores_unless fault bytes address m)
+stores_in : (fault : Option MemFault) (bytes : List ℕ) (address : ℕ) (m : Machine) → AreBytes bytes → InRange m
+    → StaysIn (stores_unless fault bytes address m)
 stores_in None bytes address m w h = record { pc = sum_word m.pc 4; x = h.x; memory = bytes_in_range m.memory address bytes h.memory w }
 stores_in (Some Misaligned) bytes address m w h = h
 stores_in (Some Outside) bytes address m w h = h
@@ -91,40 +92,71 @@ in_of : (i : Instr) (m : Machine) (word : ℕ) → Encodes i word → InRange m 
 in_of (Lui rd imm) m word t h = gives_in rd imm m (upper_immediate 55 rd imm word t) h
 in_of (Auipc rd imm) m word t h = sums_in rd m.pc imm m h
 in_of (Jal rd offset) m word t h = jumps_in (sum m.pc offset) m (linked rd m) (sum_word m.pc offset) h (linked_in rd m h)
-in_of (Jalr rd rs1 imm) m word t h = jumps_in (sum (value rs1 m) imm / 2 * 2) m (linked rd m) (to_even (sum (value rs1 m) imm) (sum_word (value rs1 m) imm)) h (linked_in rd m h)
+in_of (Jalr rd rs1 imm) m word t h =
+    jumps_in (sum (value rs1 m) imm / 2 * 2) m (linked rd m) (to_even (sum (value rs1 m) imm) (sum_word (value rs1 m) imm)) h
+    (linked_in rd m h)
 in_of (Beq rs1 rs2 offset) m word t h = branches_in _ offset m h
 in_of (Bne rs1 rs2 offset) m word t h = branches_in _ offset m h
 in_of (Blt rs1 rs2 offset) m word t h = branches_in _ offset m h
 in_of (Bge rs1 rs2 offset) m word t h = branches_in _ offset m h
 in_of (Bltu rs1 rs2 offset) m word t h = branches_in _ offset m h
 in_of (Bgeu rs1 rs2 offset) m word t h = branches_in _ offset m h
-in_of (Lb rd rs1 imm) m word t h = let a = sum (value rs1 m) imm in loads_in (fault_at m.memory 1 a 1) rd (byte_extended (little_endian (bytes_at m.memory a 1))) m (byte_extended_word (little_endian (bytes_at m.memory a 1)) (byte_read m.memory a h.memory)) h
-in_of (Lh rd rs1 imm) m word t h = let a = sum (value rs1 m) imm in loads_in (fault_at m.memory 2 a 2) rd (halfword_extended (little_endian (bytes_at m.memory a 2))) m (halfword_extended_word (little_endian (bytes_at m.memory a 2)) (halfword_read m.memory a h.memory)) h
-in_of (Lw rd rs1 imm) m word t h = let a = sum (value rs1 m) imm in loads_in (fault_at m.memory 4 a 4) rd (little_endian (bytes_at m.memory a 4)) m (word_read m.memory a h.memory) h
-in_of (Lbu rd rs1 imm) m word t h = let a = sum (value rs1 m) imm in loads_in (fault_at m.memory 1 a 1) rd (little_endian (bytes_at m.memory a 1)) m (let b = byte_read m.memory a h.memory in omega (arith, b)) h
-in_of (Lhu rd rs1 imm) m word t h = let a = sum (value rs1 m) imm in loads_in (fault_at m.memory 2 a 2) rd (little_endian (bytes_at m.memory a 2)) m (let b = halfword_read m.memory a h.memory in omega (arith, b)) h
-in_of (Sb rs1 rs2 imm) m word t h = let a = sum (value rs1 m) imm in stores_in (fault_at m.memory 1 a 1) (value rs2 m % 256 ∷ []) a m (one_byte (value rs2 m)) h
-in_of (Sh rs1 rs2 imm) m word t h = let a = sum (value rs1 m) imm in stores_in (fault_at m.memory 2 a 2) (halfword_bytes (value rs2 m)) a m (halfword_in_range (value rs2 m)) h
-in_of (Sw rs1 rs2 imm) m word t h = let a = sum (value rs1 m) imm in stores_in (fault_at m.memory 4 a 4) (word_bytes (value rs2 m)) a m (word_in_range (value rs2 m)) h
+in_of (Lb rd rs1 imm) m word t h =
+    let a = sum (value rs1 m) imm in
+    loads_in (fault_at m.memory 1 a 1) rd (byte_extended (little_endian (bytes_at m.memory a 1))) m
+    (byte_extended_word (little_endian (bytes_at m.memory a 1)) (byte_read m.memory a h.memory)) h
+in_of (Lh rd rs1 imm) m word t h =
+    let a = sum (value rs1 m) imm in
+    loads_in (fault_at m.memory 2 a 2) rd (halfword_extended (little_endian (bytes_at m.memory a 2))) m
+    (halfword_extended_word (little_endian (bytes_at m.memory a 2)) (halfword_read m.memory a h.memory)) h
+in_of (Lw rd rs1 imm) m word t h =
+    let a = sum (value rs1 m) imm in
+    loads_in (fault_at m.memory 4 a 4) rd (little_endian (bytes_at m.memory a 4)) m (word_read m.memory a h.memory) h
+in_of (Lbu rd rs1 imm) m word t h =
+    let a = sum (value rs1 m) imm in
+    loads_in (fault_at m.memory 1 a 1) rd (little_endian (bytes_at m.memory a 1)) m
+    (let b = byte_read m.memory a h.memory in omega (arith, b)) h
+in_of (Lhu rd rs1 imm) m word t h =
+    let a = sum (value rs1 m) imm in
+    loads_in (fault_at m.memory 2 a 2) rd (little_endian (bytes_at m.memory a 2)) m
+    (let b = halfword_read m.memory a h.memory in omega (arith, b)) h
+in_of (Sb rs1 rs2 imm) m word t h =
+    let a = sum (value rs1 m) imm in stores_in (fault_at m.memory 1 a 1) (value rs2 m % 256 ∷ []) a m (one_byte (value rs2 m)) h
+in_of (Sh rs1 rs2 imm) m word t h =
+    let a = sum (value rs1 m) imm in
+    stores_in (fault_at m.memory 2 a 2) (halfword_bytes (value rs2 m)) a m (halfword_in_range (value rs2 m)) h
+in_of (Sw rs1 rs2 imm) m word t h =
+    let a = sum (value rs1 m) imm in stores_in (fault_at m.memory 4 a 4) (word_bytes (value rs2 m)) a m (word_in_range (value rs2 m)) h
 in_of (Addi rd rs1 imm) m word t h = sums_in rd (value rs1 m) imm m h
 in_of (Slti rd rs1 imm) m word t h = flags_in rd _ m h
 in_of (Sltiu rd rs1 imm) m word t h = flags_in rd _ m h
-in_of (Xori rd rs1 imm) m word t h = gives_in rd (bit_xor (value rs1 m) imm) m (xor_word (value rs1 m) imm (value_word rs1 m h) (immediate 19 4 rd rs1 imm word t)) h
-in_of (Ori rd rs1 imm) m word t h = gives_in rd (bit_or (value rs1 m) imm) m (or_word (value rs1 m) imm (value_word rs1 m h) (immediate 19 6 rd rs1 imm word t)) h
-in_of (Andi rd rs1 imm) m word t h = gives_in rd (bit_and (value rs1 m) imm) m (and_word (value rs1 m) imm (value_word rs1 m h) (immediate 19 7 rd rs1 imm word t)) h
+in_of (Xori rd rs1 imm) m word t h =
+    gives_in rd (bit_xor (value rs1 m) imm) m (xor_word (value rs1 m) imm (value_word rs1 m h) (immediate 19 4 rd rs1 imm word t)) h
+in_of (Ori rd rs1 imm) m word t h =
+    gives_in rd (bit_or (value rs1 m) imm) m (or_word (value rs1 m) imm (value_word rs1 m h) (immediate 19 6 rd rs1 imm word t)) h
+in_of (Andi rd rs1 imm) m word t h =
+    gives_in rd (bit_and (value rs1 m) imm) m (and_word (value rs1 m) imm (value_word rs1 m h) (immediate 19 7 rd rs1 imm word t)) h
 in_of (Slli rd rs1 shamt) m word t h = gives_in rd (shifted_left (value rs1 m) shamt) m (left_word (value rs1 m) shamt) h
-in_of (Srli rd rs1 shamt) m word t h = gives_in rd (shifted_right (value rs1 m) shamt) m (right_word (value rs1 m) shamt (value_word rs1 m h)) h
+in_of (Srli rd rs1 shamt) m word t h =
+    gives_in rd (shifted_right (value rs1 m) shamt) m (right_word (value rs1 m) shamt (value_word rs1 m h)) h
 in_of (Srai rd rs1 shamt) m word t h = gives_in rd (shifted_right_signed (value rs1 m) shamt) m (right_signed_word (value rs1 m) shamt) h
 in_of (Add rd rs1 rs2) m word t h = sums_in rd (value rs1 m) (value rs2 m) m h
 in_of (Sub rd rs1 rs2) m word t h = gives_in rd (difference (value rs1 m) (value rs2 m)) m (difference_word (value rs1 m) (value rs2 m)) h
-in_of (Sll rd rs1 rs2) m word t h = gives_in rd (shifted_left (value rs1 m) (places (value rs2 m))) m (left_word (value rs1 m) (places (value rs2 m))) h
+in_of (Sll rd rs1 rs2) m word t h =
+    gives_in rd (shifted_left (value rs1 m) (places (value rs2 m))) m (left_word (value rs1 m) (places (value rs2 m))) h
 in_of (Slt rd rs1 rs2) m word t h = flags_in rd _ m h
 in_of (Sltu rd rs1 rs2) m word t h = flags_in rd _ m h
-in_of (Xor rd rs1 rs2) m word t h = gives_in rd (bit_xor (value rs1 m) (value rs2 m)) m (xor_word (value rs1 m) (value rs2 m) (value_word rs1 m h) (value_word rs2 m h)) h
-in_of (Srl rd rs1 rs2) m word t h = gives_in rd (shifted_right (value rs1 m) (places (value rs2 m))) m (right_word (value rs1 m) (places (value rs2 m)) (value_word rs1 m h)) h
-in_of (Sra rd rs1 rs2) m word t h = gives_in rd (shifted_right_signed (value rs1 m) (places (value rs2 m))) m (right_signed_word (value rs1 m) (places (value rs2 m))) h
-in_of (Or rd rs1 rs2) m word t h = gives_in rd (bit_or (value rs1 m) (value rs2 m)) m (or_word (value rs1 m) (value rs2 m) (value_word rs1 m h) (value_word rs2 m h)) h
-in_of (And rd rs1 rs2) m word t h = gives_in rd (bit_and (value rs1 m) (value rs2 m)) m (and_word (value rs1 m) (value rs2 m) (value_word rs1 m h) (value_word rs2 m h)) h
+in_of (Xor rd rs1 rs2) m word t h =
+    gives_in rd (bit_xor (value rs1 m) (value rs2 m)) m (xor_word (value rs1 m) (value rs2 m) (value_word rs1 m h) (value_word rs2 m h)) h
+in_of (Srl rd rs1 rs2) m word t h =
+    gives_in rd (shifted_right (value rs1 m) (places (value rs2 m))) m
+    (right_word (value rs1 m) (places (value rs2 m)) (value_word rs1 m h)) h
+in_of (Sra rd rs1 rs2) m word t h =
+    gives_in rd (shifted_right_signed (value rs1 m) (places (value rs2 m))) m (right_signed_word (value rs1 m) (places (value rs2 m))) h
+in_of (Or rd rs1 rs2) m word t h =
+    gives_in rd (bit_or (value rs1 m) (value rs2 m)) m (or_word (value rs1 m) (value rs2 m) (value_word rs1 m h) (value_word rs2 m h)) h
+in_of (And rd rs1 rs2) m word t h =
+    gives_in rd (bit_and (value rs1 m) (value rs2 m)) m (and_word (value rs1 m) (value rs2 m) (value_word rs1 m h) (value_word rs2 m h)) h
 in_of (Fence fm before after rd rs1) m word t h = next_in m h
 in_of Ecall m word t h = calls_in m h
 in_of Ebreak m word t h = next_in m h
@@ -136,10 +168,13 @@ moves_stay_in_range m e h r = go (word_at m.memory m.pc) h where
   of_effect : (effect : Effect) → e ≡ effect → StaysIn effect → StaysIn e
   of_effect effect same c = subst StaysIn (sym same) c
 
-  by_decoding : (word : ℕ) (decoded : Option Instr) → IsDecoding word decoded → ((i : Instr) → Encodes i word → e ≡ effect_of i m) × (IsIllegal word → e ≡ trapped Illegal m) → StaysIn e
+  by_decoding : (word : ℕ) (decoded : Option Instr) → IsDecoding word decoded
+      → ((i : Instr) → Encodes i word → e ≡ effect_of i m) × (IsIllegal word → e ≡ trapped Illegal m) → StaysIn e
   by_decoding word (Some i) d h = of_effect (effect_of i m) (h.0 i d) (in_of i m word d r)
   by_decoding word None d h = of_effect (trapped Illegal m) (h.1 d) r
 
-  go : (w : Result ℕ MemFault) → MatchResult w (λ word. ((i : Instr) → Encodes i word → e ≡ effect_of i m) × (IsIllegal word → e ≡ trapped Illegal m)) (λ f. e ≡ fetch_fault f m) → StaysIn e
+  go : (w : Result ℕ MemFault)
+      → MatchResult w (λ word. ((i : Instr) → Encodes i word → e ≡ effect_of i m) × (IsIllegal word → e ≡ trapped Illegal m)) (λ f. e ≡ fetch_fault f m)
+      → StaysIn e
   go (Ok word) h = let d = the_decoding word in by_decoding word d.instr d.is h
   go (Err f) h = of_effect (fetch_fault f m) h (fetch_in f m r)

@@ -34,16 +34,19 @@ use Rattle.range_laws.proofs.Words.{word_in_range}
 
 code_in_range : (list : List Instr) → AreBytes (code_bytes list)
 code_in_range [] = All-nil IsByte
-code_in_range (instruction ∷ others) = All-append IsByte (word_bytes (word_of instruction)) (code_bytes others) (word_in_range (word_of instruction)) (code_in_range others)
+code_in_range (instruction ∷ others) =
+    All-append IsByte (word_bytes (word_of instruction)) (code_bytes others) (word_in_range (word_of instruction)) (code_in_range others)
 
 zeros_in_range : (count : ℕ) → AreBytes (replicate count 0)
 zeros_in_range count = All-replicate IsByte count 0 (lit< tt)
 
-then_in_range : (value : Result ℕ AsmErrorKind) (next : ℕ → Result (List ℕ) AsmErrorKind) → ((n : ℕ) → IfOk (next n) AreBytes) → IfOk (and_then value next) AreBytes
+then_in_range : (value : Result ℕ AsmErrorKind) (next : ℕ → Result (List ℕ) AsmErrorKind) → ((n : ℕ) → IfOk (next n) AreBytes)
+    → IfOk (and_then value next) AreBytes
 then_in_range (Ok n) next h = h n
 then_in_range (Err kind) next h = tt
 
-more_in_range : (bytes : List ℕ) (more : Result (List ℕ) AsmErrorKind) → AreBytes bytes → IfOk more AreBytes → IfOk (with_more bytes more) AreBytes
+more_in_range : (bytes : List ℕ) (more : Result (List ℕ) AsmErrorKind) → AreBytes bytes → IfOk more AreBytes
+    → IfOk (with_more bytes more) AreBytes
 more_in_range bytes (Ok more) h k = All-append IsByte bytes more h k
 more_in_range bytes (Err kind) h k = tt
 
@@ -51,7 +54,8 @@ items_in_range : (labels : List Label) (width : Width) (items : List Item) → I
 items_in_range labels width [] = All-nil IsByte
 items_in_range labels width (item ∷ items) =
     then_in_range (value_of labels item) (λ n. with_more (item_bytes width n) (items_bytes labels width items))
-    (λ n. more_in_range (item_bytes width n) (items_bytes labels width items) (All-take IsByte (bytes_in width) (word_bytes n) (word_in_range n)) (items_in_range labels width items))
+    (λ n. more_in_range (item_bytes width n) (items_bytes labels width items)
+    (All-take IsByte (bytes_in width) (word_bytes n) (word_in_range n)) (items_in_range labels width items))
 
 abbrev PartInRange : Contained → Type 0
 PartInRange c = AreBytes (part_of c)
@@ -106,7 +110,8 @@ names_placed : (address : ℕ) (names : List (List ℕ)) → IsWord address → 
 names_placed address [] w = All-nil IsPlaced
 names_placed address (name ∷ names) w = All-cons IsPlaced (name, address) (map (λ n. (n, address)) names) w (names_placed address names w)
 
-labels_placed : (limit : ℕ) (before : List Label) (list : List Place) → limit < 2 ^ 32 → place_error limit before list ≡ None → All IsPlaced (labels_in list)
+labels_placed : (limit : ℕ) (before : List Label) (list : List Place) → limit < 2 ^ 32 → place_error limit before list ≡ None
+    → All IsPlaced (labels_in list)
 labels_placed limit before [] few h = All-nil IsPlaced
 labels_placed limit before (place ∷ others) few h =
     let right = parted place.source.number (misplaced limit before place) (place_error limit (before ++ labels_at place) others) h in
@@ -117,10 +122,11 @@ labels_placed limit before (place ∷ others) few h =
 
 named_placed : (labels : List Label) (text : List ℕ) → All IsPlaced labels → IfSome (named labels text) IsWord
 named_placed [] text h = tt
-named_placed ((name, address) ∷ labels) text h = by (bytes_eq text name) (named_placed labels text (All-tail IsPlaced (name, address) labels h)) where
-  by : (b : Bool) → IfSome (named labels text) IsWord → IfSome (cond b (Some address) (named labels text)) IsWord
-  by true rest = All-head IsPlaced (name, address) labels h
-  by false rest = rest
+named_placed ((name, address) ∷ labels) text h =
+    by (bytes_eq text name) (named_placed labels text (All-tail IsPlaced (name, address) labels h)) where
+      by : (b : Bool) → IfSome (named labels text) IsWord → IfSome (cond b (Some address) (named labels text)) IsWord
+      by true rest = All-head IsPlaced (name, address) labels h
+      by false rest = rest
 
 first_placed : (rows : List Row) → All IsNarrowRow rows → IfSome (first_start rows) IsWord
 first_placed [] h = tt
@@ -137,21 +143,26 @@ no_error : (first later : Option AsmError) → first_of first later ≡ None →
 no_error None later h = refl
 no_error (Some e) later h = cc
 
-placed_in_range : (limit : ℕ) (list : List Place) → limit < 2 ^ 32 → place_error limit [] list ≡ None → All IsNarrowRow (rows_in list) → ImageInRange (image_of list)
+placed_in_range : (limit : ℕ) (list : List Place) → limit < 2 ^ 32 → place_error limit [] list ≡ None → All IsNarrowRow (rows_in list)
+    → ImageInRange (image_of list)
 placed_in_range limit list few fine rows =
     let labels = labels_placed limit [] list few fine in
     record {
-      entry = entry_word (named (labels_in list) start) (first_start (rows_in list)) (named_placed (labels_in list) start labels) (first_placed (rows_in list) rows);
+      entry =
+          entry_word (named (labels_in list) start) (first_start (rows_in list)) (named_placed (labels_in list) start labels)
+          (first_placed (rows_in list) rows);
       bytes = parts_in_range (labels_in list) list;
     }
 
 pub assembled_is_in_range : AssembledIsInRange
 unfolding assembled
 assembled_is_in_range text size h =
-    (elim (read_text text) as (λ result. All IsNarrowRow (image_by result).lines.rows → error_by size result ≡ None → ImageInRange (image_by result)) [
+    (elim (read_text text) as
+    (λ result. All IsNarrowRow (image_by result).lines.rows → error_by size result ≡ None → ImageInRange (image_by result)) [
       | Ok program ↦ λ rows none.
           let limit : memory_end size < 2 ^ 32 = omega arith in
-          let fine = no_error (place_error (memory_end size) [] (placed program)) (content_error (labels_in (placed program)) (placed program)) none in
+          let fine = no_error (place_error (memory_end size) [] (placed program))
+          (content_error (labels_in (placed program)) (placed program)) none in
           placed_in_range (memory_end size) (placed program) limit fine rows
       | Err error ↦ λ rows none. absurd (let no : Some error ≡ None = none in cc)
     ]) (assembled_is_narrow text size h) h

@@ -31,7 +31,8 @@ pub ended_in_range : (code : Option ℤ) → KeepsInRange (ended code)
 ended_in_range code p h = record { image = h.image; machine = h.machine }
 
 -- neither the goal of a run nor breakpoints are numbers of the machine
-begun_in_range : (goal : Goal) (start : ℕ) (check_due : Bool) (d : Debugged) → DebuggedInRange d → DebuggedInRange (record d { goal = goal; start = start; check_due = check_due })
+begun_in_range : (goal : Goal) (start : ℕ) (check_due : Bool) (d : Debugged) → DebuggedInRange d
+    → DebuggedInRange (record d { goal = goal; start = start; check_due = check_due })
 begun_in_range goal start check_due d h = record { machine = h.machine; calls = h.calls; end = h.end }
 
 pub lists_in_range : (lists : Lists) (d : Debugged) → DebuggedInRange d → DebuggedInRange (record d { lists = lists })
@@ -67,18 +68,22 @@ runs_stay_in_range = record {
 -- ---- its moves
 
 pub entered_in_range : KeepsInRange entered
-entered_in_range p h = record { image = h.image; machine = record { machine = h.machine.machine; calls = h.machine.calls; end = h.machine.end } }
+entered_in_range p h =
+    record { image = h.image; machine = record { machine = h.machine.machine; calls = h.machine.calls; end = h.machine.end } }
 
 pub moved_in_range : KeepsInRange moved
-moved_in_range p h = let t = the_tick p.machine in record { image = h.image; machine = ticks_stay_in_range p.machine t.after (Ok t.tick) t.is h.machine }
+moved_in_range p h =
+    let t = the_tick p.machine in record { image = h.image; machine = ticks_stay_in_range p.machine t.after (Ok t.tick) t.is h.machine }
 
 pub quietly_in_range : (n : ℕ) (p q : Program) → GoesQuietly n p q → ProgramInRange p → ProgramInRange q
 quietly_in_range zero p q e h = subst ProgramInRange (sym e) h
-quietly_in_range (suc n) p q (middle, (goes, (plain, e))) h = subst ProgramInRange (sym e) (moved_in_range middle (quietly_in_range n p middle goes h))
+quietly_in_range (suc n) p q (middle, (goes, (plain, e))) h =
+    subst ProgramInRange (sym e) (moved_in_range middle (quietly_in_range n p middle goes h))
 
 pub advances_in_range : (most : ℕ) (p q : Program) (advanced : Advanced) → Advances most p advanced q → ProgramInRange p → ProgramInRange q
 advances_in_range most p q Spent goes h = quietly_in_range most p q goes h
-advances_in_range most p q (Owes n) (middle, k, (counts, (few, (goes, (stays, (tells, e)))))) h = subst ProgramInRange (sym e) (moved_in_range middle (quietly_in_range k p middle goes h))
+advances_in_range most p q (Owes n) (middle, k, (counts, (few, (goes, (stays, (tells, e)))))) h =
+    subst ProgramInRange (sym e) (moved_in_range middle (quietly_in_range k p middle goes h))
 advances_in_range most p q (Meets n tick) (few, (goes, rest)) h = quietly_in_range n p q goes h
 
 pub programs_move_in_range : ProgramsMoveInRange

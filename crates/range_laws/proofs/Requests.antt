@@ -29,12 +29,14 @@ use Rattle.range_laws.proofs.Base64.{decoded_in_range}
 -- ---- the bytes of `writeMemory`
 
 -- what holds of a value that is read, and of what follows from each such value, holds of what follows
-then_holds : {A B : Type 0} (P : A → Type 0) (Q : B → Type 0) (found : Option A) (next : A → Option B) → IfSome found P → ((a : A) → P a → IfSome (next a) Q) → IfSome (option_and_then next found) Q
+then_holds : {A B : Type 0} (P : A → Type 0) (Q : B → Type 0) (found : Option A) (next : A → Option B) → IfSome found P
+    → ((a : A) → P a → IfSome (next a) Q) → IfSome (option_and_then next found) Q
 then_holds P Q None next h on = tt
 then_holds P Q (Some a) next h on = on a h
 
 -- the same, of any value
-then_any : {A B : Type 0} (Q : B → Type 0) (found : Option A) (next : A → Option B) → ((a : A) → IfSome (next a) Q) → IfSome (option_and_then next found) Q
+then_any : {A B : Type 0} (Q : B → Type 0) (found : Option A) (next : A → Option B) → ((a : A) → IfSome (next a) Q)
+    → IfSome (option_and_then next found) Q
 then_any Q None next on = tt
 then_any Q (Some a) next on = on a
 
@@ -72,7 +74,8 @@ abbrev pub BodyGives : Result Incoming MessageError → Type 0
 BodyGives (Ok (Request request)) = GivesBytes request.command
 BodyGives other = Unit {0}
 
-next_gives : {A : Type 0} (found : Option A) (fault : MessageError) (next : A → Result Incoming MessageError) → ((a : A) → BodyGives (next a)) → BodyGives (ok_or found fault >>= next)
+next_gives : {A : Type 0} (found : Option A) (fault : MessageError) (next : A → Result Incoming MessageError)
+    → ((a : A) → BodyGives (next a)) → BodyGives (ok_or found fault >>= next)
 next_gives None fault next on = tt
 next_gives (Some a) fault next on = on a
 
@@ -80,7 +83,8 @@ if_gives : (b : Bool) (x y : Result Incoming MessageError) → BodyGives x → B
 if_gives true x y p q = p
 if_gives false x y p q = q
 
-received_gives : (seq : ℕ) (name : List ℕ) (found : Result Command Refusal) → ((command : Command) → found ≡ Ok command → GivesBytes command) → BodyGives (Ok (received seq name found))
+received_gives : (seq : ℕ) (name : List ℕ) (found : Result Command Refusal)
+    → ((command : Command) → found ≡ Ok command → GivesBytes command) → BodyGives (Ok (received seq name found))
 received_gives seq name (Ok command) h = h command refl
 received_gives seq name (Err refusal) h = tt
 

@@ -63,7 +63,8 @@ spelled_fits other bytes h = tt
 
 tokens_fit : (tokens : List Token) (text : List ℕ) → IsTokens tokens text → AllFit tokens
 tokens_fit [] text h = tt
-tokens_fit (token ∷ tokens) text (rest, (begins, more)) = (spelled_fits token begins.bytes begins.longest.spelled, tokens_fit tokens rest more)
+tokens_fit (token ∷ tokens) text (rest, (begins, more)) =
+    (spelled_fits token begins.bytes begins.longest.spelled, tokens_fit tokens rest more)
 
 fit_parts : (first later : List Token) → AllFit (first ++ later) → AllFit first × AllFit later
 fit_parts [] later h = (tt, h)
@@ -128,13 +129,18 @@ values_are_words (Number n) hart memory w h = w
 values_are_words (Register r) hart memory w h = register_word hart.x r h.x.words
 values_are_words Pc hart memory w h = h.pc
 values_are_words (Unary operator operand) hart memory w h =
-    with_value_word (value_of operand hart memory) (λ v. Ok (before operator v)) (values_are_words operand hart memory w h) (λ n k. before_word operator n k)
+    with_value_word (value_of operand hart memory) (λ v. Ok (before operator v)) (values_are_words operand hart memory w h)
+    (λ n k. before_word operator n k)
 values_are_words (Binary operator left right) hart memory w h =
-    with_value_word (value_of left hart memory) (λ a. cond (decides operator a) (Ok (flag (is_true a))) (with_value (value_of right hart memory) (λ b. Ok (between operator a b))))
+    with_value_word (value_of left hart memory)
+    (λ a. cond (decides operator a) (Ok (flag (is_true a))) (with_value (value_of right hart memory) (λ b. Ok (between operator a b))))
     (values_are_words left hart memory w.0 h) (λ a k. by_test a k (values_are_words right hart memory w.1 h) (decides operator a))
   where
-    by_test : (a : ℕ) → IsWord a → IfOk (value_of right hart memory) IsWord → (b : Bool) → IfOk {E = ExprFault} (cond b (Ok (flag (is_true a))) (with_value (value_of right hart memory) (λ b. Ok (between operator a b)))) IsWord
+    by_test : (a : ℕ) → IsWord a → IfOk (value_of right hart memory) IsWord → (b : Bool)
+        → IfOk {E = ExprFault} (cond b (Ok (flag (is_true a))) (with_value (value_of right hart memory) (λ b. Ok (between operator a b)))) IsWord
     by_test a k r true = flag_word (is_true a)
-    by_test a k r false = with_value_word (value_of right hart memory) (λ b. Ok (between operator a b)) r (λ b l. between_word operator a b k l)
+    by_test a k r false =
+        with_value_word (value_of right hart memory) (λ b. Ok (between operator a b)) r (λ b l. between_word operator a b k l)
 values_are_words (Enclosed bracket inner) hart memory w h =
-    with_value_word (value_of inner hart memory) (enclosed bracket memory) (values_are_words inner hart memory w h) (λ n k. enclosed_word bracket memory n h.memory k)
+    with_value_word (value_of inner hart memory) (enclosed bracket memory) (values_are_words inner hart memory w h)
+    (λ n k. enclosed_word bracket memory n h.memory k)

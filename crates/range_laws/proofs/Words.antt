@@ -44,7 +44,8 @@ pub right_word : (a by : ℕ) → IsWord a → IsWord (shifted_right a by)
 right_word a by h = let less = div-le_self a (2 ^ by) in omega (arith, h, less)
 
 shifted_word : (z : ℤ) (by : ℕ) → z ≤ℤ pos 2147483647 → IsWord (cast_unsigned w32 (int_shr z by))
-shifted_word (pos n) by h = let less = div-le_self n (2 ^ by) in let small : n ≤ 2147483647 = omega (arith, ints, h) in omega (arith, less, small)
+shifted_word (pos n) by h =
+    let less = div-le_self n (2 ^ by) in let small : n ≤ 2147483647 = omega (arith, ints, h) in omega (arith, less, small)
 shifted_word (negsuc n) by h = omega arith
 
 pub right_signed_word : (a by : ℕ) → IsWord (shifted_right_signed a by)
@@ -55,7 +56,8 @@ to_even n h = omega (arith, h)
 
 -- ---- bytes in memory
 
-pub bytes_in_range : (memory : List ℕ) (address : ℕ) (bytes : List ℕ) → AreBytes memory → AreBytes bytes → AreBytes (with_bytes memory address bytes)
+pub bytes_in_range : (memory : List ℕ) (address : ℕ) (bytes : List ℕ) → AreBytes memory → AreBytes bytes
+    → AreBytes (with_bytes memory address bytes)
 bytes_in_range memory address bytes h k =
     let kept = take (address - first_address) memory in
     let rest = drop (address - first_address + length bytes) memory in
@@ -126,7 +128,9 @@ pub register_word : (x : List ℕ) (r : ℕ) → AreWords x → IsWord (slice_in
 register_word x r h = by (ltb r (length x)) refl where
   by : (b : Bool) → ltb r (length x) ≡ b → IsWord (slice_index x r)
   by true e = All-get_or IsWord x r 0 (ltb-true r (length x) e) h
-  by false e = let past : slice_index x r ≡ 0 = get_or_past x r 0 (let le : length x ≤ r = grind (arith, nat_tests) in le) in subst IsWord (sym past) (lit< tt)
+  by false e =
+      let past : slice_index x r ≡ 0 = get_or_past x r 0 (let le : length x ≤ r = grind (arith, nat_tests) in le) in
+      subst IsWord (sym past) (lit< tt)
 
 pub registers_in_range : (r v : ℕ) (x : List ℕ) → IsWord v → AreRegisters x → AreRegisters (slice_set x r v)
 registers_in_range r v x w h = record { count = rw (length-set x r v) h.count; words = All-set IsWord x r v w h.words }

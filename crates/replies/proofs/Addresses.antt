@@ -31,7 +31,9 @@ pub record Fine (d : ℕ) : Type 0 where
 
 pub fine : (d : ℕ) → d < 16 → Fine d
 unfolding is_fine
-fine d l = let t : is_fine d ≡ true = all_below_at is_fine 16 d all_fine l in let p = and_parts (digit_value (hex_digit d) == d) _ t in record { value = grind (arith, nat_tests); ascii = p.1 }
+fine d l =
+    let t : is_fine d ≡ true = all_below_at is_fine 16 d all_fine l in let p = and_parts (digit_value (hex_digit d) == d) _ t in
+    record { value = grind (arith, nat_tests); ascii = p.1 }
 
 pub sixteen : (n : ℕ) → n % 16 < 16
 sixteen n = omega arith
@@ -43,7 +45,8 @@ places_sum : (n : ℕ) → n < 2 ^ 32
 places_sum n l = omega arith
 
 -- the digits of a text, if each has a value below sixteen, write the sum of the values in their places
-read_eight : (a b c d e f g h : ℕ) → Fine a → Fine b → Fine c → Fine d → Fine e → Fine f → Fine g → Fine h → a < 16 → b < 16 → c < 16 → d < 16 → e < 16 → f < 16 → g < 16 → h < 16 → (n : ℕ) → n ≤ 4294967295
+read_eight : (a b c d e f g h : ℕ) → Fine a → Fine b → Fine c → Fine d → Fine e → Fine f → Fine g → Fine h → a < 16 → b < 16 → c < 16
+    → d < 16 → e < 16 → f < 16 → g < 16 → h < 16 → (n : ℕ) → n ≤ 4294967295
     → (((((((0 * 16 + a) * 16 + b) * 16 + c) * 16 + d) * 16 + e) * 16 + f) * 16 + g) * 16 + h ≡ n
     → word_in (48 ∷ 120 ∷ hex_digit a ∷ hex_digit b ∷ hex_digit c ∷ hex_digit d ∷ hex_digit e ∷ hex_digit f ∷ hex_digit g ∷ hex_digit h ∷ []) ≡ Some n
 read_eight a b c d e f g h fa fb fc fd fe ff fg fh la lb lc ld le lf lg lh n small sum =
@@ -52,20 +55,26 @@ read_eight a b c d e f g h fa fb fc fd fe ff fg fh la lb lc ld le lf lg lh n sma
 pub word_in-address_text : (n : ℕ) → n < 2 ^ 32 → word_in (address_text n) ≡ Some n
 word_in-address_text n l =
     let top : n / 2 ^ 28 < 16 = omega arith in
-    read_eight (n / 2 ^ 28) (n / 2 ^ 24 % 16) (n / 2 ^ 20 % 16) (n / 2 ^ 16 % 16) (n / 2 ^ 12 % 16) (n / 2 ^ 8 % 16) (n / 2 ^ 4 % 16) (n % 16)
-    (fine _ top) (fine _ (sixteen (n / 2 ^ 24))) (fine _ (sixteen (n / 2 ^ 20))) (fine _ (sixteen (n / 2 ^ 16))) (fine _ (sixteen (n / 2 ^ 12))) (fine _ (sixteen (n / 2 ^ 8))) (fine _ (sixteen (n / 2 ^ 4))) (fine _ (sixteen n))
-    top (sixteen (n / 2 ^ 24)) (sixteen (n / 2 ^ 20)) (sixteen (n / 2 ^ 16)) (sixteen (n / 2 ^ 12)) (sixteen (n / 2 ^ 8)) (sixteen (n / 2 ^ 4)) (sixteen n) n (omega (arith, l)) (places_sum n l)
+    read_eight (n / 2 ^ 28) (n / 2 ^ 24 % 16) (n / 2 ^ 20 % 16) (n / 2 ^ 16 % 16) (n / 2 ^ 12 % 16) (n / 2 ^ 8 % 16) (n / 2 ^ 4 % 16)
+    (n % 16)
+    (fine _ top) (fine _ (sixteen (n / 2 ^ 24))) (fine _ (sixteen (n / 2 ^ 20))) (fine _ (sixteen (n / 2 ^ 16)))
+    (fine _ (sixteen (n / 2 ^ 12))) (fine _ (sixteen (n / 2 ^ 8))) (fine _ (sixteen (n / 2 ^ 4))) (fine _ (sixteen n))
+    top (sixteen (n / 2 ^ 24)) (sixteen (n / 2 ^ 20)) (sixteen (n / 2 ^ 16)) (sixteen (n / 2 ^ 12)) (sixteen (n / 2 ^ 8))
+    (sixteen (n / 2 ^ 4)) (sixteen n) n (omega (arith, l)) (places_sum n l)
 
 ascii_eight : (a b c d e f g h : ℕ) → Fine a → Fine b → Fine c → Fine d → Fine e → Fine f → Fine g → Fine h
     → are_ascii (48 ∷ 120 ∷ hex_digit a ∷ hex_digit b ∷ hex_digit c ∷ hex_digit d ∷ hex_digit e ∷ hex_digit f ∷ hex_digit g ∷ hex_digit h ∷ []) ≡ true
-ascii_eight a b c d e f g h fa fb fc fd fe ff fg fh = rw (fa.ascii, fb.ascii, fc.ascii, fd.ascii, fe.ascii, ff.ascii, fg.ascii, fh.ascii) refl
+ascii_eight a b c d e f g h fa fb fc fd fe ff fg fh =
+    rw (fa.ascii, fb.ascii, fc.ascii, fd.ascii, fe.ascii, ff.ascii, fg.ascii, fh.ascii) refl
 
 -- it is ASCII
 pub ascii-address_text : (n : ℕ) → n < 2 ^ 32 → are_ascii (address_text n) ≡ true
 ascii-address_text n l =
     let top : n / 2 ^ 28 < 16 = omega arith in
-    ascii_eight (n / 2 ^ 28) (n / 2 ^ 24 % 16) (n / 2 ^ 20 % 16) (n / 2 ^ 16 % 16) (n / 2 ^ 12 % 16) (n / 2 ^ 8 % 16) (n / 2 ^ 4 % 16) (n % 16)
-    (fine _ top) (fine _ (sixteen (n / 2 ^ 24))) (fine _ (sixteen (n / 2 ^ 20))) (fine _ (sixteen (n / 2 ^ 16))) (fine _ (sixteen (n / 2 ^ 12))) (fine _ (sixteen (n / 2 ^ 8))) (fine _ (sixteen (n / 2 ^ 4))) (fine _ (sixteen n))
+    ascii_eight (n / 2 ^ 28) (n / 2 ^ 24 % 16) (n / 2 ^ 20 % 16) (n / 2 ^ 16 % 16) (n / 2 ^ 12 % 16) (n / 2 ^ 8 % 16) (n / 2 ^ 4 % 16)
+    (n % 16)
+    (fine _ top) (fine _ (sixteen (n / 2 ^ 24))) (fine _ (sixteen (n / 2 ^ 20))) (fine _ (sixteen (n / 2 ^ 16)))
+    (fine _ (sixteen (n / 2 ^ 12))) (fine _ (sixteen (n / 2 ^ 8))) (fine _ (sixteen (n / 2 ^ 4))) (fine _ (sixteen n))
 
 -- ---- the form
 

@@ -32,39 +32,48 @@ done_data seq request_seq command body = object (member_if (codes "body") (λ d.
 kept_seq : (seq : ℕ) → IsNumber seq → kept_if (λ n. nat_lt 0 n && nat_lt n (2 ^ 31)) (Some seq) ≡ Some seq
 kept_seq seq h = rw (lt-ltb 0 seq (omega arith), lt-ltb seq (2 ^ 31) (omega arith)) refl
 
-seq_in-done : (seq request_seq : ℕ) (command : List ℕ) (body : Option Data) → IsNumber seq → seq_in (done_data seq request_seq command body) ≡ Some seq
+seq_in-done : (seq request_seq : ℕ) (command : List ℕ) (body : Option Data) → IsNumber seq
+    → seq_in (done_data seq request_seq command body) ≡ Some seq
 seq_in-done seq request_seq command None h = kept_seq seq h
 seq_in-done seq request_seq command (Some body) h = kept_seq seq h
 
-seq_in-outcome_data : (seq request_seq : ℕ) (command : List ℕ) (outcome : Outcome) → IsNumber seq → seq_in (outcome_data seq request_seq command outcome) ≡ Some seq
+seq_in-outcome_data : (seq request_seq : ℕ) (command : List ℕ) (outcome : Outcome) → IsNumber seq
+    → seq_in (outcome_data seq request_seq command outcome) ≡ Some seq
 seq_in-outcome_data seq request_seq command (Done body) h = seq_in-done seq request_seq command (body_data body) h
 seq_in-outcome_data seq request_seq command (Refused refusal text) h = kept_seq seq h
 
-request_seq-done : (seq request_seq : ℕ) (command : List ℕ) (body : Option Data) → request_seq < 2 ^ 32 → (get (codes "request_seq") (done_data seq request_seq command body) >>= whole.found) ≡ Some request_seq
+request_seq-done : (seq request_seq : ℕ) (command : List ℕ) (body : Option Data) → request_seq < 2 ^ 32
+    → (get (codes "request_seq") (done_data seq request_seq command body) >>= whole.found) ≡ Some request_seq
 request_seq-done seq request_seq command None h = rw (lt-ltb _ _ h) refl
 request_seq-done seq request_seq command (Some body) h = rw (lt-ltb _ _ h) refl
 
-request_seq-outcome_data : (seq request_seq : ℕ) (command : List ℕ) (outcome : Outcome) → request_seq < 2 ^ 32 → (get (codes "request_seq") (outcome_data seq request_seq command outcome) >>= whole.found) ≡ Some request_seq
+request_seq-outcome_data : (seq request_seq : ℕ) (command : List ℕ) (outcome : Outcome) → request_seq < 2 ^ 32
+    → (get (codes "request_seq") (outcome_data seq request_seq command outcome) >>= whole.found) ≡ Some request_seq
 request_seq-outcome_data seq request_seq command (Done body) h = request_seq-done seq request_seq command (body_data body) h
 request_seq-outcome_data seq request_seq command (Refused refusal text) h = rw (lt-ltb _ _ h) refl
 
-command_in-done : (seq request_seq : ℕ) (command : List ℕ) (body : Option Data) → text_at (codes "command") (done_data seq request_seq command body) ≡ Some command
+command_in-done : (seq request_seq : ℕ) (command : List ℕ) (body : Option Data)
+    → text_at (codes "command") (done_data seq request_seq command body) ≡ Some command
 command_in-done seq request_seq command None = refl
 command_in-done seq request_seq command (Some body) = refl
 
-command_in-outcome_data : (seq request_seq : ℕ) (command : List ℕ) (outcome : Outcome) → text_at (codes "command") (outcome_data seq request_seq command outcome) ≡ Some command
+command_in-outcome_data : (seq request_seq : ℕ) (command : List ℕ) (outcome : Outcome)
+    → text_at (codes "command") (outcome_data seq request_seq command outcome) ≡ Some command
 command_in-outcome_data seq request_seq command (Done body) = command_in-done seq request_seq command (body_data body)
 command_in-outcome_data seq request_seq command (Refused refusal text) = refl
 
-success_in-done : (seq request_seq : ℕ) (command : List ℕ) (body : Option Data) → truth_at (codes "success") (done_data seq request_seq command body) ≡ Some true
+success_in-done : (seq request_seq : ℕ) (command : List ℕ) (body : Option Data)
+    → truth_at (codes "success") (done_data seq request_seq command body) ≡ Some true
 success_in-done seq request_seq command None = refl
 success_in-done seq request_seq command (Some body) = refl
 
-type_in-done : (seq request_seq : ℕ) (command : List ℕ) (body : Option Data) → text_at (codes "type") (done_data seq request_seq command body) ≡ Some (codes "response")
+type_in-done : (seq request_seq : ℕ) (command : List ℕ) (body : Option Data)
+    → text_at (codes "type") (done_data seq request_seq command body) ≡ Some (codes "response")
 type_in-done seq request_seq command None = refl
 type_in-done seq request_seq command (Some body) = refl
 
-type_in-outcome_data : (seq request_seq : ℕ) (command : List ℕ) (outcome : Outcome) → text_at (codes "type") (outcome_data seq request_seq command outcome) ≡ Some (codes "response")
+type_in-outcome_data : (seq request_seq : ℕ) (command : List ℕ) (outcome : Outcome)
+    → text_at (codes "type") (outcome_data seq request_seq command outcome) ≡ Some (codes "response")
 type_in-outcome_data seq request_seq command (Done body) = type_in-done seq request_seq command (body_data body)
 type_in-outcome_data seq request_seq command (Refused refusal text) = refl
 
@@ -73,17 +82,20 @@ abbrev succeeded : Outcome → Bool
 succeeded (Done body) = true
 succeeded (Refused refusal text) = false
 
-success_in-outcome_data : (seq request_seq : ℕ) (command : List ℕ) (outcome : Outcome) → truth_at (codes "success") (outcome_data seq request_seq command outcome) ≡ Some (succeeded outcome)
+success_in-outcome_data : (seq request_seq : ℕ) (command : List ℕ) (outcome : Outcome)
+    → truth_at (codes "success") (outcome_data seq request_seq command outcome) ≡ Some (succeeded outcome)
 success_in-outcome_data seq request_seq command (Done body) = success_in-done seq request_seq command (body_data body)
 success_in-outcome_data seq request_seq command (Refused refusal text) = refl
 
-own_text-error_data : (seq request_seq : ℕ) (command : List ℕ) (refusal : Refusal) (text : Option (List ℕ)) (has : Bool) → is_some text ≡ has → own_text has (outcome_data seq request_seq command (Refused refusal text)) ≡ Some text
+own_text-error_data : (seq request_seq : ℕ) (command : List ℕ) (refusal : Refusal) (text : Option (List ℕ)) (has : Bool)
+    → is_some text ≡ has → own_text has (outcome_data seq request_seq command (Refused refusal text)) ≡ Some text
 own_text-error_data seq request_seq command refusal None true h = absurd cc
 own_text-error_data seq request_seq command refusal (Some text) true h = refl
 own_text-error_data seq request_seq command refusal None false h = refl
 own_text-error_data seq request_seq command refusal (Some text) false h = absurd cc
 
-outcome_in-outcome_data : (seq request_seq : ℕ) (command : List ℕ) (outcome : Outcome) → IsOutcomeOf command outcome → outcome_in command (outcome_data seq request_seq command outcome) (succeeded outcome) ≡ Some outcome
+outcome_in-outcome_data : (seq request_seq : ℕ) (command : List ℕ) (outcome : Outcome) → IsOutcomeOf command outcome
+    → outcome_in command (outcome_data seq request_seq command outcome) (succeeded outcome) ≡ Some outcome
 outcome_in-outcome_data seq request_seq command (Done body) h = ap (option_map Done) (body_in-done seq request_seq command body h.0 h.1)
 outcome_in-outcome_data seq request_seq command (Refused refusal text) h =
     rw (the_refusal_of_its_number refusal, own_text-error_data seq request_seq command refusal text (has_text refusal) h) refl
@@ -101,7 +113,8 @@ name_in-with_body seq name None = refl
 name_in-with_body seq name (Some body) = refl
 
 -- it claims to be that message
-pub claim_in-message_data : (seq : ℕ) (message : Message) → IsNumber seq → IsProper message → claim_in (message_data seq message) ≡ Some (seq, message)
+pub claim_in-message_data : (seq : ℕ) (message : Message) → IsNumber seq → IsProper message
+    → claim_in (message_data seq message) ≡ Some (seq, message)
 claim_in-message_data seq (Response r) h proper =
     rw (
       seq_in-outcome_data seq r.request_seq r.command r.outcome h,
@@ -121,7 +134,8 @@ claim_in-message_data seq (Event e) h proper =
 
 -- ---- what any value claims to be
 
-IfSome-and_then : {A B : Type 0} (P : A → Type 0) (Q : B → Type 0) (f : A → Option B) (o : Option A) → IfSome o P → ((a : A) → P a → IfSome (f a) Q) → IfSome (option_and_then f o) Q
+IfSome-and_then : {A B : Type 0} (P : A → Type 0) (Q : B → Type 0) (f : A → Option B) (o : Option A) → IfSome o P
+    → ((a : A) → P a → IfSome (f a) Q) → IfSome (option_and_then f o) Q
 IfSome-and_then P Q f None p h = tt
 IfSome-and_then P Q f (Some a) p h = h a p
 
@@ -133,17 +147,20 @@ any : {A : Type 0} (o : Option A) → IfSome o (λ _. Unit {0})
 any None = tt
 any (Some a) = tt
 
-IfSome-kept_if : {A : Type 0} (P : A → Type 0) (test : A → Bool) (o : Option A) → ((a : A) → test a ≡ true → P a) → IfSome (kept_if test o) P
+IfSome-kept_if : {A : Type 0} (P : A → Type 0) (test : A → Bool) (o : Option A) → ((a : A) → test a ≡ true → P a)
+    → IfSome (kept_if test o) P
 IfSome-kept_if P test None h = tt
 IfSome-kept_if P test (Some a) h = if_keeps (λ o. IfSome o P) (test a) (Some a) None (h a) tt
 
 IsNumber-seq_in : (value : Data) → IfSome (seq_in value) IsNumber
-IsNumber-seq_in value = IfSome-kept_if IsNumber _ (number_at (codes "seq") value) (λ n e. let p = and_parts _ _ e in (ltb-true _ _ p.0, ltb-true _ _ p.1))
+IsNumber-seq_in value =
+    IfSome-kept_if IsNumber _ (number_at (codes "seq") value) (λ n e. let p = and_parts _ _ e in (ltb-true _ _ p.0, ltb-true _ _ p.1))
 
 small-request_seq : (value : Data) → IfSome (get (codes "request_seq") value >>= whole.found) (λ n. is_word n ≡ true)
 small-request_seq value = then_is _ (get (codes "request_seq") value) whole.found (lawful_whole {n = 0}).kept
 
-done : (command : List ℕ) (o : Option ResponseBody) → IfSome o (λ body. IsBodyOf command body × (has_numbers body ≡ true)) → IfSome (option_map Done o) (IsOutcomeOf command)
+done : (command : List ℕ) (o : Option ResponseBody) → IfSome o (λ body. IsBodyOf command body × (has_numbers body ≡ true))
+    → IfSome (option_map Done o) (IsOutcomeOf command)
 done command None h = tt
 done command (Some body) h = h
 
@@ -154,15 +171,18 @@ own true value = some (option_and_then (text_at (codes "format")) (error_in valu
   some (Some s) = refl
 own false value = refl
 
-with_text : (command : List ℕ) (refusal : Refusal) (o : Option (Option (List ℕ))) → IfSome o (λ text. is_some text ≡ has_text refusal) → IfSome (option_map (λ text. Refused refusal text) o) (IsOutcomeOf command)
+with_text : (command : List ℕ) (refusal : Refusal) (o : Option (Option (List ℕ))) → IfSome o (λ text. is_some text ≡ has_text refusal)
+    → IfSome (option_map (λ text. Refused refusal text) o) (IsOutcomeOf command)
 with_text command refusal None h = tt
 with_text command refusal (Some text) h = h
 
 refused : (command : List ℕ) (value : Data) → IfSome (refused_in value) (IsOutcomeOf command)
 refused command value =
-    IfSome-and_then _ _ _ (refusal_in value) (any _) (λ refusal _. with_text command refusal (own_text (has_text refusal) value) (own (has_text refusal) value))
+    IfSome-and_then _ _ _ (refusal_in value) (any _)
+    (λ refusal _. with_text command refusal (own_text (has_text refusal) value) (own (has_text refusal) value))
 
-IsOutcomeOf-outcome_in : (command : List ℕ) (value : Data) (success : Bool) → IfSome (outcome_in command value success) (IsOutcomeOf command)
+IsOutcomeOf-outcome_in : (command : List ℕ) (value : Data) (success : Bool)
+    → IfSome (outcome_in command value success) (IsOutcomeOf command)
 IsOutcomeOf-outcome_in command value true = done command (body_in command value) (body_in-proper command value)
 IsOutcomeOf-outcome_in command value false = refused command value
 
@@ -171,20 +191,25 @@ IsProperResponse-response_in value =
     IfSome-and_then _ _ _ (get (codes "request_seq") value >>= whole.found) (small-request_seq value) (λ request_seq small.
     IfSome-and_then _ _ _ (text_at (codes "command") value) (any _) (λ command _.
     IfSome-and_then _ _ _ (truth_at (codes "success") value) (any _) (λ success _.
-    IfSome-and_then _ _ _ (outcome_in command value success) (IsOutcomeOf-outcome_in command value success) (λ outcome fits. (ltb-true _ _ small, fits)))))
+    IfSome-and_then _ _ _ (outcome_in command value success) (IsOutcomeOf-outcome_in command value success)
+    (λ outcome fits. (ltb-true _ _ small, fits)))))
 
 IsProperEvent-event_in : (value : Data) → IfSome (event_in value) IsProperEvent
 IsProperEvent-event_in value = IfSome-and_then _ _ _ (text_at (codes "event") value) (any _) (λ name _. event_named-proper name value)
 
 IsProper-message_of : (kind : List ℕ) (value : Data) → IfSome (message_of kind value) IsProper
-IsProper-message_of kind value = if_keeps (λ o. IfSome o IsProper) (bytes_eq kind (codes "response")) _ _ (λ _. answer (response_in value) (IsProperResponse-response_in value)) (if_keeps (λ o. IfSome o IsProper) (bytes_eq kind (codes "event")) _ _ (λ _. tell (event_in value) (IsProperEvent-event_in value)) tt) where
-  answer : (o : Option response.Response) → IfSome o IsProperResponse → IfSome (option_map Response o) IsProper
-  answer None h = tt
-  answer (Some r) h = h
+IsProper-message_of kind value =
+    if_keeps (λ o. IfSome o IsProper) (bytes_eq kind (codes "response")) _ _
+    (λ _. answer (response_in value) (IsProperResponse-response_in value))
+    (if_keeps (λ o. IfSome o IsProper) (bytes_eq kind (codes "event")) _ _
+    (λ _. tell (event_in value) (IsProperEvent-event_in value)) tt) where
+      answer : (o : Option response.Response) → IfSome o IsProperResponse → IfSome (option_map Response o) IsProper
+      answer None h = tt
+      answer (Some r) h = h
 
-  tell : (o : Option event.Event) → IfSome o IsProperEvent → IfSome (option_map Event o) IsProper
-  tell None h = tt
-  tell (Some e) h = h
+      tell : (o : Option event.Event) → IfSome o IsProperEvent → IfSome (option_map Event o) IsProper
+      tell None h = tt
+      tell (Some e) h = h
 
 InOrder-claim_in : (value : Data) → IfSome (claim_in value) (λ found. IsNumber found.0 × IsProper found.1)
 InOrder-claim_in value =

@@ -24,7 +24,8 @@ are_bytes-IsBytes (n ∷ ns) h = rw (lt-ltb n 256 (h 0), are_bytes-IsBytes ns (�
 pub bytes_in-encode_of : (bytes : List ℕ) → are_bytes bytes ≡ true → bytes_in (encode_of standard bytes) ≡ Some bytes
 unfolding bytes_in
 bytes_in-encode_of bytes h =
-    let is : decoded_of standard (encode_of standard bytes) ≡ Some bytes = decoded_of-ok standard (encode_of standard bytes) bytes (decode_of-encode_of standard bytes refl (IsBytes-are_bytes bytes h)) in
+    let is : decoded_of standard (encode_of standard bytes) ≡ Some bytes = decoded_of-ok standard (encode_of standard bytes) bytes
+    (decode_of-encode_of standard bytes refl (IsBytes-are_bytes bytes h)) in
     rw (is, h) refl
 
 -- what is decoded is found, where it is bytes

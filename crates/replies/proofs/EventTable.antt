@@ -49,11 +49,13 @@ text-event_name Terminated = IsUtf8-are_ascii (codes "terminated") refl
 abbrev pub with_body : ℕ → List ℕ → Option Data → Data
 with_body seq name body = object (member_if (codes "body") (λ d. d) body (event_members seq name))
 
-formed_back : {n : ℕ} {A : Type 0} (name : List ℕ) (form : Form A) (make : A → Event) → Lawful n form → (seq : ℕ) (x : A) → form.is_in x ≡ true
+formed_back : {n : ℕ} {A : Type 0} (name : List ℕ) (form : Form A) (make : A → Event) → Lawful n form → (seq : ℕ) (x : A)
+    → form.is_in x ≡ true
     → (formed name form make).found (with_body seq name (Some (form.value x))) ≡ Some (make x)
 formed_back name form make h seq x e = rw (h.back x e) refl
 
-pub event_named-event_data : (seq : ℕ) (event : Event) → IsProperEvent event → event_named (event_name event) (event_data seq event) ≡ Some event
+pub event_named-event_data : (seq : ℕ) (event : Event) → IsProperEvent event
+    → event_named (event_name event) (event_data seq event) ≡ Some event
 event_named-event_data seq Initialized e = refl
 event_named-event_data seq (Stopped body) e = formed_back (codes "stopped") stopped (λ x. Stopped x) lawful_stopped seq body e
 event_named-event_data seq Continued e = refl
@@ -71,7 +73,8 @@ abbrev AllProper : List Taken → Type 0
 AllProper [] = Unit {0}
 AllProper (t ∷ ts) = AreProper t × AllProper ts
 
-formed_proper : {n : ℕ} {A : Type 0} (name : List ℕ) (form : Form A) (make : A → Event) → Lawful n form → ((x : A) → form.is_in x ≡ true → IsProperEvent (make x)) → AreProper (formed name form make)
+formed_proper : {n : ℕ} {A : Type 0} (name : List ℕ) (form : Form A) (make : A → Event) → Lawful n form
+    → ((x : A) → form.is_in x ≡ true → IsProperEvent (make x)) → AreProper (formed name form make)
 formed_proper {n} {A} name form make h proper message = there (get (codes "body") message) where
   made : (o : Option A) → IfSome o (λ x. form.is_in x ≡ true) → IfSome (option_map make o) IsProperEvent
   made None k = tt
@@ -99,7 +102,8 @@ all_proper = (
 taken_proper : (ts : List Taken) → AllProper ts → (name : List ℕ) (message : Data) → IfSome (taken_among ts name message) IsProperEvent
 taken_proper [] h name message = tt
 taken_proper (t ∷ ts) h name message = by_name (bytes_eq name t.name) (taken_proper ts h.1 name message) where
-  by_name : (b : Bool) → IfSome (taken_among ts name message) IsProperEvent → IfSome (if b then t.found message else taken_among ts name message) IsProperEvent
+  by_name : (b : Bool) → IfSome (taken_among ts name message) IsProperEvent
+      → IfSome (if b then t.found message else taken_among ts name message) IsProperEvent
   by_name true rest = h.0 message
   by_name false rest = rest
 

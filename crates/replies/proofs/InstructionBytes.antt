@@ -15,14 +15,17 @@ word_of_bytes-bytes_text n l = word_in-address_text n l
 
 ascii_pairs : (a b c d e f g h : ℕ) → Fine a → Fine b → Fine c → Fine d → Fine e → Fine f → Fine g → Fine h
     → are_ascii (hex_digit a ∷ hex_digit b ∷ 32 ∷ hex_digit c ∷ hex_digit d ∷ 32 ∷ hex_digit e ∷ hex_digit f ∷ 32 ∷ hex_digit g ∷ hex_digit h ∷ []) ≡ true
-ascii_pairs a b c d e f g h fa fb fc fd fe ff fg fh = rw (fa.ascii, fb.ascii, fc.ascii, fd.ascii, fe.ascii, ff.ascii, fg.ascii, fh.ascii) refl
+ascii_pairs a b c d e f g h fa fb fc fd fe ff fg fh =
+    rw (fa.ascii, fb.ascii, fc.ascii, fd.ascii, fe.ascii, ff.ascii, fg.ascii, fh.ascii) refl
 
 -- it is ASCII
 pub ascii-bytes_text : (n : ℕ) → n < 2 ^ 32 → are_ascii (bytes_text n) ≡ true
 ascii-bytes_text n l =
     let top : n / 2 ^ 28 < 16 = omega arith in
-    ascii_pairs (n / 2 ^ 4 % 16) (n % 16) (n / 2 ^ 12 % 16) (n / 2 ^ 8 % 16) (n / 2 ^ 20 % 16) (n / 2 ^ 16 % 16) (n / 2 ^ 28) (n / 2 ^ 24 % 16)
-    (fine _ (sixteen (n / 2 ^ 4))) (fine _ (sixteen n)) (fine _ (sixteen (n / 2 ^ 12))) (fine _ (sixteen (n / 2 ^ 8))) (fine _ (sixteen (n / 2 ^ 20))) (fine _ (sixteen (n / 2 ^ 16))) (fine _ top) (fine _ (sixteen (n / 2 ^ 24)))
+    ascii_pairs (n / 2 ^ 4 % 16) (n % 16) (n / 2 ^ 12 % 16) (n / 2 ^ 8 % 16) (n / 2 ^ 20 % 16) (n / 2 ^ 16 % 16) (n / 2 ^ 28)
+    (n / 2 ^ 24 % 16)
+    (fine _ (sixteen (n / 2 ^ 4))) (fine _ (sixteen n)) (fine _ (sixteen (n / 2 ^ 12))) (fine _ (sixteen (n / 2 ^ 8)))
+    (fine _ (sixteen (n / 2 ^ 20))) (fine _ (sixteen (n / 2 ^ 16))) (fine _ top) (fine _ (sixteen (n / 2 ^ 24)))
 
 -- what is found is a word
 kept_bytes : (text : List ℕ) → IfSome (word_of_bytes text) (λ m. is_word m ≡ true)

@@ -36,16 +36,22 @@ abbrev after_list : Fields (Reason × (Option (List ℕ) × Unit {0}))
 after_list = field (codes "reason") reason (optional (codes "text") text (fixed (codes "threadId") (number (unsigned 1)) none))
 
 lawful_after_list : LawfulFields 1 after_list
-lawful_after_list = lawful_field refl refl lawful_reason (lawful_optional refl refl lawful_text (lawful_fixed refl refl (omega arith) refl refl (omega arith) lawful_none))
+lawful_after_list =
+    lawful_field refl refl lawful_reason
+    (lawful_optional refl refl lawful_text (lawful_fixed refl refl (omega arith) refl refl (omega arith) lawful_none))
 
 lawful_list_and_others : LawfulFields 1 (unless_empty (codes "hitBreakpointIds") whole after_list)
 lawful_list_and_others = lawful_unless_empty whole refl refl (lawful_list {form = whole} lawful_whole) lawful_after_list
 
 pub lawful_stopped : Lawful 2 stopped
-lawful_stopped = lawful_made_of _ _ (λ x. refl) (λ y h. h) (lawful_object (lawful_fixed refl refl (omega arith) refl refl tt lawful_list_and_others))
+lawful_stopped =
+    lawful_made_of _ _ (λ x. refl) (λ y h. h) (lawful_object (lawful_fixed refl refl (omega arith) refl refl tt lawful_list_and_others))
 
 pub lawful_output : Lawful 1 output
-lawful_output = lawful_made_of _ _ (λ x. refl) (λ y h. h) (lawful_object (lawful_fixed refl refl (omega arith) refl refl (IsUtf8-are_ascii _ refl) (lawful_field refl refl lawful_text lawful_none)))
+lawful_output =
+    lawful_made_of _ _ (λ x. refl) (λ y h. h)
+    (lawful_object (lawful_fixed refl refl (omega arith) refl refl (IsUtf8-are_ascii _ refl)
+    (lawful_field refl refl lawful_text lawful_none)))
 
 pub lawful_exited : Lawful 1 exited
 lawful_exited = lawful_made_of _ _ (λ x. refl) (λ y h. h) (lawful_object (lawful_field refl refl lawful_signed lawful_none))

@@ -30,9 +30,12 @@ unless_0-or_0 (Some n) h = by_test (n == 0) where
 lawful_read_memory : Lawful 1 read_memory
 lawful_read_memory = lawful_made_of _ _ again stays (lawful_object fields) where
   fields : LawfulFields 0 (field (codes "address") addresses.address (field (codes "data") encoded_bytes (optional (codes "unreadableBytes") whole none)))
-  fields = lawful_field refl refl lawful_address (lawful_field refl refl lawful_encoded_bytes (lawful_optional refl refl lawful_whole lawful_none))
+  fields =
+      lawful_field refl refl lawful_address
+      (lawful_field refl refl lawful_encoded_bytes (lawful_optional refl refl lawful_whole lawful_none))
 
-  again : (m : ReadMemory) → Some (record { address = m.address; bytes = m.bytes; unreadable_bytes = or_0 (unless_0 m.unreadable_bytes) }) ≡ Some m
+  again : (m : ReadMemory)
+      → Some (record { address = m.address; bytes = m.bytes; unreadable_bytes = or_0 (unless_0 m.unreadable_bytes) }) ≡ Some m
   again m = rw (or_0-unless_0 m.unreadable_bytes) refl
 
   stays : (y : ℕ × (List ℕ × (Option ℕ × Unit {0}))) → is_word y.0 && (are_bytes y.1.0 && (is_in_if is_word y.1.1.0 && true)) ≡ true

@@ -12,23 +12,32 @@ use Rattle.replies.specs.declared.response.ResponseBody.TheVariants as body
 use Rattle.replies.proofs.HasForm.{HasForm}
 
 lawful_source_breakpoint : Lawful 1 source.source_breakpoint
-lawful_source_breakpoint = lawful_made_of source.parts source.made again stays (lawful_either is_verified (λ x. refl) (λ x. refl) set unset) where
-  set : LawfulFields 0 source.verified
-  set = lawful_field refl refl lawful_whole (lawful_field refl refl lawful_address (lawful_field refl refl lawful_whole (lawful_fixed refl refl (omega arith) refl refl tt lawful_none)))
+lawful_source_breakpoint =
+    lawful_made_of source.parts source.made again stays (lawful_either is_verified (λ x. refl) (λ x. refl) set unset) where
+      set : LawfulFields 0 source.verified
+      set =
+          lawful_field refl refl lawful_whole
+          (lawful_field refl refl lawful_address
+          (lawful_field refl refl lawful_whole (lawful_fixed refl refl (omega arith) refl refl tt lawful_none)))
 
-  unset : LawfulFields 0 source.unverified
-  unset = lawful_field refl refl lawful_whole (lawful_field refl refl lawful_text (lawful_fixed refl refl (omega arith) refl refl tt lawful_none))
+      unset : LawfulFields 0 source.unverified
+      unset =
+          lawful_field refl refl lawful_whole
+          (lawful_field refl refl lawful_text (lawful_fixed refl refl (omega arith) refl refl tt lawful_none))
 
-  again : (b : SourceBreakpoint) → source.made (source.parts b) ≡ Some b
-  again (at_line.Verified id address line) = refl
-  again (at_line.Unverified line message) = refl
+      again : (b : SourceBreakpoint) → source.made (source.parts b) ≡ Some b
+      again (at_line.Verified id address line) = refl
+      again (at_line.Unverified line message) = refl
 
-  stays : (y : (ℕ × (ℕ × (ℕ × Unit {0}))) ⊎ (ℕ × (List ℕ × Unit {0}))) → (either is_verified source.verified source.unverified).is_in y ≡ true → IfSome (source.made y) (λ b. (either is_verified source.verified source.unverified).is_in (source.parts b) ≡ true)
-  stays (inl p) h = h
-  stays (inr p) h = h
+      stays : (y : (ℕ × (ℕ × (ℕ × Unit {0}))) ⊎ (ℕ × (List ℕ × Unit {0})))
+          → (either is_verified source.verified source.unverified).is_in y ≡ true
+          → IfSome (source.made y) (λ b. (either is_verified source.verified source.unverified).is_in (source.parts b) ≡ true)
+      stays (inl p) h = h
+      stays (inr p) h = h
 
 lawful_set_breakpoints : Lawful 3 source.set_breakpoints
-lawful_set_breakpoints = lawful_made_of _ _ (λ x. refl) (λ y h. h) (lawful_object (lawful_field refl refl (lawful_list lawful_source_breakpoint) lawful_none))
+lawful_set_breakpoints =
+    lawful_made_of _ _ (λ x. refl) (λ y h. h) (lawful_object (lawful_field refl refl (lawful_list lawful_source_breakpoint) lawful_none))
 
 pub set_breakpoints_is : HasForm 3 (codes "setBreakpoints") source.set_breakpoints (λ b. body.SetBreakpoints b)
 set_breakpoints_is = record { lawful = lawful_set_breakpoints; shallow = omega arith; is_row = λ x. refl; is_taken = λ message. refl }

@@ -18,7 +18,8 @@ pub record Holds (items : List ℕ) (end : Written) (value : Data) : Type 0 wher
   pub items_are : items ≡ print end.tokens
   pub tokens_are : end.tokens ≡ tokens_of value
 
-pub Holds-Appends : (items : List ℕ) (start end : Written) (value : Data) → start.before ≡ [] → start.tokens ≡ [] → Appends start end (tokens_of value) → items ≡ end.before ++ print end.tokens → Holds items end value
+pub Holds-Appends : (items : List ℕ) (start end : Written) (value : Data) → start.before ≡ [] → start.tokens ≡ []
+    → Appends start end (tokens_of value) → items ≡ end.before ++ print end.tokens → Holds items end value
 Holds-Appends items start end value none empty h is = record {
   items_are = is ∙ ap (λ b. b ++ print end.tokens) (h.before ∙ none);
   tokens_are = h.tokens ∙ ap (λ ts. ts ++ tokens_of value) empty;
@@ -29,7 +30,9 @@ pub compact_text-Holds : (items : List ℕ) (end : Written) (value : Data) → H
 compact_text-Holds items end value h = h.items_are ∙ ap print h.tokens_are ∙ print-outline value
 
 -- it reads as the message
-pub json_of-Holds : (items : List ℕ) (end : Written) (seq : ℕ) (message : Message) → Holds items end (message_data seq message) → tokens (print end.tokens) ≡ end.tokens → IsUtf8 (print end.tokens) → HasSmallNumbers (message_data seq message)
+pub json_of-Holds : (items : List ℕ) (end : Written) (seq : ℕ) (message : Message) → Holds items end (message_data seq message)
+    → tokens (print end.tokens) ≡ end.tokens → IsUtf8 (print end.tokens) → HasSmallNumbers (message_data seq message)
     → json_of items ≡ Some (message_data seq message)
 json_of-Holds items end seq message h reads_back utf8 small =
-    json_of-tokens items (message_data seq message) (subst IsUtf8 (sym h.items_are) utf8) (ap tokens h.items_are ∙ reads_back ∙ h.tokens_are) small (is_ordered-message_data seq message) (depth-message_data seq message)
+    json_of-tokens items (message_data seq message) (subst IsUtf8 (sym h.items_are) utf8)
+    (ap tokens h.items_are ∙ reads_back ∙ h.tokens_are) small (is_ordered-message_data seq message) (depth-message_data seq message)

@@ -8,10 +8,12 @@ use Rattle.protocol.specs.declared.refusal.Refusal.{Refusal}
 use Rattle.protocol.specs.Refusals.{refusals, id_of, name_of, numbered_among, the_refusal_of_its_number}
 
 -- a test that all in a list pass is passed by the one that is found in it
-found_passes : (P : Refusal → Bool) (id : ℕ) (rs : List Refusal) (r : Refusal) → list_all P rs ≡ true → numbered_among id rs ≡ Some r → P r ≡ true
+found_passes : (P : Refusal → Bool) (id : ℕ) (rs : List Refusal) (r : Refusal) → list_all P rs ≡ true → numbered_among id rs ≡ Some r
+    → P r ≡ true
 found_passes P id [] r h e = absurd cc
 found_passes P id (q ∷ rs) r h e = let p = and_parts _ _ h in by_number (nat_eq (id_of q) id) p.0 e (found_passes P id rs r p.1) where
-  by_number : (b : Bool) → P q ≡ true → (if b then Some q else numbered_among id rs) ≡ Some r → (numbered_among id rs ≡ Some r → P r ≡ true) → P r ≡ true
+  by_number : (b : Bool) → P q ≡ true → (if b then Some q else numbered_among id rs) ≡ Some r → (numbered_among id rs ≡ Some r → P r ≡ true)
+      → P r ≡ true
   by_number true first is rest = let same : q ≡ r = cc in ap P (sym same) ∙ first
   by_number false first is rest = rest is
 

@@ -75,11 +75,13 @@ mutual
 
   members_itself : (ms : Members) → members_have_float ms ≡ false → are_same_members ms ms ≡ true
   members_itself no_members h = refl
-  members_itself (member k d ms) h = let p = or_parts (has_float d) _ h in rw ((bytes_eq-Decides k k).1 refl, same_itself d p.0) (members_itself ms p.1)
+  members_itself (member k d ms) h =
+      let p = or_parts (has_float d) _ h in rw ((bytes_eq-Decides k k).1 refl, same_itself d p.0) (members_itself ms p.1)
 
 -- ---- the compact texts of two values
 
-same_texts : (v w : Data) (s t : List ℕ) → (has_float v ≡ false → s ≡ compact_text v) → t ≡ compact_text w → has_float w ≡ false → v ≡ w → s ≡ t
+same_texts : (v w : Data) (s t : List ℕ) → (has_float v ≡ false → s ≡ compact_text v) → t ≡ compact_text w → has_float w ≡ false → v ≡ w
+    → s ≡ t
 same_texts v w s t text other exact e = text (ap has_float e ∙ exact) ∙ ap compact_text e ∙ sym other
 
 same_values : (v w : Data) (s t : List ℕ) → read s ≡ Some v → read t ≡ Some w → s ≡ t → v ≡ w
@@ -89,7 +91,12 @@ is_same-Decides : (v w : Data) → has_float w ≡ false → Decides (is_same v 
 is_same-Decides v w exact = (same_from v w, λ e. rw e (same_itself w exact))
 
 -- they are one exactly where the values are
-pub bytes_eq-texts : (v w : Data) (s t : List ℕ) → read s ≡ Some v → read t ≡ Some w → (has_float v ≡ false → s ≡ compact_text v) → t ≡ compact_text w → has_float w ≡ false → bytes_eq s t ≡ is_same v w
+pub bytes_eq-texts : (v w : Data) (s t : List ℕ) → read s ≡ Some v → read t ≡ Some w → (has_float v ≡ false → s ≡ compact_text v)
+    → t ≡ compact_text w → has_float w ≡ false → bytes_eq s t ≡ is_same v w
 bytes_eq-texts v w s t reads other_reads text other exact =
-    let texts : Decides (bytes_eq s t) (v ≡ w) = (λ h. same_values v w s t reads other_reads ((bytes_eq-Decides s t).0 h), λ e. (bytes_eq-Decides s t).1 (same_texts v w s t text other exact e)) in
+    let texts : Decides (bytes_eq s t) (v ≡ w) = (
+      λ h. same_values v w s t reads other_reads ((bytes_eq-Decides s t).0 h),
+      λ e. (bytes_eq-Decides s t).1
+          (same_texts v w s t text other exact e),
+    ) in
     same_from_decides (bytes_eq s t) (is_same v w) texts (is_same-Decides v w exact)

@@ -29,9 +29,11 @@ use Rattle.protocol.proofs.JsonTexts.{json_of-text}
 -- ---- reading
 
 tokens-compact_text : (d : Data) → tree.HasNumbers (outline d) → tokens (compact_text d) ≡ tree.json_tokens (outline d)
-tokens-compact_text d h = ap tokens (sym (print-outline d)) ∙ tokens-print (tree.json_tokens (outline d)) (ArePrintable-json_tokens (outline d) h)
+tokens-compact_text d h =
+    ap tokens (sym (print-outline d)) ∙ tokens-print (tree.json_tokens (outline d)) (ArePrintable-json_tokens (outline d) h)
 
-read-tokens : (text : List ℕ) (d : Data) → tokens text ≡ tree.json_tokens (outline d) → tree.depth (outline d) ≤ max_depth → read text ≡ of_json (outline d)
+read-tokens : (text : List ℕ) (d : Data) → tokens text ≡ tree.json_tokens (outline d) → tree.depth (outline d) ≤ max_depth
+    → read text ≡ of_json (outline d)
 read-tokens text d is shallow =
     ap (λ o. option_and_then of_json (option_and_then (λ p. json.if_last p.0 p.1) o))
     (ap (json.value max_depth) (is ∙ sym (append-nil _)) ∙ value-json_tokens (outline d) max_depth [] shallow)
@@ -90,12 +92,15 @@ mutual
 
   IsUtf8-items_text : (later : Bool) (ds : Items) → AreItemsPlain ds → IsUtf8 (items_text later ds)
   IsUtf8-items_text later no_items h = ascii_then 93 [] refl IsUtf8-nil
-  IsUtf8-items_text later (item d ds) h = IsUtf8-append _ _ (comma later) (IsUtf8-append _ _ (IsUtf8-compact_text d h.0) (IsUtf8-items_text true ds h.1))
+  IsUtf8-items_text later (item d ds) h =
+      IsUtf8-append _ _ (comma later) (IsUtf8-append _ _ (IsUtf8-compact_text d h.0) (IsUtf8-items_text true ds h.1))
 
   IsUtf8-members_text : (later : Bool) (ms : Members) → AreMembersPlain ms → IsUtf8 (members_text later ms)
   IsUtf8-members_text later no_members h = ascii_then 125 [] refl IsUtf8-nil
   IsUtf8-members_text later (member k d ms) h =
-      IsUtf8-append _ _ (comma later) (IsUtf8-append _ _ (IsUtf8-quoted k h.0) (ascii_then 58 _ refl (IsUtf8-append _ _ (IsUtf8-compact_text d h.1) (IsUtf8-members_text true ms h.2))))
+      IsUtf8-append _ _ (comma later)
+      (IsUtf8-append _ _ (IsUtf8-quoted k h.0)
+      (ascii_then 58 _ refl (IsUtf8-append _ _ (IsUtf8-compact_text d h.1) (IsUtf8-members_text true ms h.2))))
 
 -- ---- the value of its outline
 
@@ -162,7 +167,8 @@ joined-none : (ms : Members) → joined ms no_members ≡ ms
 joined-none no_members = refl
 joined-none (member k d ms) = ap (member k d) (joined-none ms)
 
-joined-joined : (ms : Members) (k : List ℕ) (d : Data) (ns : Members) → joined (joined ms (member k d no_members)) ns ≡ joined ms (member k d ns)
+joined-joined : (ms : Members) (k : List ℕ) (d : Data) (ns : Members)
+    → joined (joined ms (member k d no_members)) ns ≡ joined ms (member k d ns)
 joined-joined no_members k d ns = refl
 joined-joined (member l e ms) k d ns = ap (member l e) (joined-joined ms k d ns)
 
@@ -181,7 +187,8 @@ AllBelow-later : (k l : List ℕ) (ms : Members) → slice_cmp nat_cmp k l ≡ L
 AllBelow-later k l no_members less h = tt
 AllBelow-later k l (member j e ms) less h = (nat_list_cmp_total.trans j k l h.0 less, AllBelow-later k l ms less h.1)
 
-AllBelow-joined : (k l : List ℕ) (d : Data) (ms : Members) → slice_cmp nat_cmp k l ≡ Less → AllBelow k ms → AllBelow l (joined ms (member k d no_members))
+AllBelow-joined : (k l : List ℕ) (d : Data) (ms : Members) → slice_cmp nat_cmp k l ≡ Less → AllBelow k ms
+    → AllBelow l (joined ms (member k d no_members))
 AllBelow-joined k l d no_members less h = (less, tt)
 AllBelow-joined k l d (member j e ms) less h = (nat_list_cmp_total.trans j k l h.0 less, AllBelow-joined k l d ms less h.1)
 
@@ -195,7 +202,8 @@ abbrev FollowedBy : Members → Members → Type 0
 FollowedBy found no_members = Unit {0}
 FollowedBy found (member k d ms) = AllBelow k found
 
-follows : (found : Members) (k : List ℕ) (d : Data) (ms : Members) → AllBelow k found → begins_above k ms ≡ true → FollowedBy (joined found (member k d no_members)) ms
+follows : (found : Members) (k : List ℕ) (d : Data) (ms : Members) → AllBelow k found → begins_above k ms ≡ true
+    → FollowedBy (joined found (member k d no_members)) ms
 follows found k d no_members h e = tt
 follows found k d (member l f ms) h e = AllBelow-joined k l d found (less_from _ e) h
 
@@ -217,24 +225,28 @@ mutual
       let p = and_parts _ _ o in
       rw (of_json-outline d h.0 p.0, of_items-outline ds h.1 p.1) refl
 
-  of_members-outline : (ms found : Members) → MembersHaveSmallNumbers ms → are_members_ordered ms ≡ true → FollowedBy found ms → of_members (members_outline ms) found ≡ Some (joined found ms)
+  of_members-outline : (ms found : Members) → MembersHaveSmallNumbers ms → are_members_ordered ms ≡ true → FollowedBy found ms
+      → of_members (members_outline ms) found ≡ Some (joined found ms)
   of_members-outline no_members found h o f = ap Some (sym (joined-none found))
   of_members-outline (member k d ms) found h o f =
       let p = and_parts _ _ o in
       let q = and_parts _ _ p.1 in
       rw (of_json-outline d h.0 q.0, put-above k d found f)
-      (of_members-outline ms (joined found (member k d no_members)) h.1 q.1 (follows found k d ms f p.0) ∙ ap Some (joined-joined found k d ms))
+      (of_members-outline ms (joined found (member k d no_members)) h.1 q.1 (follows found k d ms f p.0)
+      ∙ ap Some (joined-joined found k d ms))
 
   first : (ms : Members) → FollowedBy no_members ms
   first no_members = tt
   first (member k d ms) = tt
 
 -- a text with the tokens of a value reads as the value
-pub json_of-tokens : (text : List ℕ) (d : Data) → IsUtf8 text → tokens text ≡ tree.json_tokens (outline d) → HasSmallNumbers d → is_ordered d ≡ true → depth d ≤ max_depth → json_of text ≡ Some d
+pub json_of-tokens : (text : List ℕ) (d : Data) → IsUtf8 text → tokens text ≡ tree.json_tokens (outline d) → HasSmallNumbers d
+    → is_ordered d ≡ true → depth d ≤ max_depth → json_of text ≡ Some d
 json_of-tokens text d utf8 is small ordered shallow =
     json_of-text text utf8 ∙ read-tokens text d is (rw (depth-outline d) shallow) ∙ of_json-outline d small ordered
 
 -- the compact text of a value reads as the value
 pub json_of-compact_text : (d : Data) → IsPlain d → is_ordered d ≡ true → depth d ≤ max_depth → json_of (compact_text d) ≡ Some d
 json_of-compact_text d plain ordered shallow =
-    json_of-tokens (compact_text d) d (IsUtf8-compact_text d plain) (tokens-compact_text d (HasNumbers-outline d plain)) (HasSmallNumbers-IsPlain d plain) ordered shallow
+    json_of-tokens (compact_text d) d (IsUtf8-compact_text d plain) (tokens-compact_text d (HasNumbers-outline d plain))
+    (HasSmallNumbers-IsPlain d plain) ordered shallow

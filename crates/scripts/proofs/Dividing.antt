@@ -18,7 +18,8 @@ feed b = b == 10
 parts_at : (text : List ℕ) (at : ℕ) → position feed text ≡ Some at
     → slice_split feed text ≡ take at text ∷ slice_split feed (drop (at + 1) text)
 parts_at text at h =
-    let P : Bool → Type 0 = λ t. nat_lt (position_or_len feed text) (length text) ≡ t → slice_split feed text ≡ take at text ∷ slice_split feed (drop (at + 1) text) in
+    let P : Bool → Type 0 = λ t. nat_lt (position_or_len feed text) (length text) ≡ t
+    → slice_split feed text ≡ take at text ∷ slice_split feed (drop (at + 1) text) in
     let go : P (nat_lt (position_or_len feed text) (length text)) = elim (nat_lt (position_or_len feed text) (length text)) as P [
       | true ↦ λ t.
           let found : Some (position_or_len feed text) ≡ Some at = rw t at h in
@@ -62,7 +63,8 @@ some_part (b ∷ text) =
 -- ---- lines
 
 -- a part that is not empty has a line
-begun : (b : ℕ) (first : List ℕ) (more : List (List ℕ)) → (line : List ℕ) × (others : List (List ℕ)) × (lines_of_parts ((b ∷ first) ∷ more) ≡ line ∷ others)
+begun : (b : ℕ) (first : List ℕ) (more : List (List ℕ))
+    → (line : List ℕ) × (others : List (List ℕ)) × (lines_of_parts ((b ∷ first) ∷ more) ≡ line ∷ others)
 begun b first [] = let t : (length (b ∷ first) == 0) ≡ false = grind (arith, nat_tests) in (b ∷ first, [], rw t refl)
 begun b first (part ∷ more) = (strip_carriage_return (b ∷ first), lines_of_parts (part ∷ more), refl)
 
@@ -74,7 +76,12 @@ some_line (b ∷ text) h =
     let line = begun b rest.0 rest.1 in
     let P : Bool → Type 0 = λ t. feed b ≡ t → (first : List ℕ) × (more : List (List ℕ)) × (lines (b ∷ text) ≡ first ∷ more) in
     let go : P (feed b) = elim (feed b) as P [
-      | true ↦ λ t. (strip_carriage_return [], lines_of_parts (rest.0 ∷ rest.1), ap lines_of_parts (slice_split-cons_yes feed b text t ∙ ap (λ (p : List (List ℕ)). [] ∷ p) rest.2))
+      | true ↦ λ t. (
+        strip_carriage_return [],
+        lines_of_parts (rest.0 ∷ rest.1),
+        ap lines_of_parts
+            (slice_split-cons_yes feed b text t ∙ ap (λ (p : List (List ℕ)). [] ∷ p) rest.2),
+      )
       | false ↦ λ t. (line.0, line.1, ap lines_of_parts (slice_split-cons_no feed b text t ∙ ap (onto_first b) rest.2) ∙ line.2)
     ] in go refl
 
@@ -87,7 +94,8 @@ last_by : (number : ℕ) (text : List ℕ) (at : Option ℕ) → position feed t
     → read number (lines text) ≡ last number (watch_of (line_before text at))
 last_by number text None h e = ap (λ (p : List (List ℕ)). read number (lines_of_parts p)) (parts_none text h) ∙ only number text
 last_by number text (Some at) h e =
-    ap (λ (p : List (List ℕ)). read number (lines_of_parts p)) (parts_at text at h ∙ ap (λ (r : List ℕ). take at text ∷ slice_split feed r) e)
+    ap (λ (p : List (List ℕ)). read number (lines_of_parts p))
+    (parts_at text at h ∙ ap (λ (r : List ℕ). take at text ∷ slice_split feed r) e)
 
 -- the last line
 pub last_line : (number : ℕ) (text : List ℕ) → rest_of_lines text ≡ [] → read number (lines text) ≡ last number (watch_of (first_line text))

@@ -24,7 +24,8 @@ pub start : (text : List ℕ) → script_of text ≡ following [] (read 1 (lines
 unfolding script_of
 start text = nothing_read (read 1 (lines text))
 
-added : (steps new : List Step) (step : Option Step) (number : ℕ) (rest : Said) → Adds steps step new → following steps (line_then number step rest) ≡ following new rest
+added : (steps new : List Step) (step : Option Step) (number : ℕ) (rest : Said) → Adds steps step new
+    → following steps (line_then number step rest) ≡ following new rest
 added steps new None number rest h = absurd h
 added steps new (Some step) number (Err line) h = refl
 added steps new (Some step) number (Ok rest) h =
@@ -44,7 +45,8 @@ refused_by script steps None number rest (Line line) h r = h ∙ ap Err (sym r.0
 refused_by script steps step number rest Write h r = absurd r
 refused_by script steps step number rest NoMemory h r = tt
 
-pub refused : (text rest : List ℕ) (steps : List Step) (number : ℕ) (fault : ScriptFault) → script_of text ≡ following steps (read number (lines rest))
+pub refused : (text rest : List ℕ) (steps : List Step) (number : ℕ) (fault : ScriptFault)
+    → script_of text ≡ following steps (read number (lines rest))
     → 0 < length (rest_of_lines rest) → Refuses fault number (step_of (first_line rest)) → Reads (Err fault) (script_of text)
 refused text rest steps number fault left some h =
     refused_by (script_of text) steps (step_of (first_line rest)) number (read (number + 1) (lines (rest_of_lines rest))) fault
@@ -54,8 +56,10 @@ nothing : (bytes : List ℕ) → length bytes ≡ 0 → bytes ≡ []
 nothing [] h = refl
 nothing (b ∷ bytes) h = absurd (omega arith)
 
-pub ended : (text rest : List ℕ) (steps : List Step) (number : ℕ) (result : Result Script ScriptFault) → script_of text ≡ following steps (read number (lines rest))
-    → length (rest_of_lines rest) ≡ 0 → Reads result (following steps (last number (watch_of (first_line rest)))) → Reads result (script_of text)
+pub ended : (text rest : List ℕ) (steps : List Step) (number : ℕ) (result : Result Script ScriptFault)
+    → script_of text ≡ following steps (read number (lines rest))
+    → length (rest_of_lines rest) ≡ 0 → Reads result (following steps (last number (watch_of (first_line rest))))
+    → Reads result (script_of text)
 ended text rest steps number result left none h =
     let P : Said → Type 0 = λ said. Reads result said in
     subst P (sym (left ∙ ap (following steps) (last_line number rest (nothing (rest_of_lines rest) none)))) h

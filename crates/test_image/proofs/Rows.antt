@@ -17,19 +17,26 @@ single : (P : Row → Type 0) (row : Row) → P row → All P (row ∷ [])
 single P row holds zero d h = holds
 single P row holds (suc k) d h = absurd (omega arith)
 
-pub rising-push : (rows : List Row) (row : Row) (line address : ℕ) → IsRising rows line address → line ≤ line_in row → address ≤ start_of row → start_of row % 4 ≡ 0 → 1 ≤ words_in row → IsRising (rows ++ row ∷ []) (line_in row + 1) (end_of row)
+pub rising-push : (rows : List Row) (row : Row) (line address : ℕ) → IsRising rows line address → line ≤ line_in row
+    → address ≤ start_of row → start_of row % 4 ≡ 0 → 1 ≤ words_in row → IsRising (rows ++ row ∷ []) (line_in row + 1) (end_of row)
 rising-push rows row line address rising later after aligned words =
     let before : All (λ each. line_in each < line_in row) rows = λ k d h. let e = rising.lines k d h in omega arith in
     let from : first_address ≤ address = rising.first in
     record {
       rise = rows_rise-push rows row address rising.rise after before (omega arith) aligned words;
-      lines = All-append (λ each. line_in each < line_in row + 1) rows (row ∷ []) (λ k d h. let e = rising.lines k d h in omega arith) (single (λ each. line_in each < line_in row + 1) row (omega arith));
+      lines =
+          All-append (λ each. line_in each < line_in row + 1) rows (row ∷ []) (λ k d h. let e = rising.lines k d h in omega arith)
+          (single (λ each. line_in each < line_in row + 1) row (omega arith));
       first = omega arith;
     }
 
 -- The rows before an index that rise, rise with the row there where it is of a later line and starts where they end or after that.
-pub rising-step : (rows : List Row) (index line address number start words : ℕ) → index < length rows → get_or rows index (0, 0, 0) ≡ (number, start, words) → IsRising (take index rows) line address → line ≤ number → address ≤ start → start % 4 ≡ 0 → 1 ≤ words → IsRising (take (index + 1) rows) (number + 1) (start + 4 * words)
+pub rising-step : (rows : List Row) (index line address number start words : ℕ) → index < length rows
+    → get_or rows index (0, 0, 0) ≡ (number, start, words) → IsRising (take index rows) line address → line ≤ number → address ≤ start
+    → start % 4 ≡ 0 → 1 ≤ words → IsRising (take (index + 1) rows) (number + 1) (start + 4 * words)
 rising-step rows index line address number start words within here rising later after aligned some =
     let one : index + 1 ≡ suc index = omega arith in
-    let more : take (index + 1) rows ≡ take index rows ++ (number, start, words) ∷ [] = rw one (take-suc rows index (0, 0, 0) within ∙ ap (λ row. take index rows ++ row ∷ []) here) in
-    subst (λ all. IsRising all (number + 1) (start + 4 * words)) (sym more) (rising-push (take index rows) (number, start, words) line address rising later after aligned some)
+    let more : take (index + 1) rows ≡ take index rows ++ (number, start, words) ∷ [] = rw one
+    (take-suc rows index (0, 0, 0) within ∙ ap (λ row. take index rows ++ row ∷ []) here) in
+    subst (λ all. IsRising all (number + 1) (start + 4 * words)) (sym more)
+    (rising-push (take index rows) (number, start, words) line address rising later after aligned some)

@@ -21,7 +21,7 @@ use Rattle.transport.specs.Heard.{has_fault}
 use Rattle.transport.specs.Heard.{is_looked_at, messages_of, messages_in, Heard, HasHeard, and_gave, NextFails, Unread, HasRead, AllGiven, IsUnfinished, and_read}
 use Rattle.transport.specs.Servers.{Polled, Gave, Polls}
 use Rattle.transport.specs.Inbox.{Takes, polled_of, Reads, Listens}
-use Rattle.session.proofs.Firsts.{first_some}
+use Rattle.session_laws.proofs.Firsts.{first_some}
 
 messages_of-append : (xs ys : List (List ℕ)) → messages_of (xs ++ ys) ≡ messages_of xs ++ messages_of ys
 messages_of-append xs ys =

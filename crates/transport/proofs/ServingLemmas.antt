@@ -158,7 +158,8 @@ cuts (CallFailed part) t mid kept c l d = absurd c
 cuts NoRoom t mid kept c l d = absurd c
 cuts NoAnswer t mid kept c l d = d t l
 cuts (PieceLost piece) t mid kept c l d = subst (Stands kept) (dropped_twice t) (d (Effect t DropConnection) l)
-cuts TimeCut t mid kept c l d = (l.0, record { count = l.1.count; goes_on = l.1.goes_on; moves = l.1.moves; holds = d _ l.1.holds })
+cuts TimeCut t mid kept c l d =
+    (l.0, record { count = l.1.count; goes_on = l.1.goes_on; moves = l.1.moves; lacks = l.1.lacks; holds = d _ l.1.holds })
 cuts TurnsMade t mid kept c l d = d t l
 
 has_left : (cause : Cause) (t : Session) (mid : Kept) → HasLeft cause → Leaves cause t mid → Stands mid (Effect t DropConnection)
@@ -248,7 +249,8 @@ are_iterations-append known n s [] ys a b = subst (λ (m : ℕ). AreIterations k
 are_iterations-append known n s (x ∷ xs) ys a b = (
   a.0,
   are_iterations-append known (n - turns_in x) (after_iteration s x) xs ys a.1
-      (subst (λ (m : ℕ). AreIterations known m (after_iterations (after_iteration s x) xs) ys) (less-less n (turns_in x) (turns_taken xs)) b),
+      (subst (λ (m : ℕ). AreIterations known m (after_iterations (after_iteration s x) xs) ys)
+      (less-less n (turns_in x) (turns_taken xs)) b),
 )
 
 turns_taken-append : (xs ys : List Iteration) → turns_taken (xs ++ ys) ≡ turns_taken xs + turns_taken ys

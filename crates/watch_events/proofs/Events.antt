@@ -1,10 +1,10 @@
 -- What is kept while events are done stays so: of each event.
 use Rattle.std.proofs.Common.{◌≡◌, ℕ, zero, suc, ◌+◌, Bool, true, false, cond, eqb, leb, ltb, List, [], ◌∷◌, ◌++◌, length, get_or, Option, Some, None, option_map, Result, Ok, Err, refl, sym, ap, ◌∙◌, subst, arith}
 use Rattle.std.proofs.lemmas.Bool.Decides.{nat_tests}
-use Rattle.session.proofs.ByForms.{on}
+use Rattle.session_laws.proofs.ByForms.{on}
 use Rattle.session.proofs.Reaching.{if_keeps}
-use Rattle.session.proofs.Reading.{up_to_fault-append}
-use Rattle.session.proofs.Refusing.{refused_changes_nothing}
+use Rattle.session_laws.proofs.Reading.{up_to_fault-append}
+use Rattle.session_laws.proofs.Refusing.{refused_changes_nothing}
 use Rattle.session.specs.Effects.{after_all, performed}
 use Rattle.session.specs.Kept.{Kept, Stands}
 use Rattle.session.specs.Outcomes.{Outcome, done, outcome_at, refused}
@@ -208,7 +208,8 @@ accepted_by (Some l) piece s e =
       by true closing b c e = absurd (let no : (let r : Result Applied EventError = Err error.Closing in r) ≡ Ok applied.Recv = e in cc)
       by false closing true c e =
           absurd (let no : (let r : Result Applied EventError = Err error.PieceTooLong in r) ≡ Ok applied.Recv = e in cc)
-      by false closing false true e = absurd (let no : (let r : Result Applied EventError = Err error.Busy in r) ≡ Ok applied.Recv = e in cc)
+      by false closing false true e =
+          absurd (let no : (let r : Result Applied EventError = Err error.Busy in r) ≡ Ok applied.Recv = e in cc)
       by false closing false false e =
           if_keeps (λ (x : Session). Accepted t x piece) l.is_closing t _ (λ is. absurd (let no : true ≡ false = sym is ∙ closing in cc))
           (λ _. record { before = refl; said = refl; accepted = refl; connections = refl })

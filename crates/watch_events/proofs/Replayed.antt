@@ -9,8 +9,8 @@ use Rattle.mirror.specs.Kept.{Kept, facts_of}
 use Rattle.mirror.specs.Streams.{Input, after, stream_fault}
 use Rattle.mirror.specs.Streams.Input.{Sent, Fed}
 use Rattle.protocol.specs.declared.request.Request.{Request as ARequest}
-use Rattle.session.proofs.Cuts.{requests_are_read}
-use Rattle.session.proofs.Reading.{asks_up_to}
+use Rattle.session_laws.proofs.Cuts.{requests_are_read}
+use Rattle.session_laws.proofs.Reading.{asks_up_to}
 use Rattle.session.specs.Arrivals.{asks_of}
 use Rattle.session.specs.Begins.{AreRight, HasBegun}
 use Rattle.session.specs.Config.{HasImage}

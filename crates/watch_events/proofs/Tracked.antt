@@ -4,7 +4,7 @@ use Rattle.replies.specs.declared.message.Message.{Message}
 use Rattle.std.specs.Prelude.{OnOk}
 use Rattle.std.specs.declared.alloc.AllocError.{AllocError}
 use Rattle.session.proofs.Enough.{each_ends}
-use Rattle.session.proofs.Joined.{Still, at_end, at_once, histories_follow, slices_join}
+use Rattle.session_laws.proofs.Joined.{Still, at_end, at_once, histories_follow, slices_join}
 use Rattle.session.specs.Acts.{Now}
 use Rattle.session.specs.Effects.{EndsWell, Slicing, ended_as, enough, ran_out_at, slice_answer, sliced}
 use Rattle.session.specs.Kept.{Happens, Kept, Stands, answered}

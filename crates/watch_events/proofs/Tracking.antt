@@ -11,8 +11,8 @@ use Rattle.mirror.specs.Streams.{messages_so_far, stream_fault}
 use Rattle.replies.specs.declared.event.Event.TheVariants as event
 use Rattle.replies.specs.declared.message.Message.{Message}
 use Rattle.replies.specs.declared.message.Message.TheVariants.{Response as IsResponse, Event as IsEvent}
-use Rattle.session.proofs.Waiting.{all_counted}
-use Rattle.session.proofs.Waiting.{every_byte_is_taken_or_waits}
+use Rattle.session_laws.proofs.Waiting.{all_counted}
+use Rattle.session_laws.proofs.Waiting.{every_byte_is_taken_or_waits}
 use Rattle.session.specs.Acts.{Now}
 use Rattle.session.specs.Kept.{Kept, Stands}
 use Rattle.session.specs.Sessions.{Life, Said, Session, Snapshot, bytes_of, frame_said, life_of, no_life, not_taken, snapshot_of, up_to_fault, waiting_of}

@@ -14,7 +14,7 @@ use Rattle.protocol.specs.declared.request.Incoming.TheVariants.{Request as IsRe
 use Rattle.protocol.specs.declared.request.MessageError.{MessageError}
 use Rattle.protocol.specs.declared.request.Request.{Request as ARequest}
 use Rattle.session.specs.Arrivals.{asks_of}
-use Rattle.session.specs.Begins.{AreRight, Begins}
+use Rattle.session.specs.Begins.{AreRight, Begins, beginning_of}
 use Rattle.session.specs.Config.{HasImage}
 use Rattle.session.specs.Sessions.{After, Beginning, Session, bytes_of, life_of}
 use Rattle.session.specs.Shown.{shown}
@@ -36,14 +36,7 @@ use Rattle.watch_events.specs.declared.watching.Watched.{Watched}
 pub record Begun (config : Config) (limits : Limits) (P : Beginning → Type 0) : Type 0 where
   pub right : AreRight config limits
   pub image : HasImage config.program config.memory_size
-  pub so : P (record {
-    limits = limits;
-    size = config.memory_size;
-    program = config.program;
-    numbers = right.numbers;
-    memory = right.size;
-    image = image;
-  })
+  pub so : P (beginning_of config limits right image)
 
 -- a connection of this number was made
 abbrev pub IsMade : Session → ℕ → Type 0

@@ -13,5 +13,6 @@ returns-then-value-from c =
     let same : digits_value c.args.radix ds ≡ digits_value_after c.args.radix v (drop i ds) = c.loop-digit.invariant.same in
     let d : c.digit_value.result ≡ digit_value (slice_index_or ds i 0) = c.digit_value.ensures.value in
     let r : c.from.result ≡ c.args.radix = c.from.ensures in
-    let above : c.from-in-loop-digit-2.result < v * c.args.radix + digit_value (slice_index_or ds i 0) = rw (sym r) (rw (sym d) (rw (sym c.from-in-loop-digit.ensures) c.if-value-from.true)) in
+    let above : c.from-in-loop-digit-2.result < v * c.args.radix + digit_value (slice_index_or ds i 0) = rw (sym r)
+    (rw (sym d) (rw (sym c.from-in-loop-digit.ensures) c.if-value-from.true)) in
     sym (too_large _ (omega (arith, above, c.from-in-loop-digit-2.ensures, same, past)))

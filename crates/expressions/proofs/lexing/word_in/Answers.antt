@@ -7,4 +7,7 @@ use Rattle.expressions.proofs.lexing.word_in.Goals as goal
 pub returns : goal.returns
 returns c =
     let bytes = c.args.bytes.now in
-    word_or_not bytes c.register_in.result c.requires (λ e. absurd (true≢false (sym ((bytes_eq-Decides bytes c.as_slice.result.now).1 (e ∙ sym c.as_slice.ensures)) ∙ sym c.eq.ensures ∙ c.if-eq.false))) (λ n h. c.in_default.not-Ok n (c.magnitude.ensures ∙ h)) c.register_in.ensures.names c.register_in.ensures.none
+    word_or_not bytes c.register_in.result c.requires
+    (λ e. absurd (true≢false
+    (sym ((bytes_eq-Decides bytes c.as_slice.result.now).1 (e ∙ sym c.as_slice.ensures)) ∙ sym c.eq.ensures ∙ c.if-eq.false)))
+    (λ n h. c.in_default.not-Ok n (c.magnitude.ensures ∙ h)) c.register_in.ensures.names c.register_in.ensures.none

@@ -5,4 +5,7 @@ use Rattle.expressions.proofs.Shifted.{none_here}
 use Rattle.expressions.proofs.parsing.parse.Goals as goal
 
 pub returns-in-None : goal.returns-in-None
-returns-in-None c = sym (c.loop-token.invariant ∙ none_here c.args.tokens.now c.loop-token.token-index (place_of c.loop-token.state) c.token-item.result c.loop-token-test.true (sym c.token-item.is) (sym c.in_ok-next.ensures ∙ ap (option_map place_of) c.in-None.is))
+returns-in-None c =
+    sym (c.loop-token.invariant
+    ∙ none_here c.args.tokens.now c.loop-token.token-index (place_of c.loop-token.state) c.token-item.result c.loop-token-test.true
+    (sym c.token-item.is) (sym c.in_ok-next.ensures ∙ ap (option_map place_of) c.in-None.is))

@@ -9,7 +9,8 @@ loop-i-init c = past_start c.args.bytes.now c.max-i.result c.args.searched c.req
 pub returns-then-bytes-i-eq-LF-2-clause-size : goal.returns-then-bytes-i-eq-LF-2-clause-size
 returns-then-bytes-i-eq-LF-2-clause-size c =
     sym (size_here c.args.bytes.now c.loop-i.i (c.loop-i.i - 3) c.loop-i.invariant (omega arith) (omega arith)
-    (mark_to c.args.bytes.now c.loop-i.i c.if-bytes-i-eq-CR.true c.if-bytes-i-eq-LF.true c.if-bytes-i-eq-CR-2.true c.if-bytes-i-eq-LF-2.true (omega arith) (omega arith)))
+    (mark_to c.args.bytes.now c.loop-i.i c.if-bytes-i-eq-CR.true c.if-bytes-i-eq-LF.true c.if-bytes-i-eq-CR-2.true c.if-bytes-i-eq-LF-2.true
+    (omega arith) (omega arith)))
 
 pub loop-i-preserved : goal.loop-i-preserved
 loop-i-preserved c =

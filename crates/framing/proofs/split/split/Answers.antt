@@ -10,7 +10,8 @@ of-start-requires c = past_nothing c.in-Some.after.now
 
 pub loop-body-smaller : goal.loop-body-smaller
 loop-body-smaller c =
-    (reading_some c.args.limit c.loop-body.rest.now c.in-Some.body.now c.in-Some.after.now c.loop-body.start c.loop-body.invariant.starts (sym c.in-Some.ensures.parts)).smaller
+    (reading_some c.args.limit c.loop-body.rest.now c.in-Some.body.now c.in-Some.after.now c.loop-body.start c.loop-body.invariant.starts
+    (sym c.in-Some.ensures.parts)).smaller
 
 pub loop-body-preserved : goal.loop-body-preserved
 loop-body-preserved c =
@@ -22,4 +23,7 @@ loop-body-preserved c =
     subst (λ (x : List (List ℕ)). Reached c.args.limit c.args.bytes.now x c.of-start.result c.in-Some.after.now) (sym bodies) more
 
 pub returns : goal.returns
-returns c = reached_end c.args.limit c.args.bytes.now (bodies_of c.loop-body.bodies.items) c.loop-body.start c.loop-body.rest.now c.loop-body.invariant (sym (rw c.in_default.is at c.parts.ensures.parts))
+returns c =
+    reached_end c.args.limit c.args.bytes.now
+    (bodies_of c.loop-body.bodies.items) c.loop-body.start c.loop-body.rest.now c.loop-body.invariant
+    (sym (rw c.in_default.is at c.parts.ensures.parts))

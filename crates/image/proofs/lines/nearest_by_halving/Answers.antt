@@ -7,12 +7,18 @@ use Rattle.image.proofs.lines.nearest_by_halving.Goals as goal
 use Rattle.image.proofs.lines.nearest_by_halving.Goals.{After-partition_point-count, After-partition_point-index}
 
 -- how many addresses are not above the one that is looked for
-counted : (c : After-partition_point-count) → IsPartitionPoint (λ e. nat_le e.1 c.args.addr ≡ true) (λ e. nat_le e.1 c.args.addr ≡ false) c.args.labels.now.entries c.partition_point-count.result
-counted c = c.partition_point-count.ensures.partitioned (λ e. nat_le e.1 c.args.addr) (always_returns_same _ _ _ (λ a r f k. search (rules, of_calls)))
+counted : (c : After-partition_point-count)
+    → IsPartitionPoint (λ e. nat_le e.1 c.args.addr ≡ true) (λ e. nat_le e.1 c.args.addr ≡ false) c.args.labels.now.entries c.partition_point-count.result
+counted c =
+    c.partition_point-count.ensures.partitioned (λ e. nat_le e.1 c.args.addr)
+    (always_returns_same _ _ _ (λ a r f k. search (rules, of_calls)))
     (λ i j d l m up. le_tested c.args.labels.now.entries c.args.addr d c.requires i j l m up)
 
-placed : (c : After-partition_point-index) → IsPartitionPoint (λ e. nat_lt e.1 c.address_at-greatest.result ≡ true) (λ e. nat_lt e.1 c.address_at-greatest.result ≡ false) c.args.labels.now.entries c.partition_point-index.result
-placed c = c.partition_point-index.ensures.partitioned (λ e. nat_lt e.1 c.address_at-greatest.result) (always_returns_same _ _ _ (λ a r f k. search (rules, of_calls)))
+placed : (c : After-partition_point-index)
+    → IsPartitionPoint (λ e. nat_lt e.1 c.address_at-greatest.result ≡ true) (λ e. nat_lt e.1 c.address_at-greatest.result ≡ false) c.args.labels.now.entries c.partition_point-index.result
+placed c =
+    c.partition_point-index.ensures.partitioned (λ e. nat_lt e.1 c.address_at-greatest.result)
+    (always_returns_same _ _ _ (λ a r f k. search (rules, of_calls)))
     (λ i j d l m up. lt_tested c.args.labels.now.entries c.address_at-greatest.result d c.requires i j l m up)
 
 pub returns-then-count-eq0 : goal.returns-then-count-eq0

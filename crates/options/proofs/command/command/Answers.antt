@@ -11,7 +11,8 @@ returns c =
     let listen_is = c.in_ok-arg-2.ensures.shape c.listen.ensures.local ∙ ap₂ with_rule memory_is c.listen.ensures.rule in
     let program_is = c.in_ok-arg-3.ensures.shape c.program.ensures.local ∙ ap₂ with_rule listen_is c.program.ensures.rule in
     let once_is = c.in_ok-arg-4.ensures.shape c.once.ensures.local ∙ ap₂ with_rule program_is c.once.ensures.rule in
-    let asm_is = c.in_ok-subcommand.ensures.shape c.in_ok-asm.ensures.1 ∙ ap₂ with_subcommand once_is (ap (λ (a : App). a.top) c.in_ok-asm.ensures.0) in
+    let asm_is = c.in_ok-subcommand.ensures.shape c.in_ok-asm.ensures.1
+    ∙ ap₂ with_subcommand once_is (ap (λ (a : App). a.top) c.in_ok-asm.ensures.0) in
     IfOk-weaker c.subcommand-2.result _ _
     (λ r added. added.shape c.in_ok-watch.ensures.1 ∙ ap₂ with_subcommand asm_is (ap (λ (a : App). a.top) c.in_ok-watch.ensures.0))
     c.subcommand-2.ensures

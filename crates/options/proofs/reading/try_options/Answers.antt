@@ -6,17 +6,22 @@ use Rattle.options.proofs.Consistent.{consistent}
 use Rattle.options.proofs.reading.try_options.Goals as goal
 
 pub returns-in_err-matches-clause-answers : goal.returns-in_err-matches-clause-answers
-returns-in_err-matches-clause-answers c = refused (app_of c.in_ok-command.command) (map string_bytes c.args.words.now) c.in_err-matches.field-0.0 c.from_residual-in_err-matches.result c.in_ok-command.ensures c.in_err-matches.ensures.kinds c.from_residual-in_err-matches.ensures.1
+returns-in_err-matches-clause-answers c =
+    refused (app_of c.in_ok-command.command)
+    (map string_bytes c.args.words.now) c.in_err-matches.field-0.0 c.from_residual-in_err-matches.result c.in_ok-command.ensures c.in_err-matches.ensures.kinds c.from_residual-in_err-matches.ensures.1
 
 pub returns-in_err-matches-clause-consistent : goal.returns-in_err-matches-clause-consistent
-returns-in_err-matches-clause-consistent c = not_ok c.from_residual-in_err-matches.result IsConsistent c.from_residual-in_err-matches.ensures.0
+returns-in_err-matches-clause-consistent c =
+    not_ok c.from_residual-in_err-matches.result IsConsistent c.from_residual-in_err-matches.ensures.0
 
 pub returns-in-Ok : goal.returns-in-Ok
 returns-in-Ok c =
-    let is = taken (app_of c.in_ok-command.command) (map string_bytes c.args.words.now) c.in_ok-matches.matches c.in_ok-command.ensures c.in_ok-matches.ensures.kinds c.in_ok-matches.ensures.ok.2 ∙ c.in-Ok.ensures in
+    let is = taken (app_of c.in_ok-command.command)
+    (map string_bytes c.args.words.now) c.in_ok-matches.matches c.in_ok-command.ensures c.in_ok-matches.ensures.kinds c.in_ok-matches.ensures.ok.2 ∙ c.in-Ok.ensures in
     record { answers = is; consistent = consistent (map string_bytes c.args.words.now) c.in-Ok.options is }
 
 pub returns-clause-answers : goal.returns-clause-answers
 returns-clause-answers c =
-    let is = taken (app_of c.in_ok-command.command) (map string_bytes c.args.words.now) c.in_ok-matches.matches c.in_ok-command.ensures c.in_ok-matches.ensures.kinds c.in_ok-matches.ensures.ok.2 in
+    let is = taken (app_of c.in_ok-command.command)
+    (map string_bytes c.args.words.now) c.in_ok-matches.matches c.in_ok-command.ensures c.in_ok-matches.ensures.kinds c.in_ok-matches.ensures.ok.2 in
     broken (map string_bytes c.args.words.now) _ c.in-Err.fault c.error_of.result is c.in-Err.ensures c.error_of.ensures

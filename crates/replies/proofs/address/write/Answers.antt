@@ -6,7 +6,9 @@ use Rattle.replies.proofs.Appending.{IsWritten-token}
 use Rattle.replies.proofs.address.write.Goals as goal
 
 pub unreachable-requires : goal.unreachable-requires
-unreachable-requires c = c.in-Err.ensures.cases.0 (rw c.text_of.ensures (IsUtf8-are_ascii (address_text c.args.word) (ascii-address_text c.args.word c.ranges.word.fits)))
+unreachable-requires c =
+    c.in-Err.ensures.cases.0
+    (rw c.text_of.ensures (IsUtf8-are_ascii (address_text c.args.word) (ascii-address_text c.args.word c.ranges.word.fits)))
 
 pub returns : goal.returns
 returns c =

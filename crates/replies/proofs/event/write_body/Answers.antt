@@ -2,4 +2,5 @@ use Rattle.replies.proofs.Appending.{member_if_written}
 use Rattle.replies.proofs.event.write_body.Goals as goal
 
 pub returns-in_ok-key-in-Continued : goal.returns-in_ok-key-in-Continued
-returns-in_ok-key-in-Continued c = rw c.in-Continued.is (member_if_written _ _ c.body.result c.in_ok-key-in-Continued.ensures c.body.ensures)
+returns-in_ok-key-in-Continued c =
+    rw c.in-Continued.is (member_if_written _ _ c.body.result c.in_ok-key-in-Continued.ensures c.body.ensures)

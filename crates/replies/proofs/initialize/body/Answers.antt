@@ -10,4 +10,6 @@ small [] = tt
 small (name ∷ names) = (tt, small names)
 
 pub returns : goal.returns
-returns c = object_written c.end_object.result c.in_ok-begin_object.ensures (record { appends = c.in_ok-all_true.ensures; small = small capabilities }) c.end_object.ensures
+returns c =
+    object_written c.end_object.result c.in_ok-begin_object.ensures
+    (record { appends = c.in_ok-all_true.ensures; small = small capabilities }) c.end_object.ensures

@@ -6,7 +6,9 @@ use Rattle.replies.proofs.InstructionBytes.{ascii-bytes_text}
 use Rattle.replies.proofs.instruction_bytes.write.Goals as goal
 
 pub unreachable-requires : goal.unreachable-requires
-unreachable-requires c = c.in-Err.ensures.cases.0 (rw c.text_of.ensures (IsUtf8-are_ascii (bytes_text c.args.word) (ascii-bytes_text c.args.word c.ranges.word.fits)))
+unreachable-requires c =
+    c.in-Err.ensures.cases.0
+    (rw c.text_of.ensures (IsUtf8-are_ascii (bytes_text c.args.word) (ascii-bytes_text c.args.word c.ranges.word.fits)))
 
 pub returns : goal.returns
 returns c =

@@ -7,4 +7,6 @@ pub returns-clause-value : goal.returns-clause-value
 returns-clause-value c = json_of-text_of
 
 pub returns-clause-message : goal.returns-clause-message
-returns-clause-message c = λ seq message in_range proper texts. reading_of-message_data (text_of seq message) seq message in_range proper (json_of-text_of seq message in_range proper texts)
+returns-clause-message c =
+    λ seq message in_range proper texts. reading_of-message_data (text_of seq message) seq message in_range proper
+    (json_of-text_of seq message in_range proper texts)

@@ -15,4 +15,5 @@ returns c =
     let is : c.from.result ≡ c.args.value = c.from.ensures ∙ to_z-of_z w32 c.args.value fits in
     let passed : to_z w64 (of_z w64 c.from.result) ≡ c.args.value = ap (λ y. to_z w64 (of_z w64 y)) is ∙ to_z-of_z w64 c.args.value wide in
     member_if_written _ _ c.i64.result c.in_ok-key.ensures
-    (IsWritten-signed c.args.value fits c.i64.result (subst (λ x. Writes c.i64.result c.key.new.self c.i64.new.self (digits (signed_decimal x))) passed c.i64.ensures))
+    (IsWritten-signed c.args.value fits c.i64.result
+    (subst (λ x. Writes c.i64.result c.key.new.self c.i64.new.self (digits (signed_decimal x))) passed c.i64.ensures))

@@ -7,4 +7,5 @@ use Rattle.replies.proofs.part.read_each.Given as goal
 -- the list is taken for the entries so far, and then for what is left of it
 abbrev pub invariant-loop-value : goal.invariant-loop-value
 invariant-loop-value g l =
-    all_found g.T.Part.form.found (items_view l.values) ≡ with_others l.entries.items (all_found g.T.Part.form.found (items_view (drop l.value-index l.values)))
+    all_found g.T.Part.form.found (items_view l.values) ≡ with_others l.entries.items
+    (all_found g.T.Part.form.found (items_view (drop l.value-index l.values)))

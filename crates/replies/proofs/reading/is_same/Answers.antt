@@ -10,4 +10,5 @@ returns c =
     let written = c.in_ok-written.ensures in
     c.eq.ensures
     ∙ rw (c.as_slice.ensures.value, c.as_slice-2.ensures.value)
-    (bytes_eq-texts _ _ _ _ (text.reads_back c.requires) (read-from_json_of _ _ written.value) text.text written.text (has_float-message_data c.args.seq c.args.message.now))
+    (bytes_eq-texts _ _ _ _ (text.reads_back c.requires) (read-from_json_of _ _ written.value) text.text written.text
+    (has_float-message_data c.args.seq c.args.message.now))

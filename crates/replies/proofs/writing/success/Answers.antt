@@ -5,4 +5,5 @@ use Rattle.replies.proofs.writing.success.Goals as goal
 pub returns : goal.returns
 returns c =
     object_written c.end_object.result c.in_ok-begin_object.ensures
-    (if_then _ _ (body_data c.args.body.now) c.in_ok-write_body.ensures (and_then c.in_ok-text.ensures c.in_ok-last_members.ensures)) c.end_object.ensures
+    (if_then _ _ (body_data c.args.body.now) c.in_ok-write_body.ensures
+    (and_then c.in_ok-text.ensures c.in_ok-last_members.ensures)) c.end_object.ensures

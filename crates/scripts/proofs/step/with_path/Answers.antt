@@ -10,4 +10,5 @@ returns-in_ok-of-in-Ok c =
     a_path c.args.path.now c.in_ok-of-in-Ok.field-0 (is_utf8-from_IsUtf8 _ c.in-Ok.ensures.cases.1) (rw same at c.in_ok-of-in-Ok.ensures)
 
 pub returns-in-Err : goal.returns-in-Err
-returns-in-Err c = no_path c.args.path.now (false_from_ne_true (is_utf8 c.args.path.now) (λ e. c.in-Err.ensures.cases.0 (IsUtf8-from_is_utf8 _ e)))
+returns-in-Err c =
+    no_path c.args.path.now (false_from_ne_true (is_utf8 c.args.path.now) (λ e. c.in-Err.ensures.cases.0 (IsUtf8-from_is_utf8 _ e)))

@@ -16,4 +16,5 @@ loop-row-preserved c =
     let start : c.loop-row.address ≤ start_of row = omega arith in
     let words : 1 ≤ words_in row = omega arith in
     rw (c.from-line.ensures, c.from-in-loop-row.ensures, c.from-in-loop-row-2.ensures)
-    (rising-step c.args.rows.now index c.loop-row.line c.loop-row.address (line_in row) (start_of row) (words_in row) c.loop-row-test.true refl c.loop-row.invariant line start c.if-row-ne0.false words)
+    (rising-step c.args.rows.now index c.loop-row.line c.loop-row.address (line_in row) (start_of row)
+    (words_in row) c.loop-row-test.true refl c.loop-row.invariant line start c.if-row-ne0.false words)

@@ -7,13 +7,15 @@ pub returns-in_default-clause-went : goal.returns-in_default-clause-went
 returns-in_default-clause-went g c line = answers_none line c.args.session.now c.requires
 
 pub returns-in-Ok-turn_with-clause-went : goal.returns-in-Ok-turn_with-clause-went
-returns-in-Ok-turn_with-clause-went g c line = answers_over _ c.args.since line c.args.session.now c.turn_with.new.session c.in-Ok.file c.turn_with.result c.requires c.in-Ok.ensures c.turn_with.ensures.stands (found_ok c.turn_with.result _ c.in-Ok-turn_with.is)
+returns-in-Ok-turn_with-clause-went g c line =
+    answers_over _ c.args.since line c.args.session.now c.turn_with.new.session c.in-Ok.file c.turn_with.result c.requires c.in-Ok.ensures c.turn_with.ensures.stands (found_ok c.turn_with.result _ c.in-Ok-turn_with.is)
 
 pub returns-in-NoMemory-clause-went : goal.returns-in-NoMemory-clause-went
 returns-in-NoMemory-clause-went g c line = rw c.in-Err.ensures.err (answers_none line c.args.session.now c.requires)
 
 pub returns-in_default-error : goal.returns-in_default-error
 returns-in_default-error g c = record {
-  went = λ line. answers_over _ c.args.since line c.args.session.now c.turn_with.new.session c.in-Ok.file c.turn_with.result c.requires c.in-Ok.ensures c.turn_with.ensures.stands (found_err c.turn_with.result c.in-Err.error c.in-Err.is c.in_default-error.not-NoMemory);
+  went =
+      λ line. answers_over _ c.args.since line c.args.session.now c.turn_with.new.session c.in-Ok.file c.turn_with.result c.requires c.in-Ok.ensures c.turn_with.ensures.stands (found_err c.turn_with.result c.in-Err.error c.in-Err.is c.in_default-error.not-NoMemory);
   same = refl;
 }

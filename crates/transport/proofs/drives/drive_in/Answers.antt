@@ -10,7 +10,8 @@ returns-in-Err-clause-drove g c s st =
 pub driving-preserved : goal.driving-preserved
 driving-preserved g c = record {
   since = few_next c.turn.result _ c.in-Ok.is c.turn.ensures.since;
-  driving = λ s st. goes_on_with _ _ _ _ c.driving.made c.driving.since s c.driving.session c.turn.new.session c.turn.result _ c.in-Ok.is c.turn.ensures.went (c.driving.invariant.driving s st);
+  driving =
+      λ s st. goes_on_with _ _ _ _ c.driving.made c.driving.since s c.driving.session c.turn.new.session c.turn.result _ c.in-Ok.is c.turn.ensures.went (c.driving.invariant.driving s st);
 }
 
 pub returns-clause-drove : goal.returns-clause-drove

@@ -21,4 +21,6 @@ returns-in-Ok-End-clause-went g c known =
     (input_ended _ _ c.args.session.now c.leave.new.session Run c.requires.due c.requires.polls ended.0 ended.1 c.leave.ensures.dropped)
 
 pub returns-in-Err-clause-went : goal.returns-in-Err-clause-went
-returns-in-Err-clause-went g c known = rw c.leave-in-Err.ensures.end (comes_fail _ _ c.args.session.now c.leave-in-Err.new.session Run c.requires.due c.requires.polls c.in-Err.ensures.bytes c.leave-in-Err.ensures.dropped)
+returns-in-Err-clause-went g c known =
+    rw c.leave-in-Err.ensures.end
+    (comes_fail _ _ c.args.session.now c.leave-in-Err.new.session Run c.requires.due c.requires.polls c.in-Err.ensures.bytes c.leave-in-Err.ensures.dropped)

@@ -17,4 +17,6 @@ returns-in-Ok-clause-went g c known =
     bytes_came known c.args.since _ _ c.args.session.now c.take.new.session Receive c.recv_wait.new.room c.in-Ok.count c.take.result c.requires.due tt (above_zero c.in-Ok.count c.in-Ok.count-test.1) c.in-Ok.ensures.bound most c.in-Ok.ensures.bytes.0 c.take.ensures.took c.take.ensures.none
 
 pub returns-in-Err-clause-went : goal.returns-in-Err-clause-went
-returns-in-Err-clause-went g c known = rw c.leave-in-Err.ensures.end (comes_fail _ _ c.args.session.now c.leave-in-Err.new.session Receive c.requires.due tt c.in-Err.ensures.bytes c.leave-in-Err.ensures.dropped)
+returns-in-Err-clause-went g c known =
+    rw c.leave-in-Err.ensures.end
+    (comes_fail _ _ c.args.session.now c.leave-in-Err.new.session Receive c.requires.due tt c.in-Err.ensures.bytes c.leave-in-Err.ensures.dropped)

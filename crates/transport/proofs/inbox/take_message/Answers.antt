@@ -21,6 +21,7 @@ loop-body-preserved c = record {
 
 pub returns-in_default-incoming : goal.returns-in_default-incoming
 returns-in_default-incoming c = record {
-  takes = λ heard s. gave c.loop-body.unframer _ heard c.in-Some.body.now c.in-Ok.incoming c.in_default-incoming.not-Ignored c.in-Some.ensures c.next_body.follows.holds-at-none (sym c.in-Ok.ensures.means) (c.loop-body.invariant.heard heard s);
+  takes =
+      λ heard s. gave c.loop-body.unframer _ heard c.in-Some.body.now c.in-Ok.incoming c.in_default-incoming.not-Ignored c.in-Some.ensures c.next_body.follows.holds-at-none (sym c.in-Ok.ensures.means) (c.loop-body.invariant.heard heard s);
   tail = ap (λ (k : Unframed). k.tail) c.next_body.follows.holds-at-none ∙ c.loop-body.invariant.tail;
 }

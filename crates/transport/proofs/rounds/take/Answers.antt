@@ -7,7 +7,8 @@ returns-in-Ok-clause-took c =
     taken c.args.session.now c.args.piece.now c.recv.result c.recv.new.self c.recv.ensures.stands (found_ok c.recv.result _ c.in-Ok.is)
 
 pub returns-in-NoMemory-clause-took : goal.returns-in-NoMemory-clause-took
-returns-in-NoMemory-clause-took c = drops c.recv.new.self c.args.session.now c.leave.new.session c.args.piece.now c.leave.result c.leave.ensures.end c.in-Err.ensures.err c.leave.ensures.dropped
+returns-in-NoMemory-clause-took c =
+    drops c.recv.new.self c.args.session.now c.leave.new.session c.args.piece.now c.leave.result c.leave.ensures.end c.in-Err.ensures.err c.leave.ensures.dropped
 
 pub returns-in_default : goal.returns-in_default
 returns-in_default c = record {

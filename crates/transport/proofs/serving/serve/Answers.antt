@@ -6,7 +6,8 @@ pub returns-in_default : goal.returns-in_default
 returns-in_default g c s st = no_room_to_serve _ _ c.args.turns s c.args.session.now st
 
 pub returns-in-Err : goal.returns-in-Err
-returns-in-Err g c s st = serving_ends _ _ _ _ c.args.turns c.serving.taken s c.serving.session c.accept.new.session c.in-Err.end c.serving.invariant.few c.in-Err.ensures.outcome (c.serving.invariant.serving s st)
+returns-in-Err g c s st =
+    serving_ends _ _ _ _ c.args.turns c.serving.taken s c.serving.session c.accept.new.session c.in-Err.end c.serving.invariant.few c.in-Err.ensures.outcome (c.serving.invariant.serving s st)
 
 pub returns : goal.returns
 returns g c s st =
@@ -19,5 +20,6 @@ serving-preserved g c =
     let most : c.in-Ok-accept.count ≤ c.args.turns - c.serving.taken = c.in-Ok-accept.ensures.some.1 in record {
       room = c.serving.invariant.room;
       few = omega arith;
-      serving = λ s st. serving_continues _ _ _ _ c.args.turns c.serving.taken s c.serving.session c.accept.new.session c.accept.result c.in-Ok-accept.count c.in-Ok-accept.is c.accept.ensures.outcome (c.serving.invariant.serving s st);
+      serving =
+          λ s st. serving_continues _ _ _ _ c.args.turns c.serving.taken s c.serving.session c.accept.new.session c.accept.result c.in-Ok-accept.count c.in-Ok-accept.is c.accept.ensures.outcome (c.serving.invariant.serving s st);
     }

@@ -11,8 +11,10 @@ loop-body-preserved c =
     let lent = c.next_body.follows.holds-at-none in
     let first = c.in-Some.ensures.body in
     record {
-      last = last_more u _ c.in-Some.body.now c.in_ok-says_output_in.field-0 c.loop-body.last _ lent first c.in_ok-says_output_in.ensures c.loop-body.invariant.last;
-      error = error_after u _ c.in-Some.body.now c.in_ok-says_output_in.field-0 _ lent first c.in_ok-says_output_in.ensures c.loop-body.invariant.error;
+      last =
+          last_more u _ c.in-Some.body.now c.in_ok-says_output_in.field-0 c.loop-body.last _ lent first c.in_ok-says_output_in.ensures c.loop-body.invariant.last;
+      error =
+          error_after u _ c.in-Some.body.now c.in_ok-says_output_in.field-0 _ lent first c.in_ok-says_output_in.ensures c.loop-body.invariant.error;
       tail = c.loop-body.invariant.tail;
     }
 

@@ -14,4 +14,5 @@ pub loop-body-preserved : goal.loop-body-preserved
 loop-body-preserved c st =
     let told = subst (λ (b : Bool). TellsBody
     (incoming_of c.in-Some.body.now) b c.loop-body.mirror c.tell_body.new.mirror) c.if-not-branch.false c.in_ok-tell_body.ensures in
-    next_telling c.loop-body.unframer _ c.in-Some.body.now (requests_of c.args.accepted.now) c.loop-body.mirror c.tell_body.new.mirror c.next_body.follows.holds-at-none c.in-Some.ensures.body told (c.loop-body.invariant st)
+    next_telling c.loop-body.unframer _ c.in-Some.body.now
+    (requests_of c.args.accepted.now) c.loop-body.mirror c.tell_body.new.mirror c.next_body.follows.holds-at-none c.in-Some.ensures.body told (c.loop-body.invariant st)

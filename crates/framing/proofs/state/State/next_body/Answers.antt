@@ -12,7 +12,9 @@ returns c =
     let here : body ≡ get_or s.bodies.items s.lent body = search rules in (
       (refl, λ _. tt, lent_on c.args.self.now s.limit (bodies_of s.bodies.items) s.lent s.bytes.items s.done s.start s.mark c.self.view_is),
       record {
-        body = ap (λ (x : List ℕ). Some x) c.as_slice.ensures.value ∙ first_at s.bodies.items s.lent body within here ∙ ap (λ (k : Unframed). first_of k.waiting) c.self.view_is;
+        body =
+            ap (λ (x : List ℕ). Some x) c.as_slice.ensures.value ∙ first_at s.bodies.items s.lent body within here
+            ∙ ap (λ (k : Unframed). first_of k.waiting) c.self.view_is;
         after = tt;
       },
     )

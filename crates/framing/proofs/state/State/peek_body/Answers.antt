@@ -9,4 +9,5 @@ returns c =
     let body = c.in_ok-body.body.now in
     let within : s.lent < length s.bodies.items = search rules in
     let here : body ≡ get_or s.bodies.items s.lent body = search rules in
-    ap (λ (x : List ℕ). Some x) c.as_slice.ensures.value ∙ first_at s.bodies.items s.lent body within here ∙ ap (λ (k : Unframed). first_of k.waiting) c.self.view_is
+    ap (λ (x : List ℕ). Some x) c.as_slice.ensures.value ∙ first_at s.bodies.items s.lent body within here
+    ∙ ap (λ (k : Unframed). first_of k.waiting) c.self.view_is

@@ -5,4 +5,5 @@ use Rattle.handlers.proofs.change.ProgramChange.make.Goals as goal
 
 pub returns-in-Restart-clause-ok : goal.returns-in-Restart-clause-ok
 returns-in-Restart-clause-ok c =
-    subst (λ (x : ProgramChange). OnOk c.start_anew.result (c.start_anew.new.program ≡ changed_one x c.args.program.now)) (sym c.in-Restart.is) c.start_anew.ensures.ok
+    subst (λ (x : ProgramChange). OnOk c.start_anew.result (c.start_anew.new.program ≡ changed_one x c.args.program.now))
+    (sym c.in-Restart.is) c.start_anew.ensures.ok

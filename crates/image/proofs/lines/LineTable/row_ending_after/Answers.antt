@@ -9,17 +9,25 @@ use Rattle.image.proofs.lines.LineTable.row_ending_after.Goals as goal
 use Rattle.image.proofs.lines.LineTable.row_ending_after.Goals.{After-partition_point-index}
 
 -- what the search of the rows found
-found : (c : After-partition_point-index) → find (λ row. nat_lt c.args.addr (end_of row)) c.args.self.now.rows ≡ slice_get c.as_slice-rows.result.now c.partition_point-index.result
+found : (c : After-partition_point-index)
+    → find (λ row. nat_lt c.args.addr (end_of row)) c.args.self.now.rows ≡ slice_get c.as_slice-rows.result.now c.partition_point-index.result
 found c =
     let rows = c.as_slice-rows.result.now in
     let same : c.args.self.now.rows ≡ rows = ap (λ (t : Table). t.rows) (sym c.self.view_is) ∙ sym c.as_slice-rows.ensures.value in
     let rise : RowsRise rows c.self.inside.end = rw c.as_slice-rows.ensures.value c.self.invariant.rise in
-    let point = c.partition_point-index.ensures.partitioned (λ row. nat_le (end_of row) c.args.addr) (always_returns_same _ _ _ (λ a r f k. search (rules, of_calls)))
+    let point = c.partition_point-index.ensures.partitioned (λ row. nat_le (end_of row) c.args.addr)
+    (always_returns_same _ _ _ (λ a r f k. search (rules, of_calls)))
     (λ i j d l m up. ends_tested rows c.self.inside.end c.args.addr d rise i j l m up) in
-    ap (find (λ row. nat_lt c.args.addr (end_of row))) same ∙ found_from_point (λ row. nat_le (end_of row) c.args.addr) (λ row. nat_lt c.args.addr (end_of row)) rows c.partition_point-index.result (λ row. lt_not_le c.args.addr (end_of row)) c.partition_point-index.ensures.bound point.0 point.1
+    ap (find (λ row. nat_lt c.args.addr (end_of row))) same
+    ∙ found_from_point (λ row. nat_le (end_of row) c.args.addr) (λ row. nat_lt c.args.addr (end_of row)) rows c.partition_point-index.result
+    (λ row. lt_not_le c.args.addr (end_of row)) c.partition_point-index.ensures.bound point.0 point.1
 
 pub returns-then-index-rows-clause-row : goal.returns-then-index-rows-clause-row
-returns-then-index-rows-clause-row c = sym (found (goal.at.returns-then-index-rows-clause-row c).After-partition_point-index ∙ slice_get-get_or c.as_slice-rows.result.now c.partition_point-index.result (0, 0, 0) c.if-index-rows.true)
+returns-then-index-rows-clause-row c =
+    sym (found (goal.at.returns-then-index-rows-clause-row c).After-partition_point-index
+    ∙ slice_get-get_or c.as_slice-rows.result.now c.partition_point-index.result (0, 0, 0) c.if-index-rows.true)
 
 pub returns-else-index-rows-clause-row : goal.returns-else-index-rows-clause-row
-returns-else-index-rows-clause-row c = sym (found (goal.at.returns-else-index-rows-clause-row c).After-partition_point-index ∙ slice_get_past c.as_slice-rows.result.now c.partition_point-index.result c.if-index-rows.false)
+returns-else-index-rows-clause-row c =
+    sym (found (goal.at.returns-else-index-rows-clause-row c).After-partition_point-index
+    ∙ slice_get_past c.as_slice-rows.result.now c.partition_point-index.result c.if-index-rows.false)

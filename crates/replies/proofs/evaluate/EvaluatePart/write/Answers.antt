@@ -3,4 +3,5 @@ use Rattle.replies.proofs.evaluate.EvaluatePart.write.Goals as goal
 
 pub returns : goal.returns
 returns c =
-    object_written c.end_object.result c.in_ok-begin_object.ensures (and_then c.in_ok-address.ensures c.in_ok-number.ensures) c.end_object.ensures
+    object_written c.end_object.result c.in_ok-begin_object.ensures
+    (and_then c.in_ok-address.ensures c.in_ok-number.ensures) c.end_object.ensures

@@ -11,7 +11,8 @@ loop-made-init c = record {
 
 pub returns-in_default : goal.returns-in_default
 returns-in_default c = record {
-  keeps = few_slices c.args.self.now c.loop-made.self c.loop-made._made c.args.moves c.loop-made.ending c.in_default.not-Spent c.loop-made.auto._made-end c.loop-made.invariant.slices;
+  keeps =
+      few_slices c.args.self.now c.loop-made.self c.loop-made._made c.args.moves c.loop-made.ending c.in_default.not-Spent c.loop-made.auto._made-end c.loop-made.invariant.slices;
   same = c.loop-made.invariant.same;
 }
 
@@ -21,7 +22,8 @@ loop-made-preserved c =
     let before = c.loop-made.invariant.same in
     let after = c.step-in-Spent.ensures.same in
     record {
-      slices = next_slice c.args.self.now c.loop-made.self c.step-in-Spent.new.self c.loop-made._made c.in_ok-ending-in-Spent.ending was c.in_ok-ending-in-Spent.ensures.keeps;
+      slices =
+          next_slice c.args.self.now c.loop-made.self c.step-in-Spent.new.self c.loop-made._made c.in_ok-ending-in-Spent.ending was c.in_ok-ending-in-Spent.ensures.keeps;
       same = (after.0 ∙ before.0, after.1 ∙ before.1);
     }
 
