@@ -252,7 +252,7 @@ def rows_of_requests(name):
 OF_ONE_REQUEST = {
     "answers/proofs/Frames.antt", "answers/proofs/Looks.antt", "answers/proofs/Settable.antt", "answers/proofs/Setting.antt",
     "headline/specs/Known.antt", "protocol/specs/Laws.antt", "protocol/specs/Reading.antt", "range_laws/specs/Requests.antt",
-    "replies/specs/Messages.antt", "session/proofs/Runs.antt", "session/specs/Arrivals.antt", "session/src/pending.rt",
+    "replies/specs/Messages.antt", "session_laws/proofs/Runs.antt", "session/specs/Arrivals.antt", "session/src/pending.rt",
     "test_transport/src/polling.rt",
 }
 
