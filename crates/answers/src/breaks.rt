@@ -43,7 +43,9 @@ pub fn breaks_for(
     requires command { IsTrue (sets_breakpoints command.now) }
     requires base { view.now.line_base ≤ 1 }
     requires next { next_id ≤ 2147483648 }
-    ensures answer { IfOk result (λ answer. answer_by answer ≡ breaks_answer command.now image.now.lines runner.now.size view.now next_id) }
+    ensures answer { IfOk result
+        (λ answer. answer_by answer
+        ≡ breaks_answer command.now image.now.lines runner.now.size view.now next_id) }
     ensures settable { IfOk result (λ answer. IfSome answer.list (λ list. CanBeSet list.items)) }
     ensures few { OnErr result (count_asked command.now ≤ 1024) }
 {

@@ -30,7 +30,8 @@ pub(crate) fn conditions_of(
     condition: &Option<Text>,
     hits: &Option<Text>,
 ) -> Result<Result<Conditions, Problem>, AllocError>
-    ensures found { IfOk result (λ found. conditions_by found ≡ spec.conditions_of condition.now hits.now) }
+    ensures found { IfOk result
+        (λ found. conditions_by found ≡ spec.conditions_of condition.now hits.now) }
     ensures short { OnErr result (spec.MayTakeMemory (said condition.now)) }
 {
     match condition_of(alloc, said(condition))? {
@@ -53,7 +54,8 @@ fn condition_of(
     alloc: Global,
     text: Option<&str>,
 ) -> Result<Result<Option<Expr>, Problem>, AllocError>
-    ensures found { IfOk result (λ found. condition_by found ≡ spec.condition_of (option_copied text.entry)) }
+    ensures found { IfOk result
+        (λ found. condition_by found ≡ spec.condition_of (option_copied text.entry)) }
     ensures short { OnErr result (spec.MayTakeMemory (option_copied text.entry)) }
 {
     match text {
@@ -63,7 +65,8 @@ fn condition_of(
 }
 
 fn expression_of(alloc: Global, text: &str) -> Result<Result<Option<Expr>, Problem>, AllocError>
-    ensures found { IfOk result (λ found. condition_by found ≡ spec.if_expression (expression_of text.now)) }
+    ensures found { IfOk result
+        (λ found. condition_by found ≡ spec.if_expression (expression_of text.now)) }
     ensures short { OnErr result (length text.now ≤ 1024) }
 {
     match Expr::parse(alloc, text) {

@@ -30,7 +30,14 @@ impl Draft {
         requires { self.old.next_id + 1 < 2 ^ 32 }
         ensures id { IfOk result (λ id. id ≡ self.old.next_id) }
         ensures next { OnOk result (self.new.next_id ≡ self.old.next_id + 1) }
-        ensures list { OnOk result (self.new.list.items ≡ self.old.list.items ++ record { id = self.old.next_id; address = address; condition = conditions.condition; hit = conditions.hit } ∷ []) }
+        ensures list { OnOk result
+            (self.new.list.items ≡ self.old.list.items
+            ++ record {
+              id = self.old.next_id;
+              address = address;
+              condition = conditions.condition;
+              hit = conditions.hit;
+            } ∷ []) }
     {
         let id = self.next_id;
         self.list.push(BreakSpec {

@@ -30,8 +30,10 @@ pub(crate) fn answer(
     runner: &Runner,
     handles: &Handles,
 ) -> Result<Result<ResponseBody, Refusal>, AllocError>
-    ensures answer { IfOk result (λ answer. answer ≡ spec.evaluate arguments.now runner.now handles.now) }
-    ensures granted { OnErr result (IsTrue (may_allocate (spec.evaluate arguments.now runner.now handles.now))) }
+    ensures answer { IfOk result
+        (λ answer. answer ≡ spec.evaluate arguments.now runner.now handles.now) }
+    ensures granted { OnErr result
+        (IsTrue (may_allocate (spec.evaluate arguments.now runner.now handles.now))) }
     ensures short { OnErr result (length arguments.now.expression ≤ 1024) }
 {
     match frame_refusal(handles, arguments.frame_id) {
@@ -51,7 +53,8 @@ fn valued(
     hart: &Hart,
     memory: &Memory,
 ) -> Result<Result<ResponseBody, Refusal>, AllocError>
-    ensures answer { IfOk result (λ answer. answer ≡ spec.valued (expression_of text.now) hart.now memory.now) }
+    ensures answer { IfOk result
+        (λ answer. answer ≡ spec.valued (expression_of text.now) hart.now memory.now) }
     ensures short { OnErr result (length text.now ≤ 1024) }
 {
     match Expr::parse(alloc, text) {

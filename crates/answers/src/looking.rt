@@ -29,8 +29,12 @@ pub fn look(
 ) -> Result<Look, AllocError>
     requires command { IsTrue (looks_in command.now) }
     requires base { view.now.line_base ≤ 1 }
-    ensures answer { IfOk result (λ look. look_by look ≡ look_answer command.now runner.now image.now.lines handles.now view.now) }
-    ensures granted { OnErr result (IsTrue (may_allocate (look_answer command.now runner.now image.now.lines handles.now view.now).result)) }
+    ensures answer { IfOk result
+        (λ look. look_by look ≡ look_answer command.now runner.now image.now.lines handles.now
+        view.now) }
+    ensures granted { OnErr result
+        (IsTrue (may_allocate (look_answer command.now runner.now image.now.lines handles.now
+        view.now).result)) }
     ensures short { OnErr result (length (text_read command.now) ≤ 1024) }
 {
     match command {

@@ -23,7 +23,11 @@ pub(crate) fn answer(
     arguments: &ScopesArguments,
     handles: &Handles,
 ) -> Result<Look, AllocError>
-    ensures answer { IfOk result (λ look. look_by look ≡ record { result = spec.scopes arguments.now handles.now; targets = spec.scopes_given arguments.now handles.now }) }
+    ensures answer { IfOk result
+        (λ look. look_by look ≡ record {
+          result = spec.scopes arguments.now handles.now;
+          targets = spec.scopes_given arguments.now handles.now;
+        }) }
     ensures granted { OnErr result (IsTrue (may_allocate (spec.scopes arguments.now handles.now))) }
 {
     match frame_of(handles, arguments.frame_id) {
@@ -41,7 +45,8 @@ pub(crate) fn answer(
 
 // The scopes of the innermost frame.
 fn innermost(alloc: Global, handles: &Handles) -> Result<Look, AllocError>
-    ensures { IfOk result (λ look. look_by look ≡ record { result = spec.body_by handles.now (Ok 0); targets = spec.scopes_of 0 }) }
+    ensures { IfOk result (λ look. look_by look
+        ≡ record { result = spec.body_by handles.now (Ok 0); targets = spec.scopes_of 0 }) }
 {
     let targets = Vec::from_array(alloc, [Target::Registers, Target::Stack])?;
     let numbers = handles.to_come(&targets)?;

@@ -40,7 +40,9 @@ pub(crate) fn answer(
 ) -> Result<BreakAnswer, AllocError>
     requires base { view.now.line_base ≤ 1 }
     requires next { next_id ≤ 2147483648 }
-    ensures answer { IfOk result (λ answer. answer_by answer ≡ spec.set_breakpoints lines.now view.now next_id arguments.now) }
+    ensures answer { IfOk result
+        (λ answer. answer_by answer
+        ≡ spec.set_breakpoints lines.now view.now next_id arguments.now) }
     ensures few { OnErr result (length arguments.now.breakpoints ≤ 1024) }
 {
     let asked = arguments.breakpoints.as_slice();
@@ -76,7 +78,8 @@ fn of_source(
     requires base { view.now.line_base ≤ 1 }
     requires next { next_id ≤ 2147483648 }
     requires few { length asked.now ≤ 1024 }
-    ensures { IfOk result (λ answer. answer_by answer ≡ spec.of_source own lines.now view.now next_id asked.now) }
+    ensures { IfOk result (λ answer. answer_by answer
+        ≡ spec.of_source own lines.now view.now next_id asked.now) }
 {
     let mut draft = Draft::new(alloc, next_id);
     let entries = entries_of(alloc, own, lines, view.line_base, asked, &mut draft)?;
@@ -101,8 +104,13 @@ fn entries_of(
 ) -> Result<Vec<replies::SourceBreakpoint>, AllocError>
     requires base { base ≤ 1 }
     requires room { draft.old.next_id + length asked.now < 2 ^ 32 }
-    ensures entries { IfOk result (λ entries. entries.items ≡ entries_of (spec.judged own lines.now base) (spec.entry base) draft.old.next_id asked.now) }
-    ensures list { OnOk result (list_in draft.new ≡ list_in draft.old ++ list_of (spec.judged own lines.now base) spec.wanted draft.old.next_id asked.now) }
+    ensures entries { IfOk result
+        (λ entries. entries.items
+        ≡ entries_of (spec.judged own lines.now base)
+        (spec.entry base) draft.old.next_id asked.now) }
+    ensures list { OnOk result
+        (list_in draft.new ≡ list_in draft.old
+        ++ list_of (spec.judged own lines.now base) spec.wanted draft.old.next_id asked.now) }
 {
     let mut entries = Vec::with_capacity(alloc, asked.len())?;
     for breakpoint in asked {
@@ -122,8 +130,11 @@ fn entry(
 ) -> Result<replies::SourceBreakpoint, AllocError>
     requires base { base ≤ 1 }
     requires room { draft.old.next_id + 1 < 2 ^ 32 }
-    ensures entry { IfOk result (λ entry. entry ≡ spec.entry base draft.old.next_id asked.now (spec.judged own lines.now base asked.now)) }
-    ensures takes { OnOk result (Takes spec.wanted (spec.judged own lines.now base asked.now) draft.old draft.new) }
+    ensures entry { IfOk result
+        (λ entry. entry ≡ spec.entry base draft.old.next_id asked.now
+        (spec.judged own lines.now base asked.now)) }
+    ensures takes { OnOk result
+        (Takes spec.wanted (spec.judged own lines.now base asked.now) draft.old draft.new) }
 {
     match judged(alloc, own, lines, base, asked)? {
         Ok(place) => set(draft, base, place),
@@ -134,8 +145,10 @@ fn entry(
 fn set(draft: &mut Draft, base: u32, place: Place) -> Result<replies::SourceBreakpoint, AllocError>
     requires base { base ≤ 1 }
     requires room { draft.old.next_id + 1 < 2 ^ 32 }
-    ensures entry { IfOk result (λ entry. entry ≡ spec.verified base draft.old.next_id (source_place_in place)) }
-    ensures takes { OnOk result (Takes spec.wanted (Ok (source_place_in place)) draft.old draft.new) }
+    ensures entry { IfOk result
+        (λ entry. entry ≡ spec.verified base draft.old.next_id (source_place_in place)) }
+    ensures takes { OnOk result
+        (Takes spec.wanted (Ok (source_place_in place)) draft.old draft.new) }
 {
     let id = draft.add(place.address, place.conditions)?;
     Ok(replies::SourceBreakpoint::Verified {
@@ -167,7 +180,8 @@ fn judged(
     asked: &SourceBreakpoint,
 ) -> Result<Result<Place, Problem>, AllocError>
     requires { base ≤ 1 }
-    ensures found { IfOk result (λ found. source_place_by found ≡ spec.judged own lines.now base asked.now) }
+    ensures found { IfOk result
+        (λ found. source_place_by found ≡ spec.judged own lines.now base asked.now) }
     ensures own { OnErr result (IsTrue own) }
     ensures short { OnErr result (MayTakeMemory (said asked.now.condition)) }
 {

@@ -35,7 +35,8 @@ pub(crate) fn answer(
     next_id: u32,
 ) -> Result<BreakAnswer, AllocError>
     requires { next_id ≤ 2147483648 }
-    ensures answer { IfOk result (λ answer. answer_by answer ≡ spec.set_instruction_breakpoints size next_id arguments.now) }
+    ensures answer { IfOk result
+        (λ answer. answer_by answer ≡ spec.set_instruction_breakpoints size next_id arguments.now) }
     ensures few { OnErr result (length arguments.now.breakpoints ≤ 1024) }
 {
     let asked = arguments.breakpoints.as_slice();
@@ -64,8 +65,12 @@ fn entries_of(
     draft: &mut Draft,
 ) -> Result<Vec<replies::InstructionBreakpoint>, AllocError>
     requires { draft.old.next_id + length asked.now < 2 ^ 32 }
-    ensures entries { IfOk result (λ entries. entries.items ≡ entries_of (spec.judged size) spec.entry draft.old.next_id asked.now) }
-    ensures list { OnOk result (list_in draft.new ≡ list_in draft.old ++ list_of (spec.judged size) spec.wanted draft.old.next_id asked.now) }
+    ensures entries { IfOk result
+        (λ entries. entries.items
+        ≡ entries_of (spec.judged size) spec.entry draft.old.next_id asked.now) }
+    ensures list { OnOk result
+        (list_in draft.new ≡ list_in draft.old
+        ++ list_of (spec.judged size) spec.wanted draft.old.next_id asked.now) }
 {
     let mut entries = Vec::with_capacity(alloc, asked.len())?;
     for breakpoint in asked {
@@ -82,8 +87,10 @@ fn entry(
     draft: &mut Draft,
 ) -> Result<replies::InstructionBreakpoint, AllocError>
     requires { draft.old.next_id + 1 < 2 ^ 32 }
-    ensures entry { IfOk result (λ entry. entry ≡ spec.entry draft.old.next_id asked.now (spec.judged size asked.now)) }
-    ensures takes { OnOk result (Takes spec.wanted (spec.judged size asked.now) draft.old draft.new) }
+    ensures entry { IfOk result
+        (λ entry. entry ≡ spec.entry draft.old.next_id asked.now (spec.judged size asked.now)) }
+    ensures takes { OnOk result
+        (Takes spec.wanted (spec.judged size asked.now) draft.old draft.new) }
 {
     match judged(alloc, size, asked)? {
         Ok(place) => set(draft, place),
@@ -93,8 +100,10 @@ fn entry(
 
 fn set(draft: &mut Draft, place: Place) -> Result<replies::InstructionBreakpoint, AllocError>
     requires { draft.old.next_id + 1 < 2 ^ 32 }
-    ensures entry { IfOk result (λ entry. entry ≡ spec.verified draft.old.next_id (instruction_place_in place)) }
-    ensures takes { OnOk result (Takes spec.wanted (Ok (instruction_place_in place)) draft.old draft.new) }
+    ensures entry { IfOk result
+        (λ entry. entry ≡ spec.verified draft.old.next_id (instruction_place_in place)) }
+    ensures takes { OnOk result
+        (Takes spec.wanted (Ok (instruction_place_in place)) draft.old draft.new) }
 {
     let id = draft.add(place.address, place.conditions)?;
     Ok(replies::InstructionBreakpoint::Verified {

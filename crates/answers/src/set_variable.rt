@@ -39,8 +39,10 @@ pub fn answer(
     runner: &Runner,
     handles: &Handles,
 ) -> Result<Result<Setting, Refusal>, AllocError>
-    ensures answer { IfOk result (λ answer. answer ≡ spec.set_variable arguments.now runner.now handles.now) }
-    ensures stack { OnErr result (target_of handles.now arguments.now.variables_reference ≡ Ok Target.Stack) }
+    ensures answer { IfOk result
+        (λ answer. answer ≡ spec.set_variable arguments.now runner.now handles.now) }
+    ensures stack { OnErr result
+        (target_of handles.now arguments.now.variables_reference ≡ Ok Target.Stack) }
 {
     match target_of(handles, arguments.variables_reference) {
         Err(refusal) => Ok(Err(refusal)),
@@ -55,7 +57,8 @@ pub fn answer(
 
 // The hart with another value in a register.
 fn in_registers(arguments: &SetVariableArguments, hart: Hart) -> Result<Setting, Refusal>
-    ensures { result ≡ spec.setting_of hart (name_answer arguments.now.name) (value_of arguments.now.value) }
+    ensures { result ≡ spec.setting_of hart (name_answer arguments.now.name)
+        (value_of arguments.now.value) }
 {
     let mut changed = hart;
     match set_register(
@@ -73,7 +76,8 @@ fn in_registers(arguments: &SetVariableArguments, hart: Hart) -> Result<Setting,
 
 // Why nothing of that name can be set among the words of the stack.
 fn in_stack(name: &str, words: &[Variable]) -> Refusal
-    ensures { result ≡ (if spec.has_name name.now words.now then Refusal.NotWritable else Refusal.UnknownName) }
+    ensures { result ≡ (if spec.has_name name.now words.now then Refusal.NotWritable else
+        Refusal.UnknownName) }
 {
     for word in words {
         if word.name.as_str() == name {

@@ -33,7 +33,12 @@ pub(crate) fn answer(
     view: &View,
 ) -> Result<Look, AllocError>
     requires base { view.now.line_base ≤ 1 }
-    ensures { IfOk result (λ look. look_by look ≡ record { result = spec.stack_trace arguments.now runner.now lines.now handles.now view.now; targets = spec.frames_given arguments.now runner.now }) }
+    ensures { IfOk result (λ look. look_by look
+        ≡ record {
+          result = spec.stack_trace arguments.now runner.now lines.now handles.now
+              view.now;
+          targets = spec.frames_given arguments.now runner.now;
+        }) }
 {
     let total = runner.calls().kept() + 1;
     let first = first_in(arguments.start_frame, total);
@@ -54,7 +59,8 @@ pub(crate) fn answer(
 fn targets(alloc: Global, first: usize, end: usize) -> Result<Vec<Target>, AllocError>
     requires order { first ≤ end }
     requires few { end ≤ 257 }
-    ensures { IfOk result (λ targets. targets.items ≡ map (λ index. Target.Frame index) (range_with_len first (end - first))) }
+    ensures { IfOk result (λ targets. targets.items
+        ≡ map (λ index. Target.Frame index) (range_with_len first (end - first))) }
 {
     let mut targets = Vec::with_capacity(alloc, end - first)?;
     for index in first..end {
@@ -75,7 +81,8 @@ fn frames(
     requires base { view.now.line_base ≤ 1 }
     requires within { first + length numbers.now ≤ length (spec.addresses runner.now) }
     requires few { first + length numbers.now ≤ 257 }
-    ensures { IfOk result (λ frames. frames.items ≡ frames_from lines.now view.now (spec.addresses runner.now) first numbers.now) }
+    ensures { IfOk result (λ frames. frames.items
+        ≡ frames_from lines.now view.now (spec.addresses runner.now) first numbers.now) }
 {
     let mut frames = Vec::with_capacity(alloc, numbers.len())?;
     for offset in 0..numbers.len() {

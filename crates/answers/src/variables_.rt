@@ -26,8 +26,10 @@ pub(crate) fn answer(
     runner: &Runner,
     handles: &Handles,
 ) -> Result<Result<ResponseBody, Refusal>, AllocError>
-    ensures answer { IfOk result (λ answer. answer ≡ spec.variables arguments.now runner.now handles.now) }
-    ensures granted { OnErr result (IsTrue (may_allocate (spec.variables arguments.now runner.now handles.now))) }
+    ensures answer { IfOk result
+        (λ answer. answer ≡ spec.variables arguments.now runner.now handles.now) }
+    ensures granted { OnErr result
+        (IsTrue (may_allocate (spec.variables arguments.now runner.now handles.now))) }
 {
     match target_of(handles, arguments.variables_reference) {
         Err(refusal) => Ok(Err(refusal)),
@@ -45,7 +47,8 @@ pub(crate) fn answer(
 
 // The body with those of these variables that are asked for.
 fn body_of(arguments: &VariablesArguments, list: Vec<Variable>) -> ResponseBody
-    ensures { result ≡ ResponseBody.Variables (record { variables = spec.asked_of arguments.now list.items }) }
+    ensures { result ≡ ResponseBody.Variables
+        (record { variables = spec.asked_of arguments.now list.items }) }
 {
     ResponseBody::Variables(Variables {
         variables: Entries::from_vec(asked_of(arguments, list)),

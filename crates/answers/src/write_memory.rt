@@ -34,7 +34,8 @@ pub struct Writing {
 pub fn answer(arguments: &WriteMemoryArguments, memory: &Memory) -> Result<Writing, Refusal>
     ensures answer { result ≡ spec.write_memory arguments.now memory.now }
     ensures few { IfOk result (λ writing. writing.count ≤ length arguments.now.bytes) }
-    ensures fits { IfOk result (λ writing. fault_at memory.now 1 writing.address writing.count ≡ None) }
+    ensures fits { IfOk result
+        (λ writing. fault_at memory.now 1 writing.address writing.count ≡ None) }
 {
     let address = start(arguments, memory)?;
     let count = arguments.bytes.as_slice().len() as u32;
@@ -45,7 +46,8 @@ pub fn answer(arguments: &WriteMemoryArguments, memory: &Memory) -> Result<Writi
 fn start(arguments: &WriteMemoryArguments, memory: &Memory) -> Result<u32, Refusal>
     ensures start { result ≡ spec.start memory.now arguments.now }
     ensures few { IfOk result (λ address. length arguments.now.bytes ≤ 65536) }
-    ensures begins { IfOk result (λ address. IsTrue (can_begin memory.now (length arguments.now.bytes) address)) }
+    ensures begins { IfOk result
+        (λ address. IsTrue (can_begin memory.now (length arguments.now.bytes) address)) }
 {
     start_by(
         arguments,
@@ -61,7 +63,8 @@ fn start_by(
 ) -> Result<u32, Refusal>
     ensures start { result ≡ spec.start_by memory.now arguments.now reference }
     ensures few { IfOk result (λ address. length arguments.now.bytes ≤ 65536) }
-    ensures begins { IfOk result (λ address. IsTrue (can_begin memory.now (length arguments.now.bytes) address)) }
+    ensures begins { IfOk result
+        (λ address. IsTrue (can_begin memory.now (length arguments.now.bytes) address)) }
 {
     match reference {
         None => Err(Refusal::BadMemoryReference),
@@ -80,7 +83,8 @@ fn written_at(memory: &Memory, partial: bool, count: u32, address: u32) -> Resul
     requires { IsTrue (can_begin memory.now count address) }
     ensures written { result ≡ spec.written_at memory.now partial count address }
     ensures few { IfOk result (λ writing. writing.count ≤ count) }
-    ensures fits { IfOk result (λ writing. fault_at memory.now 1 writing.address writing.count ≡ None) }
+    ensures fits { IfOk result
+        (λ writing. fault_at memory.now 1 writing.address writing.count ≡ None) }
 {
     let fitting = fitting(memory, count, address);
     if fitting == count || partial {

@@ -26,7 +26,8 @@ use std::alloc::Global;
 ///
 /// Instead of any answer but the two errors of the first pass it may report `NoMemory`, at line 0.
 pub fn assemble(alloc: Global, text: &[u8], size: u32) -> Result<Image, AsmError>
-    ensures answers { MatchResult result (λ image. Placed text.now size image) (λ error. Reports error (error_of text.now size)) }
+    ensures answers { MatchResult result (λ image. Placed text.now size image)
+        (λ error. Reports error (error_of text.now size)) }
     ensures fits { IfOk result (λ image. length image.bytes ≤ size) }
 
     // What is wrong with the text as a whole is found before any memory is taken, so that it is
@@ -64,7 +65,8 @@ fn entry_of(layout: &Layout) -> u32
 fn image_of(layout: Layout, bytes: Vec<u8>) -> Image
     requires { RowsRise layout.rows.items layout.end }
     ensures bytes { result.bytes ≡ bytes.items }
-    ensures entry { result.entry ≡ spec.entry_of (labels_of layout.labels.entries) layout.rows.items }
+    ensures entry { result.entry
+        ≡ spec.entry_of (labels_of layout.labels.entries) layout.rows.items }
     ensures rows { result.lines.rows ≡ layout.rows.items }
     ensures labels { result.lines.labels ≡ labels_of layout.labels.entries }
     ensures end { result.lines.end ≡ layout.end }

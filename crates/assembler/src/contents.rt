@@ -25,7 +25,8 @@ pub(crate) fn write(
     statement: &Statement,
 ) -> Result<(), AsmErrorKind>
     requires { end ≡ address + size_of statement.now address }
-    ensures { Writes result (spec.content_of (labels_of labels.now.entries) address statement.now) bytes.old.items bytes.new.items }
+    ensures { Writes result (spec.content_of (labels_of labels.now.entries) address statement.now)
+        bytes.old.items bytes.new.items }
 {
     match statement {
         Statement::One(instr) => put_one(bytes, Ok(*instr)),
@@ -146,7 +147,8 @@ fn coded_branch(
     rs2: Reg,
     target: &Target,
 ) -> Result<Instr, AsmErrorKind>
-    ensures { result ≡ spec.coded_branch (labels_of labels.now.entries) address condition rs1 rs2 target.now }
+    ensures { result ≡ spec.coded_branch
+        (labels_of labels.now.entries) address condition rs1 rs2 target.now }
 {
     let to = match target_of(labels, target) {
         Ok(to) => to,
@@ -322,7 +324,9 @@ fn put_items(
     width: Width,
     items: &[Item],
 ) -> Result<(), AsmErrorKind>
-    ensures { Writes result (spec.plain (spec.items_bytes (labels_of labels.now.entries) width items.now)) bytes.old.items bytes.new.items }
+    ensures { Writes result (spec.plain
+        (spec.items_bytes (labels_of labels.now.entries) width items.now)) bytes.old.items
+        bytes.new.items }
 {
     for item in items {
         let value = match value_of(labels, item) {

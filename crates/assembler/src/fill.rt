@@ -23,7 +23,11 @@ pub(crate) fn fill(
     limit: u32,
 ) -> Result<Vec<u8>, AsmError>
     requires { spec.end_of first_address program.now ≤ limit }
-    ensures { MatchResult result (λ b. AreParts (labels_of labels.now.entries) (spec.places first_address program.now) b.items) (λ e. Reports e (content_error (labels_of labels.now.entries) (spec.places first_address program.now))) }
+    ensures { MatchResult result
+        (λ b. AreParts (labels_of labels.now.entries)
+        (spec.places first_address program.now) b.items)
+        (λ e. Reports e (content_error (labels_of labels.now.entries)
+        (spec.places first_address program.now))) }
 {
     let mut bytes = Vec::new(alloc);
     let mut address = FIRST_ADDRESS;
@@ -47,7 +51,9 @@ fn fill_line(
     source: &Source,
 ) -> Result<(), AsmErrorKind>
     requires { end ≡ spec.end_of_line source.now address }
-    ensures { Writes result (content_at (labels_of labels.now.entries) address source.now.line.statement) bytes.old.items bytes.new.items }
+    ensures { Writes result (content_at
+        (labels_of labels.now.entries) address source.now.line.statement) bytes.old.items
+        bytes.new.items }
 {
     match &source.line.statement {
         Some(statement) => write(bytes, labels, address, end, statement),

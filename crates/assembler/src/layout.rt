@@ -178,7 +178,8 @@ fn add_labels(
     address: u32,
     names: &[Name],
 ) -> Result<(), AsmErrorKind>
-    ensures { Adds result address (labels_of labels.old.entries) names.now (labels_of labels.new.entries) }
+    ensures { Adds result address (labels_of labels.old.entries) names.now
+        (labels_of labels.new.entries) }
 {
     for name in names {
         if let Err(kind) = add_label(alloc, labels, address, name.as_str()) {
@@ -194,7 +195,8 @@ fn add_label(
     address: u32,
     name: &str,
 ) -> Result<(), AsmErrorKind>
-    ensures { AddsOne result address (labels_of labels.old.entries) name.now (labels_of labels.new.entries) }
+    ensures { AddsOne result address (labels_of labels.old.entries) name.now
+        (labels_of labels.new.entries) }
 {
     if labels.contains_key(name) {
         return Err(AsmErrorKind::TwiceDefined);
@@ -213,7 +215,9 @@ fn add_label(
 /// Where the lines of a program stand, if each ends at the limit or before it.
 pub(crate) fn lay_out(alloc: Global, program: &[Source], limit: u32) -> Result<Layout, AsmError>
     requires { first_address ≤ limit }
-    ensures { MatchResult result (λ l. IsLayout limit program.now (labels_of l.labels.entries) l.rows.items l.end) (λ e. Reports e (spec.place_error limit [] (spec.places first_address program.now))) }
+    ensures { MatchResult result
+        (λ l. IsLayout limit program.now (labels_of l.labels.entries) l.rows.items l.end)
+        (λ e. Reports e (spec.place_error limit [] (spec.places first_address program.now))) }
 {
     let mut layout = Layout {
         labels: IndexMap::new(alloc),
@@ -237,11 +241,21 @@ fn place(
 ) -> Result<(), AsmErrorKind>
     requires some { 0 < layout.old.end }
     requires within { layout.old.end ≤ limit }
-    ensures fits { OnOk result (spec.misplaced limit (labels_of layout.old.labels.entries) (spec.place layout.old.end source.now) ≡ None) }
-    ensures labels { OnOk result (labels_of layout.new.labels.entries ≡ labels_of layout.old.labels.entries ++ spec.labels_at (spec.place layout.old.end source.now)) }
-    ensures rows { OnOk result (layout.new.rows.items ≡ layout.old.rows.items ++ spec.rows_at (spec.place layout.old.end source.now)) }
+    ensures fits { OnOk result
+        (spec.misplaced limit (labels_of layout.old.labels.entries)
+        (spec.place layout.old.end source.now) ≡ None) }
+    ensures labels { OnOk result
+        (labels_of layout.new.labels.entries
+        ≡ labels_of layout.old.labels.entries
+        ++ spec.labels_at (spec.place layout.old.end source.now)) }
+    ensures rows { OnOk result
+        (layout.new.rows.items ≡ layout.old.rows.items
+        ++ spec.rows_at (spec.place layout.old.end source.now)) }
     ensures end { OnOk result (layout.new.end ≡ spec.end_of_line source.now layout.old.end) }
-    ensures err { IfErr result (λ kind. reported_kind kind (spec.misplaced limit (labels_of layout.old.labels.entries) (spec.place layout.old.end source.now))) }
+    ensures err { IfErr result
+        (λ kind. reported_kind kind
+        (spec.misplaced limit (labels_of layout.old.labels.entries)
+        (spec.place layout.old.end source.now))) }
 {
     let address = layout.end;
     let names = source.line.labels.as_slice();

@@ -24,7 +24,8 @@ pub(crate) struct Source<'a> {
 
 /// The lines of a text that say something.
 pub(crate) fn read_program<'a>(alloc: Global, text: &'a [u8]) -> Result<Vec<Source<'a>>, AsmError>
-    ensures answers { MatchResult result (λ p. spec.read_text text.now ≡ Ok p.items) (λ e. Reports e (error_in (spec.read_text text.now))) }
+    ensures answers { MatchResult result (λ p. spec.read_text text.now ≡ Ok p.items)
+        (λ e. Reports e (error_in (spec.read_text text.now))) }
     ensures whole { IfSome (spec.whole_error text.now) (λ error. result ≡ Err error) }
 {
     if text.len() > TEXT_LIMIT {
@@ -54,7 +55,8 @@ fn line_at(text: &[u8], index: usize) -> u32
 
 fn read_lines<'a>(alloc: Global, text: &'a str) -> Result<Vec<Source<'a>>, AsmError>
     requires { length text.now ≤ 1048576 }
-    ensures { MatchResult result (λ p. spec.read_lines 1 (lines text.now) ≡ Ok p.items) (λ e. Reports e (error_in (spec.read_lines 1 (lines text.now)))) }
+    ensures { MatchResult result (λ p. spec.read_lines 1 (lines text.now) ≡ Ok p.items)
+        (λ e. Reports e (error_in (spec.read_lines 1 (lines text.now)))) }
 {
     let mut program = Vec::new(alloc);
     let mut number = 0;
@@ -74,7 +76,9 @@ fn read_one<'a>(
     number: u32,
     text: &'a [u8],
 ) -> Result<(), AsmError>
-    ensures { MatchResult result (λ _. after program.old.items (said number (read text.now)) ≡ Ok program.new.items) (λ e. Reports e (error_in (said number (read text.now)))) }
+    ensures { MatchResult result
+        (λ _. after program.old.items (said number (read text.now)) ≡ Ok program.new.items)
+        (λ e. Reports e (error_in (said number (read text.now)))) }
 {
     match read_line(alloc, text) {
         Ok(line) => keep(program, number, line),
@@ -83,7 +87,8 @@ fn read_one<'a>(
 }
 
 fn keep<'a>(program: &mut Vec<Source<'a>>, number: u32, line: Line<'a>) -> Result<(), AsmError>
-    ensures ok { OnOk result (program.new.items ≡ program.old.items ++ spec.kept number line.entry []) }
+    ensures ok { OnOk result
+        (program.new.items ≡ program.old.items ++ spec.kept number line.entry []) }
     ensures err { IfErr result (λ e. e ≡ no_memory) }
 {
     if line.labels.as_slice().is_empty() && line.statement.is_none() {

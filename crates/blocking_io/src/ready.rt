@@ -94,7 +94,8 @@ fn events_of(direction: Direction) -> i16
 // What a call of `poll` comes to, by its answer and the number of its error.
 fn after_poll(count: i32, errno: i32) -> io::Result<()>
     ensures ok { IsOk result ↔ (has_ended count errno ≡ true) }
-    ensures err { IfErr result (λ e. (raw_os_error e ≡ Some errno) × (passes (error_kind e) ≡ false)) }
+    ensures err { IfErr result
+        (λ e. (raw_os_error e ≡ Some errno) × (passes (error_kind e) ≡ false)) }
 {
     if count >= 0 {
         return Ok(());

@@ -33,7 +33,8 @@ impl<S: Read + AsRawFd> Read for Waiting<S> {
 
     fn read(&mut self, buf: &mut [u8]) -> io::Result<usize>
         ensures bound { ReadsAtMost result buf.new }
-        ensures bytes { ReadConsumes (S.Read.remaining self.old.stream) (S.Read.remaining self.new.stream)
+        ensures bytes { ReadConsumes (S.Read.remaining self.old.stream)
+            (S.Read.remaining self.new.stream)
             result buf.new }
         ensures waited { IfErr result (λ e. passes (error_kind e) ≡ false) }
     {
@@ -52,7 +53,8 @@ impl<S: Write + AsRawFd> Write for Waiting<S> {
 
     fn write(&mut self, buf: &[u8]) -> io::Result<usize>
         ensures bound { WritesAtMost result buf.now }
-        ensures bytes { WriteAppends (S.Write.contents self.old.stream) (S.Write.contents self.new.stream)
+        ensures bytes { WriteAppends (S.Write.contents self.old.stream)
+            (S.Write.contents self.new.stream)
             result buf.now }
         ensures waited { IfErr result (λ e. passes (error_kind e) ≡ false) }
     {

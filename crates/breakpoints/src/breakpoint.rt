@@ -47,7 +47,13 @@ impl Model for Breakpoint {
 
     ghost coded = { Prim.hlevel (codes, coded_tree) };
 
-    ghost view = { λ b. record { id = b.id; address = b.address; condition = option_map tree_of b.condition; hit = b.hit; hits = b.hits } };
+    ghost view = { λ b. record {
+      id = b.id;
+      address = b.address;
+      condition = option_map tree_of b.condition;
+      hit = b.hit;
+      hits = b.hits;
+    } };
 }
 
 /// Which kinds of breakpoints stop.

@@ -35,9 +35,14 @@ impl Model for Breaks {
 
     ghost coded = { Prim.hlevel (codes, coded_tree) };
 
-    ghost view = { λ b. record { source = b.source.items; instructions = b.instructions.items; ids = b.ids.items } };
+    ghost view = { λ b. record {
+      source = b.source.items;
+      instructions = b.instructions.items;
+      ids = b.ids.items;
+    } };
 
-    ghost invariant = { λ b. IsKept b.places b.source.items b.instructions.items (vec_capacity b.ids) };
+    ghost invariant = { λ b. IsKept b.places b.source.items b.instructions.items
+        (vec_capacity b.ids) };
 }
 
 impl Breaks {
@@ -58,7 +63,9 @@ impl Breaks {
     /// check. Where no memory is left, nothing changes.
     pub fn set_source(&mut self, specs: Vec<BreakSpec>) -> Result<(), AllocError>
         requires { CanBeSet specs.items }
-        ensures ok { OnOk result (self.new ≡ record self.old { source = map fresh (map wanted_by specs.items); ids = [] }) }
+        ensures ok { OnOk result
+            (self.new ≡ record self.old
+            { source = map fresh (map wanted_by specs.items); ids = [] }) }
         ensures err { OnErr result (self.new ≡ self.old) }
     {
         let source = fresh_list(self.alloc, specs)?;
@@ -74,7 +81,9 @@ impl Breaks {
     /// check. Where no memory is left, nothing changes.
     pub fn set_instructions(&mut self, specs: Vec<BreakSpec>) -> Result<(), AllocError>
         requires { CanBeSet specs.items }
-        ensures ok { OnOk result (self.new ≡ record self.old { instructions = map fresh (map wanted_by specs.items); ids = [] }) }
+        ensures ok { OnOk result
+            (self.new ≡ record self.old
+            { instructions = map fresh (map wanted_by specs.items); ids = [] }) }
         ensures err { OnErr result (self.new ≡ self.old) }
     {
         let instructions = fresh_list(self.alloc, specs)?;
@@ -98,7 +107,8 @@ impl Breaks {
 
     /// Each breakpoint was not hit yet.
     pub fn reset_hits(&mut self)
-        ensures { self.new ≡ record self.old { source = map reset self.old.source; instructions = map reset self.old.instructions } }
+        ensures { self.new ≡ record self.old
+            { source = map reset self.old.source; instructions = map reset self.old.instructions } }
     {
         reset_list(&mut self.source);
         reset_list(&mut self.instructions);
@@ -107,7 +117,8 @@ impl Breaks {
     /// Whether a breakpoint of either list is at an address: where none is, a check there counts nothing and stops nothing.
     #[inline]
     pub fn has(&self, address: u32) -> bool
-        ensures { result ≡ (list_any (is_at address) self.now.source || list_any (is_at address) self.now.instructions) }
+        ensures { result ≡ (list_any (is_at address) self.now.source
+            || list_any (is_at address) self.now.instructions) }
     {
         self.places.has(address)
     }
@@ -188,7 +199,8 @@ fn places_of(
 }
 
 fn push_addresses(addresses: &mut Vec<u32>, list: &[Breakpoint]) -> Result<(), AllocError>
-    ensures { OnOk result (addresses.new.items ≡ addresses.old.items ++ map (λ b. b.address) list.now) }
+    ensures { OnOk result (addresses.new.items
+        ≡ addresses.old.items ++ map (λ b. b.address) list.now) }
 {
     for breakpoint in list {
         addresses.push(breakpoint.address)?;
@@ -214,7 +226,8 @@ fn check_list(
 ) -> bool
     requires { vec_len ids.old + vec_len list.old ≤ vec_capacity ids.old }
     ensures list { list.new.items ≡ map (counted pc hart.now memory.now) list.old.items }
-    ensures ids { ids.new.items ≡ ids.old.items ++ stopping_ids pc hart.now memory.now list.old.items }
+    ensures ids { ids.new.items
+        ≡ ids.old.items ++ stopping_ids pc hart.now memory.now list.old.items }
     ensures room { vec_capacity ids.old ≤ vec_capacity ids.new }
     ensures count { vec_len ids.new ≤ vec_len ids.old + vec_len list.old }
     ensures stops { result ≡ list_any (stops pc hart.now memory.now) list.old.items }

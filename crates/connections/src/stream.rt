@@ -25,7 +25,8 @@ pub struct StreamWire<R, W> {
 impl<R: Read + AsRawFd, W: Write + AsRawFd> StreamWire<R, W> {
     /// A wire over these. It can poll where the system can say whether there is something to read.
     pub fn new(reader: R, writer: W) -> StreamWire<R, W>
-        ensures { Begins (⟦<StreamWire<R, W> as Wire>⟧.line result) (R.remaining reader) (W.contents writer) }
+        ensures { Begins (⟦<StreamWire<R, W> as Wire>⟧.line result) (R.remaining reader)
+            (W.contents writer) }
     {
         let polls = can_read(&reader).is_ok();
         StreamWire::with_polling(reader, writer, polls)
@@ -33,7 +34,8 @@ impl<R: Read + AsRawFd, W: Write + AsRawFd> StreamWire<R, W> {
 
     /// A wire over these, which can poll or not.
     pub(crate) fn with_polling(reader: R, writer: W, polls: bool) -> StreamWire<R, W>
-        ensures line { Begins (⟦<StreamWire<R, W> as Wire>⟧.line result) (R.remaining reader) (W.contents writer) }
+        ensures line { Begins (⟦<StreamWire<R, W> as Wire>⟧.line result) (R.remaining reader)
+            (W.contents writer) }
         ensures polls { (⟦<StreamWire<R, W> as Wire>⟧.line result).polls ≡ polls }
     {
         StreamWire {

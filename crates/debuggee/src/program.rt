@@ -50,7 +50,8 @@ impl Model for Program {
 
     // The machine has the ids of the breakpoints that stopped it as long as the stop is owed, and no longer; and the image can be
     // loaded anew.
-    ghost invariant = { λ p. (p.owed ≡ None → p.runner.lists.ids ≡ []) × CanBeLoaded p.image p.runner.size };
+    ghost invariant = { λ p. (p.owed ≡ None → p.runner.lists.ids ≡ [])
+        × CanBeLoaded p.image p.runner.size };
 }
 
 /// What came of moves, of which no more were made than asked for.
@@ -196,7 +197,8 @@ impl Program {
     /// it, tell it first. `Err`: no memory was left, and nothing has changed.
     pub fn set_source(&mut self, specs: Vec<BreakSpec>) -> Result<(), AllocError>
         requires { CanBeSet specs.items }
-        ensures ok { OnOk result (self.new ≡ spec.with_source (map wanted_by specs.items) self.old) }
+        ensures ok { OnOk result
+            (self.new ≡ spec.with_source (map wanted_by specs.items) self.old) }
         ensures err { OnErr result (self.new ≡ self.old) }
     {
         self.runner.breaks_mut().set_source(specs)
@@ -207,7 +209,8 @@ impl Program {
     /// is owed names no breakpoint then: to name it, tell it first. `Err`: no memory was left, and nothing has changed.
     pub fn set_instructions(&mut self, specs: Vec<BreakSpec>) -> Result<(), AllocError>
         requires { CanBeSet specs.items }
-        ensures ok { OnOk result (self.new ≡ spec.with_instructions (map wanted_by specs.items) self.old) }
+        ensures ok { OnOk result
+            (self.new ≡ spec.with_instructions (map wanted_by specs.items) self.old) }
         ensures err { OnErr result (self.new ≡ self.old) }
     {
         self.runner.breaks_mut().set_instructions(specs)
@@ -223,7 +226,8 @@ impl Program {
     /// Writes bytes to its memory, from an address on (`WriteMemoryRequest`). `Outside`: one of their addresses has no byte, and nothing
     /// is written. It takes no memory.
     pub fn write(&mut self, address: u32, bytes: &[u8]) -> Result<(), MemFault>
-        ensures answers { result ≡ unless_fault (fault_at self.old.machine.memory 1 address (length bytes.now)) tt }
+        ensures answers { result
+            ≡ unless_fault (fault_at self.old.machine.memory 1 address (length bytes.now)) tt }
         ensures leaves { self.new ≡ spec.written address bytes.now self.old }
     {
         self.runner.write(address, bytes)

@@ -16,7 +16,8 @@ use std::alloc::{AllocError, Global};
 
 /// The tokens of a text. `None`: it has a word or a sign that is no token.
 pub(crate) fn tokens(alloc: Global, text: &[u8]) -> Result<Option<Vec<Token>>, AllocError>
-    ensures { IfOk result (λ found. SpelledOrNot text.now (option_map (λ tokens. tokens.items) found)) }
+    ensures { IfOk result (λ found. SpelledOrNot text.now
+        (option_map (λ tokens. tokens.items) found)) }
 {
     let mut tokens = Vec::new(alloc);
     let mut start = 0;

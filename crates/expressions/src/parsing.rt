@@ -87,7 +87,8 @@ fn minus(alloc: Global, waiting: Waiting, operator: Infix) -> Result<Option<Stat
 
 // An operator before the operand that is wanted.
 fn before(alloc: Global, waiting: Waiting, operator: Prefix) -> Result<Option<State>, AllocError>
-    ensures { IfOk result (λ found. option_map place_of found ≡ Some (Open (Before operator (stack_of waiting)))) }
+    ensures { IfOk result (λ found. option_map place_of found
+        ≡ Some (Open (Before operator (stack_of waiting)))) }
 {
     Ok(Some(State::Wants(Waiting::Before(operator, Box::new(alloc, waiting)?))))
 }
@@ -99,7 +100,8 @@ fn follows(
     operand: Node,
     token: Token,
 ) -> Result<Option<State>, AllocError>
-    ensures { IfOk result (λ found. option_map place_of found ≡ follows (stack_of waiting) (tree_of operand) token) }
+    ensures { IfOk result (λ found. option_map place_of found
+        ≡ follows (stack_of waiting) (tree_of operand) token) }
 {
     match token {
         Token::Infix(operator) => joined(alloc, waiting, operand, operator),
@@ -115,7 +117,9 @@ fn joined(
     operand: Node,
     operator: Infix,
 ) -> Result<Option<State>, AllocError>
-    ensures { IfOk result (λ found. option_map place_of found ≡ Some (joined operator (grouped (level_of operator) (stack_of waiting) (tree_of operand)))) }
+    ensures { IfOk result (λ found. option_map place_of found
+        ≡ Some (joined operator (grouped (level_of operator) (stack_of waiting)
+        (tree_of operand)))) }
 {
     let (waiting, operand) = grouped(alloc, level_of(operator), waiting, operand)?;
     Ok(Some(State::Wants(Waiting::LeftOf(operand, operator, Box::new(alloc, waiting)?))))
@@ -128,7 +132,8 @@ fn closed_at(
     operand: Node,
     bracket: Bracket,
 ) -> Result<Option<State>, AllocError>
-    ensures { IfOk result (λ found. option_map place_of found ≡ closed_at bracket (grouped 0 (stack_of waiting) (tree_of operand))) }
+    ensures { IfOk result (λ found. option_map place_of found
+        ≡ closed_at bracket (grouped 0 (stack_of waiting) (tree_of operand))) }
 {
     let (waiting, operand) = grouped(alloc, 0, waiting, operand)?;
     closed(alloc, waiting, operand, bracket)
@@ -141,7 +146,8 @@ fn closed(
     operand: Node,
     bracket: Bracket,
 ) -> Result<Option<State>, AllocError>
-    ensures { IfOk result (λ found. option_map place_of found ≡ closed bracket (tree_of operand) (stack_of waiting)) }
+    ensures { IfOk result (λ found. option_map place_of found
+        ≡ closed bracket (tree_of operand) (stack_of waiting)) }
 {
     match waiting {
         Waiting::Inside(opened, rest) => match (bracket, opened) {
@@ -159,7 +165,8 @@ fn enclosed(
     operand: Node,
     bracket: Bracket,
 ) -> Result<Option<State>, AllocError>
-    ensures { IfOk result (λ found. option_map place_of found ≡ Some (Full (stack_of waiting.value) (Enclosed bracket (tree_of operand)))) }
+    ensures { IfOk result (λ found. option_map place_of found
+        ≡ Some (Full (stack_of waiting.value) (Enclosed bracket (tree_of operand)))) }
 {
     let operand = Node::Enclosed(bracket, Box::new(alloc, operand)?);
     Ok(Some(State::Has(Box::into_inner(waiting), operand)))
@@ -172,7 +179,8 @@ fn grouped(
     waiting: Waiting,
     operand: Node,
 ) -> Result<(Waiting, Node), AllocError>
-    ensures { IfOk result (λ found. grouped_of found.0 found.1 ≡ grouped level (stack_of waiting) (tree_of operand)) }
+    ensures { IfOk result (λ found. grouped_of found.0 found.1
+        ≡ grouped level (stack_of waiting) (tree_of operand)) }
 {
     match waiting {
         Waiting::Before(operator, rest) => {
@@ -201,7 +209,8 @@ fn finished(alloc: Global, state: State) -> Result<Option<Node>, AllocError>
 }
 
 fn ended_at(alloc: Global, waiting: Waiting, operand: Node) -> Result<Option<Node>, AllocError>
-    ensures { IfOk result (λ found. option_map tree_of found ≡ ended_at (grouped 0 (stack_of waiting) (tree_of operand))) }
+    ensures { IfOk result (λ found. option_map tree_of found
+        ≡ ended_at (grouped 0 (stack_of waiting) (tree_of operand))) }
 {
     let (waiting, operand) = grouped(alloc, 0, waiting, operand)?;
     Ok(ended(waiting, operand))

@@ -59,7 +59,8 @@ impl Model for State {
       before = before_by (bodies_of s.bodies.items) s.bytes.items s.mark;
     } };
 
-    ghost invariant = { λ s. Fits s.limit (bodies_of s.bodies.items) s.lent s.bytes.items s.done s.start s.mark };
+    ghost invariant = { λ s. Fits s.limit
+        (bodies_of s.bodies.items) s.lent s.bytes.items s.done s.start s.mark };
 }
 
 impl State {

@@ -27,7 +27,8 @@ pub struct Answer {
 
 /// A success that changes nothing but what is agreed.
 pub(crate) fn agreeing(terms: Terms, body: ResponseBody) -> Answer
-    ensures { (given : AGiven) → answering_as given.debuggee result ≡ spec.agreeing given terms body }
+    ensures { (given : AGiven)
+        → answering_as given.debuggee result ≡ spec.agreeing given terms body }
 {
     changing(Change::Nothing, terms, body)
 }
@@ -35,7 +36,14 @@ pub(crate) fn agreeing(terms: Terms, body: ResponseBody) -> Answer
 /// A success that changes the program that is debugged.
 pub(crate) fn changing(change: Change, terms: Terms, body: ResponseBody) -> Answer
     ensures { (d : ADebuggee) → answering_as d result
-        ≡ record { debuggee = changed change d; references = call_of change; terms = terms; outcome = Outcome.Done body; events = []; closes = false } }
+        ≡ record {
+          debuggee = changed change d;
+          references = call_of change;
+          terms = terms;
+          outcome = Outcome.Done body;
+          events = [];
+          closes = false;
+        } }
 {
     Answer {
         change,
@@ -48,7 +56,8 @@ pub(crate) fn changing(change: Change, terms: Terms, body: ResponseBody) -> Answ
 
 /// A refusal.
 pub fn refusing(terms: Terms, refusal: Refusal, text: Option<Text>) -> Answer
-    ensures { (given : AGiven) → answering_as given.debuggee result ≡ spec.refusing given terms refusal text }
+    ensures { (given : AGiven)
+        → answering_as given.debuggee result ≡ spec.refusing given terms refusal text }
 {
     Answer {
         change: Change::Nothing,
@@ -62,7 +71,14 @@ pub fn refusing(terms: Terms, refusal: Refusal, text: Option<Text>) -> Answer
 /// A success that changes the program that there is.
 pub(crate) fn changing_program(change: ProgramChange, terms: Terms, body: ResponseBody) -> Answer
     ensures { (d : ADebuggee) → answering_as d result
-        ≡ record { debuggee = with_program (changed_one change) d; references = call_of_one change; terms = terms; outcome = Outcome.Done body; events = []; closes = false } }
+        ≡ record {
+          debuggee = with_program (changed_one change) d;
+          references = call_of_one change;
+          terms = terms;
+          outcome = Outcome.Done body;
+          events = [];
+          closes = false;
+        } }
 {
     changing(Change::OfProgram(change), terms, body)
 }

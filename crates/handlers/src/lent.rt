@@ -45,7 +45,8 @@ impl<'a> Model for Lent<'a> {
       file = option_copied l.file;
     } };
 
-    ghost invariant = { λ l. IsSize l.size × (l.last_break ≤ 2147483647) × (l.last_ref ≤ 2147483647) };
+    ghost invariant = { λ l. IsSize l.size × (l.last_break ≤ 2147483647)
+        × (l.last_ref ≤ 2147483647) };
 }
 
 impl<'a> Lent<'a> {

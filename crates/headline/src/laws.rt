@@ -16,13 +16,15 @@ pub fn successes_are_known()
 /// Whatever happens, what an editor knows by the first bytes of a connection, however many it got, was so when the last message that lies
 /// wholly in them was queued: how the program runs, its breakpoints, its frames, its registers and its memory.
 pub fn what_an_editor_knows_was_so()
-    ensures { (from : ABeginning) (events : List AnEvent) (connection count : ℕ) → Headline (After from events) connection count }
+    ensures { (from : ABeginning) (events : List AnEvent) (connection count : ℕ)
+        → Headline (After from events) connection count }
 {}
 
 /// Whatever happens, a mirror (`mirror::Mirror`) that is told the requests of a connection, and fed the first bytes of it, however many,
 /// knows what the law above speaks of; where it finds no fault in them, and the bytes of the connection are at most 4,294,967,295.
 pub fn a_mirror_knows_what_was_so()
-    ensures { (from : ABeginning) (events : List AnEvent) (connection count : ℕ) → MirrorsKnow (After from events) connection count }
+    ensures { (from : ABeginning) (events : List AnEvent) (connection count : ℕ)
+        → MirrorsKnow (After from events) connection count }
 {}
 
 /// Whatever happens, what the program prints is told while it runs, also where it stops with it.

@@ -62,7 +62,11 @@ impl Model for LineTable {
 
     ghost Value = { Table };
 
-    ghost view = { λ t. record { rows = t.rows.items; labels = labels_of t.labels.entries; end = t.end } };
+    ghost view = { λ t. record {
+      rows = t.rows.items;
+      labels = labels_of t.labels.entries;
+      end = t.end;
+    } };
 
     ghost invariant = { λ t. IsKept t.rows.items t.labels.entries t.end t.order };
 }
@@ -73,7 +77,11 @@ impl LineTable {
     /// addresses, in the order of the text; `end` is the address after the image's last byte.
     pub fn new(rows: Vec<(u32, u32, u32)>, labels: IndexMap<String, u32>, end: u32) -> LineTable
         requires { RowsRise rows.items end }
-        ensures { result ≡ record { rows = rows.items; labels = labels_of labels.entries; end = end } }
+        ensures { result ≡ record {
+          rows = rows.items;
+          labels = labels_of labels.entries;
+          end = end;
+        } }
     {
         let order = order_of(&labels);
         LineTable {
@@ -182,7 +190,8 @@ impl LineTable {
 
     /// The index of the first label that has the greatest address not above this one.
     fn nearest_label(&self, addr: u32) -> Option<usize>
-        ensures { option_and_then (slice_get self.now.labels) result ≡ first_greatest (up_to addr self.now.labels) }
+        ensures { option_and_then (slice_get self.now.labels) result
+            ≡ first_greatest (up_to addr self.now.labels) }
     {
         match self.order {
             LabelOrder::Rising => nearest_by_halving(&self.labels, addr),
@@ -218,7 +227,8 @@ fn order_of(labels: &IndexMap<String, u32>) -> LabelOrder
 /// addresses never fall.
 fn nearest_by_halving(labels: &IndexMap<String, u32>, addr: u32) -> Option<usize>
     requires { NeverFall (values labels.now) }
-    ensures { option_and_then (slice_get (labels_of labels.now.entries)) result ≡ first_greatest (up_to addr (labels_of labels.now.entries)) }
+    ensures { option_and_then (slice_get (labels_of labels.now.entries)) result
+        ≡ first_greatest (up_to addr (labels_of labels.now.entries)) }
 {
     let count = labels.partition_point(
         |_name: &String, address: &u32| -> bool
@@ -249,7 +259,8 @@ fn is_greater(found: Option<(usize, u32)>, address: u32) -> bool
 
 /// The index of the first label that has the greatest address not above this one.
 fn nearest_by_looking(labels: &IndexMap<String, u32>, addr: u32) -> Option<usize>
-    ensures { option_and_then (slice_get (labels_of labels.now.entries)) result ≡ first_greatest (up_to addr (labels_of labels.now.entries)) }
+    ensures { option_and_then (slice_get (labels_of labels.now.entries)) result
+        ≡ first_greatest (up_to addr (labels_of labels.now.entries)) }
 {
     let mut found: Option<(usize, u32)> = None;
     for index in 0..labels.len() {

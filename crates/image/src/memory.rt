@@ -109,7 +109,9 @@ impl Memory {
     /// them is not there, and then `into` is left as it was.
     pub fn read(&self, addr: u32, into: &mut [u8]) -> Result<(), MemFault>
         ensures answers { result ≡ unless_fault (fault_at self.now 1 addr (length into.old)) tt }
-        ensures leaves { into.new ≡ memory_after (fault_at self.now 1 addr (length into.old)) (bytes_at self.now addr (length into.old)) into.old }
+        ensures leaves { into.new
+            ≡ memory_after (fault_at self.now 1 addr (length into.old))
+            (bytes_at self.now addr (length into.old)) into.old }
     {
         if into.is_empty() {
             return Ok(());

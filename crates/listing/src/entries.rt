@@ -29,7 +29,9 @@ fn push_listed(
 ) -> Result<(), AllocError>
     requires from { first_address ≤ address }
     requires whole { address + 4 ≤ first_address + length image.now.bytes }
-    ensures { OnOk result ((part : List ℕ) × AreEntries image.now.bytes (listed image.now.lines (address ∷ [])) part × (string_bytes lines.new ≡ string_bytes lines.old ++ part)) }
+    ensures { OnOk result ((part : List ℕ)
+        × AreEntries image.now.bytes (listed image.now.lines (address ∷ [])) part
+        × (string_bytes lines.new ≡ string_bytes lines.old ++ part)) }
 {
     match image.lines.line_of(address) {
         Some(_) => push_entry(alloc, lines, image.bytes.as_slice(), address),
@@ -46,7 +48,8 @@ fn push_entry(
 ) -> Result<(), AllocError>
     requires from { first_address ≤ address }
     requires whole { address + 4 ≤ first_address + length bytes.now }
-    ensures { OnOk result ((line : List ℕ) × IsEntry bytes.now address line × (string_bytes lines.new ≡ string_bytes lines.old ++ line)) }
+    ensures { OnOk result ((line : List ℕ) × IsEntry bytes.now address line
+        × (string_bytes lines.new ≡ string_bytes lines.old ++ line)) }
 {
     let word = word_at(bytes, address);
     let text = text_of_word(alloc, word, address)?;
@@ -55,7 +58,8 @@ fn push_entry(
 }
 
 fn push_line(lines: &mut String, address: u32, word: u32, text: &str) -> Result<(), AllocError>
-    ensures { OnOk result (string_bytes lines.new ≡ string_bytes lines.old ++ entry address word text.now) }
+    ensures { OnOk result (string_bytes lines.new
+        ≡ string_bytes lines.old ++ entry address word text.now) }
 {
     push_digits(lines, address)?;
     lines.push(' ')?;

@@ -27,7 +27,8 @@ const MEMORY_SIZE: u32 = 1_048_576;
 ///   always reported as that.
 pub fn listing<W: Write>(alloc: Global, text: &[u8], writer: &mut W) -> Result<(), ListFault>
     ensures ok { OnOk result (Lists text.now (W.contents writer.old) (W.contents writer.new)) }
-    ensures err { IfErr result (λ fault. Faults fault text.now (W.contents writer.old) (W.contents writer.new)) }
+    ensures err { IfErr result
+        (λ fault. Faults fault text.now (W.contents writer.old) (W.contents writer.new)) }
 
     // What is wrong with the text as a whole is found before any memory is taken, so that it is
     // reported whatever is left.

@@ -18,7 +18,8 @@ pub(crate) fn fold(
     known: &mut Known,
     message: &Message,
 ) -> Result<(), AllocError>
-    ensures { OnOk result (facts_of known.new ≡ folded (at requests.now) (facts_of known.old) message.now) }
+    ensures { OnOk result (facts_of known.new
+        ≡ folded (at requests.now) (facts_of known.old) message.now) }
 {
     match message {
         Message::Event(event) => {
@@ -55,7 +56,8 @@ fn answer(
     asked: Option<&Asked>,
     outcome: &Outcome,
 ) -> Result<(), AllocError>
-    ensures { OnOk result (facts_of known.new ≡ answered (option_copied asked.entry) outcome.now (facts_of known.old)) }
+    ensures { OnOk result (facts_of known.new
+        ≡ answered (option_copied asked.entry) outcome.now (facts_of known.old)) }
 {
     let Some(asked) = asked else {
         return Ok(());

@@ -44,7 +44,11 @@ impl Model for Mirror {
 
     ghost Value = { Kept };
 
-    ghost view = { λ m. record { known = m.known; asked = m.requests; link = link_by m.fault m.unframer.tail } };
+    ghost view = { λ m. record {
+      known = m.known;
+      asked = m.requests;
+      link = link_by m.fault m.unframer.tail;
+    } };
 
     ghost invariant = { λ m. Follows m.unframer m.fault };
 }
@@ -68,7 +72,8 @@ impl Mirror {
     /// `Frame` and `Message`: the stream has that fault, and nothing changes. Else `NoMemory`: no memory was left, and nothing
     /// changes.
     pub fn sent(&mut self, request: &Request) -> Result<(), MirrorError>
-        ensures past { (past : Past) → StandsFor self.old past → TellsPast past request.now self.old result self.new }
+        ensures past { (past : Past) → StandsFor self.old past
+            → TellsPast past request.now self.old result self.new }
         ensures faulty { IfSome (link_fault self.old.link) (λ error. result ≡ Err error) }
         ensures err { OnErr result (self.new ≡ self.old) }
     {
@@ -90,7 +95,8 @@ impl Mirror {
         ensures kept { Feeds self.old piece.now result self.new }
 
         // By all that was told and all that came.
-        ensures past { (past : Past) → StandsFor self.old past → FeedsPast past piece.now self.old result self.new }
+        ensures past { (past : Past) → StandsFor self.old past
+            → FeedsPast past piece.now self.old result self.new }
 
         // A fault stays, also where no memory is left.
         ensures faulty { IfSome (link_fault self.old.link) (λ error. result ≡ Err error) }

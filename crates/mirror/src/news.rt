@@ -112,7 +112,8 @@ fn fold_all(
     known: &Known,
     messages: &[Message],
 ) -> Result<Known, AllocError>
-    ensures { IfOk result (λ next. facts_of next ≡ fold (folded (at requests.now)) (facts_of known.now) messages.now) }
+    ensures { IfOk result (λ next. facts_of next
+        ≡ fold (folded (at requests.now)) (facts_of known.now) messages.now) }
 {
     let mut next = known.copied(alloc)?;
     for message in messages {

@@ -18,7 +18,8 @@ pub(crate) fn succeed(
     asked: &Asked,
     body: &ResponseBody,
 ) -> Result<(), AllocError>
-    ensures { OnOk result (facts_of known.new ≡ spec.succeeded body.now asked.now (facts_of known.old)) }
+    ensures { OnOk result (facts_of known.new
+        ≡ spec.succeeded body.now asked.now (facts_of known.old)) }
 {
     match body {
         ResponseBody::Empty => {
@@ -88,7 +89,8 @@ fn set_source(
     asked: &Asked,
     entries: &[SourceBreakpoint],
 ) -> Result<(), AllocError>
-    ensures { OnOk result (facts_of known.new ≡ spec.source_set entries.now asked.now (facts_of known.old)) }
+    ensures { OnOk result (facts_of known.new
+        ≡ spec.source_set entries.now asked.now (facts_of known.old)) }
 {
     if let Asked::SetBreakpoints(Some(path)) = asked {
         let breaks = Breaks::of_source(alloc, entries)?;
@@ -104,7 +106,8 @@ fn set_instructions(
     asked: &Asked,
     entries: &[InstructionBreakpoint],
 ) -> Result<(), AllocError>
-    ensures { OnOk result (facts_of known.new ≡ spec.instructions_set entries.now asked.now (facts_of known.old)) }
+    ensures { OnOk result (facts_of known.new
+        ≡ spec.instructions_set entries.now asked.now (facts_of known.old)) }
 {
     if let Asked::SetInstructionBreakpoints = asked {
         known.instructions = Breaks::at_instructions(alloc, entries)?;
@@ -119,7 +122,8 @@ fn tell_frames(
     asked: &Asked,
     frames: &[StackFrame],
 ) -> Result<(), AllocError>
-    ensures { OnOk result (facts_of known.new ≡ spec.frames_told frames.now asked.now (facts_of known.old)) }
+    ensures { OnOk result (facts_of known.new
+        ≡ spec.frames_told frames.now asked.now (facts_of known.old)) }
 {
     if let Asked::StackTrace(start) = asked {
         known.frames.tell(alloc, *start, frames)?;
@@ -129,7 +133,8 @@ fn tell_frames(
 
 // A success of `variables`.
 fn tell_variables(known: &mut Known, asked: &Asked, variables: &[Variable])
-    ensures { facts_of known.new ≡ spec.variables_told variables.now asked.now (facts_of known.old) }
+    ensures { facts_of known.new
+        ≡ spec.variables_told variables.now asked.now (facts_of known.old) }
 {
     if let Asked::Variables = asked {
         known.registers.tell(variables);
@@ -143,7 +148,8 @@ fn tell_bytes(
     address: u32,
     bytes: &[u8],
 ) -> Result<(), AllocError>
-    ensures { OnOk result (facts_of known.new ≡ spec.bytes_read address bytes.now asked.now (facts_of known.old)) }
+    ensures { OnOk result (facts_of known.new
+        ≡ spec.bytes_read address bytes.now asked.now (facts_of known.old)) }
 {
     if let Asked::ReadMemory = asked {
         known.bytes.tell(address, bytes)?;
@@ -162,7 +168,8 @@ fn set_variable(known: &mut Known, asked: &Asked, value: u32)
 
 // A success of `writeMemory`.
 fn write_bytes(known: &mut Known, asked: &Asked, count: u32) -> Result<(), AllocError>
-    ensures { OnOk result (facts_of known.new ≡ spec.bytes_written count asked.now (facts_of known.old)) }
+    ensures { OnOk result (facts_of known.new
+        ≡ spec.bytes_written count asked.now (facts_of known.old)) }
 {
     if let Asked::WriteMemory(Some(place), bytes) = asked {
         let bytes = bytes.as_slice();

@@ -158,7 +158,8 @@ fn once<'a>(alloc: Global) -> Arg<'a>
 }
 
 fn asm<'a>(alloc: Global) -> Result<Command<'a>, AllocError>
-    ensures { IfOk result (λ c. (app_of c ≡ spec.with_file (codes "asm") (codes "FILE")) × ((fields_of c).has_globals ≡ false)) }
+    ensures { IfOk result (λ c. (app_of c ≡ spec.with_file (codes "asm") (codes "FILE"))
+        × ((fields_of c).has_globals ≡ false)) }
 {
     Command::new(alloc, "asm")
         .about("Assembles FILE and lists its instructions")
@@ -172,7 +173,8 @@ fn asm<'a>(alloc: Global) -> Result<Command<'a>, AllocError>
 }
 
 fn watch<'a>(alloc: Global) -> Result<Command<'a>, AllocError>
-    ensures { IfOk result (λ c. (app_of c ≡ spec.with_file (codes "watch") (codes "SCRIPT")) × ((fields_of c).has_globals ≡ false)) }
+    ensures { IfOk result (λ c. (app_of c ≡ spec.with_file (codes "watch") (codes "SCRIPT"))
+        × ((fields_of c).has_globals ≡ false)) }
 {
     Command::new(alloc, "watch")
         .about("Plays SCRIPT and prints what an editor knows then")

@@ -33,7 +33,8 @@ impl<'a> From<AllocError> for Fault<'a> {
 
 /// The error that says so, in the form of clap's own.
 pub(crate) fn error_of(alloc: Global, command: &mut Command, fault: Fault) -> Error
-    ensures { (kind_of result ≡ ErrorKind.OutOfMemory) ⊎ (kind_of result ≡ kind_of_fault fault.entry) }
+    ensures { (kind_of result ≡ ErrorKind.OutOfMemory) ⊎
+        (kind_of result ≡ kind_of_fault fault.entry) }
 {
     match told(alloc, command, fault) {
         Ok(error) => error,

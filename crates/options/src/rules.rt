@@ -14,7 +14,8 @@ use std::alloc::{AllocError, Global};
 
 /// What matches ask for.
 pub(crate) fn asked<'a>(alloc: Global, matches: &ArgMatches<'a>) -> Result<Options, Fault<'a>>
-    ensures { Finds result (spec.asked_of (rows_of (found_of matches.now)) (subcommand_rows_of matches.now)) }
+    ensures { Finds result (spec.asked_of (rows_of (found_of matches.now))
+        (subcommand_rows_of matches.now)) }
 {
     match matches.subcommand() {
         Some(_) if has_option(matches) => Err(Fault::BesideCommand),
@@ -80,7 +81,8 @@ fn serving<'a>(
     once: bool,
     memory: u32,
 ) -> Result<Options, Fault<'a>>
-    ensures { Finds result (spec.serving (option_map (λ t. t.now) listen.entry) (option_map (λ t. t.now) program.entry) once (Some memory)) }
+    ensures { Finds result (spec.serving (option_map (λ t. t.now) listen.entry)
+        (option_map (λ t. t.now) program.entry) once (Some memory)) }
 {
     if listen.is_none() && program.is_some() {
         return Err(Fault::WithoutListen("--program <FILE>"));

@@ -117,7 +117,8 @@ pub(crate) fn command_named(
     name: &str,
     arguments: Option<&Value>,
 ) -> Result<Option<Command>, Unread>
-    ensures { Finds result (command_of name.now (option_map (λ value. view value.now) arguments.entry)) }
+    ensures { Finds result (command_of name.now
+        (option_map (λ value. view value.now) arguments.entry)) }
 {
     match arguments {
         Some(value) => command_with(alloc, name, value.as_object().ok_or(Unread::Bad)),

@@ -24,7 +24,8 @@ pub(crate) fn member(
     name: &str,
     bytes: &Bytes,
 ) -> Result<(), AllocError>
-    ensures { OnOk result (AreWritten out.old out.new (member name.now (encoded_bytes.value bytes.now) no_members)) }
+    ensures { OnOk result (AreWritten out.old out.new
+        (member name.now (encoded_bytes.value bytes.now) no_members)) }
 {
     out.key(name)?;
     write(alloc, out, bytes.as_slice())

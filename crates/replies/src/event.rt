@@ -77,7 +77,8 @@ pub(crate) fn write(out: &mut Writer, seq: u32, event: &Event) -> Result<(), All
 
 /// The member that is the body, if there is one, written. It fails as `write` does.
 fn write_body(out: &mut Writer, event: &Event) -> Result<(), AllocError>
-    ensures { OnOk result (AreWritten out.old out.new (member_if (codes "body") (λ d. d) (event_body event.now) no_members)) }
+    ensures { OnOk result (AreWritten out.old out.new
+        (member_if (codes "body") (λ d. d) (event_body event.now) no_members)) }
 {
     match event {
         Event::Initialized => Ok(()),

@@ -42,7 +42,8 @@ pub(crate) fn unless_empty<T: Part>(
     value: &Value,
     name: &str,
 ) -> Result<Entries<T>, Unread>
-    ensures { Reads result (forms.found_or_empty (forms.list T.form).found (get name.now (view value.now))) }
+    ensures { Reads result (forms.found_or_empty (forms.list T.form).found
+        (get name.now (view value.now))) }
 {
     match value.get(name) {
         Some(member) => Entries::read(alloc, member),
@@ -121,7 +122,8 @@ pub(crate) fn string(alloc: Global, value: &Value) -> Result<Text, Unread>
 
 /// The member that is a word as a text.
 pub(crate) fn address(value: &Value, name: &str) -> Result<u32, Unread>
-    ensures { Reads result (option_and_then addresses.address.found (get name.now (view value.now))) }
+    ensures { Reads result (option_and_then addresses.address.found
+        (get name.now (view value.now))) }
 {
     let text = value.get(name).and_then(Value::as_str).ok_or(Unread::Bad)?;
     word_in(text.as_bytes()).ok_or(Unread::Bad)

@@ -18,7 +18,8 @@ use std::str;
 /// A member that is the bytes of a word. It fails where no memory is left, and then the writer is
 /// of no more use.
 pub(crate) fn member(out: &mut Writer, name: &str, word: u32) -> Result<(), AllocError>
-    ensures { OnOk result (AreWritten out.old out.new (member name.now (instruction_bytes.value word) no_members)) }
+    ensures { OnOk result (AreWritten out.old out.new
+        (member name.now (instruction_bytes.value word) no_members)) }
 {
     out.key(name)?;
     write(out, word)
@@ -26,7 +27,8 @@ pub(crate) fn member(out: &mut Writer, name: &str, word: u32) -> Result<(), Allo
 
 /// The member that is the bytes of a word; `Bad` where it is none.
 pub(crate) fn find(value: &Value, name: &str) -> Result<u32, Unread>
-    ensures { Reads result (option_and_then instruction_bytes.found (get name.now (view value.now))) }
+    ensures { Reads result (option_and_then instruction_bytes.found
+        (get name.now (view value.now))) }
 {
     let text = value.get(name).and_then(Value::as_str).ok_or(Unread::Bad)?;
     word_of_bytes(text.as_bytes()).ok_or(Unread::Bad)

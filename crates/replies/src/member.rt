@@ -16,7 +16,8 @@ use std::alloc::AllocError;
 
 /// A member that is a part.
 pub(crate) fn part<T: Part>(out: &mut Writer, name: &str, part: &T) -> Result<(), AllocError>
-    ensures { OnOk result (AreWritten out.old out.new (member name.now (T.form.value part.now) no_members)) }
+    ensures { OnOk result (AreWritten out.old out.new
+        (member name.now (T.form.value part.now) no_members)) }
 {
     out.key(name)?;
     part.write(out)
@@ -28,7 +29,8 @@ pub(crate) fn part_if<T: Part>(
     name: &str,
     part: &Option<T>,
 ) -> Result<(), AllocError>
-    ensures { OnOk result (AreWritten out.old out.new (member_if name.now T.form.value part.now no_members)) }
+    ensures { OnOk result (AreWritten out.old out.new
+        (member_if name.now T.form.value part.now no_members)) }
 {
     match part {
         Some(there) => self::part(out, name, there),
@@ -54,7 +56,8 @@ pub(crate) fn unless_empty<T: Part>(
 
 /// A member that is a text.
 pub(crate) fn text(out: &mut Writer, name: &str, value: &str) -> Result<(), AllocError>
-    ensures { OnOk result (AreWritten out.old out.new (member name.now (string value.now) no_members)) }
+    ensures { OnOk result (AreWritten out.old out.new
+        (member name.now (string value.now) no_members)) }
 {
     out.key(name)?;
     out.string(value)
@@ -62,14 +65,16 @@ pub(crate) fn text(out: &mut Writer, name: &str, value: &str) -> Result<(), Allo
 
 /// A member that is a whole number.
 pub(crate) fn number(out: &mut Writer, name: &str, value: u32) -> Result<(), AllocError>
-    ensures { OnOk result (AreWritten out.old out.new (member name.now (number (unsigned value)) no_members)) }
+    ensures { OnOk result (AreWritten out.old out.new
+        (member name.now (number (unsigned value)) no_members)) }
 {
     self::part(out, name, &value)
 }
 
 /// A member that is a whole number, which may be below 0.
 pub(crate) fn signed(out: &mut Writer, name: &str, value: i32) -> Result<(), AllocError>
-    ensures { OnOk result (AreWritten out.old out.new (member name.now (forms.signed.value value) no_members)) }
+    ensures { OnOk result (AreWritten out.old out.new
+        (member name.now (forms.signed.value value) no_members)) }
 {
     out.key(name)?;
     out.i64(i64::from(value))
@@ -77,7 +82,8 @@ pub(crate) fn signed(out: &mut Writer, name: &str, value: i32) -> Result<(), All
 
 /// A member that is a whole number, where that is not 0.
 pub(crate) fn number_unless_0(out: &mut Writer, name: &str, value: u32) -> Result<(), AllocError>
-    ensures { OnOk result (AreWritten out.old out.new (member_if name.now whole.value (unless_0 value) no_members)) }
+    ensures { OnOk result (AreWritten out.old out.new
+        (member_if name.now whole.value (unless_0 value) no_members)) }
 {
     if value == 0 {
         Ok(())
@@ -88,7 +94,8 @@ pub(crate) fn number_unless_0(out: &mut Writer, name: &str, value: u32) -> Resul
 
 /// A member that is a word as a text.
 pub(crate) fn address(out: &mut Writer, name: &str, value: u32) -> Result<(), AllocError>
-    ensures { OnOk result (AreWritten out.old out.new (member name.now (addresses.address.value value) no_members)) }
+    ensures { OnOk result (AreWritten out.old out.new
+        (member name.now (addresses.address.value value) no_members)) }
 {
     out.key(name)?;
     address::write(out, value)
@@ -96,7 +103,8 @@ pub(crate) fn address(out: &mut Writer, name: &str, value: u32) -> Result<(), Al
 
 /// A member that is a truth value.
 pub(crate) fn truth(out: &mut Writer, name: &str, value: bool) -> Result<(), AllocError>
-    ensures { OnOk result (AreWritten out.old out.new (member name.now (boolean value) no_members)) }
+    ensures { OnOk result (AreWritten out.old out.new
+        (member name.now (boolean value) no_members)) }
 {
     out.key(name)?;
     out.boolean(value)

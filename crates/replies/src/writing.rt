@@ -71,7 +71,8 @@ fn success(
     command: &str,
     body: &ResponseBody,
 ) -> Result<(), AllocError>
-    ensures { OnOk result (IsWritten out.old out.new (outcome_data seq request_seq command.now (Outcome.Done body.now))) }
+    ensures { OnOk result (IsWritten out.old out.new
+        (outcome_data seq request_seq command.now (Outcome.Done body.now))) }
 {
     out.begin_object()?;
     write_body(alloc, out, body)?;
@@ -89,7 +90,8 @@ fn refused(
     refusal: Refusal,
     text: &Option<Text>,
 ) -> Result<(), AllocError>
-    ensures { OnOk result (IsWritten out.old out.new (outcome_data seq request_seq command.now (Outcome.Refused refusal text.now))) }
+    ensures { OnOk result (IsWritten out.old out.new
+        (outcome_data seq request_seq command.now (Outcome.Refused refusal text.now))) }
 {
     out.begin_object()?;
     out.key(BODY)?;
@@ -117,7 +119,8 @@ fn last_members(
 
 /// The member that is the body, if there is one.
 fn write_body(alloc: Global, out: &mut Writer, body: &ResponseBody) -> Result<(), AllocError>
-    ensures { OnOk result (AreWritten out.old out.new (member_if (codes "body") (λ d. d) (body_data body.now) no_members)) }
+    ensures { OnOk result (AreWritten out.old out.new
+        (member_if (codes "body") (λ d. d) (body_data body.now) no_members)) }
 {
     match body {
         ResponseBody::Initialize => {

@@ -49,10 +49,12 @@ impl Hart {
     /// or an exit the hart and memory are as they were. `Err`: no memory was left, and all is as it was;
     /// it does not come as long as memory has all its bytes from the start.
     pub fn step(&mut self, memory: &mut Memory) -> Result<Stepped, AllocError>
-        ensures moves { IsMove (machine_of self.old memory.old) (record { answer = result; machine = machine_of self.new memory.new }) }
+        ensures moves { IsMove (machine_of self.old memory.old)
+            (record { answer = result; machine = machine_of self.new memory.new }) }
 
         // A trap and an exit change nothing, nor does a step without memory, and pc stays a multiple of 4.
-        ensures keeps { Keeps (machine_of self.old memory.old) (record { answer = result; machine = machine_of self.new memory.new }) }
+        ensures keeps { Keeps (machine_of self.old memory.old)
+            (record { answer = result; machine = machine_of self.new memory.new }) }
 
         // No access takes memory.
         ensures answers { IsOk result }
@@ -75,8 +77,10 @@ impl Hart {
         memory: &mut Memory,
     ) -> Result<Stepped, AllocError>
         requires { IsDecodedAtPc (machine_of self.old memory.old) instr }
-        ensures moves { IsMove (machine_of self.old memory.old) (record { answer = result; machine = machine_of self.new memory.new }) }
-        ensures keeps { Keeps (machine_of self.old memory.old) (record { answer = result; machine = machine_of self.new memory.new }) }
+        ensures moves { IsMove (machine_of self.old memory.old)
+            (record { answer = result; machine = machine_of self.new memory.new }) }
+        ensures keeps { Keeps (machine_of self.old memory.old)
+            (record { answer = result; machine = machine_of self.new memory.new }) }
         ensures answers { IsOk result }
     {
         match instr {
@@ -88,7 +92,8 @@ impl Hart {
     // Does what an instruction says.
     #[inline]
     fn carry_out(&mut self, instr: &Instr, memory: &mut Memory) -> Result<Stepped, AllocError>
-        ensures { record { answer = result; machine = machine_of self.new memory.new } ≡ effect_of instr.now (machine_of self.old memory.old) }
+        ensures { record { answer = result; machine = machine_of self.new memory.new }
+            ≡ effect_of instr.now (machine_of self.old memory.old) }
     {
         match perform(&mut self.x, self.pc, instr, memory) {
             Ok(pc) => {
@@ -119,7 +124,8 @@ impl Hart {
 
     // The environment call, by a7.
     fn call(&mut self) -> Stepped
-        ensures { record { answer = Ok result; machine = machine_of self.new [] } ≡ calls (machine_of self.old []) }
+        ensures { record { answer = Ok result; machine = machine_of self.new [] }
+            ≡ calls (machine_of self.old []) }
     {
         let argument = self.x[A0].cast_signed();
         match self.x[A7] {

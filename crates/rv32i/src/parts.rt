@@ -92,7 +92,8 @@ pub(crate) fn immediate_i(word: u32) -> Imm
 /// The immediate of the format S.
 #[inline]
 pub(crate) fn immediate_s(word: u32) -> Imm
-    ensures { result ≡ word / 2 ^ 31 * (2 ^ 32 - 2 ^ 11) + word / 2 ^ 25 % 2 ^ 6 * 2 ^ 5 + word / 2 ^ 7 % 2 ^ 5 }
+    ensures { result ≡ word / 2 ^ 31 * (2 ^ 32 - 2 ^ 11) + word / 2 ^ 25 % 2 ^ 6 * 2 ^ 5
+        + word / 2 ^ 7 % 2 ^ 5 }
 {
     Imm::new((word >> 31) * 0xffff_f800 + ((word >> 25) & 0x3f) * 32 + ((word >> 7) & 0x1f))
 }
@@ -100,7 +101,8 @@ pub(crate) fn immediate_s(word: u32) -> Imm
 /// The offset of the format B.
 #[inline]
 pub(crate) fn offset_b(word: u32) -> BranchOffset
-    ensures { result ≡ word / 2 ^ 31 * (2 ^ 32 - 2 ^ 12) + word / 2 ^ 7 % 2 * 2 ^ 11 + word / 2 ^ 25 % 2 ^ 6 * 2 ^ 5 + word / 2 ^ 8 % 2 ^ 4 * 2 }
+    ensures { result ≡ word / 2 ^ 31 * (2 ^ 32 - 2 ^ 12) + word / 2 ^ 7 % 2 * 2 ^ 11
+        + word / 2 ^ 25 % 2 ^ 6 * 2 ^ 5 + word / 2 ^ 8 % 2 ^ 4 * 2 }
 {
     BranchOffset::new(
         (word >> 31) * 0xffff_f000
@@ -121,7 +123,8 @@ pub(crate) fn immediate_u(word: u32) -> Upper
 /// The offset of the format J.
 #[inline]
 pub(crate) fn offset_j(word: u32) -> JumpOffset
-    ensures { result ≡ word / 2 ^ 31 * (2 ^ 32 - 2 ^ 20) + word / 2 ^ 12 % 2 ^ 8 * 2 ^ 12 + word / 2 ^ 20 % 2 * 2 ^ 11 + word / 2 ^ 21 % 2 ^ 10 * 2 }
+    ensures { result ≡ word / 2 ^ 31 * (2 ^ 32 - 2 ^ 20) + word / 2 ^ 12 % 2 ^ 8 * 2 ^ 12
+        + word / 2 ^ 20 % 2 * 2 ^ 11 + word / 2 ^ 21 % 2 ^ 10 * 2 }
 {
     JumpOffset::new(
         (word >> 31) * 0xfff0_0000

@@ -103,7 +103,8 @@ pub(crate) fn perform(
     memory: &mut Memory,
 ) -> Result<u32, Halt>
     requires { slice_index x.old 0 ≡ 0 }
-    ensures performs { Performs instr.now (record { pc = pc; x = x.old; memory = memory.old }) result x.new memory.new }
+    ensures performs { Performs instr.now
+        (record { pc = pc; x = x.old; memory = memory.old }) result x.new memory.new }
     ensures zero { slice_index x.new 0 ≡ 0 }
 {
     let next = pc.wrapping_add(4);

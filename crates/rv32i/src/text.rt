@@ -264,7 +264,8 @@ fn fence(
     rd: Reg,
     rs1: Reg,
 ) -> Result<String, AllocError>
-    ensures { IfOk result (λ text. HasText (Instr.Fence fm before after rd rs1) 0 (string_bytes text)) }
+    ensures { IfOk result (λ text. HasText (Instr.Fence fm before after rd rs1) 0
+        (string_bytes text)) }
 {
     let plain = fm.bits() == 0 && rd.number() == 0 && rs1.number() == 0;
     if plain && before.bits() != 0 && after.bits() != 0 {
@@ -286,7 +287,8 @@ fn fence(
 
 // A FENCE by its two sets.
 fn sets(alloc: Global, before: FenceSet, after: FenceSet) -> Result<String, AllocError>
-    ensures { IfOk result (λ text. string_bytes text ≡ with_two (codes "fence") (set_text before) (set_text after)) }
+    ensures { IfOk result (λ text. string_bytes text
+        ≡ with_two (codes "fence") (set_text before) (set_text after)) }
 {
     with_two(alloc, "fence", set_text(before), set_text(after))
 }

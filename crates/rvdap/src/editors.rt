@@ -26,7 +26,8 @@ pub(crate) fn serve_accepted<D: Door, F: Files>(
     files: &F,
     editors: Editors,
 ) -> ExitReason
-    ensures { OfEach session.old (λ s. spec.Serves editors (F.known files.now) (D.doorway door.old) (D.doorway door.new) s
+    ensures { OfEach session.old
+        (λ s. spec.Serves editors (F.known files.now) (D.doorway door.old) (D.doorway door.new) s
         session.new result) }
 {
     match editors {
@@ -41,7 +42,8 @@ fn serve_first<D: Door, F: Files>(
     door: &mut D,
     files: &F,
 ) -> ExitReason
-    ensures { OfEach session.old (λ s. spec.ServesFirst (F.known files.now) (D.doorway door.old) (D.doorway door.new) s
+    ensures { OfEach session.old
+        (λ s. spec.ServesFirst (F.known files.now) (D.doorway door.old) (D.doorway door.new) s
         session.new result) }
 {
     match door.accept_wait() {

@@ -51,7 +51,9 @@ pub(crate) fn serve_one<W: Wire, F: Files>(
     wire: &mut W,
     files: &F,
 ) -> ExitReason
-    ensures { OfEach session.old (λ s. IsServed (F.known files.now) (W.line wire.old) (W.line wire.new) s session.new result) }
+    ensures { OfEach session.old
+        (λ s. IsServed (F.known files.now) (W.line wire.old)
+        (W.line wire.new) s session.new result) }
 {
     let _ = session.connect();
     let end = drive(alloc, session, wire, files, TURNS);

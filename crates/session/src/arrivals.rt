@@ -76,7 +76,8 @@ impl Arrivals {
         alloc: Global,
         unframer: &mut Unframer,
     ) -> Result<Option<MessageError>, AllocError>
-        ensures ok { OnOk result (self.new ≡ spec.all_joined self.old (spec.asks_of unframer.old.waiting)) }
+        ensures ok { OnOk result
+            (self.new ≡ spec.all_joined self.old (spec.asks_of unframer.old.waiting)) }
         ensures fault { IfOk result (λ fault. fault ≡ spec.message_fault_of unframer.old.waiting) }
         ensures all_lent { IfOk result (λ fault. fault ≡ None → unframer.new.waiting ≡ []) }
         ensures err { OnErr result (self.new ≡ self.old) }

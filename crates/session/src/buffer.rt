@@ -94,10 +94,14 @@ struct Slots {
 impl Slots {
     // There are no more bytes then than there was memory for, or than twice those that wait and the new ones.
     fn push(&mut self, more: &[u8]) -> Result<(), AllocError>
-        ensures ok { OnOk result (drop self.new.start self.new.bytes.items ≡ drop self.old.start self.old.bytes.items ++ more.now) }
-        ensures err { OnErr result (drop self.new.start self.new.bytes.items ≡ drop self.old.start self.old.bytes.items) }
+        ensures ok { OnOk result
+            (drop self.new.start self.new.bytes.items
+            ≡ drop self.old.start self.old.bytes.items ++ more.now) }
+        ensures err { OnErr result
+            (drop self.new.start self.new.bytes.items ≡ drop self.old.start self.old.bytes.items) }
         ensures bounded { OnOk result (vec_len self.new.bytes
-            ≤ max (vec_capacity self.old.bytes) (2 * (vec_len self.old.bytes - self.old.start) + length more.now)) }
+            ≤ max (vec_capacity self.old.bytes)
+            (2 * (vec_len self.old.bytes - self.old.start) + length more.now)) }
     {
         self.make_room(more.len());
         self.bytes.extend_from_slice(more)?;
@@ -107,9 +111,11 @@ impl Slots {
     // Before the bytes would have to grow, those that wait move to the beginning, if they are no more than
     // those that were taken: so each byte moves at most once for each that was taken.
     fn make_room(&mut self, more: usize)
-        ensures same { drop self.new.start self.new.bytes.items ≡ drop self.old.start self.old.bytes.items }
+        ensures same { drop self.new.start self.new.bytes.items
+            ≡ drop self.old.start self.old.bytes.items }
         ensures bounded { vec_len self.new.bytes + more
-            ≤ max (vec_capacity self.old.bytes) (2 * (vec_len self.old.bytes - self.old.start) + more) }
+            ≤ max (vec_capacity self.old.bytes)
+            (2 * (vec_len self.old.bytes - self.old.start) + more) }
     {
         let is_full = self.bytes.capacity() - self.bytes.len() < more;
         if is_full && self.start >= self.bytes.len() - self.start {
@@ -121,8 +127,10 @@ impl Slots {
     // Where all bytes were taken, none is kept.
     fn take(&mut self, count: usize)
         requires { self.old.start + count ≤ vec_len self.old.bytes }
-        ensures waiting { drop self.new.start self.new.bytes.items ≡ drop (self.old.start + count) self.old.bytes.items }
-        ensures emptied { self.old.start + count ≡ vec_len self.old.bytes → self.new.bytes.items ≡ [] }
+        ensures waiting { drop self.new.start self.new.bytes.items
+            ≡ drop (self.old.start + count) self.old.bytes.items }
+        ensures emptied { self.old.start + count ≡ vec_len self.old.bytes
+            → self.new.bytes.items ≡ [] }
     {
         self.start += count;
         if self.start == self.bytes.len() {

@@ -148,7 +148,8 @@ fn frames(
     lines: &LineTable,
     handles: &Handles,
 ) -> Result<Vec<FrameInfo>, AllocError>
-    ensures { IfOk result (λ frames. frames.items ≡ frames_from lines.now handles.now 0 (addresses machine.now)) }
+    ensures { IfOk result (λ frames. frames.items
+        ≡ frames_from lines.now handles.now 0 (addresses machine.now)) }
 {
     let total = machine.calls().kept() + 1;
     let mut frames = Vec::with_capacity(alloc, total)?;

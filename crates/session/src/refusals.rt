@@ -13,7 +13,8 @@ use std::alloc::{AllocError, Global};
 
 /// What a request is answered. It fails where no memory is left.
 pub(crate) fn answer_to(alloc: Global, lent: &Lent, pending: &Pending) -> Result<Answer, AllocError>
-    ensures { IfOk result (λ a. answering_as lent.now.given.debuggee a ≡ spec.answer_of lent.now pending.now) }
+    ensures { IfOk result (λ a. answering_as lent.now.given.debuggee a
+        ≡ spec.answer_of lent.now pending.now) }
 {
     match refusal_of(lent.run(), lent.terms().phase, pending) {
         Some(refusal) => Ok(refusing(lent.terms(), refusal, None)),
@@ -38,7 +39,8 @@ pub(crate) fn refusal_of(run: Option<Run>, phase: Phase, pending: &Pending) -> O
 
 // Those that the request gives, or the program.
 fn refusal_by_itself(run: Option<Run>, phase: Phase, ask: &Ask) -> Option<Refusal>
-    ensures { result ≡ spec.first_refusal (spec.as_it_stands phase ask.now ++ spec.unmet run (spec.demand_by ask.now)) }
+    ensures { result ≡ spec.first_refusal
+        (spec.as_it_stands phase ask.now ++ spec.unmet run (spec.demand_by ask.now)) }
 {
     match refusal_as_it_stands(phase, ask) {
         Some(refusal) => Some(refusal),
@@ -88,7 +90,8 @@ fn refusal_unmet(run: Option<Run>, demand: Demand) -> Option<Refusal>
 
 // What is answered to one that is not refused.
 fn taken(alloc: Global, lent: &Lent, ask: &Ask) -> Result<Answer, AllocError>
-    ensures { IfOk result (λ a. answering_as lent.now.given.debuggee a ≡ spec.answer_by lent.now None ask.now) }
+    ensures { IfOk result (λ a. answering_as lent.now.given.debuggee a
+        ≡ spec.answer_by lent.now None ask.now) }
 {
     match ask {
         Ask::Request(request) => success_of(alloc, lent, &request.command),
@@ -98,7 +101,8 @@ fn taken(alloc: Global, lent: &Lent, ask: &Ask) -> Result<Answer, AllocError>
 
 /// The path of the file that the answer to a request wants, if it wants one.
 pub(crate) fn wanted_by<'p>(run: Option<Run>, phase: Phase, pending: &'p Pending) -> Option<&'p str>
-    ensures { option_map (λ path. path.now) result ≡ spec.path_in (spec.first_refusal (spec.refusals run phase pending.now)) pending.now.ask }
+    ensures { option_map (λ path. path.now) result
+        ≡ spec.path_in (spec.first_refusal (spec.refusals run phase pending.now)) pending.now.ask }
 {
     match refusal_of(run, phase, pending) {
         Some(_) => None,

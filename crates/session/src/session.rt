@@ -84,7 +84,8 @@ impl Session {
     /// connection takes nothing more. `PieceTooLong`: the piece has more than 65,536 bytes. `Busy`: 256
     /// requests or more wait. `NoMemory`: no memory was left.
     pub fn recv(&mut self, piece: &[u8]) -> Result<(), EventError>
-        ensures stands { Happens self.old (event.Recv piece.now) (answered (λ _. applied.Recv) result) self.new }
+        ensures stands { Happens self.old (event.Recv piece.now)
+            (answered (λ _. applied.Recv) result) self.new }
         ensures err { OnErr result (self.new ≡ self.old) }
     {
         self.state.recv(piece)
@@ -96,7 +97,8 @@ impl Session {
     /// `Full` where more than 65,536 bytes wait to be sent, and else `Nothing` where no request waits;
     /// neither changes anything. The errors are `NotConnected` and `NoMemory`.
     pub fn turn(&mut self, file: Option<&[u8]>) -> Result<Turned, EventError>
-        ensures stands { Happens self.old (event.Turn (option_copied file.entry)) (answered applied.Turn result) self.new }
+        ensures stands { Happens self.old (event.Turn (option_copied file.entry))
+            (answered applied.Turn result) self.new }
         ensures err { OnErr result (self.new ≡ self.old) }
     {
         self.state.turn(file)
@@ -124,7 +126,8 @@ impl Session {
     /// `NotConnected` where no editor is connected, and else `SentTooMuch` where fewer bytes wait. It
     /// takes no memory.
     pub fn sent(&mut self, count: usize) -> Result<(), EventError>
-        ensures stands { Happens self.old (event.Sent count) (answered (λ _. applied.Sent) result) self.new }
+        ensures stands { Happens self.old (event.Sent count)
+            (answered (λ _. applied.Sent) result) self.new }
         ensures err { OnErr result (self.new ≡ self.old) }
         ensures takes_none { result ≡ Err EventError.NoMemory → ⊥ }
     {
@@ -135,7 +138,8 @@ impl Session {
     ///
     /// `NotConnected` where no editor is connected. It takes no memory.
     pub fn drop_connection(&mut self) -> Result<(), EventError>
-        ensures stands { Happens self.old event.DropConnection (answered (λ _. applied.DropConnection) result) self.new }
+        ensures stands { Happens self.old event.DropConnection
+            (answered (λ _. applied.DropConnection) result) self.new }
         ensures err { OnErr result (self.new ≡ self.old) }
         ensures takes_none { result ≡ Err EventError.NoMemory → ⊥ }
     {
@@ -206,8 +210,10 @@ impl Session {
     /// The path of the file that the next answer wants, if it wants one: `turn` is to be given what it
     /// holds.
     pub fn wants_file(&self) -> Option<&str>
-        ensures now { option_map (λ path. path.now) result ≡ wanted_on self.now.now self.now.now.link }
-        ensures stands { OfEach self.now (λ s. option_map (λ path. path.now) result ≡ wanted_on s.now s.now.link) }
+        ensures now { option_map (λ path. path.now) result
+            ≡ wanted_on self.now.now self.now.now.link }
+        ensures stands { OfEach self.now
+            (λ s. option_map (λ path. path.now) result ≡ wanted_on s.now s.now.link) }
     {
         self.state.wants_file()
     }
@@ -217,7 +223,8 @@ impl Session {
     /// `Err`: no memory was left. Where there is no program, it takes none.
     pub fn snapshot(&self) -> Result<Snapshot, AllocError>
         ensures now { IfOk result (λ taken. IsTaken taken (snapshot_of self.now.now)) }
-        ensures stands { OfEach self.now (λ s. IfOk result (λ taken. IsTaken taken (snapshot_of s.now))) }
+        ensures stands { OfEach self.now
+            (λ s. IfOk result (λ taken. IsTaken taken (snapshot_of s.now))) }
         ensures err { OnErr result (self.now.now.debuggee.program ≢ None) }
     {
         self.state.snapshot()

@@ -163,7 +163,8 @@ impl State {
     fn step_stopping(&mut self, why: Why, more: bool) -> Step
         requires { Decides (a_next.Stop why) self.old more }
         ensures moved { result.moved ≡ 0 }
-        ensures stretches { (n moved : ℕ) → nat_lt moved n ≡ more → Stretches n moved self.old result self.new }
+        ensures stretches { (n moved : ℕ) → nat_lt moved n ≡ more
+            → Stretches n moved self.old result self.new }
     {
         match self.stop(why) {
             Ok(()) => Step::ends(SliceEnd::Stopped),
@@ -176,7 +177,8 @@ impl State {
     fn step_checking(&mut self, more: bool) -> Step
         requires { Decides a_next.Check self.old more }
         ensures moved { result.moved ≡ 0 }
-        ensures stretches { (n moved : ℕ) → nat_lt moved n ≡ more → Stretches n moved self.old result self.new }
+        ensures stretches { (n moved : ℕ) → nat_lt moved n ≡ more
+            → Stretches n moved self.old result self.new }
     {
         self.check();
         Step {
@@ -186,7 +188,8 @@ impl State {
     }
 
     fn check(&mut self)
-        requires due { (p : AProgram) → self.old.now.debuggee.program ≡ Some p → (p.machine.check_due ≡ true) × (p.owed ≡ None) }
+        requires due { (p : AProgram) → self.old.now.debuggee.program ≡ Some p
+            → (p.machine.check_due ≡ true) × (p.owed ≡ None) }
         ensures { (p : AProgram) → self.old.now.debuggee.program ≡ Some p
             → self.new ≡ performed keepings (spec.becomes self.old.now (entered p) ∷ []) self.old }
     {
@@ -237,7 +240,8 @@ impl State {
     // The instruction that comes next traps, or ends the program: that is made and told.
     #[tactic(auto, using(crate::proofs::Stretching::meets_next, crate::proofs::Stretching::lacks_meeting))]
     fn meet(&mut self, tick: Tick) -> Option<SliceEnd>
-        requires { (p : AProgram) × (IsFree p self.old × ((next_tick p ≡ tick) × (stays tick.outcome ≡ true))) }
+        requires { (p : AProgram)
+            × (IsFree p self.old × ((next_tick p ≡ tick) × (stays tick.outcome ≡ true))) }
         ensures stretches { (n moved : ℕ) → nat_lt moved n ≡ true
             → Stretches n moved self.old (record { moved = 0; ending = result }) self.new }
         ensures some { result ≡ None → ⊥ }
@@ -308,7 +312,8 @@ impl State {
     // What is told of a tick, written.
     fn draft_tick(&self, tick: Tick) -> Result<Draft, AllocError>
         ensures ok { IfOk result (λ d. (p : AProgram) → self.now.now.debuggee.program ≡ Some p
-            → d ≡ draft_told self.now.now.limits self.now.now.link (tick_events tick p.machine.lists.ids)) }
+            → d ≡ draft_told self.now.now.limits self.now.now.link
+            (tick_events tick p.machine.lists.ids)) }
         ensures empty { is_active self.now.now.link ≡ false → IfOk result (λ d. d.bytes ≡ []) }
         ensures told { OnErr result (is_active self.now.now.link ≡ true) }
     {
@@ -327,7 +332,8 @@ impl State {
     // Adds the events of what a tick came to.
     fn add_outcome(&self, draft: &mut Draft, outcome: Outcome) -> Result<(), AllocError>
         ensures { OnOk result ((p : AProgram) → self.now.now.debuggee.program ≡ Some p
-            → draft.new ≡ drafted_all self.now.now.limits (outcome_events outcome p.machine.lists.ids) draft.old) }
+            → draft.new ≡ drafted_all self.now.now.limits
+            (outcome_events outcome p.machine.lists.ids) draft.old) }
     {
         match outcome {
             Outcome::Went => Ok(()),
@@ -357,7 +363,8 @@ impl State {
 
     // A stop that no breakpoint made, written.
     fn draft_stop(&self, why: Why) -> Result<Draft, AllocError>
-        ensures ok { IfOk result (λ d. d ≡ draft_told self.now.now.limits self.now.now.link (stop_event why [] ∷ [])) }
+        ensures ok { IfOk result
+            (λ d. d ≡ draft_told self.now.now.limits self.now.now.link (stop_event why [] ∷ [])) }
         ensures told { OnErr result (is_active self.now.now.link ≡ true) }
     {
         let mut draft = Draft::new(self.alloc, self.limits, self.link);
@@ -384,7 +391,9 @@ impl State {
 
     // The events of what a tick came to that hit no breakpoint, written, where the editor is told.
     fn draft_outcome(&self, outcome: Outcome) -> Result<Draft, AllocError>
-        ensures ok { IfOk result (λ d. d ≡ draft_told self.now.now.limits self.now.now.link (outcome_events outcome [])) }
+        ensures ok { IfOk result
+            (λ d. d ≡ draft_told self.now.now.limits self.now.now.link
+            (outcome_events outcome [])) }
         ensures told { OnErr result (is_active self.now.now.link ≡ true) }
     {
         let mut draft = Draft::new(self.alloc, self.limits, self.link);

@@ -33,7 +33,8 @@ impl Snapshot {
         program: &Option<Program>,
         handles: &Handles,
     ) -> Result<Snapshot, AllocError>
-        ensures ok { IfOk result (λ s. s ≡ option_map (λ p. captured_of p handles.now) program.now) }
+        ensures ok { IfOk result
+            (λ s. s ≡ option_map (λ p. captured_of p handles.now) program.now) }
         ensures err { OnErr result (program.now ≢ None) }
     {
         match program {
@@ -117,7 +118,8 @@ impl Snapshot {
     /// Makes it that of the program as it runs, if there is one: all else stays. It takes no memory.
     pub fn set_running(&mut self)
         ensures now { self.new ≡ as_running self.old }
-        ensures facts { seen_of self.new ≡ record (seen_of self.old) { run = run_if self.old RunState.Running } }
+        ensures facts { seen_of self.new
+            ≡ record (seen_of self.old) { run = run_if self.old RunState.Running } }
         ensures path { path_of self.new ≡ path_of self.old }
     {
         if let Some(program) = &mut self.program {

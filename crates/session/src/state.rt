@@ -106,7 +106,9 @@ impl Model for State {
       waiting = s.buffer;
     } };
 
-    ghost invariant = { λ s. (s.unframer.limit ≡ BODY_LIMIT) × (s.unframer.waiting ≡ []) × IsSize s.size × (s.limits.last_retired ≤ 2 ^ 62) × (s.limits.last_ref ≤ 2147483647) × (s.last_break ≤ 2147483647) };
+    ghost invariant = { λ s. (s.unframer.limit ≡ BODY_LIMIT) × (s.unframer.waiting ≡ [])
+        × IsSize s.size × (s.limits.last_retired ≤ 2 ^ 62) × (s.limits.last_ref ≤ 2147483647)
+        × (s.last_break ≤ 2147483647) };
 }
 
 impl State {
@@ -158,7 +160,8 @@ impl State {
 
     /// Some of the waiting bytes were sent.
     pub(crate) fn sent(&mut self, count: usize) -> Result<(), EventError>
-        ensures kept { Goes self.old (event.Sent count) (answered (λ _. applied.Sent) result) self.new }
+        ensures kept { Goes self.old (event.Sent count)
+            (answered (λ _. applied.Sent) result) self.new }
         ensures err { OnErr result (self.new ≡ self.old) }
         ensures takes_none { result ≡ Err EventError.NoMemory → ⊥ }
     {
@@ -174,7 +177,8 @@ impl State {
 
     /// The connection ends.
     pub(crate) fn drop_connection(&mut self) -> Result<(), EventError>
-        ensures kept { Goes self.old event.DropConnection (answered (λ _. applied.DropConnection) result) self.new }
+        ensures kept { Goes self.old event.DropConnection
+            (answered (λ _. applied.DropConnection) result) self.new }
         ensures err { OnErr result (self.new ≡ self.old) }
         ensures takes_none { result ≡ Err EventError.NoMemory → ⊥ }
     {
@@ -213,7 +217,8 @@ impl State {
 
     /// Tells what is owed, or else answers the first request that waits, with the file that it names.
     pub(crate) fn turn(&mut self, file: Option<&[u8]>) -> Result<Turned, EventError>
-        ensures kept { Goes self.old (event.Turn (option_copied file.entry)) (answered applied.Turn result) self.new }
+        ensures kept { Goes self.old (event.Turn (option_copied file.entry))
+            (answered applied.Turn result) self.new }
         ensures err { OnErr result (self.new ≡ self.old) }
     {
         let Some(link) = self.link else {
@@ -239,12 +244,17 @@ impl State {
     #[tactic(auto, using(crate::proofs::Drafting::first_answers, crate::proofs::Drafting::answer_needs, crate::proofs::Numbering::prepared_has_numbers))]
     fn answer_first(&mut self, link: Link, file: Option<&[u8]>) -> Result<Turned, AllocError>
         requires { self.old.now.link ≡ Some link }
-        ensures answer { IfOk result (λ turned. (spec.next_turn self.old.now link.terms (option_copied file.entry) self.old.now.arrivals.pending).answer
+        ensures answer { IfOk result
+            (λ turned. (spec.next_turn self.old.now link.terms
+            (option_copied file.entry) self.old.now.arrivals.pending).answer
             ≡ Ok (applied.Turn turned)) }
         ensures ok { OnOk result (self.new
-            ≡ performed keepings (spec.next_turn self.old.now link.terms (option_copied file.entry) self.old.now.arrivals.pending).acts self.old) }
+            ≡ performed keepings (spec.next_turn self.old.now link.terms
+            (option_copied file.entry) self.old.now.arrivals.pending).acts self.old) }
         ensures err { OnErr result (self.new ≡ self.old) }
-        ensures needs { OnErr result (spec.needs_memory (spec.next_turn self.old.now link.terms (option_copied file.entry) self.old.now.arrivals.pending).acts ≡ true) }
+        ensures needs { OnErr result
+            (spec.needs_memory (spec.next_turn self.old.now link.terms
+            (option_copied file.entry) self.old.now.arrivals.pending).acts ≡ true) }
     {
         let Some(first) = self.arrivals.first() else {
             return Ok(Turned::Nothing);
@@ -264,7 +274,8 @@ impl State {
         first: &Pending,
     ) -> Result<Prepared, AllocError>
         ensures { IfOk result (λ r. IsPrepared self.now.now first.now
-            (spec_answer.answer_to self.now.now link.terms (option_copied file.entry) first.now) r) }
+            (spec_answer.answer_to self.now.now link.terms (option_copied file.entry) first.now)
+            r) }
     {
         let answer = answer_to(self.alloc, &self.lent(link.terms, file), first)?;
         let Answer {
@@ -285,7 +296,11 @@ impl State {
 
     // What an answer is lent.
     fn lent<'s>(&'s self, terms: Terms, file: Option<&'s [u8]>) -> Lent<'s>
-        ensures { result ≡ record { given = given_of self.now.now; terms = terms; file = option_copied file.entry } }
+        ensures { result ≡ record {
+          given = given_of self.now.now;
+          terms = terms;
+          file = option_copied file.entry;
+        } }
     {
         Lent::new(
             terms,
@@ -321,7 +336,9 @@ impl State {
     // What was drafted is queued, and the change stands: both or none.
     fn carry_out(&mut self, change: Change, terms: Terms, draft: &Draft) -> Result<(), AllocError>
         requires { HasNumbers (call_of change) self.old.now.numbers }
-        ensures ok { OnOk result (self.new ≡ kept_changed change terms (record self.old { waiting = self.old.waiting ++ draft.now.bytes })) }
+        ensures ok { OnOk result
+            (self.new ≡ kept_changed change terms
+            (record self.old { waiting = self.old.waiting ++ draft.now.bytes })) }
         ensures err { OnErr result (self.new ≡ self.old) }
     {
         self.buffer.push(draft.bytes())?;
@@ -340,7 +357,8 @@ impl State {
     // What an answer makes of the program that is debugged, and of the references.
     fn change(&mut self, change: Change) -> Result<(), AllocError>
         requires { HasNumbers (call_of change) self.old.now.numbers }
-        ensures ok { OnOk result (self.new ≡ record self.old { now = now_changed change self.old.now }) }
+        ensures ok { OnOk result
+            (self.new ≡ record self.old { now = now_changed change self.old.now }) }
         ensures err { OnErr result (self.new ≡ self.old) }
     {
         match change {
@@ -357,7 +375,8 @@ impl State {
     // References are issued for these targets.
     fn issue(&mut self, targets: &[Target]) -> Result<(), AllocError>
         requires { has_room self.old.now.numbers targets.now ≡ true }
-        ensures ok { OnOk result (self.new ≡ record self.old { now = refers self.old.now (Some (Issue targets.now)) }) }
+        ensures ok { OnOk result
+            (self.new ≡ record self.old { now = refers self.old.now (Some (Issue targets.now)) }) }
         ensures err { OnErr result (self.new ≡ self.old) }
     {
         match self.handles.issue(targets) {
@@ -369,7 +388,9 @@ impl State {
 
     // What it makes of the program that there is, and what becomes of the references then.
     fn change_program(&mut self, change: ProgramChange) -> Result<(), AllocError>
-        ensures ok { OnOk result (self.new ≡ record self.old { now = now_changed (a_change.OfProgram change) self.old.now }) }
+        ensures ok { OnOk result
+            (self.new ≡ record self.old
+            { now = now_changed (a_change.OfProgram change) self.old.now }) }
         ensures err { OnErr result (self.new ≡ self.old) }
     {
         let ends = change.ends_stop();
@@ -384,7 +405,11 @@ impl State {
 
     // The breakpoints of source lines are now these.
     fn set_source(&mut self, breaks: Numbered) -> Result<(), AllocError>
-        ensures ok { OnOk result (self.new ≡ record self.old { now = record self.old.now { debuggee = changed (a_change.SetSource breaks) self.old.now.debuggee } }) }
+        ensures ok { OnOk result
+            (self.new ≡ record self.old {
+              now = record self.old.now
+                  { debuggee = changed (a_change.SetSource breaks) self.old.now.debuggee };
+            }) }
         ensures err { OnErr result (self.new ≡ self.old) }
     {
         let last = breaks.last();
@@ -397,7 +422,11 @@ impl State {
 
     // Those of instructions are now these.
     fn set_instructions(&mut self, breaks: Numbered) -> Result<(), AllocError>
-        ensures ok { OnOk result (self.new ≡ record self.old { now = record self.old.now { debuggee = changed (a_change.SetInstructions breaks) self.old.now.debuggee } }) }
+        ensures ok { OnOk result
+            (self.new ≡ record self.old {
+              now = record self.old.now
+                  { debuggee = changed (a_change.SetInstructions breaks) self.old.now.debuggee };
+            }) }
         ensures err { OnErr result (self.new ≡ self.old) }
     {
         let last = breaks.last();
@@ -420,7 +449,8 @@ impl State {
     // Messages up to this number were queued, the first of them the answer to the first request.
     fn settle(&mut self, seq: u32)
         ensures { self.new ≡ record self.old {
-          now = settled self.old.now.link seq (others_pending self.old.now.arrivals.pending) self.old.now;
+          now = settled self.old.now.link seq
+              (others_pending self.old.now.arrivals.pending) self.old.now;
         } }
     {
         if self.settle_told(seq) {
@@ -434,7 +464,8 @@ impl State {
           now = settled self.old.now.link seq self.old.now.arrivals.pending self.old.now;
         } }
         ensures wait { (rest : List APending) → settled self.old.now.link seq rest self.old.now
-            ≡ (if result then record self.new.now { arrivals = record self.new.now.arrivals { pending = rest } } else self.new.now) }
+            ≡ (if result then record self.new.now
+            { arrivals = record self.new.now.arrivals { pending = rest } } else self.new.now) }
     {
         let Some(link) = self.link else {
             return false;
@@ -472,7 +503,8 @@ impl State {
     /// A piece of what the editor sends comes. All growth comes first: where no memory is left, the
     /// piece is taken back.
     pub(crate) fn recv(&mut self, piece: &[u8]) -> Result<(), EventError>
-        ensures kept { Goes self.old (event.Recv piece.now) (answered (λ _. applied.Recv) result) self.new }
+        ensures kept { Goes self.old (event.Recv piece.now)
+            (answered (λ _. applied.Recv) result) self.new }
         ensures err { OnErr result (self.new ≡ self.old) }
     {
         let Some(link) = self.link else {
@@ -515,7 +547,8 @@ impl State {
         ensures ok { OnOk result (self.new ≡ record self.old {
           now = acts.taken_in self.old.now (acts.read_on self.old.now piece.now);
         }) }
-        ensures fault { IfOk result (λ fault. fault ≡ acts.fault_of_reading (acts.read_on self.old.now piece.now)) }
+        ensures fault { IfOk result
+            (λ fault. fault ≡ acts.fault_of_reading (acts.read_on self.old.now piece.now)) }
         ensures err { OnErr result (self.new ≡ self.old) }
     {
         let frame_fault = feed(&mut self.unframer, piece)?;

@@ -10,13 +10,15 @@ ghost use Rattle.session_laws.specs.Lifetimes.{ReferencesLast, ReferencesRise, R
 
 /// Whatever happens, the life of the last connection that was made is at the place that is its number.
 pub fn lives_are_numbered()
-    ensures { (from : ABeginning) (events : List AnEvent) → law.LivesAreNumbered (After from events) }
+    ensures { (from : ABeginning) (events : List AnEvent)
+        → law.LivesAreNumbered (After from events) }
 {}
 
 /// Whatever happens, the bytes that were taken of a connection are a prefix of its bytes, and on the
 /// present connection the bytes that wait are the rest: none is lost, doubled or changed.
 pub fn every_byte_is_taken_or_waits()
-    ensures { (from : ABeginning) (events : List AnEvent) → law.EveryByteIsTakenOrWaits (After from events) }
+    ensures { (from : ABeginning) (events : List AnEvent)
+        → law.EveryByteIsTakenOrWaits (After from events) }
 {}
 
 /// Whatever happens, the messages of a connection have the numbers 1, 2, 3 and so on.
@@ -33,18 +35,21 @@ pub fn answers_in_order()
 /// Whatever happens, the requests that came on a connection are those of the bytes that were
 /// accepted on it.
 pub fn requests_are_read()
-    ensures { (from : ABeginning) (events : List AnEvent) → law.RequestsAreRead (After from events) }
+    ensures { (from : ABeginning) (events : List AnEvent)
+        → law.RequestsAreRead (After from events) }
 {}
 
 /// Whatever happens, what closed the last connection is the fault of the bytes that were accepted on
 /// it, if they have one.
 pub fn fault_is_of_the_bytes()
-    ensures { (from : ABeginning) (events : List AnEvent) → law.FaultIsOfTheBytes (After from events) }
+    ensures { (from : ABeginning) (events : List AnEvent)
+        → law.FaultIsOfTheBytes (After from events) }
 {}
 
 /// Whatever happened, two pieces leave what they leave as one.
 pub fn cuts_do_not_matter()
-    ensures { (from : ABeginning) (events : List AnEvent) → law.CutsDoNotMatter (After from events) }
+    ensures { (from : ABeginning) (events : List AnEvent)
+        → law.CutsDoNotMatter (After from events) }
 {}
 
 /// An event that is refused changes nothing.
@@ -54,12 +59,14 @@ pub fn refused_changes_nothing()
 
 /// Whatever happens, each answer is a message that an adapter may send.
 pub fn answers_are_proper()
-    ensures { (from : ABeginning) (events : List AnEvent) → law.AnswersAreProper (After from events) }
+    ensures { (from : ABeginning) (events : List AnEvent)
+        → law.AnswersAreProper (After from events) }
 {}
 
 /// Whatever happens, `initialize` succeeds once at most on a connection.
 pub fn initializes_once()
-    ensures { (from : ABeginning) (events : List AnEvent) → law.InitializesOnce (After from events) }
+    ensures { (from : ABeginning) (events : List AnEvent)
+        → law.InitializesOnce (After from events) }
 {}
 
 /// Whatever happens, each message says of the program's run what was so of the program when it was queued: a stop that

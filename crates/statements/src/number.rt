@@ -18,7 +18,8 @@ pub(crate) struct Number {
 /// The 32 bits of a number that is no more below 0 and no more above it than this.
 pub(crate) fn bits_in(below: u32, above: u32, text: &[u8]) -> Result<u32, LineError>
     ensures value { result ≡ bits_in below above text.now }
-    ensures range { IfOk result (λ bits. below + above < 2 ^ 32 → (bits + below) % 2 ^ 32 ≤ below + above) }
+    ensures range { IfOk result
+        (λ bits. below + above < 2 ^ 32 → (bits + below) % 2 ^ 32 ≤ below + above) }
 {
     match number_in(text) {
         Ok(number) => bits_within(below, above, number),
@@ -35,7 +36,8 @@ pub(crate) fn constant_in(text: &[u8]) -> Result<u32, LineError>
 
 fn bits_within(below: u32, above: u32, number: Number) -> Result<u32, LineError>
     ensures value { result ≡ bits_within below above number }
-    ensures range { IfOk result (λ bits. below + above < 2 ^ 32 → (bits + below) % 2 ^ 32 ≤ below + above) }
+    ensures range { IfOk result
+        (λ bits. below + above < 2 ^ 32 → (bits + below) % 2 ^ 32 ≤ below + above) }
 {
     let most = if number.negative { below } else { above };
     if number.magnitude > most {

@@ -57,7 +57,8 @@ impl Calls {
     pub fn note(&mut self, instr: &Instr, pc: u32)
         requires { self.old.depth < 2 ^ 64 - 1 }
         ensures kept { self.new ≡ noted self.old instr.now pc }
-        ensures past { (retired : List Retired) → StandsFor self.old retired → StandsFor self.new (with_retired retired instr.now pc) }
+        ensures past { (retired : List Retired) → StandsFor self.old retired
+            → StandsFor self.new (with_retired retired instr.now pc) }
     {
         match instr {
             Instr::Jal { .. } | Instr::Jalr { .. } => self.note_jump(instr, pc),
@@ -81,7 +82,8 @@ impl Calls {
     // Notes a JALR.
     fn note_jalr(&mut self, rd: Reg, rs1: Reg, pc: u32)
         requires { self.old.depth < 2 ^ 64 - 1 }
-        ensures { self.new ≡ with_marks self.old (jalr_marks (is_link rd) (is_link rs1) (rd == rs1) pc) }
+        ensures { self.new ≡ with_marks self.old
+            (jalr_marks (is_link rd) (is_link rs1) (rd == rs1) pc) }
     {
         match (is_link(rd), is_link(rs1)) {
             (false, false) => {}
@@ -115,7 +117,8 @@ impl Calls {
     #[inline]
     pub fn depth(&self) -> u64
         ensures kept { result ≡ self.now.depth }
-        ensures past { (retired : List Retired) → StandsFor self.now retired → result ≡ depth_of retired }
+        ensures past { (retired : List Retired) → StandsFor self.now retired
+            → result ≡ depth_of retired }
     {
         self.depth
     }
@@ -126,7 +129,8 @@ impl Calls {
         ensures kept { result ≡ length self.now.calls }
         ensures within_limit { result ≤ 256 }
         ensures within_depth { result ≤ self.now.depth }
-        ensures past { (retired : List Retired) → StandsFor self.now retired → result ≡ length (calls_of retired) }
+        ensures past { (retired : List Retired) → StandsFor self.now retired
+            → result ≡ length (calls_of retired) }
     {
         self.addresses.len()
     }
@@ -136,7 +140,8 @@ impl Calls {
     #[inline]
     pub fn entry(&self, k: usize) -> Option<u32>
         ensures kept { result ≡ slice_get self.now.calls k }
-        ensures past { (retired : List Retired) → StandsFor self.now retired → result ≡ slice_get (calls_of retired) k }
+        ensures past { (retired : List Retired) → StandsFor self.now retired
+            → result ≡ slice_get (calls_of retired) k }
     {
         self.addresses.get(k).copied()
     }

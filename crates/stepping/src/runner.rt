@@ -44,7 +44,18 @@ impl Model for Runner {
 
     ghost coded = { Prim.hlevel (codes, coded_tree) };
 
-    ghost view = { λ r. record { hart = r.hart; memory = r.memory; size = r.size; calls = r.calls; lists = r.breaks; retired = r.retired; goal = r.goal; start = r.start; check_due = r.check_due; table = r.lines } };
+    ghost view = { λ r. record {
+      hart = r.hart;
+      memory = r.memory;
+      size = r.size;
+      calls = r.calls;
+      lists = r.breaks;
+      retired = r.retired;
+      goal = r.goal;
+      start = r.start;
+      check_due = r.check_due;
+      table = r.lines;
+    } };
 
     ghost invariant = { λ r. IsSound r.size r.calls.depth r.retired r.out_of_reach r.goal r.start };
 }
@@ -80,7 +91,8 @@ impl Runner {
     /// has to fit into the memory that there is, and its entry is at a multiple of 4. `Err`: no memory was left, and nothing changes.
     pub fn reload(&mut self, image: &Image) -> Result<(), AllocError>
         requires { CanBeLoaded image.now self.old.size }
-        ensures ok { OnOk result (IsLoaded image.now self.old.size (not_hit self.old.lists) self.new) }
+        ensures ok { OnOk result
+            (IsLoaded image.now self.old.size (not_hit self.old.lists) self.new) }
         ensures err { OnErr result (self.new ≡ self.old) }
     {
         let memory = loaded_memory(self.alloc, image, self.size)?;
@@ -102,7 +114,8 @@ impl Runner {
     /// Begins a run with a goal, from the depth that the program has now. A first run, of a program that was just loaded, begins with a
     /// check of the breakpoints at pc.
     pub fn begin(&mut self, goal: Goal, first: bool)
-        ensures { self.new ≡ record self.old { goal = goal; start = self.old.calls.depth; check_due = first } }
+        ensures { self.new ≡ record self.old
+            { goal = goal; start = self.old.calls.depth; check_due = first } }
     {
         self.goal = goal;
         self.start = self.calls.depth();
@@ -136,8 +149,14 @@ impl Runner {
 
     /// Writes bytes to memory. `Outside`: one of the addresses has no byte, and nothing is written.
     pub fn write(&mut self, addr: u32, bytes: &[u8]) -> Result<(), MemFault>
-        ensures answers { result ≡ unless_fault (fault_at self.old.memory 1 addr (length bytes.now)) tt }
-        ensures leaves { self.new ≡ record self.old { memory = memory_after (fault_at self.old.memory 1 addr (length bytes.now)) (with_bytes self.old.memory addr bytes.now) self.old.memory } }
+        ensures answers { result
+            ≡ unless_fault (fault_at self.old.memory 1 addr (length bytes.now)) tt }
+        ensures leaves { self.new
+            ≡ record self.old {
+              memory = memory_after
+                  (fault_at self.old.memory 1 addr (length bytes.now))
+                  (with_bytes self.old.memory addr bytes.now) self.old.memory;
+            } }
     {
         self.memory.write(addr, bytes)
     }
@@ -202,7 +221,8 @@ impl Runner {
 // Memory into which an image was loaded.
 fn loaded_memory(alloc: Global, image: &Image, size: u32) -> Result<Memory, AllocError>
     requires { CanBeLoaded image.now size }
-    ensures { IfOk result (λ memory. memory ≡ with_bytes (replicate size 0) first_address image.now.bytes) }
+    ensures { IfOk result (λ memory. memory
+        ≡ with_bytes (replicate size 0) first_address image.now.bytes) }
 {
     let mut memory = Memory::new(alloc, FIRST_ADDRESS, size)?;
     match memory.write(FIRST_ADDRESS, image.bytes.as_slice()) {

@@ -63,7 +63,8 @@ impl Runner {
     #[inline]
     fn move_by(&mut self, instr: Option<Instr>) -> Result<Stepped, AllocError>
         requires { IsDecodedAtPc (machine_of self.old.hart self.old.memory) instr }
-        ensures moves { IsMove (machine_of self.old.hart self.old.memory) (record { answer = result; machine = machine_of self.new.hart self.new.memory }) }
+        ensures moves { IsMove (machine_of self.old.hart self.old.memory)
+            (record { answer = result; machine = machine_of self.new.hart self.new.memory }) }
         ensures rest { self.new ≡ moved_as self.old self.new }
         ensures answers { IsOk result }
         ensures decoded { IsDecodedAtPc (machine_of self.old.hart self.old.memory) instr }
@@ -194,7 +195,8 @@ impl Runner {
     #[inline]
     fn note(&mut self, instr: &Option<Instr>, pc: u32)
         requires { self.old.retired < 2 ^ 62 }
-        ensures { self.new ≡ record self.old { calls = noted_if self.old.calls instr.now pc; retired = self.old.retired + 1 } }
+        ensures { self.new ≡ record self.old
+            { calls = noted_if self.old.calls instr.now pc; retired = self.old.retired + 1 } }
     {
         if let Some(instr) = instr {
             self.calls.note(instr, pc);

@@ -41,7 +41,8 @@ pub fn drive<W: Wire, F: Files>(
     files: &F,
     turns: u64,
 ) -> DriveEnd
-    ensures { OfEach session.old (λ s. Driven (F.known files.now) (W.line wire.old) (W.line wire.new) turns s session.new
+    ensures { OfEach session.old
+        (λ s. Driven (F.known files.now) (W.line wire.old) (W.line wire.new) turns s session.new
         result) }
 {
     let Ok(mut room) = room_of(alloc) else {
@@ -68,7 +69,8 @@ pub(crate) fn drive_in<W: Wire, F: Files>(
 ) -> Drove
     requires room { 0 < length room.old }
     requires piece { length room.old ≤ 65536 }
-    ensures drove { OfEach session.old (λ s. DroveFor (F.known files.now) (W.line wire.old) (W.line wire.new) turns result.turns
+    ensures drove { OfEach session.old
+        (λ s. DroveFor (F.known files.now) (W.line wire.old) (W.line wire.new) turns result.turns
         s session.new result.end) }
     ensures few { result.turns ≤ turns }
 {
@@ -103,7 +105,8 @@ fn turn<W: Wire, F: Files>(
     requires room { 0 < length room.old }
     requires piece { length room.old ≤ 65536 }
     requires since { since ≤ 10000000 }
-    ensures went { OfEach session.old (λ s. Went (F.known files.now) since result (W.line wire.old) (W.line wire.new) s
+    ensures went { OfEach session.old
+        (λ s. Went (F.known files.now) since result (W.line wire.old) (W.line wire.new) s
         session.new) }
     ensures since { IfOk result (λ moves. moves ≤ 10000000) }
 {
@@ -127,7 +130,8 @@ fn turn<W: Wire, F: Files>(
 
 fn send<W: Wire>(session: &mut Session, wire: &mut W, since: u64) -> Result<u64, DriveEnd>
     requires { due (see_kept session.old) ≡ spec.Due.Send }
-    ensures went { (known : KnownFiles) → OfEach session.old (λ s. Went known since result (W.line wire.old)
+    ensures went { (known : KnownFiles)
+        → OfEach session.old (λ s. Went known since result (W.line wire.old)
         (W.line wire.new) s session.new) }
     ensures same { IfOk result (λ moves. moves ≡ since) }
 {
@@ -147,7 +151,8 @@ fn answer<F: Files>(
     since: u64,
 ) -> Result<u64, DriveEnd>
     requires { due (see_kept session.old) ≡ spec.Due.Answer }
-    ensures went { (line : Line) → OfEach session.old (λ s. Went (F.known files.now) since result line line s session.new) }
+    ensures went { (line : Line)
+        → OfEach session.old (λ s. Went (F.known files.now) since result line line s session.new) }
     ensures same { IfOk result (λ moves. moves ≡ since) }
 {
     let Ok(file) = file_wanted(alloc, session, files) else {
@@ -174,7 +179,8 @@ fn look<W: Wire>(
     requires since { since ≤ 10000000 }
     requires due { due (see_kept session.old) ≡ spec.Due.Run }
     requires polls { (W.line wire.old).polls ≡ true }
-    ensures went { (known : KnownFiles) → OfEach session.old (λ s. Went known since result (W.line wire.old)
+    ensures went { (known : KnownFiles)
+        → OfEach session.old (λ s. Went known since result (W.line wire.old)
         (W.line wire.new) s session.new) }
     ensures since { IfOk result (λ moves. moves ≤ 10000000) }
 {
@@ -191,7 +197,8 @@ fn run(session: &mut Session, moves: u32, since: u64, polls: bool) -> Result<u64
     requires moves { moves ≡ spec.moves_granted }
     requires since { since ≤ 10000000 }
     requires due { due (see_kept session.old) ≡ spec.Due.Run }
-    ensures went { (known : KnownFiles) (line line' : Line) → Passed polls line line' → OfEach session.old (λ s. Went known
+    ensures went { (known : KnownFiles) (line line' : Line) → Passed polls line line'
+        → OfEach session.old (λ s. Went known
         since result line line' s session.new) }
     ensures since { IfOk result (λ moves. moves ≤ 10000000) }
 {
@@ -206,7 +213,8 @@ fn run(session: &mut Session, moves: u32, since: u64, polls: bool) -> Result<u64
 fn hold_after(session: &mut Session, since: u64, moved: u32, polls: bool) -> u64
     requires { since ≤ 10000000 }
     ensures counts { result ≡ spec.counted (since + moved) }
-    ensures holds { OfEach session.old (λ s. Stands session.new (spec.held_after (is_held polls (since + moved)) s)) }
+    ensures holds { OfEach session.old
+        (λ s. Stands session.new (spec.held_after (is_held polls (since + moved)) s)) }
 {
     let made = since + u64::from(moved);
     if !polls && made >= MOST_MOVES {
@@ -225,7 +233,8 @@ fn receive<W: Wire>(
     requires room { 0 < length room.old }
     requires piece { length room.old ≤ 65536 }
     requires due { due (see_kept session.old) ≡ spec.Due.Receive }
-    ensures went { (known : KnownFiles) → OfEach session.old (λ s. Went known since result (W.line wire.old)
+    ensures went { (known : KnownFiles)
+        → OfEach session.old (λ s. Went known since result (W.line wire.old)
         (W.line wire.new) s session.new) }
     ensures fewer { IfOk result (λ moves. moves ≤ since) }
 {

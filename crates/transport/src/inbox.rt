@@ -141,7 +141,8 @@ fn polled(
 
 // Takes the next message that an adapter looks at. A body that found no memory is not taken.
 fn take_message(alloc: Global, unframer: &mut Unframer) -> Result<Option<Incoming>, MessageError>
-    ensures takes { (heard : Heard) → HasHeard unframer.old heard → Takes heard result unframer.new }
+    ensures takes { (heard : Heard) → HasHeard unframer.old heard
+        → Takes heard result unframer.new }
     ensures tail { unframer.new.tail ≡ unframer.old.tail }
 {
     while let Some(body) = unframer.peek_body() {

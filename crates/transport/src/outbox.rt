@@ -91,7 +91,8 @@ impl Outbox {
     /// Writes what waits, by as many calls of the writer as it takes, and answers whether all was
     /// written. A call that a signal interrupted is made again.
     pub(crate) fn send_all<W: Write>(&mut self, writer: &mut W) -> bool
-        ensures prefix { SendsPrefix (W.contents writer.old) (W.contents writer.new) self.old self.new }
+        ensures prefix { SendsPrefix (W.contents writer.old)
+            (W.contents writer.new) self.old self.new }
         ensures all { IsTrue result → self.new.waiting ≡ [] }
     {
         'sending: for _ in 0..u64::MAX {

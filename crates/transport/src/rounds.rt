@@ -21,7 +21,8 @@ pub(crate) fn file_wanted<F: Files>(
     session: &Session,
     files: &F,
 ) -> Result<Option<Bytes>, AllocError>
-    ensures { IfOk result (λ file. IsGiven (F.known files.now) (wanted_on session.now.now session.now.now.link) file) }
+    ensures { IfOk result (λ file. IsGiven (F.known files.now)
+        (wanted_on session.now.now session.now.now.link) file) }
 {
     match session.wants_file() {
         Some(path) => file_at(alloc, files, path),
@@ -31,7 +32,8 @@ pub(crate) fn file_wanted<F: Files>(
 
 /// Answers with this file.
 pub(crate) fn turn_with(session: &mut Session, file: Option<Bytes>) -> Result<Turned, EventError>
-    ensures stands { Happens session.old (event.Turn file) (answered applied.Turn result) session.new }
+    ensures stands { Happens session.old (event.Turn file)
+        (answered applied.Turn result) session.new }
     ensures err { OnErr result (session.new ≡ session.old) }
 {
     match file {

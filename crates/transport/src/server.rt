@@ -76,11 +76,21 @@ impl<R: Read, W: Write> Server<R, W> {
     pub fn poll_request(&mut self) -> Result<Option<Incoming>, ServerError>
         ensures stays { IfSome self.old.fault (λ e. (result ≡ Err e) × (self.new ≡ self.old)) }
         ensures polls { self.old.fault ≡ None → (heard : Heard) → HasRead self.old.inbox heard
-            → Polls (R.remaining self.old.reader) (R.remaining self.new.reader) heard result self.new.inbox }
+            → Polls (R.remaining self.old.reader)
+            (R.remaining self.new.reader) heard result self.new.inbox }
         ensures fault { self.old.fault ≡ None → self.new.fault ≡ lasting result }
-        ensures writes_nothing { (self.new.writer ≡ self.old.writer) × (self.new.outbox ≡ self.old.outbox) }
-        ensures did { Polled (record { fault = self.old.fault; outbox = self.old.outbox; held = W.contents self.old.writer }) result
-            (record { fault = self.new.fault; outbox = self.new.outbox; held = W.contents self.new.writer }) }
+        ensures writes_nothing { (self.new.writer ≡ self.old.writer)
+            × (self.new.outbox ≡ self.old.outbox) }
+        ensures did { Polled (record {
+          fault = self.old.fault;
+          outbox = self.old.outbox;
+          held = W.contents self.old.writer;
+        }) result
+            (record {
+              fault = self.new.fault;
+              outbox = self.new.outbox;
+              held = W.contents self.new.writer;
+            }) }
     {
         if let Some(fault) = self.fault {
             return Err(fault);
@@ -98,13 +108,23 @@ impl<R: Read, W: Write> Server<R, W> {
     pub fn respond(&mut self, response: Response) -> Result<(), ServerError>
         ensures stays { IfSome self.old.fault (λ e. (result ≡ Err e) × (self.new ≡ self.old)) }
         ensures writes { self.old.fault ≡ None → self.old.outbox.waiting ≡ []
-            → Writes (W.contents self.old.writer) (W.contents self.new.writer) self.old.outbox (messages.Response response) result
+            → Writes (W.contents self.old.writer) (W.contents self.new.writer) self.old.outbox
+            (messages.Response response) result
             self.new.outbox self.new.fault }
         ensures spent { self.old.fault ≡ None
             → (IsErrOf result ServerError.SeqSpent ↔ (self.old.outbox.count ≡ LAST_SEQ)) }
-        ensures reads_nothing { (self.new.reader ≡ self.old.reader) × (self.new.inbox ≡ self.old.inbox) }
-        ensures did { Said (record { fault = self.old.fault; outbox = self.old.outbox; held = W.contents self.old.writer }) (messages.Response response) result
-            (record { fault = self.new.fault; outbox = self.new.outbox; held = W.contents self.new.writer }) }
+        ensures reads_nothing { (self.new.reader ≡ self.old.reader)
+            × (self.new.inbox ≡ self.old.inbox) }
+        ensures did { Said (record {
+          fault = self.old.fault;
+          outbox = self.old.outbox;
+          held = W.contents self.old.writer;
+        }) (messages.Response response) result
+            (record {
+              fault = self.new.fault;
+              outbox = self.new.outbox;
+              held = W.contents self.new.writer;
+            }) }
     {
         self.say(&Message::Response(response))
     }
@@ -113,13 +133,23 @@ impl<R: Read, W: Write> Server<R, W> {
     pub fn send_event(&mut self, event: Event) -> Result<(), ServerError>
         ensures stays { IfSome self.old.fault (λ e. (result ≡ Err e) × (self.new ≡ self.old)) }
         ensures writes { self.old.fault ≡ None → self.old.outbox.waiting ≡ []
-            → Writes (W.contents self.old.writer) (W.contents self.new.writer) self.old.outbox (messages.Event event) result
+            → Writes (W.contents self.old.writer) (W.contents self.new.writer) self.old.outbox
+            (messages.Event event) result
             self.new.outbox self.new.fault }
         ensures spent { self.old.fault ≡ None
             → (IsErrOf result ServerError.SeqSpent ↔ (self.old.outbox.count ≡ LAST_SEQ)) }
-        ensures reads_nothing { (self.new.reader ≡ self.old.reader) × (self.new.inbox ≡ self.old.inbox) }
-        ensures did { Said (record { fault = self.old.fault; outbox = self.old.outbox; held = W.contents self.old.writer }) (messages.Event event) result
-            (record { fault = self.new.fault; outbox = self.new.outbox; held = W.contents self.new.writer }) }
+        ensures reads_nothing { (self.new.reader ≡ self.old.reader)
+            × (self.new.inbox ≡ self.old.inbox) }
+        ensures did { Said (record {
+          fault = self.old.fault;
+          outbox = self.old.outbox;
+          held = W.contents self.old.writer;
+        }) (messages.Event event) result
+            (record {
+              fault = self.new.fault;
+              outbox = self.new.outbox;
+              held = W.contents self.new.writer;
+            }) }
     {
         self.say(&Message::Event(event))
     }
@@ -128,13 +158,23 @@ impl<R: Read, W: Write> Server<R, W> {
     fn say(&mut self, message: &Message) -> Result<(), ServerError>
         ensures stays { IfSome self.old.fault (λ e. (result ≡ Err e) × (self.new ≡ self.old)) }
         ensures writes { self.old.fault ≡ None → self.old.outbox.waiting ≡ []
-            → Writes (W.contents self.old.writer) (W.contents self.new.writer) self.old.outbox message.now result
+            → Writes (W.contents self.old.writer)
+            (W.contents self.new.writer) self.old.outbox message.now result
             self.new.outbox self.new.fault }
         ensures spent { self.old.fault ≡ None
             → (IsErrOf result ServerError.SeqSpent ↔ (self.old.outbox.count ≡ LAST_SEQ)) }
-        ensures reads_nothing { (self.new.reader ≡ self.old.reader) × (self.new.inbox ≡ self.old.inbox) }
-        ensures did { Said (record { fault = self.old.fault; outbox = self.old.outbox; held = W.contents self.old.writer }) message.now result
-            (record { fault = self.new.fault; outbox = self.new.outbox; held = W.contents self.new.writer }) }
+        ensures reads_nothing { (self.new.reader ≡ self.old.reader)
+            × (self.new.inbox ≡ self.old.inbox) }
+        ensures did { Said (record {
+          fault = self.old.fault;
+          outbox = self.old.outbox;
+          held = W.contents self.old.writer;
+        }) message.now result
+            (record {
+              fault = self.new.fault;
+              outbox = self.new.outbox;
+              held = W.contents self.new.writer;
+            }) }
     {
         if let Some(fault) = self.fault {
             return Err(fault);

@@ -36,7 +36,9 @@ pub fn serve<D: Door, F: Files>(
     files: &F,
     turns: u64,
 ) -> DriveEnd
-    ensures { OfEach session.old (λ s. Served (F.known files.now) (D.doorway door.old) (D.doorway door.new) turns s session.new
+    ensures { OfEach session.old
+        (λ s. Served (F.known files.now) (D.doorway door.old)
+        (D.doorway door.new) turns s session.new
         result) }
 {
     let Ok(mut room) = room_of(alloc) else {
@@ -66,7 +68,8 @@ fn accept<D: Door, F: Files>(
     requires room { 0 < length room.old }
     requires piece { length room.old ≤ 65536 }
     requires left { 0 < left }
-    ensures outcome { OfEach session.old (λ s. IteratedOrEnded (F.known files.now) left result (D.doorway door.old)
+    ensures outcome { OfEach session.old
+        (λ s. IteratedOrEnded (F.known files.now) left result (D.doorway door.old)
         (D.doorway door.new) s session.new) }
     ensures some { IfOk result (λ count. (1 ≤ count) × (count ≤ left)) }
 {
@@ -93,7 +96,8 @@ fn poll_accept<D: Door, F: Files>(
     requires piece { length room.old ≤ 65536 }
     requires left { 0 < left }
     requires runnable { is_runnable session.old.now ≡ true }
-    ensures outcome { OfEach session.old (λ s. IteratedOrEnded (F.known files.now) left result (D.doorway door.old)
+    ensures outcome { OfEach session.old
+        (λ s. IteratedOrEnded (F.known files.now) left result (D.doorway door.old)
         (D.doorway door.new) s session.new) }
     ensures some { IfOk result (λ count. (1 ≤ count) × (count ≤ left)) }
 {
@@ -109,7 +113,8 @@ fn poll_accept<D: Door, F: Files>(
 fn run_unattended(session: &mut Session, moves: u32) -> Result<u64, DriveEnd>
     requires moves { moves ≡ moves_granted }
     requires runnable { is_runnable session.old.now ≡ true }
-    ensures outcome { (known : KnownFiles) (left : ℕ) (old new : Doorway) → Opened old new [] old.faults (one_more old.idle)
+    ensures outcome { (known : KnownFiles) (left : ℕ) (old new : Doorway)
+        → Opened old new [] old.faults (one_more old.idle)
         → OfEach session.old (λ s. IteratedOrEnded known left result old new s session.new) }
     ensures one { IfOk result (λ count. count ≡ 1) }
 {
@@ -131,7 +136,8 @@ fn serve_connection<W: Wire, F: Files>(
     requires room { 0 < length room.old }
     requires piece { length room.old ≤ 65536 }
     requires left { 0 < left }
-    ensures outcome { (old new : Doorway) → Opened old new (W.line wire.old ∷ []) old.faults old.idle → OfEach session.old
+    ensures outcome { (old new : Doorway)
+        → Opened old new (W.line wire.old ∷ []) old.faults old.idle → OfEach session.old
         (λ s. IteratedOrEnded (F.known files.now) left result old new s session.new) }
     ensures some { IfOk result (λ count. (1 ≤ count) × (count ≤ left)) }
 {

@@ -33,7 +33,8 @@ impl Model for Handles {
 
     ghost view = { λ h. record { first = h.first; targets = h.targets.items; last = h.last } };
 
-    ghost invariant = { λ h. (1 ≤ h.first) × (h.first + length h.targets.items ≤ h.last + 1) × (h.last ≤ 2147483647) };
+    ghost invariant = { λ h. (1 ≤ h.first) × (h.first + length h.targets.items ≤ h.last + 1)
+        × (h.last ≤ 2147483647) };
 }
 
 impl Handles {
@@ -55,10 +56,14 @@ impl Handles {
     /// the last one; else `NoMemory`: no memory was left. Either way nothing is issued.
     pub fn issue(&mut self, targets: &[Target]) -> Result<Vec<u32>, IssueError>
         ensures kept { OnOk result (self.new ≡ with_targets self.old targets.now) }
-        ensures numbers { IfOk result (λ numbers. map Some numbers.items ≡ map (number_in (with_targets self.old targets.now)) targets.now) }
-        ensures exhausted { (result ≡ Err Exhausted) ↔ (self.old.last + 1 < next_of (with_targets self.old targets.now)) }
+        ensures numbers { IfOk result
+            (λ numbers. map Some numbers.items
+            ≡ map (number_in (with_targets self.old targets.now)) targets.now) }
+        ensures exhausted { (result ≡ Err Exhausted)
+            ↔ (self.old.last + 1 < next_of (with_targets self.old targets.now)) }
         ensures err { OnErr result (self.new ≡ self.old) }
-        ensures past { (past : Past) → StandsFor self.old past → Issues past targets.now self.old.last (numbers_by result) self.new }
+        ensures past { (past : Past) → StandsFor self.old past
+            → Issues past targets.now self.old.last (numbers_by result) self.new }
     {
         let left = self.last + 1 - self.next();
         if count_new(&self.targets, targets) > left as usize {
@@ -83,7 +88,8 @@ impl Handles {
     /// `Err`: no memory was left.
     pub fn to_come(&self, targets: &[Target]) -> Result<Vec<u32>, AllocError>
         requires { length targets.now < 2 ^ 31 }
-        ensures { IfOk result (λ numbers. map Some numbers.items ≡ map (number_in (with_targets self.now targets.now)) targets.now) }
+        ensures { IfOk result (λ numbers. map Some numbers.items
+            ≡ map (number_in (with_targets self.now targets.now)) targets.now) }
     {
         let all = with_all(self.alloc, &self.targets, targets)?;
         numbers_from(self.alloc, self.first, &all, targets)
@@ -207,7 +213,8 @@ fn numbers_from(
 ) -> Result<Vec<u32>, AllocError>
     requires fits { first + length known.now < 2 ^ 32 }
     requires known { All (λ target. has target known.now ≡ true) targets.now }
-    ensures { IfOk result (λ numbers. map Some numbers.items ≡ map (λ target. number_from first target known.now) targets.now) }
+    ensures { IfOk result (λ numbers. map Some numbers.items
+        ≡ map (λ target. number_from first target known.now) targets.now) }
 {
     let mut numbers = Vec::with_capacity(alloc, targets.len())?;
     for target in targets {

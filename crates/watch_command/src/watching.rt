@@ -30,7 +30,8 @@ pub fn watch_script<F: Files, W: Write>(
     writer: &mut W,
 ) -> Result<(), ScriptFault>
     ensures ok { OnOk result (IsOk (script_of script.now)) }
-    ensures err { IfErr result (λ fault. Fails fault script.now (W.contents writer.old) (W.contents writer.new)) }
+    ensures err { IfErr result
+        (λ fault. Fails fault script.now (W.contents writer.old) (W.contents writer.new)) }
 {
     let Script { steps, watch } = read_script(alloc, script)?;
     let last = steps.len() as u64 + 1;

@@ -15,7 +15,8 @@ pub(crate) const BODY_LIMIT: u32 = 4_294_967_295;
 /// memory is left, and of bytes that are no messages.
 pub(crate) fn last_message(alloc: Global, bytes: &[u8]) -> Result<Option<bool>, AllocError>
     ensures readable { IfOk result (λ last. stream_fault bytes.now ≡ None) }
-    ensures last { IfOk result (λ last. last ≡ option_map spec.says_output (last_from None (messages_so_far bytes.now))) }
+    ensures last { IfOk result
+        (λ last. last ≡ option_map spec.says_output (last_from None (messages_so_far bytes.now))) }
 {
     let mut unframer = Unframer::new(alloc, BODY_LIMIT);
     if unframer.feed(bytes).is_err() {

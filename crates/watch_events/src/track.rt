@@ -133,7 +133,8 @@ impl Track {
 
     // The piece was accepted.
     fn accept(&mut self, piece: &[u8]) -> Result<(), AllocError>
-        ensures accepts { OnOk result (self.new ≡ spec.with_piece (spec.is_current self.old) piece.now self.old) }
+        ensures accepts { OnOk result
+            (self.new ≡ spec.with_piece (spec.is_current self.old) piece.now self.old) }
         ensures same { SameWatched self.old self.new }
     {
         if self.current == self.connection {
@@ -210,7 +211,9 @@ impl Track {
 
     // Notes the bytes that wait after so many of the first, which were queued just now, if they are of the connection that is watched.
     fn note(&mut self, before: usize) -> Result<(), AllocError>
-        ensures noted { OnOk result (NotedIf (spec.is_current self.old) (drop before self.old.session.waiting) self.old self.new) }
+        ensures noted { OnOk result
+            (NotedIf (spec.is_current self.old)
+            (drop before self.old.session.waiting) self.old self.new) }
         ensures same { SameBut self.old self.new }
     {
         if self.current != self.connection {

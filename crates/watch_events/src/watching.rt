@@ -162,7 +162,8 @@ fn tell(alloc: Global, mirror: &mut Mirror, accepted: &[u8]) -> Result<(), Alloc
 
 // The bodies in bytes that came from an editor.
 fn bodies_of(alloc: Global, accepted: &[u8]) -> Result<Unframer, AllocError>
-    ensures { IfOk result (λ unframer. unframer.waiting ≡ (reading_of 1048576 accepted.now).bodies) }
+    ensures { IfOk result (λ unframer. unframer.waiting
+        ≡ (reading_of 1048576 accepted.now).bodies) }
 {
     let mut unframer = Unframer::new(alloc, REQUEST_LIMIT);
     match unframer.feed(accepted) {
@@ -174,7 +175,8 @@ fn bodies_of(alloc: Global, accepted: &[u8]) -> Result<Unframer, AllocError>
 // Tells a mirror the request that a body is, if it is one, and answers whether it is a message.
 #[tactic(auto, using(crate::proofs::Telling::tells_ok, crate::proofs::Telling::tells_err))]
 fn tell_body(alloc: Global, mirror: &mut Mirror, body: &[u8]) -> Result<bool, AllocError>
-    ensures { IfOk result (λ is_message. TellsBody (incoming_of body.now) is_message mirror.old mirror.new) }
+    ensures { IfOk result (λ is_message. TellsBody
+        (incoming_of body.now) is_message mirror.old mirror.new) }
 {
     match read_request(alloc, body) {
         Ok(incoming) => {

@@ -56,7 +56,13 @@ impl Model for MemoryWire {
 impl MemoryWire {
     /// A wire with no piece.
     pub fn new(alloc: Global, habits: Habits) -> MemoryWire
-        ensures { result ≡ record { remaining = Some []; contents = Some []; faults = 0; idle = 0; polls = habits.polls } }
+        ensures { result ≡ record {
+          remaining = Some [];
+          contents = Some [];
+          faults = 0;
+          idle = 0;
+          polls = habits.polls;
+        } }
     {
         MemoryWire {
             given: Vec::new(alloc),

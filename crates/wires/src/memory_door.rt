@@ -33,7 +33,8 @@ pub struct MemoryDoor<'a> {
 impl<'a> MemoryDoor<'a> {
     /// A door that lends these wires.
     pub fn new(wires: &'a mut [MemoryWire], visits: Visits) -> MemoryDoor<'a>
-        ensures { ⟦<MemoryDoor<'a> as Door>⟧.doorway result ≡ record { wires = Some wires.old; faults = 0; idle = 0 } }
+        ensures { ⟦<MemoryDoor<'a> as Door>⟧.doorway result
+            ≡ record { wires = Some wires.old; faults = 0; idle = 0 } }
     {
         MemoryDoor {
             wires: wires.iter_mut(),
@@ -48,7 +49,8 @@ impl<'a> MemoryDoor<'a> {
     fn counts(&mut self) -> bool
         ensures wires { self.new.wires ≡ self.old.wires }
         ensures idle { self.new.idle ≡ self.old.idle }
-        ensures faults { self.new.faults ≡ (if result then one_more self.old.faults else self.old.faults) }
+        ensures faults { self.new.faults
+            ≡ (if result then one_more self.old.faults else self.old.faults) }
     {
         self.calls = self.calls.saturating_add(1);
         if self.calls != self.visits.failing {

@@ -33,7 +33,8 @@ pub(crate) fn demand() -> Demand
 /// What comes of it, by the program. `Err`: no memory was left.
 pub(crate) fn success(alloc: Global, lent: &Lent, command: &Command) -> Result<Answer, AllocError>
     requires sets { IsTrue (sets_breakpoints command.now) }
-    ensures { IfOk result (λ a. answering_as lent.now.given.debuggee a ≡ spec.success lent.now.given lent.now.terms command.now) }
+    ensures { IfOk result (λ a. answering_as lent.now.given.debuggee a
+        ≡ spec.success lent.now.given lent.now.terms command.now) }
 {
     match lent.program {
         None => Ok(agreeing(lent.terms, ResponseBody::Empty)),
@@ -73,7 +74,8 @@ fn sets(lent: &Lent, command: &Command, body: ResponseBody, list: Option<Vec<Bre
     requires sets { IsTrue (sets_breakpoints command.now) }
     requires can { IfSome list (λ list. CanBeSet list.items) }
     ensures { answering_as lent.now.given.debuggee result
-        ≡ spec.sets lent.now.given lent.now.terms command.now body (option_map (λ list. map wanted_by list.items) list) }
+        ≡ spec.sets lent.now.given lent.now.terms command.now body
+        (option_map (λ list. map wanted_by list.items) list) }
 {
     match list {
         None => agreeing(lent.terms, body),
@@ -86,7 +88,8 @@ fn sets_list(lent: &Lent, command: &Command, body: ResponseBody, list: Vec<Break
     requires sets { IsTrue (sets_breakpoints command.now) }
     requires can { CanBeSet list.items }
     ensures { answering_as lent.now.given.debuggee result
-        ≡ spec.sets lent.now.given lent.now.terms command.now body (Some (map wanted_by list.items)) }
+        ≡ spec.sets lent.now.given lent.now.terms command.now body
+        (Some (map wanted_by list.items)) }
 {
     let last = lent.last_break + list.len() as u32;
     if last > lent.last_ref {
@@ -98,7 +101,8 @@ fn sets_list(lent: &Lent, command: &Command, body: ResponseBody, list: Vec<Break
 // The list of this request's kind is replaced.
 fn replaces(terms: Terms, command: &Command, body: ResponseBody, breaks: Numbered) -> Answer
     requires sets { IsTrue (sets_breakpoints command.now) }
-    ensures { (given : AGiven) → answering_as given.debuggee result ≡ spec.replaces given terms command.now body breaks }
+    ensures { (given : AGiven)
+        → answering_as given.debuggee result ≡ spec.replaces given terms command.now body breaks }
 {
     match command {
         Command::SetBreakpoints(_) => changing(Change::SetSource(breaks), terms, body),

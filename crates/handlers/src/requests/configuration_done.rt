@@ -26,7 +26,8 @@ pub(crate) fn demand() -> Demand
 
 /// What comes of it: a program that was launched runs, and of one that was joined it is told how it runs. `Err`: no memory was left.
 pub(crate) fn success(alloc: Global, lent: &Lent) -> Result<Answer, AllocError>
-    ensures { IfOk result (λ a. answering_as lent.now.given.debuggee a ≡ spec.success lent.now.given lent.now.terms) }
+    ensures { IfOk result (λ a. answering_as lent.now.given.debuggee a
+        ≡ spec.success lent.now.given lent.now.terms) }
 {
     let active = lent.terms.in_phase(Phase::Active);
     if lent.terms.launched {

@@ -21,7 +21,8 @@ pub(crate) fn demand() -> Demand
 
 /// What comes of it.
 pub(crate) fn success(terms: Terms, arguments: &DisconnectArguments) -> Answer
-    ensures { (given : AGiven) → answering_as given.debuggee result ≡ spec.success given terms arguments.now }
+    ensures { (given : AGiven)
+        → answering_as given.debuggee result ≡ spec.success given terms arguments.now }
 {
     let debugs = terms.phase.is_debugging();
     Answer {

@@ -20,7 +20,8 @@ pub(crate) fn demand() -> Demand
 
 /// What comes of it.
 pub(crate) fn success(terms: Terms, arguments: &InitializeArguments) -> Answer
-    ensures { (given : AGiven) → answering_as given.debuggee result ≡ spec.success given terms arguments.now }
+    ensures { (given : AGiven)
+        → answering_as given.debuggee result ≡ spec.success given terms arguments.now }
 {
     let agreed = Terms {
         phase: Phase::Initialized,

@@ -34,7 +34,8 @@ pub(crate) fn demand_on(thread: i32) -> Demand
 /// What comes of it, by the program. `Err`: no memory was left.
 pub(crate) fn success(alloc: Global, lent: &Lent, command: &Command) -> Result<Answer, AllocError>
     requires { IsTrue (looks_in command.now) }
-    ensures { IfOk result (λ a. answering_as lent.now.given.debuggee a ≡ spec.looks lent.now.given lent.now.terms command.now) }
+    ensures { IfOk result (λ a. answering_as lent.now.given.debuggee a
+        ≡ spec.looks lent.now.given lent.now.terms command.now) }
 {
     match lent.program {
         None => Ok(agreeing(lent.terms, ResponseBody::Empty)),
@@ -70,7 +71,8 @@ fn success_on(
 
 // Something is shown, unless the numbers for it are used up.
 fn shows(lent: &Lent, body: ResponseBody, targets: Vec<Target>) -> Answer
-    ensures { answering_as lent.now.given.debuggee result ≡ spec.shows lent.now.given lent.now.terms body targets.items }
+    ensures { answering_as lent.now.given.debuggee result
+        ≡ spec.shows lent.now.given lent.now.terms body targets.items }
 {
     if lent.handles.has_room(&targets) {
         changing(Change::Issue(targets), lent.terms, body)

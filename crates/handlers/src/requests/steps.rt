@@ -33,28 +33,35 @@ fn granularity_of(asked: Asked) -> Granularity
 
 /// What comes of `next`.
 pub(crate) fn over(terms: Terms, asked: Asked) -> Answer
-    ensures { (given : AGiven) → answering_as given.debuggee result ≡ spec.success given terms (goal.Over (spec.granularity_of asked)) }
+    ensures { (given : AGiven)
+        → answering_as given.debuggee result
+        ≡ spec.success given terms (goal.Over (spec.granularity_of asked)) }
 {
     goes_on(terms, Goal::Over(granularity_of(asked)))
 }
 
 /// What comes of `stepIn`.
 pub(crate) fn into(terms: Terms, asked: Asked) -> Answer
-    ensures { (given : AGiven) → answering_as given.debuggee result ≡ spec.success given terms (goal.In (spec.granularity_of asked)) }
+    ensures { (given : AGiven)
+        → answering_as given.debuggee result
+        ≡ spec.success given terms (goal.In (spec.granularity_of asked)) }
 {
     goes_on(terms, Goal::In(granularity_of(asked)))
 }
 
 /// What comes of `stepOut`.
 pub(crate) fn out(terms: Terms, asked: Asked) -> Answer
-    ensures { (given : AGiven) → answering_as given.debuggee result ≡ spec.success given terms (goal.Out (spec.granularity_of asked)) }
+    ensures { (given : AGiven)
+        → answering_as given.debuggee result
+        ≡ spec.success given terms (goal.Out (spec.granularity_of asked)) }
 {
     goes_on(terms, Goal::Out(granularity_of(asked)))
 }
 
 // The program goes on with a goal.
 fn goes_on(terms: Terms, goal: Goal) -> Answer
-    ensures { (given : AGiven) → answering_as given.debuggee result ≡ spec.success given terms goal }
+    ensures { (given : AGiven)
+        → answering_as given.debuggee result ≡ spec.success given terms goal }
 {
     changing_program(ProgramChange::Resume(goal), terms, ResponseBody::Empty)
 }

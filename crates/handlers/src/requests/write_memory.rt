@@ -26,7 +26,8 @@ pub(crate) fn success(
     lent: &Lent,
     arguments: &WriteMemoryArguments,
 ) -> Result<Answer, AllocError>
-    ensures { IfOk result (λ a. answering_as lent.now.given.debuggee a ≡ spec.success lent.now.given lent.now.terms arguments.now) }
+    ensures { IfOk result (λ a. answering_as lent.now.given.debuggee a
+        ≡ spec.success lent.now.given lent.now.terms arguments.now) }
 {
     let terms = lent.terms;
     let Some(program) = lent.program else {
