@@ -1,4 +1,4 @@
-"""tools/wrap over files made here: where lines are broken, and that no word of any proof changes."""
+"""tools/wrap over files made here: where lines are broken, and that no word of any proof or clause changes."""
 import glob
 import os
 import re
@@ -13,13 +13,15 @@ SIGNATURE = "  law : (n : ℕ) → " + " → ".join("(%s n ≡ n → %s)" % (LON
 DEFINITION = "law n = " + " ∙ ".join("ap (λ x. %s x) (by %s n)" % (LONG, LONG) for _ in range(3))
 MODULE = "module _ " + " ".join("(%s%d : ℕ → ℕ → ℕ)" % (LONG, n) for n in range(5)) + " where"
 RECORD = "pub record Held " + " ".join("(%s%d : ℕ)" % (LONG, n) for n in range(8)) + " : Type 0 where"
+CLAUSE = "pub fn f()\n    ensures { IfOk result (λ x. %s x) %s ≡ %s }\n{}" % (LONG, LONG, " ++ ".join("(%s n)" % LONG for _ in range(2)))
+CODE = "    let text = \"" + "( word " * 30 + "\";"
 TEXT = "law = \"" + "( word " * 30 + "\""
 
 
-def wrapped(*texts):
+def wrapped(*texts, kind="antt"):
     """What the tool makes of texts, and what it says."""
     with tempfile.TemporaryDirectory() as folder:
-        paths = [os.path.join(folder, "Proof%d.antt" % n) for n in range(len(texts))]
+        paths = [os.path.join(folder, "Proof%d.%s" % (n, kind)) for n in range(len(texts))]
         for path, text in zip(paths, texts):
             with open(path, "w", encoding="utf-8") as file:
                 file.write(text)
@@ -37,7 +39,7 @@ def expect_broken(text, begins):
     """Fails unless the text becomes lines within the columns that begin so, with the same words."""
     (made,), said = wrapped(text)
     lines = made.split("\n")
-    expect(said, "1 broken, 0 still longer than 140 columns\n", "what is said of %r" % text)
+    expect(said, "1 broken, 0 still too long\n", "what is said of %r" % text)
     expect(made.split(), text.split(), "the words of %r" % text)
     expect([line for line in lines if len(line) > 140], [], "long lines of %r" % text)
     expect([re.match(r" *\S+", line)[0] for line in lines], begins, "how the lines of %r begin" % text)
@@ -53,17 +55,28 @@ def lines_are_broken_at_arrows_definitions_and_arguments():
 def a_line_without_a_place_stays():
     for text in (TEXT, "-- " + "a word " * 30, "use Rattle.a.{" + "name, " * 30 + "name}"):
         expect(wrapped(text)[0][0].split(), text.split(), "the words of a line that stays")
-    expect(wrapped("short = refl\n"), (["short = refl\n"], "0 broken, 0 still longer than 140 columns\n"), "a short line")
+    expect(wrapped("short = refl\n"), (["short = refl\n"], "0 broken, 0 still too long\n"), "a short line")
 
 
-def no_word_of_a_proof_changes():
-    paths = sorted(glob.glob(os.path.join(TOP, "crates", "*", "proofs", "*.antt")))
-    expect(len(paths) > 200, True, "there are proofs")
-    texts = [text_of(path) for path in paths]
-    made, _ = wrapped(*texts)
-    for path, text, new in zip(paths, texts, made):
-        expect(new.split(), text.split(), "the words of " + os.path.relpath(path, TOP))
-    expect(wrapped(*made)[0], made, "the same a second time")
+def clauses_are_broken_at_operators():
+    (made,), said = wrapped(CLAUSE, kind="rt")
+    expect(said, "1 broken, 0 still too long\n", "what is said of a clause")
+    expect(made.split(), CLAUSE.split(), "the words of a clause")
+    lines = made.split("\n")
+    expect([line for line in lines if len(line) > 100], [], "long lines of a clause")
+    expect([re.match(r" *\S+", line)[0] for line in lines], ["pub", "    ensures", "        ≡", "{}"], "how the lines of a clause begin")
+    expect(wrapped(CODE, kind="rt"), ([CODE], "0 broken, 0 still too long\n"), "a line that is no clause")
+
+
+def no_word_of_a_proof_or_clause_changes():
+    for kind, folder, least in (("antt", "proofs", 200), ("rt", "src", 300)):
+        paths = sorted(glob.glob(os.path.join(TOP, "crates", "*", folder, "*." + kind)))
+        expect(len(paths) > least, True, "there are files in " + folder)
+        texts = [text_of(path) for path in paths]
+        made, _ = wrapped(*texts, kind=kind)
+        for path, text, new in zip(paths, texts, made):
+            expect(new.split(), text.split(), "the words of " + os.path.relpath(path, TOP))
+        expect(wrapped(*made, kind=kind)[0], made, "the same a second time")
 
 
 def checks():
@@ -71,5 +84,6 @@ def checks():
     return [(check.__name__.replace("_", " "), check) for check in (
         lines_are_broken_at_arrows_definitions_and_arguments,
         a_line_without_a_place_stays,
-        no_word_of_a_proof_changes,
+        clauses_are_broken_at_operators,
+        no_word_of_a_proof_or_clause_changes,
     )]
