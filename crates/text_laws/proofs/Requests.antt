@@ -1,0 +1,201 @@
+-- The texts of a request are in its body.
+use Rattle.std.proofs.Common.{◌≡◌, ℕ, suc, ◌≤◌, Bool, true, false, cond, List, [], length, map, Option, Some, None, option_and_then, option_map, Result, Ok, Err, refl, sym, ap, subst, arith}
+use Rattle.std.proofs.lemmas.List.{length-map}
+use Rattle.std.specs.Prelude.{IfSome, bytes_eq, ok_or, unwrap_or, ◌||◌}
+use Rattle.serde_json.specs.Data.{Data, Items, Members, item, no_items}
+use Rattle.serde_json.specs.Find.{as_array, as_bool, as_object, as_str}
+use Rattle.protocol.specs.Arguments.{arguments_members, each, list, optional, required}
+use Rattle.protocol.specs.Commands.{command_of, execution_requests}
+use Rattle.protocol.specs.Json.{json_of}
+use Rattle.protocol.specs.Launch.{launch_arguments}
+use Rattle.protocol.specs.Properties.{natural, property, sequence_number, text}
+use Rattle.protocol.specs.Reading.{◌>>=◌, incoming_of, message_of, received, request_of, typed_message_of}
+use Rattle.protocol.specs.SetBreakpoints.{asked, at_line, by_lines, or_by_lines, set_breakpoints_arguments, source_breakpoint, source_of}
+use Rattle.protocol.specs.SetInstructionBreakpoints.{instruction_breakpoint, set_instruction_breakpoints_arguments}
+use Rattle.protocol.specs.declared.command.Command.{Command}
+use Rattle.protocol.specs.declared.command.Command.TheVariants.{Launch, SetBreakpoints, SetInstructionBreakpoints}
+use Rattle.protocol.specs.declared.launch.TheConstants.{PROGRAM, STOP_ON_ENTRY}
+use Rattle.protocol.specs.declared.members.TheConstants.{ARGUMENTS, BREAKPOINTS, COMMAND, EVENT, REQUEST, RESPONSE, SEQ, TYPE}
+use Rattle.protocol.specs.declared.refusal.Refusal.{Refusal}
+use Rattle.protocol.specs.declared.refusal.Refusal.TheVariants.{BadArguments}
+use Rattle.protocol.specs.declared.request.Incoming.{Incoming}
+use Rattle.protocol.specs.declared.request.Incoming.TheVariants.{Ignored}
+use Rattle.protocol.specs.declared.request.MessageError.{MessageError}
+use Rattle.protocol.specs.declared.request.MessageError.TheVariants.{BadSeq, NotAMessage, NotJson}
+use Rattle.protocol.specs.declared.set_breakpoints.SourceBreakpoint.{SourceBreakpoint}
+use Rattle.protocol.specs.declared.set_breakpoints.TheConstants.{LINES, SOURCE}
+use Rattle.protocol.proofs.Requests.{read_by_its_name}
+use Rattle.text_laws.specs.Requests.{AsksWithin, MeansWithin, RequestsHaveTexts}
+use Rattle.text_laws.specs.Texts.{IsTextWithin}
+use Rattle.text_laws.proofs.Values.{AreMembersWithin, IsWithin, as_array_within, as_object_within, as_str_within, count, json_within, map_holds, property_within, then_any, then_holds}
+
+-- ---- arguments
+
+-- an argument that has to be there
+required_within : {A : Type 0} (most : ℕ) (P : A → Type 0) (meaning : Data → Option A) (name : List ℕ) (members : Members)
+    → ((d : Data) → IsWithin most d → IfSome (meaning d) P) → AreMembersWithin most members
+    → IfSome (required meaning (property name members)) P
+required_within most P meaning name members on h =
+    then_holds (IsWithin most) P (property name members) meaning (property_within most name members h) on
+
+-- one that may be absent
+optional_within : {A : Type 0} (most : ℕ) (P : A → Type 0) (meaning : Data → Option A) (name : List ℕ) (members : Members)
+    → ((d : Data) → IsWithin most d → IfSome (meaning d) P) → AreMembersWithin most members
+    → IfSome (optional meaning (property name members)) (λ found. IfSome found P)
+optional_within {A} most P meaning name members on h = by (property name members) (property_within most name members h) where
+  by : (value : Option Data) → IfSome value (IsWithin most) → IfSome (optional meaning value) (λ found. IfSome found P)
+  by None within = tt
+  by (Some d) within = map_holds P (λ found. IfSome found P) (λ a. Some a) (meaning d) (λ a held. held) (on d within)
+
+-- a list has an entry for each item
+each_entry : {A : Type 0} (meaning : Data → Option A) (ds : Items) → IfSome (each meaning ds) (λ found. length found ≡ count ds)
+each_entry meaning no_items = refl
+each_entry meaning (item d ds) =
+    then_any (λ found. length found ≡ suc (count ds)) (meaning d) _ (λ first.
+    then_holds (λ others. length others ≡ count ds) (λ found. length found ≡ suc (count ds)) (each meaning ds) _
+    (each_entry meaning ds) (λ others same. ap suc same))
+
+implied : {A : Type 0} (P Q : A → Type 0) (found : Option A) → ((a : A) → P a → Q a) → IfSome found P → IfSome found Q
+implied P Q None on h = tt
+implied P Q (Some a) on h = on a h
+
+list_within : {A : Type 0} (most : ℕ) (meaning : Data → Option A) (d : Data) → IsWithin most d
+    → IfSome (list meaning d) (λ found. length found ≤ most)
+list_within most meaning d h =
+    then_holds (λ ds. count ds ≤ most) (λ found. length found ≤ most) (as_array d) (each meaning) (as_array_within most d h)
+    (λ ds few. implied (λ found. length found ≡ count ds) (λ found. length found ≤ most) (each meaning ds)
+    (λ found same. subst (λ n. n ≤ most) (sym same) few) (each_entry meaning ds))
+
+-- ---- requests
+
+launch_within : (most : ℕ) (members : Members) → AreMembersWithin most members
+    → IfSome (launch_arguments members) (λ a. IsTextWithin most a.program)
+launch_within most members h =
+    then_holds (IsTextWithin most) (λ a. IsTextWithin most a.program) (required as_str (property PROGRAM.now members)) _
+    (required_within most (IsTextWithin most) as_str PROGRAM.now members (as_str_within most) h) (λ program within.
+    then_any (λ a. IsTextWithin most a.program) (optional as_bool (property STOP_ON_ENTRY.now members)) _ (λ stop. within))
+
+by_lines_within : (most : ℕ) (members : Members) → AreMembersWithin most members
+    → IfSome (by_lines members) (λ breakpoints. length breakpoints ≤ most)
+by_lines_within most members h =
+    then_holds (λ found. IfSome found (λ lines. length lines ≤ most)) (λ breakpoints. length breakpoints ≤ most)
+    (optional (list natural) (property LINES.now members)) _
+    (optional_within most (λ lines. length lines ≤ most) (list natural) LINES.now members (list_within most natural) h) by
+  where
+    by : (lines : Option (List ℕ)) → IfSome lines (λ found. length found ≤ most) → length (map at_line (unwrap_or lines [])) ≤ most
+    by None few = omega arith
+    by (Some lines) few = omega (arith, length-map lines at_line)
+
+asked_within : (most : ℕ) (members : Members) → AreMembersWithin most members
+    → IfSome (asked members) (λ breakpoints. length breakpoints ≤ most)
+asked_within most members h =
+    then_holds (λ found. IfSome found (λ breakpoints. length breakpoints ≤ most)) (λ breakpoints. length breakpoints ≤ most)
+    (optional (list source_breakpoint) (property BREAKPOINTS.now members)) _
+    (optional_within most (λ breakpoints. length breakpoints ≤ most) (list source_breakpoint) BREAKPOINTS.now members
+    (list_within most source_breakpoint) h)
+    by
+  where
+    by : (found : Option (List SourceBreakpoint)) → IfSome found (λ breakpoints. length breakpoints ≤ most)
+        → IfSome (or_by_lines found members) (λ breakpoints. length breakpoints ≤ most)
+    by None few = by_lines_within most members h
+    by (Some breakpoints) few = few
+
+set_breakpoints_within : (most : ℕ) (members : Members) → AreMembersWithin most members
+    → IfSome (set_breakpoints_arguments members) (λ a. length a.breakpoints ≤ most)
+set_breakpoints_within most members h =
+    then_any (λ a. length a.breakpoints ≤ most) (optional source_of (property SOURCE.now members)) _ (λ source.
+    then_holds (λ breakpoints. length breakpoints ≤ most) (λ a. length a.breakpoints ≤ most) (asked members) _
+    (asked_within most members h) (λ breakpoints few. few))
+
+instruction_breakpoints_within : (most : ℕ) (members : Members) → AreMembersWithin most members
+    → IfSome (set_instruction_breakpoints_arguments members) (λ a. length a.breakpoints ≤ most)
+instruction_breakpoints_within most members h =
+    then_holds (λ breakpoints. length breakpoints ≤ most) (λ a. length a.breakpoints ≤ most)
+    (required (list instruction_breakpoint) (property BREAKPOINTS.now members)) _
+    (required_within most (λ breakpoints. length breakpoints ≤ most) (list instruction_breakpoint) BREAKPOINTS.now members
+    (list_within most instruction_breakpoint) h)
+    (λ breakpoints few. few)
+
+-- ---- commands
+
+-- what holds of the arguments that a request finds in an object holds of those of its command
+of_members_within : {A : Type 0} (most : ℕ) (P : A → Type 0) (Q : Command → Type 0) (make : A → Command)
+    (arguments : Members → Option A) (found : Option Members) (command : Command) → IfSome found (AreMembersWithin most)
+    → ((members : Members) → AreMembersWithin most members → IfSome (arguments members) P) → ((a : A) → P a → Q (make a))
+    → ok_or (option_and_then (λ members. option_map make (arguments members)) found) BadArguments ≡ Ok command → Q command
+of_members_within most P Q make arguments None command h on made e = absurd cc
+of_members_within {A} most P Q make arguments (Some members) command h on made e = by (arguments members) (on members h) e where
+  by : (found : Option A) → IfSome found P → ok_or (option_map make found) BadArguments ≡ Ok command → Q command
+  by None p e = absurd cc
+  by (Some a) p e = let same : make a ≡ command = cc in subst Q same (made a p)
+
+arguments_within : (most : ℕ) (value : Option Data) → IfSome value (IsWithin most)
+    → IfSome (arguments_members value) (AreMembersWithin most)
+arguments_within most None h = tt
+arguments_within most (Some d) h = as_object_within most d h
+
+command_within : (most : ℕ) (name : List ℕ) (arguments : Option Data) (command : Command) → IfSome arguments (IsWithin most)
+    → command_of name arguments ≡ Ok command → AsksWithin most command
+unfolding execution_requests
+command_within most name arguments (Launch a) h e =
+    of_members_within most (λ b. IsTextWithin most b.program) (AsksWithin most) (λ b. Launch b) launch_arguments
+    (arguments_members arguments) (Launch a) (arguments_within most arguments h) (launch_within most) (λ b held. held)
+    (read_by_its_name name arguments (Launch a) e)
+command_within most name arguments (SetBreakpoints a) h e =
+    of_members_within most (λ b. length b.breakpoints ≤ most) (AsksWithin most) (λ b. SetBreakpoints b) set_breakpoints_arguments
+    (arguments_members arguments) (SetBreakpoints a) (arguments_within most arguments h) (set_breakpoints_within most) (λ b held. held)
+    (read_by_its_name name arguments (SetBreakpoints a) e)
+command_within most name arguments (SetInstructionBreakpoints a) h e =
+    of_members_within most (λ b. length b.breakpoints ≤ most) (AsksWithin most) (λ b. SetInstructionBreakpoints b)
+    set_instruction_breakpoints_arguments (arguments_members arguments) (SetInstructionBreakpoints a)
+    (arguments_within most arguments h) (instruction_breakpoints_within most) (λ b held. held)
+    (read_by_its_name name arguments (SetInstructionBreakpoints a) e)
+command_within most name arguments other h e = tt
+
+-- ---- what is read
+
+next_within : {A : Type 0} (most : ℕ) (P : A → Type 0) (found : Option A) (fault : MessageError) (next : A → Result Incoming MessageError)
+    → IfSome found P → ((a : A) → P a → MeansWithin most (next a)) → MeansWithin most (ok_or found fault >>= next)
+next_within most P None fault next h on = tt
+next_within most P (Some a) fault next h on = on a h
+
+next_any : {A : Type 0} (most : ℕ) (found : Option A) (fault : MessageError) (next : A → Result Incoming MessageError)
+    → ((a : A) → MeansWithin most (next a)) → MeansWithin most (ok_or found fault >>= next)
+next_any most None fault next on = tt
+next_any most (Some a) fault next on = on a
+
+if_within : (most : ℕ) (b : Bool) (x y : Result Incoming MessageError) → MeansWithin most x → MeansWithin most y
+    → MeansWithin most (cond b x y)
+if_within most true x y p q = p
+if_within most false x y p q = q
+
+received_within : (most seq : ℕ) (name : List ℕ) (found : Result Command Refusal) → IsTextWithin most name
+    → ((command : Command) → found ≡ Ok command → AsksWithin most command) → MeansWithin most (Ok (received seq name found))
+received_within most seq name (Ok command) text h = h command refl
+received_within most seq name (Err refusal) text h = text
+
+request_within : (most : ℕ) (members : Members) → AreMembersWithin most members → MeansWithin most (request_of members)
+request_within most members h =
+    next_within most (IsTextWithin most) (text (property COMMAND.now members)) NotAMessage _
+    (required_within most (IsTextWithin most) as_str COMMAND.now members (as_str_within most) h) (λ name is_text.
+    next_any most (sequence_number (property SEQ.now members)) BadSeq _ (λ seq.
+    received_within most seq name _ is_text (λ command.
+    command_within most name (property ARGUMENTS.now members) command (property_within most ARGUMENTS.now members h))))
+
+typed_within : (most : ℕ) (kind : List ℕ) (members : Members) → AreMembersWithin most members
+    → MeansWithin most (typed_message_of kind members)
+typed_within most kind members h =
+    if_within most (bytes_eq kind REQUEST.now) (request_of members) _ (request_within most members h)
+    (if_within most (bytes_eq kind RESPONSE.now || bytes_eq kind EVENT.now) (Ok Ignored) (Err NotAMessage) tt tt)
+
+message_within : (most : ℕ) (members : Members) → AreMembersWithin most members → MeansWithin most (message_of members)
+message_within most members h =
+    next_any most (text (property TYPE.now members)) NotAMessage _ (λ kind. typed_within most kind members h)
+
+pub requests_have_texts : RequestsHaveTexts
+unfolding incoming_of
+requests_have_texts body =
+    let most = length body in
+    next_within most (IsWithin most) (json_of body) NotJson _ (json_within body) (λ value within.
+    next_within most (AreMembersWithin most) (as_object value) NotAMessage _ (as_object_within most value within)
+    (λ members h. message_within most members h))

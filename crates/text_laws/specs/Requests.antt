@@ -1,0 +1,31 @@
+-- The texts of a request that is read (base protocol, "Content Part").
+--
+-- The body of a frame is bytes. Each text that a request has was read from them, so it is UTF-8 as JSON texts are
+-- (RFC 8259, section 8.1), and it has at most as many bytes as the body: an escape is no shorter than what it stands
+-- for. A list has at most as many entries as the body has bytes.
+use Rattle.std.specs.Prelude.{ℕ, ◌≤◌, List, length, Ok, Err, Result, ⊤}
+use Rattle.protocol.specs.Reading.{incoming_of}
+use Rattle.protocol.specs.declared.command.Command.{Command}
+use Rattle.protocol.specs.declared.command.Command.TheVariants.{Launch, SetBreakpoints, SetInstructionBreakpoints}
+use Rattle.protocol.specs.declared.request.Incoming.{Incoming}
+use Rattle.protocol.specs.declared.request.Incoming.TheVariants.{Request, Bad, Ignored}
+use Rattle.protocol.specs.declared.request.MessageError.{MessageError}
+use Rattle.text_laws.specs.Texts.{IsTextWithin}
+
+-- the path of a program is such a text, and a list of breakpoints has at most so many entries
+abbrev pub AsksWithin : ℕ → Command → Type 0
+AsksWithin most (Launch arguments) = IsTextWithin most arguments.program
+AsksWithin most (SetBreakpoints arguments) = length arguments.breakpoints ≤ most
+AsksWithin most (SetInstructionBreakpoints arguments) = length arguments.breakpoints ≤ most
+AsksWithin most other = ⊤
+
+-- the same of what a body means; the name of a request that is refused as it stands is such a text too
+abbrev pub MeansWithin : ℕ → Result Incoming MessageError → Type 0
+MeansWithin most (Ok (Request request)) = AsksWithin most request.command
+MeansWithin most (Ok (Bad seq command refusal)) = IsTextWithin most command
+MeansWithin most (Ok Ignored) = ⊤
+MeansWithin most (Err fault) = ⊤
+
+-- What a body means has texts within it.
+abbrev pub RequestsHaveTexts : Type 0
+RequestsHaveTexts = (body : List ℕ) → MeansWithin (length body) (incoming_of body)
