@@ -1,0 +1,119 @@
+-- A program has no more than 1,024 breakpoints of each kind, so no more than twice as many stop it at once.
+use Rattle.std.proofs.Common.{◌≡◌, ℕ, suc, ◌+◌, ◌≤◌, Bool, true, false, cond, List, [], ◌∷◌, ◌++◌, map, filter, length, Option, Result, Ok, Err, MatchBool, sym, subst, arith}
+use Rattle.std.specs.declared.alloc.AllocError.{AllocError}
+use Rattle.std.proofs.lemmas.List.{length-append, length-map}
+use Rattle.breakpoints.specs.Stops.{Lists, Placed, Wanted, checked, counted, fresh, reset, stops, stopping_ids}
+use Rattle.debuggee.specs.Programs.{Program, marked, marked_by, moved}
+use Rattle.debuggee.specs.declared.run.Mark.{Mark}
+use Rattle.debuggee.specs.declared.run.Run.{Run}
+use Rattle.debuggee.specs.declared.run.Run.TheVariants as run
+use Rattle.handlers.specs.Breaks.{with_list}
+use Rattle.protocol.specs.declared.command.Command.{Command}
+use Rattle.protocol.specs.declared.command.Command.TheVariants as command
+use Rattle.rv32i.specs.declared.hart.Hart.{Hart}
+use Rattle.rv32i.specs.declared.instr.Instr.{Instr}
+use Rattle.rv32i.specs.declared.stepped.Stepped.{Stepped}
+use Rattle.rv32i.specs.declared.stepped.Stepped.TheVariants as stepped
+use Rattle.stepping.specs.Ticks.{Debugged, IsTick, Moves, Settles, entry_checked, entry_tick, moved_as, settled}
+use Rattle.stepping.specs.declared.tick.Tick.{Tick}
+use Rattle.stepping.proofs.Existing.{the_tick}
+
+pub record HasFew (lists : Lists) : Type 0 where
+  pub source : length lists.source ≤ 1024
+  pub instructions : length lists.instructions ≤ 1024
+  pub ids : length lists.ids ≤ 2048
+
+pub no_breaks : HasFew (record { source = []; instructions = []; ids = [] })
+no_breaks = record { source = omega arith; instructions = omega arith; ids = omega arith }
+
+few_mapped : {A B : Type 0} (f : A → B) (list : List A) → length list ≤ 1024 → length (map f list) ≤ 1024
+few_mapped f list h = let same = length-map list f in omega (arith, same, h)
+
+few_filtered : (f : Placed → Bool) (list : List Placed) → length (filter f list) ≤ length list
+few_filtered f [] = omega arith
+few_filtered f (b ∷ list) = by (f b) (few_filtered f list) where
+  by : (t : Bool) → length (filter f list) ≤ length list → length (cond t (b ∷ filter f list) (filter f list)) ≤ suc (length list)
+  by true h = omega (arith, h)
+  by false h = omega (arith, h)
+
+few_stop : (pc : ℕ) (hart : Hart) (memory : List ℕ) (list : List Placed) → length list ≤ 1024
+    → length (stopping_ids pc hart memory list) ≤ 1024
+few_stop pc hart memory list h =
+    let some : List Placed = filter (stops pc hart memory) list in
+    let same : length (map (λ (b : Placed). b.id) some) ≡ length some = length-map some (λ (b : Placed). b.id) in
+    let few : length some ≤ length list = few_filtered (stops pc hart memory) list in omega (arith, same, few, h)
+
+checked_few : (pc : ℕ) (hart : Hart) (memory : List ℕ) (lists : Lists) → HasFew lists → HasFew (checked pc hart memory lists)
+checked_few pc hart memory lists h =
+    let xs : List ℕ = stopping_ids pc hart memory lists.source in
+    let ys : List ℕ = stopping_ids pc hart memory lists.instructions in
+    let all : length (xs ++ ys) ≡ length xs + length ys = length-append xs ys in
+    let a : length xs ≤ 1024 = few_stop pc hart memory lists.source h.source in
+    let b : length ys ≤ 1024 = few_stop pc hart memory lists.instructions h.instructions in
+    record {
+      source = few_mapped (counted pc hart memory) lists.source h.source;
+      instructions = few_mapped (counted pc hart memory) lists.instructions h.instructions;
+      ids = omega (arith, all, a, b);
+    }
+
+pub none_named : (lists : Lists) → HasFew lists → HasFew (record lists { ids = [] })
+none_named lists h = record { source = h.source; instructions = h.instructions; ids = omega arith }
+
+pub reset_few : (lists : Lists) → HasFew lists
+    → HasFew (record lists { source = map reset lists.source; instructions = map reset lists.instructions })
+reset_few lists h = record {
+  source = few_mapped reset lists.source h.source;
+  instructions = few_mapped reset lists.instructions h.instructions;
+  ids = h.ids;
+}
+
+-- ---- a tick
+
+settled_few : (s : Stepped) (instr : Option Instr) (pc : ℕ) (d : Debugged) → HasFew d.lists → HasFew (settled s instr pc d).lists
+settled_few stepped.Retired instr pc d h = checked_few d.hart.pc d.hart d.memory d.lists h
+settled_few (stepped.Printed number) instr pc d h = checked_few d.hart.pc d.hart d.memory d.lists h
+settled_few stepped.Break instr pc d h = checked_few d.hart.pc d.hart d.memory d.lists h
+settled_few (stepped.Exit code) instr pc d h = none_named d.lists h
+settled_few (stepped.Trap cause) instr pc d h = none_named d.lists h
+
+answer_few : (s : Result Stepped AllocError) (before after : Debugged) (instr : Option Instr) (answer : Result Tick AllocError)
+    → Settles before instr s answer after → HasFew before.lists → HasFew after.lists
+answer_few (Ok s) before after instr answer e h =
+    subst (λ (d : Debugged). HasFew d.lists) (sym e.1) (settled_few s instr before.hart.pc (moved_as before after) h)
+answer_few (Err error) before after instr answer e h = subst (λ (d : Debugged). HasFew d.lists) (sym e.1) h
+
+tick_few : (before after : Debugged) (answer : Result Tick AllocError) → IsTick before answer after → HasFew before.lists
+    → HasFew after.lists
+tick_few before after answer t h = go before.check_due t where
+  go : (due : Bool) → MatchBool due ((answer ≡ Ok (entry_tick before)) × (after ≡ entry_checked before)) (Moves before answer after)
+      → HasFew after.lists
+  go true e =
+      subst (λ (d : Debugged). HasFew d.lists) (sym e.1) (checked_few before.hart.pc before.hart before.memory before.lists h)
+  go false m = answer_few m.stepped before after m.instr answer m.settles h
+
+-- ---- the program
+
+abbrev pub HasFewBreaks : Program → Type 0
+HasFewBreaks p = HasFew p.machine.lists
+
+pub entered_few : (p : Program) → HasFewBreaks p → HasFew (entry_checked p.machine).lists
+entered_few p h = let d = p.machine in checked_few d.hart.pc d.hart d.memory d.lists h
+
+pub moved_few : (p : Program) → HasFewBreaks p → HasFewBreaks (moved p)
+moved_few p h = let t = the_tick p.machine in tick_few p.machine t.after (Ok t.tick) t.is h
+
+by_run_few : (r : Run) (mark : Mark) (p : Program) → HasFewBreaks p → HasFewBreaks (marked_by r mark p)
+by_run_few run.Running mark p h = h
+by_run_few (run.Stopped why) mark p h = h
+by_run_few (run.Ended code) mark p h = h
+
+pub marked_few : (mark : Mark) (p : Program) → HasFewBreaks p → HasFewBreaks (marked mark p)
+marked_few mark p h = by_run_few p.run mark p h
+
+pub listed_few : (c : Command) (list : List Wanted) (p : Program) → length list ≤ 1024 → HasFewBreaks p
+    → HasFewBreaks (with_list c list p)
+listed_few (command.SetBreakpoints arguments) list p few h =
+    record { source = few_mapped fresh list few; instructions = h.instructions; ids = omega arith }
+listed_few (command.SetInstructionBreakpoints arguments) list p few h =
+    record { source = h.source; instructions = few_mapped fresh list few; ids = omega arith }
+listed_few other list p few h = h

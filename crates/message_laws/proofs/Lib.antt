@@ -1,0 +1,17 @@
+pub mod Ascii
+pub mod Plain
+pub mod Instructions
+pub mod FileNames
+pub mod Problems
+pub mod BodyTexts
+pub mod BodyLengths
+pub mod Frames
+pub mod Claims
+pub mod Named
+pub mod Names
+pub mod Requests
+pub mod Texts
+pub mod Breaks
+pub mod Numbered
+pub mod Lengths
+pub mod Readable

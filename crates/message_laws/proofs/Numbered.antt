@@ -1,0 +1,69 @@
+-- Each message has a number that the protocol can have.
+use Rattle.std.proofs.Common.{◌≡◌, ℕ, ◌≤◌, true, List, refl, arith}
+use Rattle.std.specs.Prelude.{All, nat_le}
+use Rattle.std.proofs.lemmas.Bool.{and_parts}
+use Rattle.std.proofs.lemmas.Bool.Decides.{nat_tests}
+use Rattle.std.proofs.lemmas.List.Elements.{All-push, All-nil}
+use Rattle.session_laws.proofs.ByForms.{KeptByAnswers, KeptByOthers, by_forms}
+use Rattle.session.proofs.Reaching.{each_life, reached_by_acts}
+use Rattle.session.specs.Limits.{are_limits}
+use Rattle.session.specs.Sessions.{After, Beginning, Life, Said, Session, life_of, said_next}
+use Rattle.session.specs.declared.event.Event.{Event}
+use Rattle.session.specs.declared.limits.Limits.{Limits}
+
+abbrev pub IsIn : ℕ → Said → Type 0
+IsIn last m = (1 ≤ m.seq) × (m.seq ≤ last)
+
+abbrev pub AllIn : ℕ → Life → Type 0
+AllIn last life = All (IsIn last) life.said
+
+record Numbered (last : ℕ) (s : Session) : Type 0 where
+  limit : s.now.limits.last_seq ≡ last
+  before : All (AllIn last) s.before
+  present : AllIn last s.life
+
+module _ (last : ℕ) where
+  others : KeptByOthers (Numbered last)
+  others = record {
+    opens =
+        λ s h. record { limit = h.limit; before = All-push (AllIn last) s.before s.life h.before h.present; present = All-nil (IsIn last) };
+    closes = λ s h. record { limit = h.limit; before = h.before; present = h.present };
+    accepts = λ l piece s e h. record { limit = h.limit; before = h.before; present = h.present };
+    agrees = λ l terms s h. record { limit = h.limit; before = h.before; present = h.present };
+    refers = λ l call s h. record { limit = h.limit; before = h.before; present = h.present };
+    becomes = λ d s h. record { limit = h.limit; before = h.before; present = h.present };
+    tells = λ l event s few h. record {
+      limit = h.limit;
+      before = h.before;
+      present =
+          All-push (IsIn last) s.life.said (said_next s.now l _) h.present (omega arith, (let is = h.limit in omega (arith, is, few)));
+    };
+    hangs = λ l s h. record { limit = h.limit; before = h.before; present = h.present };
+    takes = λ n s h. record { limit = h.limit; before = h.before; present = h.present };
+  }
+
+  answers : KeptByAnswers (Numbered last)
+  answers l p rest outcome s few h = record {
+    limit = h.limit;
+    before = h.before;
+    present = All-push (IsIn last) s.life.said (said_next s.now l _) h.present (omega arith, (let is = h.limit in omega (arith, is, few)));
+  }
+
+few_messages : (l : Limits) → are_limits l ≡ true → l.last_seq ≤ 2147483647
+few_messages l e =
+    let a = and_parts _ _ e in
+    let b = and_parts _ _ a.0 in
+    let c = and_parts (nat_le 1 l.last_seq) (nat_le l.last_seq 2147483647) b.0 in
+    grind (arith, nat_tests, c)
+
+pub record InRange (last : ℕ) (life : Life) : Type 0 where
+  pub few : last ≤ 2147483647
+  pub all : AllIn last life
+
+pub in_range : (from : Beginning) (events : List Event) (c : ℕ) → InRange from.limits.last_seq (life_of c (After from events))
+in_range from events c =
+    let last = from.limits.last_seq in
+    let s = After from events in
+    let h : Numbered last s = reached_by_acts (Numbered last) (by_forms (Numbered last) (others last) (answers last)) from
+    (record { limit = refl; before = All-nil (AllIn last); present = All-nil (IsIn last) }) events in
+    record { few = few_messages from.limits from.numbers; all = each_life (AllIn last) s (All-nil (IsIn last)) h.before h.present c }

@@ -1,0 +1,67 @@
+-- What is said of a breakpoint that cannot be set.
+use Rattle.std.proofs.Common.{◌≡◌, ℕ, ◌≤◌, leb, List, [], ◌∷◌, length, ap, suc, Option, Some, None, Result, Ok, Err, IsUtf8, refl, arith}
+use Rattle.std.specs.Prelude.{All, codes}
+use Rattle.std.proofs.lemmas.List.Elements.{All-cons, All-nil}
+use Rattle.json.proofs.Printed.Utf8.{IsUtf8-are_ascii}
+use Rattle.answers.specs.Breakpoints.{entries_of, followed_by, list_of, message_of, next_after}
+use Rattle.answers.specs.Conditions.{Conditions, both, condition_of, conditions_of, hit_of, if_expression, if_positive}
+use Rattle.answers.specs.Expressions.{expression_of}
+use Rattle.answers.specs.Spaces.{said}
+use Rattle.breakpoints.specs.Stops.{Wanted}
+use Rattle.expressions.specs.Trees.{Tree}
+use Rattle.numerals.specs.Numerals.{numeral}
+use Rattle.numerals.specs.declared.NumeralError.{NumeralError}
+use Rattle.message_laws.proofs.Ascii.{if_either}
+
+-- what is said of it: a text of a few bytes
+abbrev pub IsMessage : List ℕ → Type 0
+IsMessage text = IsUtf8 text × (length text ≤ 34)
+
+-- What holds where the conditions are good, and where there is such a text to say of them, holds.
+pub by_conditions : {R : Type 0} (P : R → Type 0) (f : Result Conditions _ → R) → ((conditions : Conditions) → P (f (Ok conditions)))
+    → ((problem : _) → IsMessage (message_of problem) → P (f (Err problem)))
+    → (condition hits : Option (List ℕ)) → P (f (conditions_of condition hits))
+by_conditions P f good bad condition hits = whole (said condition) (said hits) where
+  number : (c : Option Tree) (n : Result ℕ NumeralError) → P (f (both (Ok c) (if_positive n)))
+  number c (Err error) = bad _ (IsUtf8-are_ascii (codes "bad hit condition") refl, omega arith)
+  number c (Ok n) = if_either (λ r. P (f (both (Ok c) r))) (leb 1 n) _ _ (good (record { condition = c; hit = n }))
+      (bad _ (IsUtf8-are_ascii (codes "bad hit condition") refl, omega arith))
+
+  hit : (c : Option Tree) (b : Option (List ℕ)) → P (f (both (Ok c) (hit_of b)))
+  hit c None = good (record { condition = c; hit = 1 })
+  hit c (Some text) = number c (numeral 10 text)
+
+  tree : (t : Option Tree) (b : Option (List ℕ)) → P (f (both (if_expression t) (hit_of b)))
+  tree None b = bad _ (IsUtf8-are_ascii (codes "bad condition") refl, omega arith)
+  tree (Some t) b = hit (Some t) b
+
+  whole : (a b : Option (List ℕ)) → P (f (both (condition_of a) (hit_of b)))
+  whole None b = hit None b
+  whole (Some text) b = tree (expression_of text) b
+
+-- ---- the entries of a list
+
+pub entries_all : {A P E : Type 0} (Q : E → Type 0) (judged : A → Result P _) (entry : ℕ → A → Result P _ → E)
+    → ((id : ℕ) (asked : A) → Q (entry id asked (judged asked))) → (next : ℕ) (asked : List A)
+    → All Q (entries_of judged entry next asked)
+entries_all Q judged entry h next [] = All-nil Q
+entries_all Q judged entry h next (one ∷ others) =
+    All-cons Q (entry next one (judged one)) (entries_of judged entry (next_after next (judged one)) others) (h next one)
+    (entries_all Q judged entry h (next_after next (judged one)) others)
+
+pub entries_count : {A P E : Type 0} (judged : A → Result P _) (entry : ℕ → A → Result P _ → E) (next : ℕ) (asked : List A)
+    → length (entries_of judged entry next asked) ≡ length asked
+entries_count judged entry next [] = refl
+entries_count judged entry next (one ∷ others) = ap suc (entries_count judged entry (next_after next (judged one)) others)
+
+-- no more are set than are asked for
+pub list_few : {A P : Type 0} (judged : A → Result P _) (wanted : ℕ → P → Wanted) (next : ℕ) (asked : List A)
+    → length (list_of judged wanted next asked) ≤ length asked
+list_few judged wanted next [] = omega arith
+list_few {A} {P} judged wanted next (one ∷ others) =
+    go (judged one) (list_of judged wanted (next_after next (judged one)) others)
+    (list_few judged wanted (next_after next (judged one)) others) where
+      go : (found : Result P _) (list : List Wanted) → length list ≤ length others
+          → length (followed_by wanted next found list) ≤ suc (length others)
+      go (Ok place) list h = omega (arith, h)
+      go (Err problem) list h = omega (arith, h)

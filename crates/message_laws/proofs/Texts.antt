@@ -1,0 +1,212 @@
+-- The texts of each message are UTF-8.
+use Rattle.std.proofs.Common.{◌≡◌, ℕ, ℤ, ◌+◌, ◌≤◌, true, false, List, [], ◌∷◌, ◌++◌, length, Option, Some, None, Result, Ok, IfOk, IsUtf8, decimal, refl, subst}
+use Rattle.std.specs.Prelude.{IfSome, codes}
+use Rattle.std.specs.Fmt.{signed_decimal}
+use Rattle.std.proofs.lemmas.List.Elements.{All-weaker}
+use Rattle.json.proofs.Printed.Utf8.{are_ascii, IsUtf8-are_ascii}
+use Rattle.answers.specs.Laws.{HoldsWords}
+use Rattle.answers.specs.declared.set_variable.Setting.{Setting}
+use Rattle.answers.specs.declared.write_memory.Writing.{Writing}
+use Rattle.assembler.specs.Assembled.{assembled}
+use Rattle.assembler.specs.declared.error.AsmError.{AsmError}
+use Rattle.assembler.specs.declared.error.AsmErrorKind.{AsmErrorKind}
+use Rattle.assembler.specs.declared.error.AsmErrorKind.TheVariants as kind
+use Rattle.debuggee.specs.Programs.{Program, just_loaded}
+use Rattle.debuggee.specs.declared.run.Why.{Why}
+use Rattle.debuggee.specs.declared.run.Why.TheVariants as why
+use Rattle.handlers.specs.Given.{Given}
+use Rattle.handlers.specs.Launch.{error_text, kind_name}
+use Rattle.handlers.specs.Looking.{seen_in}
+use Rattle.handlers.specs.Telling.{cause_text, output_event, stop_event, text_of}
+use Rattle.handlers.specs.Views.{view_of}
+use Rattle.handlers.specs.declared.terms.Terms.{Terms}
+use Rattle.image.specs.Lines.{Label}
+use Rattle.image.specs.declared.Image.{Image}
+use Rattle.protocol.specs.Commands.{name_of}
+use Rattle.protocol.specs.declared.command.Command.{Command}
+use Rattle.protocol.specs.declared.refusal.Refusal.{Refusal}
+use Rattle.replies.specs.Events.{event_texts}
+use Rattle.replies.specs.Forms.{AreTexts, text, texts_if, texts_of, whole}
+use Rattle.replies.specs.Laws.{HasOutcomeTexts, HasTexts}
+use Rattle.replies.specs.declared.message.Message.{Message}
+use Rattle.replies.specs.declared.message.Message.TheVariants.{Response as IsResponse, Event as IsEvent}
+use Rattle.replies.specs.declared.response.Outcome.{Outcome}
+use Rattle.replies.specs.declared.response.Outcome.TheVariants.{Done, Refused}
+use Rattle.replies.specs.declared.response.ResponseBody.{ResponseBody}
+use Rattle.rv32i.specs.declared.stepped.Cause.{Cause}
+use Rattle.rv32i.specs.declared.stepped.Cause.TheVariants as cause
+use Rattle.session.specs.Config.{HasImage, first_program}
+use Rattle.session.specs.Sessions.{After, Beginning, Said, life_of}
+use Rattle.session.specs.declared.event.Event.{Event}
+use Rattle.session.proofs.Breaking.{answer_on}
+use Rattle.session.proofs.Orderly.{Orderly}
+use Rattle.stepping.specs.declared.tick.Reason.TheVariants as met
+use Rattle.message_laws.specs.Messages.{HasPath, TextsAreUtf8}
+use Rattle.message_laws.proofs.Ascii.{append_ascii, decimal_ascii, signed_ascii}
+use Rattle.message_laws.proofs.BodyTexts.{HasBodyTexts, HasLabels, breaks_have_texts, looks_have_texts, settings_have_texts, texts_append, writings_have_texts}
+use Rattle.message_laws.proofs.Claims.{Claim, Holds, OfMessage, OfOutcome, OfProgram, of_messages}
+use Rattle.message_laws.proofs.Named.{IsNamed, IsShortLabel, listed_named, loaded_named, marked_named}
+use Rattle.message_laws.proofs.Names.{names_are_short}
+use Rattle.message_laws.proofs.Requests.{IsShortRequest, asks_have_texts}
+
+-- ---- texts of events and refusals
+
+pub cause_ascii : (c : Cause) → are_ascii (cause_text c) ≡ true
+cause_ascii cause.FetchOutside = refl
+cause_ascii cause.Illegal = refl
+cause_ascii cause.JumpMisaligned = refl
+cause_ascii cause.LoadMisaligned = refl
+cause_ascii cause.LoadOutside = refl
+cause_ascii cause.StoreMisaligned = refl
+cause_ascii cause.StoreOutside = refl
+cause_ascii cause.UnknownCall = refl
+
+why_text : (reason : Why) → IfSome (text_of reason) IsUtf8
+why_text why.Entry = tt
+why_text why.Pause = tt
+why_text why.Limit = IsUtf8-are_ascii (codes "instruction limit") refl
+why_text (why.Met (met.Exception c)) = IsUtf8-are_ascii (cause_text c) (cause_ascii c)
+why_text (why.Met met.Ebreak) = tt
+why_text (why.Met met.Source) = tt
+why_text (why.Met met.Instruction) = tt
+why_text (why.Met met.Goal) = tt
+
+no_texts : (ids : List ℕ) → AreTexts (texts_of whole.texts ids)
+no_texts [] = tt
+no_texts (id ∷ ids) = no_texts ids
+
+stop_texts : (ids : List ℕ) (said : Option (List ℕ)) → IfSome said IsUtf8
+    → AreTexts (texts_of whole.texts ids ++ (texts_if text.texts said ++ []))
+stop_texts ids None h = texts_append (texts_of whole.texts ids) [] (no_texts ids) tt
+stop_texts ids (Some said) h = texts_append (texts_of whole.texts ids) (said ∷ []) (no_texts ids) (h, tt)
+
+stops_have_texts : (reason : Why) (ids : List ℕ) → AreTexts (event_texts (stop_event reason ids))
+stops_have_texts reason ids = stop_texts ids (text_of reason) (why_text reason)
+
+output_has_texts : (number : ℤ) → AreTexts (event_texts (output_event number))
+output_has_texts number = (
+  IsUtf8-are_ascii (signed_decimal number ++ codes "\n")
+      (append_ascii (signed_decimal number) (codes "\n") (signed_ascii number) refl),
+  tt,
+)
+
+pub kind_ascii : (k : AsmErrorKind) → are_ascii (kind_name k) ≡ true
+kind_ascii kind.NotUtf8 = refl
+kind_ascii kind.Syntax = refl
+kind_ascii kind.UnknownInstruction = refl
+kind_ascii kind.BadOperand = refl
+kind_ascii kind.OutOfRange = refl
+kind_ascii kind.TwiceDefined = refl
+kind_ascii kind.Undefined = refl
+kind_ascii kind.TooLarge = refl
+kind_ascii kind.NoMemory = refl
+
+error_is_text : (error : AsmError) → IsUtf8 (error_text error)
+error_is_text error =
+    let line : List ℕ = codes "line " ++ decimal error.line in
+    IsUtf8-are_ascii (error_text error)
+    (append_ascii (line ++ codes ": ") (kind_name error.kind)
+    (append_ascii line (codes ": ") (append_ascii (codes "line ") (decimal error.line) refl (decimal_ascii error.line)) refl)
+    (kind_ascii error.kind))
+
+-- ---- labels
+
+has_labels : (p : Program) → IsNamed p → HasLabels p.image.lines
+has_labels p h =
+    All-weaker IsShortLabel (λ (label : Label). IsUtf8 label.0) (λ label l. l.1.0) p.image.lines.labels h.labels
+
+-- ---- the claim
+
+abbrev texts : Claim
+texts = record {
+  body = HasBodyTexts;
+  refusal = λ refusal said. IfSome said IsUtf8;
+  event = λ e. AreTexts (event_texts e);
+  program = IsNamed;
+  ids = λ _. Unit {0};
+  request = IsShortRequest;
+  name = IsUtf8;
+}
+
+-- the numbers of an orderly program are words
+pub holds_words : (p : Program) → Orderly p → HoldsWords p.machine
+holds_words p h =
+    let m = h.range.machine.machine in
+    record { pc = m.pc; registers = m.x.words; memory = m.memory; calls = h.range.machine.calls.words; few = h.range.machine.calls.few }
+
+set_texts : (c : Command) (p : Program) (given : Given) (terms : Terms) (b : ResponseBody) → (answer_on p given terms c).result ≡ Ok b
+    → HasBodyTexts b
+set_texts c p given terms b e =
+    subst (λ (r : Result ResponseBody Refusal). IfOk r HasBodyTexts) e
+    (breaks_have_texts c p.image.lines p.machine.size (view_of terms p) (given.debuggee.last_break + 1))
+
+shown_texts : (c : Command) (p : Program) (given : Given) (terms : Terms) (b : ResponseBody) → Orderly p → IsNamed p
+    → (seen_in p given terms c).result ≡ Ok b → HasBodyTexts b
+shown_texts c p given terms b orderly named e =
+    subst (λ (r : Result ResponseBody Refusal). IfOk r HasBodyTexts) e
+    (looks_have_texts c p.machine p.image.lines given.numbers (view_of terms p) (holds_words p orderly) (has_labels p named) named.path.0)
+
+holds : Holds texts
+holds = record {
+  names = λ c. IsUtf8-are_ascii (name_of c) (let short = names_are_short c in short.0);
+  asks = asks_have_texts texts (λ c h. h) (λ name h. h.0);
+  loaded = λ arguments text size e h. loaded_named arguments.program text arguments.stop_on_entry size e h;
+  listed = λ c _ _ _ list _ p h. listed_named c list p h;
+  stopped = λ _ p h. record { path = h.path; labels = h.labels };
+  ended = λ _ p h. record { path = h.path; labels = h.labels };
+  resumed = λ _ p h. record { path = h.path; labels = h.labels };
+  first_run = λ p h. record { path = h.path; labels = h.labels };
+  restarted = λ p h. record { path = h.path; labels = h.labels };
+  marked = marked_named;
+  entered = λ p h. record { path = h.path; labels = h.labels };
+  moved = λ p h. record { path = h.path; labels = h.labels };
+  told = λ p h. record { path = h.path; labels = h.labels };
+  left = λ p h. record { path = h.path; labels = h.labels };
+  hart = λ _ p h. record { path = h.path; labels = h.labels };
+  written = λ _ _ p h. record { path = h.path; labels = h.labels };
+  no_ids = tt;
+  ids = λ _ _. tt;
+  stop = λ reason ids _. stops_have_texts reason ids;
+  printed = output_has_texts;
+  exited = λ _. tt;
+  initialized = tt;
+  continued = tt;
+  terminated = tt;
+  refused = λ _. tt;
+  wrong = λ _ _ error _. error_is_text error;
+  capabilities = tt;
+  threads = tt;
+  continues = tt;
+  empty = tt;
+  set = set_texts;
+  shown = shown_texts;
+  setting = λ arguments p numbers setting e.
+      subst (λ (r : Result Setting Refusal). IfOk r (λ s. HasBodyTexts s.body)) e (settings_have_texts arguments p.machine numbers);
+  writing = λ arguments p writing e.
+      subst (λ (r : Result Writing Refusal). IfOk r (λ w. HasBodyTexts w.body)) e (writings_have_texts arguments p.machine.memory);
+}
+
+-- ---- and so each message
+
+outcome_texts : (outcome : Outcome) → OfOutcome texts outcome → HasOutcomeTexts outcome
+outcome_texts (Done b) h = h
+outcome_texts (Refused refusal said) h = h
+
+message_texts : (m : Message) → OfMessage texts m → HasTexts m
+message_texts (IsResponse r) h = (h.0, outcome_texts r.outcome h.1)
+message_texts (IsEvent e) h = h
+
+-- what is claimed of each program that was just loaded holds of the one that is given at the start
+pub first_named : (q : Claim)
+    → ((image : Image) (path : List ℕ) (size : ℕ) → let p = just_loaded image path false size in IsNamed p → q.program p)
+    → (given : Option (List ℕ × List ℕ)) (size : ℕ) → HasImage given size
+    → IfSome given (λ program. IsUtf8 program.0 × (length program.0 ≤ 1048576)) → OfProgram q (first_program given size)
+first_named q of None size image path = tt
+first_named q of (Some program) size image path =
+    of (assembled program.1) program.0 size (loaded_named program.0 program.1 false size image path)
+
+pub texts_are_utf8 : (from : Beginning) (events : List Event) → HasPath from → TextsAreUtf8 (After from events)
+texts_are_utf8 from events path c =
+    All-weaker (λ (m : Said). OfMessage texts m.message) (λ (m : Said). HasTexts m.message) (λ m h. message_texts m.message h)
+    (life_of c (After from events)).said
+    (of_messages texts holds from (first_named texts (λ _ _ _ h. h) from.program from.size from.image path) events c)
