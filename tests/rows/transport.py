@@ -81,6 +81,16 @@ def server(*calls):
     return "stream server " + " ".join(call for call, _ in calls), " ".join(answer for _, answer in calls)
 
 
+def continuing(written, *calls):
+    """Calls of one server that begins after so many messages, each with its answer."""
+    return "stream continuing %d " % written + " ".join(call for call, _ in calls), " ".join(answer for _, answer in calls)
+
+
+def read_so_often(count):
+    """How many reads the last poll of a server made."""
+    return "reads", str(count)
+
+
 def text(error, wanted):
     return "text " + error, wanted
 
@@ -125,6 +135,11 @@ def file(text, path="/w/p.s"):
     return "file %s %s" % (path, text.hex()), "ok"
 
 
+def files_read(*texts, path="/w/p.s"):
+    """The reads of a file that were answered, with what each gave."""
+    return "reads", " ".join("%s %s" % (path, "none" if text is None else text.hex()) for text in texts)
+
+
 def launch(**arguments):
     return request(2, "launch", program="/w/p.s", **arguments) + request(3, "configurationDone")
 
@@ -149,6 +164,13 @@ LEAVES = FIRST + request(2, "launch", program="/w/p.s") \
     + request(3, "setBreakpoints", source={"path": "/w/p.s"}, breakpoints=[{"line": 2}]) + request(4, "configurationDone") + FIRST[:10]
 GO_ON, PAUSE = request(4, "continue", threadId=1), request(4, "pause", threadId=1)
 UNREADABLE = FIRST_ANSWER + refused("fileUnreadable", 21, "launch", 2, 2)
+
+LAUNCH_TWICE = FIRST + request(2, "launch", program="/w/p.s") + request(3, "launch", program="/w/p.s")
+LAUNCHED_LATER = UNREADABLE + bare("launch", 3, 3) + frame('{"event":"initialized","seq":4,"type":"event"}')
+
+LAST = 2147483647
+MOST_READS = 2097152
+INITIALIZED = '{"event":"initialized","seq":%d,"type":"event"}'
 
 POLLED = ("poll", "2:threads")
 NO_MORE = ("poll", "none")
@@ -200,6 +222,26 @@ ROWS = [
         written(FIRST_HARTS_ANSWER[:100])], PROFILE),
     Row("a write that takes nothing stays with a server", [
         given(HARTS), writes(0), server(POLLED, ("threads=2", "Write"), ("threads=2", "Write")), written(b"")], PROFILE),
+    Row("a server goes on after messages that were written before", [
+        given(HARTS), continuing(41, POLLED, ("initialized", "ok"), ("threads=2", "ok"), NO_MORE),
+        written(frame(INITIALIZED % 42) + frame(THREADS % (2, 43)))], PROFILE, refused=True),
+    Row("a server with one number left writes one message more, and then only reads", [
+        given(HARTS + HARTS), continuing(LAST - 1, POLLED, ("threads=2", "ok"), ("threads=2", "SeqSpent"), ("initialized", "SeqSpent"), POLLED, ("ack=2", "SeqSpent"), NO_MORE),
+        written(frame(THREADS % (2, LAST)))], PROFILE),
+    Row("a server without a number left writes nothing", [
+        given(HARTS), continuing(LAST, ("initialized", "SeqSpent"), POLLED, ("threads=2", "SeqSpent")), written(b"")], PROFILE),
+    Row("a server counts the reads of a poll", [
+        given(HARTS + HARTS), reads(1), server(read_so_often(0), POLLED, read_so_often(len(HARTS)), POLLED, read_so_often(len(HARTS)), NO_MORE, read_so_often(1))], PROFILE),
+    Row("a server reads no more for what it has read already", [
+        given(HARTS + HARTS), server(POLLED, read_so_often(1), POLLED, read_so_often(0), NO_MORE, read_so_often(1))], PROFILE),
+    Row("a server does not read after a fault that stays", [
+        given(NO_FRAME), server(("poll", "Frame"), read_so_often(1), ("poll", "Frame"), read_so_often(1))], PROFILE),
+    Row("a server reads 2,097,152 times in one poll", [
+        given(HARTS), reads(interruptions=MOST_READS - 1), server(POLLED, read_so_often(MOST_READS)), left(b"")], PROFILE),
+    Row("a server gives up after 2,097,152 reads without a request, and goes on in the next poll", [
+        given(HARTS), reads(interruptions=MOST_READS),
+        server(("poll", "TooManyReads"), read_so_often(MOST_READS), ("threads=2", "ok"), POLLED, read_so_often(1),
+               ("poll", "TooManyReads"), read_so_often(MOST_READS), NO_MORE, read_so_often(1)), written(FIRST_HARTS_ANSWER)], PROFILE),
     Row("texts of errors", [
         text("Frame", "not a frame"), text("Message", "not a message"), text("Read", "read fault"), text("Write", "write fault"),
         text("TooManyReads", "too many reads"), text("NoMemory", "no memory"), text("SeqSpent", "no sequence number is left"),
@@ -225,11 +267,16 @@ ROWS = [
     Row("a file that is not there is not launched", [
         file(P, "/w/q.s"), wire()] + pieces(FIRST + request(2, "launch", program="/w/p.s")) + [
             CONNECT, drives("Closed"), taken(UNREADABLE), NO_FAULT], PROFILE),
+    Row("a file may be there later, and a request is answered with what its read gave", [
+        file(P, "/w/q.s"), wire()] + pieces(LAUNCH_TWICE) + [
+            CONNECT, drives("Turns", 5), taken(UNREADABLE), files_read(None), file(P), drives("Closed"), taken(LAUNCHED_LATER), files_read(None, P)]
+        + ENDED[:1], PROFILE),
+    Row("no file is read where no request wants one", [file(P), wire()] + pieces(SESSION) + [CONNECT, drives("Closed"), files_read()], PROFILE),
     Row("what is no frame ends a connection after what came before it is answered", [wire()] + pieces(FIRST + HARTS, NO_FRAME) + [
         CONNECT, drives("Closed"), taken(FIRST_ANSWER + HARTS_ANSWER), faulty("Frame(NoLength)")] + counts() + ENDED, PROFILE),
     Row("an editor goes in the middle of a frame, and the next one joins the program", [
         file(COUNTS), wire(polls=True)] + pieces(LEAVES) + [OTHER, wire(polls=True)] + pieces(JOINS) + [
-            OTHER, visits("Closed 0 0"), OTHER, taken(JOINED), ("runnable", "true")] + counts() + ENDED[:1], PROFILE),
+            OTHER, visits("Closed 0 0"), OTHER, taken(JOINED), files_read(COUNTS), ("runnable", "true")] + counts() + ENDED[:1], PROFILE),
     Row("a program runs on while nobody comes", [
         file(COUNTS), wire(polls=True)] + pieces(LEAVES) + [OTHER, wire(polls=True)] + pieces(JOINS) + [
             OTHER, visits("Closed 0 1", nobody=2), OTHER, taken(JOINED), ("runnable", "true")] + counts() + ENDED[:1], PROFILE),

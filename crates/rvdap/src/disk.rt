@@ -1,6 +1,6 @@
 //! The files of the computer that the program runs on.
-ghost use Rattle.std.specs.Prelude.{Some, IfOk};
-ghost use Rattle.transport.specs.Rounds.{IsShort};
+ghost use Rattle.std.specs.Prelude.{Some, None, IfOk};
+ghost use Rattle.transport.specs.Files.{IsShort};
 
 use session::Bytes;
 use std::alloc::Global;
@@ -23,8 +23,11 @@ impl<'a> Disk<'a> {
     }
 }
 
+// What the computer's files hold is in no contract, nor which reads they have answered.
 impl Files for Disk<'_> {
-    fn read(&self, alloc: Global, path: &str) -> Result<Bytes, FileFault> {
+    ghost past = { λ disk. None };
+
+    fn read(&mut self, alloc: Global, path: &str) -> Result<Bytes, FileFault> {
         match read_some(self.rt, alloc, path) {
             Ok(text) => fitting(text),
             Err(error) => Err(unread(&error)),

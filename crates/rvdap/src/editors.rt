@@ -23,12 +23,12 @@ pub(crate) fn serve_accepted<D: Door, F: Files>(
     alloc: Global,
     session: &mut Session,
     door: &mut D,
-    files: &F,
+    files: &mut F,
     editors: Editors,
 ) -> ExitReason
     ensures { OfEach session.old
-        (λ s. spec.Serves editors (F.known files.now) (D.doorway door.old) (D.doorway door.new) s
-        session.new result) }
+        (λ s. spec.Serves editors (F.past files.old) (F.past files.new) (D.doorway door.old)
+        (D.doorway door.new) s session.new result) }
 {
     match editors {
         Editors::One => serve_first(alloc, session, door, files),
@@ -40,11 +40,11 @@ fn serve_first<D: Door, F: Files>(
     alloc: Global,
     session: &mut Session,
     door: &mut D,
-    files: &F,
+    files: &mut F,
 ) -> ExitReason
     ensures { OfEach session.old
-        (λ s. spec.ServesFirst (F.known files.now) (D.doorway door.old) (D.doorway door.new) s
-        session.new result) }
+        (λ s. spec.ServesFirst (F.past files.old) (F.past files.new) (D.doorway door.old)
+        (D.doorway door.new) s session.new result) }
 {
     match door.accept_wait() {
         Ok(Some(mut wire)) => serve_one(alloc, session, &mut wire, files),

@@ -21,7 +21,7 @@ pub(crate) fn listen(
         Err(error) => return closed(&error),
     };
     let _ = eprintln!(rt; "listening on {address}");
-    serve_accepted(rt.alloc(), session, &mut door, &Disk::new(rt), editors)
+    serve_accepted(rt.alloc(), session, &mut door, &mut Disk::new(rt), editors)
 }
 
 fn open(rt: &HostRuntime, address: &str) -> io::Result<TcpDoor> {

@@ -99,7 +99,7 @@ fn serve_editors(rt: &HostRuntime, options: &Options, session: &mut Session) -> 
 
 fn serve_streams(rt: &HostRuntime, session: &mut Session) -> ExitReason {
     let mut wire = StreamWire::new(rt.stdin(), rt.stdout());
-    serve_one(rt.alloc(), session, &mut wire, &Disk::new(rt))
+    serve_one(rt.alloc(), session, &mut wire, &mut Disk::new(rt))
 }
 
 fn list(rt: &HostRuntime, file: &str) -> ExitCode {

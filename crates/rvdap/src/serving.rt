@@ -49,10 +49,10 @@ pub(crate) fn serve_one<W: Wire, F: Files>(
     alloc: Global,
     session: &mut Session,
     wire: &mut W,
-    files: &F,
+    files: &mut F,
 ) -> ExitReason
     ensures { OfEach session.old
-        (λ s. IsServed (F.known files.now) (W.line wire.old)
+        (λ s. IsServed (F.past files.old) (F.past files.new) (W.line wire.old)
         (W.line wire.new) s session.new result) }
 {
     let _ = session.connect();

@@ -22,7 +22,8 @@ pub(crate) fn play_file(rt: &HostRuntime, file: &str) -> Result<(), WatchFault> 
         Err(error) => return Err(unread(&error)),
     };
     let mut output = Waiting::new(rt.stdout());
-    match watch_script(rt.alloc(), script.as_slice(), &Disk::new(rt), &mut output) {
+    let mut disk = Disk::new(rt);
+    match watch_script(rt.alloc(), script.as_slice(), &mut disk, &mut output) {
         Ok(()) => Ok(()),
         Err(fault) => Err(WatchFault::Unplayed(fault)),
     }

@@ -2,6 +2,8 @@
 //! it and drives a session over its wire, and what the client got is written to standard output.
 #![tactic(auto)]
 
+ghost use Rattle.std.specs.Prelude.{None};
+
 use connections::TcpDoor;
 use session::{Bytes, Config, Limits, Session};
 use std::alloc::Global;
@@ -20,7 +22,9 @@ const TURNS: u64 = 1_000;
 struct NoFiles;
 
 impl Files for NoFiles {
-    fn read(&self, _alloc: Global, _path: &str) -> Result<Bytes, FileFault> {
+    ghost past = { λ files. None };
+
+    fn read(&mut self, _alloc: Global, _path: &str) -> Result<Bytes, FileFault> {
         Err(FileFault::Unreadable)
     }
 }
@@ -55,7 +59,7 @@ fn accept_and_drive(alloc: Global, door: &mut TcpDoor) -> io::Result<()> {
     };
     let mut session = new_session(alloc)?;
     let _ = session.connect();
-    match drive(alloc, &mut session, &mut wire, &NoFiles, TURNS) {
+    match drive(alloc, &mut session, &mut wire, &mut NoFiles, TURNS) {
         DriveEnd::Closed => Ok(()),
         _ => Err(ErrorKind::Other.into()),
     }

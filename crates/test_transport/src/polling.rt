@@ -1,7 +1,7 @@
 //! A server over streams.
 
 use crate::streams::{Drip, Pace, Sink};
-use protocol::{Command, Incoming, Request};
+use protocol::{Command, Incoming, LAST_SEQ, Request};
 use replies::{Event, Response, ResponseBody};
 use std::alloc::{AllocError, Global};
 use testing::{Fault, bytes_of, called, hexadecimal, parsed, shown};
@@ -37,7 +37,19 @@ impl Streams {
                 self.writer.pace = pace_of(most, calls, interruptions)?;
                 shown(alloc, "ok")
             }
-            ["server", calls @ ..] => polled(alloc, &mut self.reader, &mut self.writer, calls),
+            ["server", calls @ ..] => {
+                let server = Server::new(alloc, &mut self.reader, &mut self.writer);
+                polled(alloc, server, calls)
+            }
+            ["continuing", written, calls @ ..] => {
+                let written = parsed(written)?;
+                if written > LAST_SEQ {
+                    return Err(Fault::NoCommand);
+                }
+                let (reader, writer) = (&mut self.reader, &mut self.writer);
+                let server = Server::continuing(alloc, reader, writer, written);
+                polled(alloc, server, calls)
+            }
             ["written"] => hexadecimal(alloc, self.writer.bytes.as_slice()),
             ["left"] => hexadecimal(alloc, self.reader.left()),
             _ => Err(Fault::NoCommand),
@@ -54,16 +66,14 @@ fn pace_of(most: &str, calls: &str, interruptions: &str) -> Result<Pace, Fault> 
     })
 }
 
-/// Makes calls of a new server, and says what each answered: `poll`, `threads=N` (the success of a
+/// Makes calls of a server, and says what each answered: `poll`, `reads`, `threads=N` (the success of a
 /// `threads` request with that number), `ack=N` (its bare success), `initialized` (the event). A call that
 /// found no memory is reported on a line before, and made again.
 fn polled(
     alloc: Global,
-    reader: &mut Drip,
-    writer: &mut Sink,
+    mut server: Server<&mut Drip, &mut Sink>,
     calls: &[&str],
 ) -> Result<String, Fault> {
-    let mut server = Server::new(alloc, reader, writer);
     let mut lines = String::new(alloc);
     let mut answers = String::new(alloc);
     for call in calls {
@@ -86,6 +96,7 @@ fn one_call(
 ) -> Result<String, Fault> {
     match call.split_once('=') {
         None if call == "poll" => polled_of(alloc, server.poll_request()),
+        None if call == "reads" => shown(alloc, server.reads()),
         None if call == "initialized" => said_of(alloc, server.send_event(Event::Initialized)),
         Some(("threads", number)) => {
             let request = threads(number)?;

@@ -34,6 +34,7 @@ impl Wired {
                 self.files.text = bytes_of(alloc, bytes)?;
                 shown(alloc, "ok")
             }
+            ["reads"] => self.files.noted(alloc),
             ["recv", piece] => {
                 let piece = bytes_of(alloc, piece)?;
                 done(alloc, self.session.recv(&piece))
@@ -105,14 +106,14 @@ impl Wired {
 
     fn driven(&mut self, alloc: Global, turns: u64) -> DriveEnd {
         let wire = &mut self.wires[0];
-        drive(alloc, &mut self.session, wire, &self.files, turns)
+        drive(alloc, &mut self.session, wire, &mut self.files, turns)
     }
 
     // Serves the connections of a door that lends both wires: how serving ended, how many of the door's calls
     // failed, and how many polls of it accepted no wire.
     fn served(&mut self, alloc: Global, turns: u64, visits: Visits) -> Result<String, Fault> {
         let mut door = MemoryDoor::new(&mut self.wires, visits);
-        match serve(alloc, &mut self.session, &mut door, &self.files, turns) {
+        match serve(alloc, &mut self.session, &mut door, &mut self.files, turns) {
             DriveEnd::NoMemory => Err(Fault::NoMemoryInCall),
             end => {
                 let (faults, idle) = (door.faults(), door.idle());

@@ -113,4 +113,4 @@ framed (Say message (Err Read) ∷ calls) n a last f o d = absurd (said n a d.0 
 framed (Say message (Err TooManyReads) ∷ calls) n a last f o d = absurd (said n a d.0 message (Err TooManyReads) f o d.1)
 
 pub messages_are_framed_in_order : MessagesAreFramedInOrder
-messages_are_framed_in_order held calls last d = framed calls 0 _ last refl refl d
+messages_are_framed_in_order written held calls last d = framed calls written _ last refl refl d

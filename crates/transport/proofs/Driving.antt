@@ -22,9 +22,11 @@ use Rattle.session.specs.Refusals.{wanted_on}
 use Rattle.session.specs.Sessions.{Session, Effect, histories, waiting_of}
 use Rattle.session.specs.Slices.{is_runnable}
 use Rattle.wires.specs.Wires.{Line, Moved, one_more}
-use Rattle.transport.specs.Rounds.{KnownFiles, IsGiven, Took, Due, Send, Leave, Answer, Run, Receive, due, due_in, Round, Did, Ran, IsTaken, after_round, after_rounds, received_in, received, sent_in, sent, since_round, since_rounds, counted, held_after, moves_granted, moves_made}
-use Rattle.transport.specs.Drives.{MayCome, MayFail, is_held, IsRound, AreRounds, idle_looked, idle_after, idle_after_rounds, Cause, AllSaid, InputEnded, CallFailed, NoRoom, NoAnswer, PieceLost, TimeCut, TurnsMade, failed_by, idle_by, IsCause, Driven, turns_of, HasBegun, DroveFor, Passed, GoesOn, Stops, Went, Driving}
-use Rattle.transport.proofs.RoundLemmas.{happened, due_there, given_there, Goes, goes_with, breaks_off, after_rounds-append, received-append, sent-append, since_rounds-append}
+use Rattle.transport.specs.Files.{KnownReads, Records}
+use Rattle.transport.specs.Rounds.{IsGiven, read_for, wanted, Took, Due, Send, Leave, Answer, Run, Receive, due, due_in, Round, Did, Ran, IsTaken, after_round, after_rounds, received_in, received, sent_in, sent, reads_in, reads, since_round, since_rounds, counted, held_after, moves_granted, moves_made}
+use Rattle.transport.specs.Drives.{MayCome, MayFail, is_held, IsRound, AreRounds, idle_looked, idle_after, idle_after_rounds, Cause, AllSaid, InputEnded, CallFailed, NoRoom, NoAnswer, PieceLost, TimeCut, TurnsMade, failed_by, unused_by, idle_by, AreUnused, IsCause, Driven, turns_of, HasBegun, DroveFor, Passed, GoesOn, Stops, Went, Driving}
+use Rattle.transport.proofs.FileReads.{Records-nil, Records-trans, records_as, unused}
+use Rattle.transport.proofs.RoundLemmas.{happened, due_there, wanted_there, Goes, goes_with, breaks_off, after_rounds-append, received-append, sent-append, reads-append, since_rounds-append}
 use Rattle.transport.proofs.Taking.{send_test, takes_sent, takes_turn, takes_received, takes_running}
 
 -- ---- what moved over a wire
@@ -63,52 +65,84 @@ bytes_wait k d =
     grind (arith, nat_tests)
 
 -- bytes were sent
-pub sends_over : {X : Type 0} (known : KnownFiles) (since : ℕ) (old new : Line) (k kept : Kept) (n : ℕ) (r : Result X EventError) (waiting : List ℕ)
+pub sends_over : {X : Type 0} (past : KnownReads) (since : ℕ) (old new : Line) (k kept : Kept) (n : ℕ) (r : Result X EventError) (waiting : List ℕ)
     → waiting ≡ k.waiting → due (see_kept k) ≡ Send → Happens k (Sent n) (answered (λ _. applied.Sent) r) kept → (r ≡ Err NoMemory → ⊥)
     → n ≤ length waiting → (0 < length waiting → 1 ≤ n) → Moved old new [] (take n waiting) old.faults old.idle → (s : Session) → Stands k s
-    → GoesOn known since since old new s kept
-sends_over known since old new k kept n r waiting w d h ok most some m s st =
+    → GoesOn past past since since old new s kept
+sends_over past since old new k kept n r waiting w d h ok most some m s st =
     let few : n ≤ length (waiting_of s) = subst (λ (l : List ℕ). n ≤ length l) (w ∙ st.waiting) most in
     let wait : 0 < length waiting = subst (λ (l : List ℕ). 0 < length l) (sym w) (bytes_wait k d) in record {
       round = Did (Sent n);
       is_round = ((due_there k s Send st d, some wait, few), takes_sent (histories.see s) n few);
       counts = refl;
       moved = subst (λ (l : List ℕ). Moved old new [] (take n l) old.faults old.idle) (w ∙ st.waiting) m;
+      files = Records-nil past;
       stands = happened (λ _. applied.Sent) k (Sent n) r kept s (λ x. refl) h ok st;
     }
 
 -- the wire failed, after it took some bytes
-pub sends_fail : (old new : Line) (k kept : Kept) (waiting : List ℕ) → waiting ≡ k.waiting → due (see_kept k) ≡ Send
+pub sends_fail : (past : KnownReads) (old new : Line) (k kept : Kept) (waiting : List ℕ) → waiting ≡ k.waiting → due (see_kept k) ≡ Send
     → (n : ℕ) × Moved old new [] (take n waiting) (one_more old.faults) old.idle
-    → ((s : Session) → Stands k s → Stands kept (Effect s DropConnection)) → (s : Session) → Stands k s → Stops Fault old new s kept
-sends_fail old new k kept waiting w d m dropped s st =
+    → ((s : Session) → Stands k s → Stands kept (Effect s DropConnection)) → (s : Session) → Stands k s → Stops past past Fault old new s kept
+sends_fail past old new k kept waiting w d m dropped s st =
     let part : List ℕ = take m.0 waiting in
     let prefix : IsPrefixOf part (waiting_of s) = subst (IsPrefixOf part) (w ∙ st.waiting)
     (drop m.0 waiting, sym (take-append-drop m.0 waiting)) in record {
       cause = CallFailed part;
       moved = m.1;
+      files = Records-nil past;
       is_end = refl;
       is_cause = λ turns made. subst (λ (x : Due). MayFail old.polls x (waiting_of s) part) (sym (due_there k s Send st d)) prefix;
       leaves = dropped s st;
     }
 
 -- a request was answered
-pub answers_over : (known : KnownFiles) (since : ℕ) (line : Line) (k kept : Kept) (file : Option (List ℕ)) (r : Result Turned EventError)
-    → due (see_kept k) ≡ Answer → IsGiven known (wanted_on k.now k.now.link) file → Happens k (Turn file) (answered applied.Turn r) kept
-    → (r ≡ Err NoMemory → ⊥)
-    → (s : Session) → Stands k s → GoesOn known since since line line s kept
-answers_over known since line k kept file r d g h ok s st = record {
-  round = Did (Turn file);
-  is_round = ((due_there k s Answer st d, given_there known k s file st g), takes_turn (histories.see s) file);
-  counts = refl;
+pub answers_over : (before after : KnownReads) (since : ℕ) (line : Line) (k kept : Kept) (file : Option (List ℕ)) (r : Result Turned EventError)
+    → due (see_kept k) ≡ Answer → IsGiven (wanted_on k.now k.now.link) file
+    → Records before after (read_for (wanted_on k.now k.now.link) file) → Happens k (Turn file) (answered applied.Turn r) kept
+    → (r ≡ Err NoMemory → ⊥) → (s : Session) → Stands k s → GoesOn before after since since line line s kept
+answers_over before after since line k kept file r d given made h ok s st =
+    let wants : wanted_on k.now k.now.link ≡ wanted s = wanted_there k s st in record {
+      round = Did (Turn file);
+      is_round = (
+        (due_there k s Answer st d, subst (λ (w : Option (List ℕ)). IsGiven w file) wants given),
+        takes_turn (histories.see s) file,
+      );
+      counts = refl;
+      moved = still line;
+      files = subst (λ (w : Option (List ℕ)). Records before after (read_for w file)) wants made;
+      stands = happened applied.Turn k (Turn file) r kept s (λ x. refl) h ok st;
+    }
+
+-- no memory was left to read what an answer wants
+pub reads_none : (before after : KnownReads) (line : Line) (k : Kept) → due (see_kept k) ≡ Answer → Records before after []
+    → (s : Session) → Stands k s → Stops before after OutOfMemory line line s k
+reads_none before after line k d none s st = record {
+  cause = NoAnswer [];
   moved = still line;
-  stands = happened applied.Turn k (Turn file) r kept s (λ x. refl) h ok st;
+  files = none;
+  is_end = refl;
+  is_cause = λ turns made. (due_there k s Answer st d, tt);
+  leaves = st;
 }
 
--- no memory was left to answer, or to read what an answer wants
-pub answers_none : (line : Line) (k : Kept) → due (see_kept k) ≡ Answer → (s : Session) → Stands k s → Stops OutOfMemory line line s k
-answers_none line k d s st =
-    record { cause = NoAnswer; moved = still line; is_end = refl; is_cause = λ turns made. due_there k s Answer st d; leaves = st }
+-- no memory was left to answer, with this file
+pub answers_none : (before after : KnownReads) (line : Line) (k : Kept) (file : Option (List ℕ)) → due (see_kept k) ≡ Answer
+    → IsGiven (wanted_on k.now k.now.link) file → Records before after (read_for (wanted_on k.now k.now.link) file)
+    → (s : Session) → Stands k s → Stops before after OutOfMemory line line s k
+answers_none before after line k file d given made s st =
+    let wants : wanted_on k.now k.now.link ≡ wanted s = wanted_there k s st in record {
+      cause = NoAnswer (read_for (wanted_on k.now k.now.link) file);
+      moved = still line;
+      files = made;
+      is_end = refl;
+      is_cause = λ turns made. (
+        due_there k s Answer st d,
+        subst (λ (w : Option (List ℕ)). AreUnused w (read_for (wanted_on k.now k.now.link) file)) wants
+            (unused (wanted_on k.now k.now.link) file given),
+      );
+      leaves = st;
+    }
 
 -- all was said
 pub leave_is_due : (k : Kept) (waiting : List ℕ) → waiting ≡ k.waiting → length waiting ≡ 0 → is_finished (see_kept k) ≡ true
@@ -118,10 +152,16 @@ leave_is_due k waiting w none done =
     let test : ltb 0 (length k.waiting) ≡ false = grind (arith, nat_tests) in
     rw (test, done) refl
 
-pub all_said : (line : Line) (k kept : Kept) → due (see_kept k) ≡ Leave
-    → ((s : Session) → Stands k s → Stands kept (Effect s DropConnection)) → (s : Session) → Stands k s → Stops Closed line line s kept
-all_said line k kept d dropped s st =
-    record { cause = AllSaid; moved = still line; is_end = refl; is_cause = λ turns made. due_there k s Leave st d; leaves = dropped s st }
+pub all_said : (past : KnownReads) (line : Line) (k kept : Kept) → due (see_kept k) ≡ Leave
+    → ((s : Session) → Stands k s → Stands kept (Effect s DropConnection)) → (s : Session) → Stands k s → Stops past past Closed line line s kept
+all_said past line k kept d dropped s st = record {
+  cause = AllSaid;
+  moved = still line;
+  files = Records-nil past;
+  is_end = refl;
+  is_cause = λ turns made. due_there k s Leave st d;
+  leaves = dropped s st;
+}
 
 -- ---- slices of a program
 
@@ -133,10 +173,10 @@ passed_in : (polls : Bool) (old new : Line) → Passed polls old new → Moved o
 passed_in polls old new p = subst (λ (b : Bool). Moved old new [] [] old.faults (idle_looked b old.idle)) (sym p.0) p.1
 
 runs_for : (n : ℕ) → n ≡ moves_granted
-    → (known : KnownFiles) (since : ℕ) (polls : Bool) (old new : Line) (k mid kept : Kept) (moved next : ℕ) (s : Session)
+    → (past : KnownReads) (since : ℕ) (polls : Bool) (old new : Line) (k mid kept : Kept) (moved next : ℕ) (s : Session)
     → Passed polls old new → Goes k mid n moved s → Stands k s → due (see_kept k) ≡ Run → next ≡ counted (since + moved)
-    → OfEach mid (λ t. Stands kept (held_after (is_held polls (since + moved)) t)) → GoesOn known since next old new s kept
-runs_for n e known since polls old new k mid kept moved next s p g st d c holds =
+    → OfEach mid (λ t. Stands kept (held_after (is_held polls (since + moved)) t)) → GoesOn past past since next old new s kept
+runs_for n e past since polls old new k mid kept moved next s p g st d c holds =
     let made : moves_made s ≡ moved = subst (λ m. (sliced histories m s).moved ≡ moved) e g.made in
     let stands : Stands mid (Effect s (Slice moves_granted)) = subst (λ m. Stands mid (Effect s (Slice m))) e g.stands in record {
       round = Ran (is_held polls (since + moved));
@@ -144,27 +184,29 @@ runs_for n e known since polls old new k mid kept moved next s p g st d c holds 
           (due_there k s Run st d, ap (λ m. is_held polls (since + m)) (sym made) ∙ ap (λ b. is_held b (since + moves_made s)) (sym p.0));
       counts = ap (λ m. counted (since + m)) made ∙ sym c;
       moved = passed_in polls old new p;
+      files = Records-nil past;
       stands = holds (Effect s (Slice moves_granted)) stands;
     }
 
 -- the program made moves, and is held, or not
-pub runs_over : (n : ℕ) (known : KnownFiles) (since : ℕ) (polls : Bool) (old new : Line) (k mid kept : Kept) (r : Sliced) (next : ℕ)
+pub runs_over : (n : ℕ) (past : KnownReads) (since : ℕ) (polls : Bool) (old new : Line) (k mid kept : Kept) (r : Sliced) (next : ℕ)
     → n ≡ moves_granted → Passed polls old new → due (see_kept k) ≡ Run → Happens k (Slice n) (Ok (applied.Slice r)) mid
     → (r.ending ≡ ending.NoMemory → ⊥)
     → next ≡ counted (since + r.moved) → OfEach mid (λ t. Stands kept (held_after (is_held polls (since + r.moved)) t)) → (s : Session)
-    → Stands k s → GoesOn known since next old new s kept
-runs_over n known since polls old new k mid kept r next e p d h ok c holds s st =
-    runs_for n e known since polls old new k mid kept r.moved next s p (goes_with k mid n r.moved r.ending s ok h st) st d c holds
+    → Stands k s → GoesOn past past since next old new s kept
+runs_over n past since polls old new k mid kept r next e p d h ok c holds s st =
+    runs_for n e past since polls old new k mid kept r.moved next s p (goes_with k mid n r.moved r.ending s ok h st) st d c holds
 
 -- no memory was left to tell what it did
-pub time_is_cut : (n : ℕ) (polls : Bool) (old new : Line) (k mid : Kept) (r : Sliced) → n ≡ moves_granted → Passed polls old new
+pub time_is_cut : (n : ℕ) (past : KnownReads) (polls : Bool) (old new : Line) (k mid : Kept) (r : Sliced) → n ≡ moves_granted → Passed polls old new
     → due (see_kept k) ≡ Run → Happens k (Slice n) (Ok (applied.Slice r)) mid → r.ending ≡ ending.NoMemory → (s : Session) → Stands k s
-    → Stops OutOfMemory old new s mid
-time_is_cut n polls old new k mid r e p d h out s st =
+    → Stops past past OutOfMemory old new s mid
+time_is_cut n past polls old new k mid r e p d h out s st =
     let broke : BreaksOff histories moves_granted r.moved s (λ t. Stands mid t) = subst
     (λ m. BreaksOff histories m r.moved s (λ t. Stands mid t)) e (breaks_off k mid n r.moved r.ending s out h st) in record {
       cause = TimeCut;
       moved = passed_in polls old new p;
+      files = Records-nil past;
       is_end = refl;
       is_cause = λ turns made. due_there k s Run st d;
       leaves = (r.moved, broke);
@@ -185,44 +227,47 @@ takes_piece polls s piece Run e may few = takes_running (histories.see s) piece 
 takes_piece polls s piece Receive e may few = takes_received (histories.see s) piece e few
 
 -- a piece came, and was taken; or no memory was left for it
-piece_came : (known : KnownFiles) (since : ℕ) (old new : Line) (k kept : Kept) (d : Due) (piece : List ℕ) (result : Result ℕ DriveEnd)
+piece_came : (past : KnownReads) (since : ℕ) (old new : Line) (k kept : Kept) (d : Due) (piece : List ℕ) (result : Result ℕ DriveEnd)
     → due (see_kept k) ≡ d → MayCome old.polls d → 1 ≤ length piece → length piece ≤ 65536 → Moved old new piece [] old.faults old.idle
     → ((s : Session) → Stands k s → Took result piece s kept) → IfOk result (λ n. n ≡ 0) → (s : Session) → Stands k s
-    → Went known since result old new s kept
-piece_came known since old new k kept d piece (Ok next) e may some few m took none s st = record {
+    → Went past past since result old new s kept
+piece_came past since old new k kept d piece (Ok next) e may some few m took none s st = record {
   round = Did (Recv piece);
   is_round = ((may_come_there old.polls k s d st e may, some), takes_piece old.polls s piece d (due_there k s d st e) may few);
   counts = sym none;
   moved = m;
+  files = Records-nil past;
   stands = took s st;
 }
-piece_came known since old new k kept d piece (Err end) e may some few m took none s st = record {
+piece_came past since old new k kept d piece (Err end) e may some few m took none s st = record {
   cause = PieceLost piece;
   moved = m;
+  files = Records-nil past;
   is_end = sym (took s st).0;
   is_cause = λ turns made. (may_come_there old.polls k s d st e may, some);
   leaves = (took s st).1;
 }
 
 -- what a look or a wait gave, of what there is room for
-pub bytes_came : (known : KnownFiles) (since : ℕ) (old new : Line) (k kept : Kept) (d : Due) (room : List ℕ) (n : ℕ) (result : Result ℕ DriveEnd)
+pub bytes_came : (past : KnownReads) (since : ℕ) (old new : Line) (k kept : Kept) (d : Due) (room : List ℕ) (n : ℕ) (result : Result ℕ DriveEnd)
     → due (see_kept k) ≡ d → MayCome old.polls d → 1 ≤ n → n ≤ length room → length room ≤ 65536
     → Moved old new (take n room) [] old.faults old.idle
     → ((s : Session) → Stands k s → Took result (take n room) s kept) → IfOk result (λ n. n ≡ 0) → (s : Session) → Stands k s
-    → Went known since result old new s kept
-bytes_came known since old new k kept d room n result e may some few most m took none =
+    → Went past past since result old new s kept
+bytes_came past since old new k kept d room n result e may some few most m took none =
     let long : length (take n room) ≡ n = length-take-le n room few in
-    piece_came known since old new k kept d (take n room) result e may (subst (λ (l : ℕ). 1 ≤ l) (sym long) some)
+    piece_came past since old new k kept d (take n room) result e may (subst (λ (l : ℕ). 1 ≤ l) (sym long) some)
     (subst (λ (l : ℕ). l ≤ 65536) (sym long) (omega arith)) m took none
 
 -- no more will come
-pub input_ended : (old new : Line) (k kept : Kept) (d : Due) → due (see_kept k) ≡ d → MayCome old.polls d
+pub input_ended : (past : KnownReads) (old new : Line) (k kept : Kept) (d : Due) → due (see_kept k) ≡ d → MayCome old.polls d
     → Moved old new [] [] old.faults old.idle → IsAtEnd new.remaining → ((s : Session) → Stands k s → Stands kept (Effect s DropConnection))
     → (s : Session) → Stands k s
-    → Stops Closed old new s kept
-input_ended old new k kept d e may m at_end dropped s st = record {
+    → Stops past past Closed old new s kept
+input_ended past old new k kept d e may m at_end dropped s st = record {
   cause = InputEnded;
   moved = m;
+  files = Records-nil past;
   is_end = refl;
   is_cause = λ turns made. (may_come_there old.polls k s d st e may, at_end);
   leaves = dropped s st;
@@ -236,13 +281,14 @@ may_fail polls Run waiting may = (may, refl)
 may_fail polls Receive waiting may = refl
 
 -- a look or a wait failed
-pub comes_fail : (old new : Line) (k kept : Kept) (d : Due) → due (see_kept k) ≡ d → MayCome old.polls d
+pub comes_fail : (past : KnownReads) (old new : Line) (k kept : Kept) (d : Due) → due (see_kept k) ≡ d → MayCome old.polls d
     → Moved old new [] [] (one_more old.faults) old.idle → ((s : Session) → Stands k s → Stands kept (Effect s DropConnection))
     → (s : Session) → Stands k s
-    → Stops Fault old new s kept
-comes_fail old new k kept d e may m dropped s st = record {
+    → Stops past past Fault old new s kept
+comes_fail past old new k kept d e may m dropped s st = record {
   cause = CallFailed [];
   moved = m;
+  files = Records-nil past;
   is_end = refl;
   is_cause = λ turns made. may_fail old.polls (due_in s) (waiting_of s) (may_come_there old.polls k s d st e may);
   leaves = dropped s st;
@@ -255,16 +301,24 @@ idle_after_rounds-append : (polls : Bool) (count : ℕ) (xs ys : List Round)
 idle_after_rounds-append polls count [] ys = refl
 idle_after_rounds-append polls count (x ∷ xs) ys = idle_after_rounds-append polls (idle_after polls count x) xs ys
 
-are_rounds-append : (known : KnownFiles) (polls : Bool) (since : ℕ) (s : Session) (xs ys : List Round) → AreRounds known polls since s xs
-    → AreRounds known polls (since_rounds since s xs) (after_rounds s xs) ys → AreRounds known polls since s (xs ++ ys)
-are_rounds-append known polls since s [] ys a b = b
-are_rounds-append known polls since s (x ∷ xs) ys a b =
-    (a.0, are_rounds-append known polls (since_round since s x) (after_round s x) xs ys a.1 b)
+are_rounds-append : (polls : Bool) (since : ℕ) (s : Session) (xs ys : List Round) → AreRounds polls since s xs
+    → AreRounds polls (since_rounds since s xs) (after_rounds s xs) ys → AreRounds polls since s (xs ++ ys)
+are_rounds-append polls since s [] ys a b = b
+are_rounds-append polls since s (x ∷ xs) ys a b =
+    (a.0, are_rounds-append polls (since_round since s x) (after_round s x) xs ys a.1 b)
 
 -- ---- the loop
 
-pub begins_driving : (known : KnownFiles) (line : Line) (k : Kept) (s : Session) → Stands k s → Driving known line line 0 0 s k
-begins_driving known line k s st = record { rounds = []; are_rounds = tt; count = refl; counts = refl; moved = still line; stands = st }
+pub begins_driving : (past : KnownReads) (line : Line) (k : Kept) (s : Session) → Stands k s → Driving past past line line 0 0 s k
+begins_driving past line k s st = record {
+  rounds = [];
+  are_rounds = tt;
+  count = refl;
+  counts = refl;
+  moved = still line;
+  files = Records-nil past;
+  stands = st;
+}
 
 received_then : (xs : List Round) (x : Round) → received xs ++ received_in x ≡ received (xs ++ x ∷ [])
 received_then xs x = sym (received-append xs (x ∷ []) ∙ ap (λ l. received xs ++ l) (append-nil (received_in x)))
@@ -272,36 +326,42 @@ received_then xs x = sym (received-append xs (x ∷ []) ∙ ap (λ l. received x
 sent_then : (s : Session) (xs : List Round) (x : Round) → sent s xs ++ sent_in (after_rounds s xs) x ≡ sent s (xs ++ x ∷ [])
 sent_then s xs x = sym (sent-append s xs (x ∷ []) ∙ ap (λ l. sent s xs ++ l) (append-nil (sent_in (after_rounds s xs) x)))
 
+reads_then : (s : Session) (xs : List Round) (x : Round) → reads s xs ++ reads_in (after_rounds s xs) x ≡ reads s (xs ++ x ∷ [])
+reads_then s xs x = sym (reads-append s xs (x ∷ []) ∙ ap (λ l. reads s xs ++ l) (append-nil (reads_in (after_rounds s xs) x)))
+
 idle_then : (a b : Line) (xs : List Round) (x : Round) → b.polls ≡ a.polls → b.idle ≡ idle_after_rounds a.polls a.idle xs
     → idle_after b.polls b.idle x ≡ idle_after_rounds a.polls a.idle (xs ++ x ∷ [])
 idle_then a b xs x p i =
     ap (λ (p : Bool). idle_after p b.idle x) p ∙ ap (λ (n : ℕ). idle_after a.polls n x) i ∙ sym
     (idle_after_rounds-append a.polls a.idle xs (x ∷ []))
 
-goes_on_driving : (known : KnownFiles) (a b c : Line) (made since next : ℕ) (s : Session) (k new : Kept) (v : Driving known a b made since s k)
-    → GoesOn known since next b c (after_rounds s v.rounds) new → Driving known a c (made + 1) next s new
-goes_on_driving known a b c made since next s k new v w =
+goes_on_driving : (f g h : KnownReads) (a b c : Line) (made since next : ℕ) (s : Session) (k new : Kept) (v : Driving f g a b made since s k)
+    → GoesOn g h since next b c (after_rounds s v.rounds) new → Driving f h a c (made + 1) next s new
+goes_on_driving f g h a b c made since next s k new v w =
     let t = after_rounds s v.rounds in
-    let here : IsRound known a.polls since t w.round = subst (λ (p : Bool). IsRound known p since t w.round) v.moved.polls w.is_round in
-    let is_round : IsRound known a.polls (since_rounds 0 s v.rounds) t w.round = subst (λ (n : ℕ). IsRound known a.polls n t w.round)
+    let here : IsRound a.polls since t w.round = subst (λ (p : Bool). IsRound p since t w.round) v.moved.polls w.is_round in
+    let is_round : IsRound a.polls (since_rounds 0 s v.rounds) t w.round = subst (λ (n : ℕ). IsRound a.polls n t w.round)
     (sym v.counts) here in record {
       rounds = v.rounds ++ w.round ∷ [];
-      are_rounds = are_rounds-append known a.polls 0 s v.rounds (w.round ∷ []) v.are_rounds (is_round, tt);
+      are_rounds = are_rounds-append a.polls 0 s v.rounds (w.round ∷ []) v.are_rounds (is_round, tt);
       count = length-append v.rounds (w.round ∷ []) ∙ ap (λ n. n + 1) v.count;
       counts = since_rounds-append 0 s v.rounds (w.round ∷ []) ∙ ap (λ n. since_round n t w.round) v.counts ∙ w.counts;
       moved =
           moved_as a c _ _ _ _ _ _ _ _ (received_then v.rounds w.round) (sent_then s v.rounds w.round) v.moved.faults
           (idle_then a b v.rounds w.round v.moved.polls v.moved.idle) (moved-trans a b c _ _ _ _ _ _ _ _ v.moved w.moved);
+      files =
+          records_as f h (reads s v.rounds ++ reads_in t w.round) (reads s (v.rounds ++ w.round ∷ [])) (reads_then s v.rounds w.round)
+          (Records-trans f g h (reads s v.rounds) (reads_in t w.round) v.files w.files);
       stands = subst (Stands new) (sym (after_rounds-append s v.rounds (w.round ∷ []))) w.stands;
     }
 
 -- where a turn answered how many moves there are
-pub goes_on_with : (known : KnownFiles) (a b c : Line) (made since : ℕ) (s : Session) (k new : Kept) (result : Result ℕ DriveEnd) (next : ℕ)
-    → result ≡ Ok next → ((t : Session) → Stands k t → Went known since result b c t new) → Driving known a b made since s k
-    → Driving known a c (made + 1) next s new
-goes_on_with known a b c made since s k new result next e g v =
+pub goes_on_with : (f g h : KnownReads) (a b c : Line) (made since : ℕ) (s : Session) (k new : Kept) (result : Result ℕ DriveEnd) (next : ℕ)
+    → result ≡ Ok next → ((t : Session) → Stands k t → Went g h since result b c t new) → Driving f g a b made since s k
+    → Driving f h a c (made + 1) next s new
+goes_on_with f g h a b c made since s k new result next e went v =
     let t = after_rounds s v.rounds in
-    goes_on_driving known a b c made since next s k new v (subst (λ (r : Result ℕ DriveEnd). Went known since r b c t new) e (g t v.stands))
+    goes_on_driving f g h a b c made since next s k new v (subst (λ (r : Result ℕ DriveEnd). Went g h since r b c t new) e (went t v.stands))
 
 -- what ends a turn is no cause of before it, nor one of the last
 begun : (polls : Bool) (cause : Cause) (left : Option (List ℕ)) (s : Session) → ((turns made : ℕ) → IsCause polls cause left turns made s)
@@ -312,7 +372,7 @@ begun polls (CallFailed part) left s h = tt
 begun polls NoRoom left s h = absurd (one_is_none (h 0 1)) where
   one_is_none : (let n : ℕ = 1 in n) ≡ 0 → ⊥
   one_is_none e = omega arith
-begun polls NoAnswer left s h = tt
+begun polls (NoAnswer unused) left s h = tt
 begun polls (PieceLost piece) left s h = tt
 begun polls TimeCut left s h = tt
 begun polls TurnsMade left s h = tt
@@ -325,17 +385,17 @@ one_turn_more polls (CallFailed part) left s n h = refl
 one_turn_more polls NoRoom left s n h = absurd (one_is_none (h 0 1)) where
   one_is_none : (let n : ℕ = 1 in n) ≡ 0 → ⊥
   one_is_none e = omega arith
-one_turn_more polls NoAnswer left s n h = refl
+one_turn_more polls (NoAnswer unused) left s n h = refl
 one_turn_more polls (PieceLost piece) left s n h = refl
 one_turn_more polls TimeCut left s n h = refl
 one_turn_more polls TurnsMade left s n h = absurd (one_is_none (h 0 1)) where
   one_is_none : (let n : ℕ = 1 in n) ≡ 0 → ⊥
   one_is_none e = omega arith
 
-ends_after : (known : KnownFiles) (a b c : Line) (made since turns taken : ℕ) (s : Session) (k new : Kept) (end : DriveEnd) → made < turns
-    → taken ≡ made + 1 → (v : Driving known a b made since s k) → Stops end b c (after_rounds s v.rounds) new
-    → DroveFor known a c turns taken s new end
-ends_after known a b c made since turns taken s k new end few more v w =
+ends_after : (f g h : KnownReads) (a b c : Line) (made since turns taken : ℕ) (s : Session) (k new : Kept) (end : DriveEnd) → made < turns
+    → taken ≡ made + 1 → (v : Driving f g a b made since s k) → Stops g h end b c (after_rounds s v.rounds) new
+    → DroveFor f h a c turns taken s new end
+ends_after f g h a b c made since turns taken s k new end few more v w =
     let counts : turns_of w.cause (length v.rounds) ≡ taken = one_turn_more b.polls w.cause c.remaining (after_rounds s v.rounds)
     (length v.rounds) w.is_cause ∙ ap (λ n. n + 1) v.count ∙ sym more in record {
       rounds = v.rounds;
@@ -351,22 +411,23 @@ ends_after known a b c made since turns taken s k new end few more v w =
             subst (λ (p : Bool). IsCause p w.cause c.remaining turns (length v.rounds) (after_rounds s v.rounds)) v.moved.polls
             (w.is_cause turns (length v.rounds));
       };
+      files = Records-trans f g h (reads s v.rounds) (unused_by w.cause) v.files w.files;
       is_end = w.is_end;
       leaves = w.leaves;
       began = begun b.polls w.cause c.remaining (after_rounds s v.rounds) w.is_cause;
       counts = counts;
     }
 
-pub ends_driving : (known : KnownFiles) (a b c : Line) (made since turns taken : ℕ) (s : Session) (k new : Kept) (end : DriveEnd)
-    → made < turns → taken ≡ made + 1 → OfEach k (λ t. Stops end b c t new) → Driving known a b made since s k
-    → DroveFor known a c turns taken s new end
-ends_driving known a b c made since turns taken s k new end few more g v =
-    ends_after known a b c made since turns taken s k new end few more v (g (after_rounds s v.rounds) v.stands)
+pub ends_driving : (f g h : KnownReads) (a b c : Line) (made since turns taken : ℕ) (s : Session) (k new : Kept) (end : DriveEnd)
+    → made < turns → taken ≡ made + 1 → OfEach k (λ t. Stops g h end b c t new) → Driving f g a b made since s k
+    → DroveFor f h a c turns taken s new end
+ends_driving f g h a b c made since turns taken s k new end few more stops v =
+    ends_after f g h a b c made since turns taken s k new end few more v (stops (after_rounds s v.rounds) v.stands)
 
 -- all turns were made
-pub stops_driving : (known : KnownFiles) (a b : Line) (made since turns taken : ℕ) (s : Session) (k : Kept) → made ≡ turns → taken ≡ turns
-    → Driving known a b made since s k → DroveFor known a b turns taken s k Turns
-stops_driving known a b made since turns taken s k all same v = record {
+pub stops_driving : (f g : KnownReads) (a b : Line) (made since turns taken : ℕ) (s : Session) (k : Kept) → made ≡ turns → taken ≡ turns
+    → Driving f g a b made since s k → DroveFor f g a b turns taken s k Turns
+stops_driving f g a b made since turns taken s k all same v = record {
   rounds = v.rounds;
   cause = TurnsMade;
   drove = record {
@@ -375,6 +436,7 @@ stops_driving known a b made since turns taken s k all same v = record {
     moved = moved_as a b _ _ _ _ _ _ _ _ (sym (append-nil (received v.rounds))) (sym (append-nil (sent s v.rounds))) refl refl v.moved;
     is_cause = v.count ∙ all;
   };
+  files = records_as f g (reads s v.rounds) (reads s v.rounds ++ []) (sym (append-nil (reads s v.rounds))) v.files;
   is_end = refl;
   leaves = v.stands;
   began = tt;
@@ -382,18 +444,19 @@ stops_driving known a b made since turns taken s k all same v = record {
 }
 
 -- where there was room
-pub driven_in : (known : KnownFiles) (a b : Line) (turns taken : ℕ) (s : Session) (k : Kept) (end : DriveEnd)
-    → DroveFor known a b turns taken s k end → Driven known a b turns s k end
-driven_in known a b turns taken s k end v =
-    record { rounds = v.rounds; cause = v.cause; drove = v.drove; is_end = v.is_end; leaves = v.leaves }
+pub driven_in : (f g : KnownReads) (a b : Line) (turns taken : ℕ) (s : Session) (k : Kept) (end : DriveEnd)
+    → DroveFor f g a b turns taken s k end → Driven f g a b turns s k end
+driven_in f g a b turns taken s k end v =
+    record { rounds = v.rounds; cause = v.cause; drove = v.drove; files = v.files; is_end = v.is_end; leaves = v.leaves }
 
 -- without room for a piece no round is made
-pub no_room_to_drive : (known : KnownFiles) (line : Line) (turns : ℕ) (s : Session) (k : Kept) → Stands k s
-    → Driven known line line turns s k OutOfMemory
-no_room_to_drive known line turns s k st = record {
+pub no_room_to_drive : (past : KnownReads) (line : Line) (turns : ℕ) (s : Session) (k : Kept) → Stands k s
+    → Driven past past line line turns s k OutOfMemory
+no_room_to_drive past line turns s k st = record {
   rounds = [];
   cause = NoRoom;
   drove = record { are_rounds = tt; few = omega arith; moved = still line; is_cause = refl };
+  files = Records-nil past;
   is_end = refl;
   leaves = st;
 }

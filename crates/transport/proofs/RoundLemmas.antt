@@ -1,5 +1,5 @@
 -- What a round does to a session.
-use Rattle.std.proofs.Common.{◌≡◌, ℕ, zero, suc, ◌+◌, ◌≤◌, List, [], ◌∷◌, ◌++◌, Bool, true, false, cond, leb, Option, Some, None, Result, Ok, Err, refl, sym, ap, ◌∙◌, subst, arith, append_assoc}
+use Rattle.std.proofs.Common.{◌≡◌, ℕ, zero, suc, ◌≤◌, List, [], ◌∷◌, ◌++◌, Bool, true, false, cond, leb, Option, Some, None, Result, Ok, Err, refl, sym, ap, ◌∙◌, subst, arith, append_assoc}
 use Rattle.std.specs.Prelude.{IfOk}
 use Rattle.std.proofs.lemmas.Bool.Decides.{nat_tests}
 use Rattle.transport.specs.declared.end.DriveEnd.{DriveEnd}
@@ -18,7 +18,7 @@ use Rattle.session.specs.Kept.{Kept, Stands, Happens, answered, see_kept}
 use Rattle.session.specs.Refusals.{wanted_on}
 use Rattle.session.specs.Sessions.{Session, Effect, Answer as answer_of, histories}
 use Rattle.session.proofs.Standing.{standing}
-use Rattle.transport.specs.Rounds.{KnownFiles, IsGiven, Took, Due, due, due_in, Round, after_round, after_rounds, received_in, received, sent_in, sent, since_round, since_rounds, counted, moves_granted, wanted}
+use Rattle.transport.specs.Rounds.{Took, Due, due, due_in, Round, after_round, after_rounds, received_in, received, sent_in, sent, reads_in, reads, since_round, since_rounds, counted, moves_granted, wanted}
 
 -- where an event that is no slice is done, this is left
 left_by : (s : Session) (e : Event) (x : Applied) (moved : Option ℕ) (P : Session → Type 0) → moved ≡ None
@@ -64,9 +64,8 @@ above_zero zero h = absurd (h refl)
 above_zero (suc n) h = omega arith
 
 -- what the next answer wants is the same for what is kept and for what it stands for
-pub given_there : (known : KnownFiles) (k : Kept) (s : Session) (file : Option (List ℕ)) → Stands k s
-    → IsGiven known (wanted_on k.now k.now.link) file → IsGiven known (wanted s) file
-given_there known k s file st g = subst (λ n. IsGiven known (wanted_on n n.link) file) st.now g
+pub wanted_there : (k : Kept) (s : Session) → Stands k s → wanted_on k.now k.now.link ≡ wanted s
+wanted_there k s st = ap (λ n. wanted_on n n.link) st.now
 
 -- ---- slices of a program
 
@@ -142,6 +141,12 @@ sent-append s [] ys = refl
 sent-append s (x ∷ xs) ys =
     ap (λ l. sent_in s x ++ l) (sent-append (after_round s x) xs ys) ∙ sym
     (append_assoc (sent_in s x) (sent (after_round s x) xs) (sent (after_rounds (after_round s x) xs) ys))
+
+pub reads-append : (s : Session) (xs ys : List Round) → reads s (xs ++ ys) ≡ reads s xs ++ reads (after_rounds s xs) ys
+reads-append s [] ys = refl
+reads-append s (x ∷ xs) ys =
+    ap (λ l. reads_in s x ++ l) (reads-append (after_round s x) xs ys) ∙ sym
+    (append_assoc (reads_in s x) (reads (after_round s x) xs) (reads (after_rounds (after_round s x) xs) ys))
 
 pub since_rounds-append : (since : ℕ) (s : Session) (xs ys : List Round)
     → since_rounds since s (xs ++ ys) ≡ since_rounds (since_rounds since s xs) (after_rounds s xs) ys

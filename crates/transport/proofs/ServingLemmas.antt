@@ -17,9 +17,11 @@ use Rattle.session.specs.Sessions.{Session, Effect, Answer as answer_of, histori
 use Rattle.session.specs.Slices.{is_runnable}
 use Rattle.wires.specs.Doors.{Doorway, IsEmpty, Loses, Opened}
 use Rattle.wires.specs.Wires.{Line, one_more}
-use Rattle.transport.specs.Rounds.{KnownFiles, moves_granted, after_rounds}
+use Rattle.transport.specs.Files.{KnownReads}
+use Rattle.transport.specs.Rounds.{moves_granted, after_rounds}
 use Rattle.transport.specs.Drives.{Cause, AllSaid, InputEnded, CallFailed, NoRoom, NoAnswer, PieceLost, TimeCut, TurnsMade, end_of, Leaves, HasBegun, IsLeaving, DroveFor}
-use Rattle.transport.specs.Serving.{Iteration, Unattended, Connection, HasLeft, IsCut, IsIteration, turns_in, after_iteration, lines_in, idle_in, AreIterations, turns_taken, after_iterations, lines_of, idle_after_iterations, DoorClosed, Refused, DoorFailed, AllMade, NoRoomYet, UnattendedCut, ConnectionCut, failed_at, idle_at, IsWhy, LeavesCut, Served, Iterated, Ended, IteratedOrEnded, ServedSoFar}
+use Rattle.transport.specs.Serving.{Iteration, Unattended, Connection, HasLeft, IsCut, IsIteration, turns_in, after_iteration, lines_in, reads_within, idle_in, AreIterations, turns_taken, after_iterations, lines_of, reads_of, reads_at, idle_after_iterations, DoorClosed, Refused, DoorFailed, AllMade, NoRoomYet, UnattendedCut, ConnectionCut, failed_at, idle_at, IsWhy, LeavesCut, Served, Iterated, Ended, IteratedOrEnded, ServedSoFar}
+use Rattle.transport.proofs.FileReads.{Records-nil, Records-trans, records_as}
 use Rattle.transport.proofs.RoundLemmas.{Goes, goes_with, breaks_off}
 
 -- ---- the wires that a door gave
@@ -54,27 +56,29 @@ runnable_there : (k : Kept) (s : Session) → Stands k s → is_runnable k.now �
 runnable_there k s st e = subst (λ n. is_runnable n ≡ true) st.now e
 
 -- a slice in which the program made moves
-pub stays_unattended : (known : KnownFiles) (left : ℕ) (old new : Doorway) (k mid : Kept) (n : ℕ) (r : Sliced) → n ≡ moves_granted
+pub stays_unattended : (past : KnownReads) (left : ℕ) (old new : Doorway) (k mid : Kept) (n : ℕ) (r : Sliced) → n ≡ moves_granted
     → is_runnable k.now ≡ true → Happens k (Slice n) (Ok (applied.Slice r)) mid → (r.ending ≡ ending.NoMemory → ⊥)
-    → Opened old new [] old.faults (one_more old.idle) → (s : Session) → Stands k s → Iterated known left 1 old new s mid
-stays_unattended known left old new k mid n r e runs h ok m s st =
+    → Opened old new [] old.faults (one_more old.idle) → (s : Session) → Stands k s → Iterated past past left 1 old new s mid
+stays_unattended past left old new k mid n r e runs h ok m s st =
     let g : Goes k mid n r.moved s = goes_with k mid n r.moved r.ending s ok h st in record {
       iteration = Unattended;
       is_iteration = runnable_there k s st runs;
       counts = refl;
       opened = m;
+      files = Records-nil past;
       stands = same_moves k mid n e s g.stands;
     }
 
 -- a slice in which no memory was left to tell what the program did
-pub unattended_is_cut : (known : KnownFiles) (left : ℕ) (old new : Doorway) (k mid : Kept) (n : ℕ) (r : Sliced) → n ≡ moves_granted
+pub unattended_is_cut : (past : KnownReads) (left : ℕ) (old new : Doorway) (k mid : Kept) (n : ℕ) (r : Sliced) → n ≡ moves_granted
     → is_runnable k.now ≡ true → Happens k (Slice n) (Ok (applied.Slice r)) mid → r.ending ≡ ending.NoMemory
-    → Opened old new [] old.faults (one_more old.idle) → (s : Session) → Stands k s → Ended known left OutOfMemory old new s mid
-unattended_is_cut known left old new k mid n r e runs h out m s st =
+    → Opened old new [] old.faults (one_more old.idle) → (s : Session) → Stands k s → Ended past past left OutOfMemory old new s mid
+unattended_is_cut past left old new k mid n r e runs h out m s st =
     let broke : BreaksOff histories moves_granted r.moved s (λ t. Stands mid t) = subst
     (λ m. BreaksOff histories m r.moved s (λ t. Stands mid t)) e (breaks_off k mid n r.moved r.ending s out h st) in record {
       why = UnattendedCut;
       opened = m;
+      files = Records-nil past;
       is_end = refl;
       is_why = λ taken. runnable_there k s st runs;
       leaves = (r.moved, broke);
@@ -83,14 +87,16 @@ unattended_is_cut known left old new k mid n r e runs h out m s st =
 -- ---- the door
 
 -- the door accepts no further connection
-pub door_closes : (known : KnownFiles) (left : ℕ) (old new : Doorway) (k : Kept) → Opened old new [] old.faults old.idle → IsEmpty new.wires
-    → (s : Session) → Stands k s → Ended known left Closed old new s k
-door_closes known left old new k m e s st = record { why = DoorClosed; opened = m; is_end = refl; is_why = λ taken. e; leaves = st }
+pub door_closes : (past : KnownReads) (left : ℕ) (old new : Doorway) (k : Kept) → Opened old new [] old.faults old.idle → IsEmpty new.wires
+    → (s : Session) → Stands k s → Ended past past left Closed old new s k
+door_closes past left old new k m e s st =
+    record { why = DoorClosed; opened = m; files = Records-nil past; is_end = refl; is_why = λ taken. e; leaves = st }
 
 -- a call of the door fails
-pub door_fails : (known : KnownFiles) (left : ℕ) (old new : Doorway) (k : Kept) → Opened old new [] (one_more old.faults) old.idle
-    → (s : Session) → Stands k s → Ended known left Fault old new s k
-door_fails known left old new k m s st = record { why = DoorFailed; opened = m; is_end = refl; is_why = λ taken. tt; leaves = st }
+pub door_fails : (past : KnownReads) (left : ℕ) (old new : Doorway) (k : Kept) → Opened old new [] (one_more old.faults) old.idle
+    → (s : Session) → Stands k s → Ended past past left Fault old new s k
+door_fails past left old new k m s st =
+    record { why = DoorFailed; opened = m; files = Records-nil past; is_end = refl; is_why = λ taken. tt; leaves = st }
 
 -- ---- a connection that was accepted
 
@@ -118,14 +124,15 @@ refuses k mid PieceTooLong n h s st = rw (h.to_each s st).0 refl
 refuses k mid Closing n h s st = rw (h.to_each s st).0 refl
 refuses k mid Spent n h s st = rw (h.to_each s st).0 refl
 
-pub is_refused : (known : KnownFiles) (left : ℕ) (old new : Doorway) (line : Line) (k mid kept : Kept) (r : Result ℕ EventError) (error : EventError)
+pub is_refused : (past : KnownReads) (left : ℕ) (old new : Doorway) (line : Line) (k mid kept : Kept) (r : Result ℕ EventError) (error : EventError)
     → r ≡ Err error → (r ≡ Err NoMemory → ⊥) → Happens k Connect (answered applied.Connect r) mid → kept ≡ k
-    → Opened old new (line ∷ []) old.faults old.idle → (s : Session) → Stands k s → Ended known left Closed old new s kept
-is_refused known left old new line k mid kept r error e n h same m s st =
+    → Opened old new (line ∷ []) old.faults old.idle → (s : Session) → Stands k s → Ended past past left Closed old new s kept
+is_refused past left old new line k mid kept r error e n h same m s st =
     let there : Happens k Connect (Err error) mid = subst
     (λ (r : Result ℕ EventError). Happens k Connect (answered applied.Connect r) mid) e h in record {
       why = Refused line;
       opened = m;
+      files = Records-nil past;
       is_end = refl;
       is_why = λ taken. refuses k mid error (λ (z : error ≡ NoMemory). n (e ∙ ap Err z)) there s st;
       leaves = subst (λ k. Stands k s) (sym same) st;
@@ -156,7 +163,7 @@ cuts AllSaid t mid kept c l d = absurd c
 cuts InputEnded t mid kept c l d = absurd c
 cuts (CallFailed part) t mid kept c l d = absurd c
 cuts NoRoom t mid kept c l d = absurd c
-cuts NoAnswer t mid kept c l d = d t l
+cuts (NoAnswer unused) t mid kept c l d = d t l
 cuts (PieceLost piece) t mid kept c l d = subst (Stands kept) (dropped_twice t) (d (Effect t DropConnection) l)
 cuts TimeCut t mid kept c l d =
     (l.0, record { count = l.1.count; goes_on = l.1.goes_on; moves = l.1.moves; lacks = l.1.lacks; holds = d _ l.1.holds })
@@ -167,7 +174,7 @@ has_left AllSaid t mid c l = l
 has_left InputEnded t mid c l = l
 has_left (CallFailed part) t mid c l = l
 has_left NoRoom t mid c l = absurd c
-has_left NoAnswer t mid c l = absurd c
+has_left (NoAnswer unused) t mid c l = absurd c
 has_left (PieceLost piece) t mid c l = absurd c
 has_left TimeCut t mid c l = absurd c
 has_left TurnsMade t mid c l = absurd c
@@ -177,7 +184,7 @@ leaves_by AllSaid end e g = tt
 leaves_by InputEnded end e g = tt
 leaves_by (CallFailed part) end e g = tt
 leaves_by NoRoom end e g = absurd (subst IsLeaving (sym e) g)
-leaves_by NoAnswer end e g = absurd (subst IsLeaving (sym e) g)
+leaves_by (NoAnswer unused) end e g = absurd (subst IsLeaving (sym e) g)
 leaves_by (PieceLost piece) end e g = absurd (subst IsLeaving (sym e) g)
 leaves_by TimeCut end e g = absurd (subst IsLeaving (sym e) g)
 leaves_by TurnsMade end e g = absurd (subst IsLeaving (sym e) g)
@@ -187,7 +194,7 @@ cut_by AllSaid end e began stays = absurd (stays (subst IsLeaving e tt))
 cut_by InputEnded end e began stays = absurd (stays (subst IsLeaving e tt))
 cut_by (CallFailed part) end e began stays = absurd (stays (subst IsLeaving e tt))
 cut_by NoRoom end e began stays = absurd began
-cut_by NoAnswer end e began stays = tt
+cut_by (NoAnswer unused) end e began stays = tt
 cut_by (PieceLost piece) end e began stays = tt
 cut_by TimeCut end e began stays = tt
 cut_by TurnsMade end e began stays = tt
@@ -203,33 +210,35 @@ stays Turns a b h = h
 stays OutOfMemory a b h = h
 
 -- the connection ended, and serving continues
-pub is_connection : (known : KnownFiles) (left : ℕ) (old new : Doorway) (a b : Line) (k mid kept : Kept) (r : Result ℕ EventError) (n : ℕ) (end : DriveEnd) (taken : ℕ)
+pub is_connection : (f g : KnownReads) (left : ℕ) (old new : Doorway) (a b : Line) (k mid kept : Kept) (r : Result ℕ EventError) (n : ℕ) (end : DriveEnd) (taken : ℕ)
     → r ≡ Ok n → Happens k Connect (answered applied.Connect r) mid
-    → OfEach mid (λ t. DroveFor known a b (left - 1) taken t kept end) → IsLeaving end → Opened old new (a ∷ []) old.faults old.idle
-    → (s : Session) → Stands k s → Iterated known left (taken + 1) old new s kept
-is_connection known left old new a b k mid kept r n end taken e h drove gone m s st =
+    → OfEach mid (λ t. DroveFor f g a b (left - 1) taken t kept end) → IsLeaving end → Opened old new (a ∷ []) old.faults old.idle
+    → (s : Session) → Stands k s → Iterated f g left (taken + 1) old new s kept
+is_connection f g left old new a b k mid kept r n end taken e h drove gone m s st =
     let c = connects k mid r n e h s st in
-    let v : DroveFor known a b (left - 1) taken (Effect s Connect) kept end = drove (Effect s Connect) c.stands in
+    let v : DroveFor f g a b (left - 1) taken (Effect s Connect) kept end = drove (Effect s Connect) c.stands in
     let has : HasLeft v.cause = leaves_by v.cause end v.is_end gone in record {
       iteration = Connection a b v.rounds v.cause;
       is_iteration = (record { connects = c.is_taken; drove = v.drove }, has);
       counts = ap (λ n. n + 1) v.counts;
       opened = m;
+      files = v.files;
       stands = has_left v.cause (after_rounds (Effect s Connect) v.rounds) kept has v.leaves;
     }
 
 -- turns or memory end the connection, and serving with it
-pub is_cut : (known : KnownFiles) (left : ℕ) (old new : Doorway) (a b : Line) (k mid driven kept : Kept) (r : Result ℕ EventError) (n : ℕ) (end : DriveEnd) (taken : ℕ)
+pub is_cut : (f g : KnownReads) (left : ℕ) (old new : Doorway) (a b : Line) (k mid driven kept : Kept) (r : Result ℕ EventError) (n : ℕ) (end : DriveEnd) (taken : ℕ)
     → r ≡ Ok n → Happens k Connect (answered applied.Connect r) mid
-    → OfEach mid (λ t. DroveFor known a b (left - 1) taken t driven end) → (IsLeaving end → ⊥)
+    → OfEach mid (λ t. DroveFor f g a b (left - 1) taken t driven end) → (IsLeaving end → ⊥)
     → OfEach driven (λ u. Stands kept (Effect u DropConnection)) → Opened old new (a ∷ []) old.faults old.idle → (s : Session) → Stands k s
-    → Ended known left end old new s kept
-is_cut known left old new a b k mid driven kept r n end taken e h drove stays dropped m s st =
+    → Ended f g left end old new s kept
+is_cut f g left old new a b k mid driven kept r n end taken e h drove stays dropped m s st =
     let c = connects k mid r n e h s st in
-    let v : DroveFor known a b (left - 1) taken (Effect s Connect) driven end = drove (Effect s Connect) c.stands in
+    let v : DroveFor f g a b (left - 1) taken (Effect s Connect) driven end = drove (Effect s Connect) c.stands in
     let cut : IsCut v.cause = cut_by v.cause end v.is_end v.began stays in record {
       why = ConnectionCut a b v.rounds v.cause;
       opened = m;
+      files = v.files;
       is_end = v.is_end;
       is_why = λ taken. (record { connects = c.is_taken; drove = v.drove }, cut);
       leaves = cuts v.cause (after_rounds (Effect s Connect) v.rounds) driven kept cut v.leaves dropped;
@@ -243,13 +252,13 @@ less-none n = omega arith
 less-less : (n a b : ℕ) → n - (a + b) ≡ (n - a) - b
 less-less n a b = omega arith
 
-are_iterations-append : (known : KnownFiles) (n : ℕ) (s : Session) (xs ys : List Iteration) → AreIterations known n s xs
-    → AreIterations known (n - turns_taken xs) (after_iterations s xs) ys → AreIterations known n s (xs ++ ys)
-are_iterations-append known n s [] ys a b = subst (λ (m : ℕ). AreIterations known m s ys) (less-none n) b
-are_iterations-append known n s (x ∷ xs) ys a b = (
+are_iterations-append : (n : ℕ) (s : Session) (xs ys : List Iteration) → AreIterations n s xs
+    → AreIterations (n - turns_taken xs) (after_iterations s xs) ys → AreIterations n s (xs ++ ys)
+are_iterations-append n s [] ys a b = subst (λ (m : ℕ). AreIterations m s ys) (less-none n) b
+are_iterations-append n s (x ∷ xs) ys a b = (
   a.0,
-  are_iterations-append known (n - turns_in x) (after_iteration s x) xs ys a.1
-      (subst (λ (m : ℕ). AreIterations known m (after_iterations (after_iteration s x) xs) ys)
+  are_iterations-append (n - turns_in x) (after_iteration s x) xs ys a.1
+      (subst (λ (m : ℕ). AreIterations m (after_iterations (after_iteration s x) xs) ys)
       (less-less n (turns_in x) (turns_taken xs)) b),
 )
 
@@ -267,6 +276,13 @@ lines_of-append [] ys = refl
 lines_of-append (x ∷ xs) ys =
     ap (λ l. lines_in x ++ l) (lines_of-append xs ys) ∙ sym (append_assoc (lines_in x) (lines_of xs) (lines_of ys))
 
+reads_of-append : (s : Session) (xs ys : List Iteration)
+    → reads_of s (xs ++ ys) ≡ reads_of s xs ++ reads_of (after_iterations s xs) ys
+reads_of-append s [] ys = refl
+reads_of-append s (x ∷ xs) ys =
+    ap (λ l. reads_within s x ++ l) (reads_of-append (after_iteration s x) xs ys) ∙ sym
+    (append_assoc (reads_within s x) (reads_of (after_iteration s x) xs) (reads_of (after_iterations (after_iteration s x) xs) ys))
+
 idle_after_iterations-append : (count : ℕ) (xs ys : List Iteration)
     → idle_after_iterations count (xs ++ ys) ≡ idle_after_iterations (idle_after_iterations count xs) ys
 idle_after_iterations-append count [] ys = refl
@@ -274,47 +290,62 @@ idle_after_iterations-append count (x ∷ xs) ys = idle_after_iterations-append 
 
 -- ---- the loop
 
-pub begins_serving : (known : KnownFiles) (door : Doorway) (turns : ℕ) (k : Kept) (s : Session) → Stands k s
-    → ServedSoFar known door door turns 0 s k
-begins_serving known door turns k s st =
-    record { iterations = []; are_iterations = tt; count = refl; opened = opened-refl door; stands = st }
+pub begins_serving : (past : KnownReads) (door : Doorway) (turns : ℕ) (k : Kept) (s : Session) → Stands k s
+    → ServedSoFar past past door door turns 0 s k
+begins_serving past door turns k s st = record {
+  iterations = [];
+  are_iterations = tt;
+  count = refl;
+  opened = opened-refl door;
+  files = Records-nil past;
+  stands = st;
+}
 
 lines_then : (xs : List Iteration) (x : Iteration) → lines_of xs ++ lines_in x ≡ lines_of (xs ++ x ∷ [])
 lines_then xs x = sym (lines_of-append xs (x ∷ []) ∙ ap (λ l. lines_of xs ++ l) (append-nil (lines_in x)))
+
+reads_then : (s : Session) (xs : List Iteration) (x : Iteration)
+    → reads_of s xs ++ reads_within (after_iterations s xs) x ≡ reads_of s (xs ++ x ∷ [])
+reads_then s xs x =
+    sym (reads_of-append s xs (x ∷ []) ∙ ap (λ l. reads_of s xs ++ l) (append-nil (reads_within (after_iterations s xs) x)))
 
 idle_then : (a b : Doorway) (xs : List Iteration) (x : Iteration) → b.idle ≡ idle_after_iterations a.idle xs
     → idle_in b.idle x ≡ idle_after_iterations a.idle (xs ++ x ∷ [])
 idle_then a b xs x i = ap (λ (n : ℕ). idle_in n x) i ∙ sym (idle_after_iterations-append a.idle xs (x ∷ []))
 
-continues_serving : (known : KnownFiles) (a b c : Doorway) (turns taken count : ℕ) (s : Session) (k new : Kept) (v : ServedSoFar known a b turns taken s k)
-    → Iterated known (turns - taken) count b c (after_iterations s v.iterations) new → ServedSoFar known a c turns (taken + count) s new
-continues_serving known a b c turns taken count s k new v w =
-    let is_iteration : IsIteration known (turns - turns_taken v.iterations) (after_iterations s v.iterations) w.iteration = subst
-    (λ (n : ℕ). IsIteration known (turns - n) (after_iterations s v.iterations) w.iteration) (sym v.count) w.is_iteration in
+continues_serving : (f g h : KnownReads) (a b c : Doorway) (turns taken count : ℕ) (s : Session) (k new : Kept) (v : ServedSoFar f g a b turns taken s k)
+    → Iterated g h (turns - taken) count b c (after_iterations s v.iterations) new → ServedSoFar f h a c turns (taken + count) s new
+continues_serving f g h a b c turns taken count s k new v w =
+    let is_iteration : IsIteration (turns - turns_taken v.iterations) (after_iterations s v.iterations) w.iteration = subst
+    (λ (n : ℕ). IsIteration (turns - n) (after_iterations s v.iterations) w.iteration) (sym v.count) w.is_iteration in
     let counts : turns_in w.iteration ≡ count = w.counts in
     let taken_is : turns_taken v.iterations ≡ taken = v.count in record {
       iterations = v.iterations ++ w.iteration ∷ [];
-      are_iterations = are_iterations-append known turns s v.iterations (w.iteration ∷ []) v.are_iterations (is_iteration, tt);
+      are_iterations = are_iterations-append turns s v.iterations (w.iteration ∷ []) v.are_iterations (is_iteration, tt);
       count = turns_taken-append v.iterations (w.iteration ∷ []) ∙ omega arith;
       opened =
           opened_as a c _ _ _ _ _ _ (lines_then v.iterations w.iteration) v.opened.faults
           (idle_then a b v.iterations w.iteration v.opened.idle) (opened-trans a b c _ _ _ _ _ _ v.opened w.opened);
+      files =
+          records_as f h (reads_of s v.iterations ++ reads_within (after_iterations s v.iterations) w.iteration)
+          (reads_of s (v.iterations ++ w.iteration ∷ [])) (reads_then s v.iterations w.iteration)
+          (Records-trans f g h (reads_of s v.iterations) (reads_within (after_iterations s v.iterations) w.iteration) v.files w.files);
       stands = subst (Stands new) (sym (after_iterations-append s v.iterations (w.iteration ∷ []))) w.stands;
     }
 
 -- after one more pass of the loop serving continues
-pub serving_continues : (known : KnownFiles) (a b c : Doorway) (turns taken : ℕ) (s : Session) (k new : Kept) (result : Result ℕ DriveEnd) (count : ℕ)
-    → result ≡ Ok count → OfEach k (λ t. IteratedOrEnded known (turns - taken) result b c t new) → ServedSoFar known a b turns taken s k
-    → ServedSoFar known a c turns (taken + count) s new
-serving_continues known a b c turns taken s k new result count e g v =
+pub serving_continues : (f g h : KnownReads) (a b c : Doorway) (turns taken : ℕ) (s : Session) (k new : Kept) (result : Result ℕ DriveEnd) (count : ℕ)
+    → result ≡ Ok count → OfEach k (λ t. IteratedOrEnded g h (turns - taken) result b c t new) → ServedSoFar f g a b turns taken s k
+    → ServedSoFar f h a c turns (taken + count) s new
+serving_continues f g h a b c turns taken s k new result count e pass v =
     let t = after_iterations s v.iterations in
-    continues_serving known a b c turns taken count s k new v
-    (subst (λ (r : Result ℕ DriveEnd). IteratedOrEnded known (turns - taken) r b c t new) e (g t v.stands))
+    continues_serving f g h a b c turns taken count s k new v
+    (subst (λ (r : Result ℕ DriveEnd). IteratedOrEnded g h (turns - taken) r b c t new) e (pass t v.stands))
 
-ends_after : (known : KnownFiles) (a b c : Doorway) (turns taken : ℕ) (s : Session) (k new : Kept) (end : DriveEnd) → taken ≤ turns
-    → (v : ServedSoFar known a b turns taken s k) → Ended known (turns - taken) end b c (after_iterations s v.iterations) new
-    → Served known a c turns s new end
-ends_after known a b c turns taken s k new end few v w = record {
+ends_after : (f g h : KnownReads) (a b c : Doorway) (turns taken : ℕ) (s : Session) (k new : Kept) (end : DriveEnd) → taken ≤ turns
+    → (v : ServedSoFar f g a b turns taken s k) → Ended g h (turns - taken) end b c (after_iterations s v.iterations) new
+    → Served f h a c turns s new end
+ends_after f g h a b c turns taken s k new end few v w = record {
   iterations = v.iterations;
   why = w.why;
   are_iterations = v.are_iterations;
@@ -322,43 +353,46 @@ ends_after known a b c turns taken s k new end few v w = record {
   opened =
       opened_as a c _ _ _ _ _ _ refl (ap (failed_at w.why) v.opened.faults) (ap (idle_at w.why) v.opened.idle)
       (opened-trans a b c _ _ _ _ _ _ v.opened w.opened);
+  files = Records-trans f g h (reads_of s v.iterations) (reads_at (after_iterations s v.iterations) w.why) v.files w.files;
   is_end = w.is_end;
   is_why =
-      subst (λ (n : ℕ). IsWhy known w.why c.wires (turns - n) (turns_taken v.iterations) (after_iterations s v.iterations)) (sym v.count)
+      subst (λ (n : ℕ). IsWhy w.why c.wires (turns - n) (turns_taken v.iterations) (after_iterations s v.iterations)) (sym v.count)
       (w.is_why (turns_taken v.iterations));
   leaves = w.leaves;
 }
 
-pub serving_ends : (known : KnownFiles) (a b c : Doorway) (turns taken : ℕ) (s : Session) (k new : Kept) (end : DriveEnd) → taken ≤ turns
-    → OfEach k (λ t. Ended known (turns - taken) end b c t new) → ServedSoFar known a b turns taken s k → Served known a c turns s new end
-serving_ends known a b c turns taken s k new end few g v =
-    ends_after known a b c turns taken s k new end few v (g (after_iterations s v.iterations) v.stands)
+pub serving_ends : (f g h : KnownReads) (a b c : Doorway) (turns taken : ℕ) (s : Session) (k new : Kept) (end : DriveEnd) → taken ≤ turns
+    → OfEach k (λ t. Ended g h (turns - taken) end b c t new) → ServedSoFar f g a b turns taken s k → Served f h a c turns s new end
+serving_ends f g h a b c turns taken s k new end few ends v =
+    ends_after f g h a b c turns taken s k new end few v (ends (after_iterations s v.iterations) v.stands)
 
 -- all turns were taken
-pub all_taken : (known : KnownFiles) (a b : Doorway) (turns taken : ℕ) (s : Session) (k : Kept) → taken ≡ turns
-    → ServedSoFar known a b turns taken s k → Served known a b turns s k Turns
-all_taken known a b turns taken s k all v =
+pub all_taken : (f g : KnownReads) (a b : Doorway) (turns taken : ℕ) (s : Session) (k : Kept) → taken ≡ turns
+    → ServedSoFar f g a b turns taken s k → Served f g a b turns s k Turns
+all_taken f g a b turns taken s k all v =
     let made : turns_taken v.iterations ≡ turns = v.count ∙ all in record {
       iterations = v.iterations;
       why = AllMade;
       are_iterations = v.are_iterations;
       few = omega arith;
       opened = opened_as a b _ _ _ _ _ _ (sym (append-nil (lines_of v.iterations))) refl refl v.opened;
+      files = records_as f g (reads_of s v.iterations) (reads_of s v.iterations ++ []) (sym (append-nil (reads_of s v.iterations))) v.files;
       is_end = refl;
       is_why = omega arith;
       leaves = v.stands;
     }
 
 -- without memory for a piece the door is not called
-pub no_room_to_serve : (known : KnownFiles) (door : Doorway) (turns : ℕ) (s : Session) (k : Kept) → Stands k s
-    → Served known door door turns s k OutOfMemory
-no_room_to_serve known door turns s k st =
+pub no_room_to_serve : (past : KnownReads) (door : Doorway) (turns : ℕ) (s : Session) (k : Kept) → Stands k s
+    → Served past past door door turns s k OutOfMemory
+no_room_to_serve past door turns s k st =
     record {
       iterations = [];
       why = NoRoomYet;
       are_iterations = tt;
       few = omega arith;
       opened = opened-refl door;
+      files = Records-nil past;
       is_end = refl;
       is_why = refl;
       leaves = st;

@@ -14,9 +14,11 @@
 -- connection, and so does a call of the wire that fails.
 --
 -- A wire may say which bytes it has left to give and which it has taken, and it counts the calls that failed and the
--- looks that found nothing (`Line` of `Wires`); what is said here of bytes and counts is held against these.
+-- looks that found nothing (`Line` of `Wires`); what is said here of bytes and counts is held against these. So may files
+-- say which reads they have answered, and what each gave (`Files`): what requests were answered with is held against
+-- that, read by read.
 use Rattle.std.specs.Prelude.{◌≡◌, ℕ, ◌+◌, ◌≤◌, nat_le, Bool, true, false, List, [], ◌∷◌, ◌++◌, length}
-use Rattle.std.specs.Prelude.{Option, Result, Ok, Err}
+use Rattle.std.specs.Prelude.{Option, Some, Result, Ok, Err}
 use Rattle.std.specs.Io.KnownBytes.{IsAtEnd}
 use Rattle.session.specs.declared.event.Event.{Event}
 use Rattle.session.specs.declared.event.Event.TheVariants.{Connect, Recv, Turn, Slice, Hold, Sent, DropConnection}
@@ -26,9 +28,10 @@ use Rattle.session.specs.Sessions.{Session, Effect, waiting_of}
 use Rattle.wires.specs.Wires.{Line, Moved, one_more}
 use Rattle.transport.specs.declared.end.DriveEnd.{DriveEnd}
 use Rattle.transport.specs.declared.end.DriveEnd.TheVariants.{Closed, Fault, Turns, NoMemory}
-use Rattle.transport.specs.Rounds.{KnownFiles, IsGiven, wanted, most_moves, moves_made, Due, Send, Leave, Answer, Run}
+use Rattle.transport.specs.Files.{FileRead, KnownReads, Records, IsShort}
+use Rattle.transport.specs.Rounds.{IsGiven, wanted, most_moves, moves_made, Due, Send, Leave, Answer, Run}
 use Rattle.transport.specs.Rounds.{Receive, due_in, Round, Did, Ran, IsTaken, after_round, since_round}
-use Rattle.transport.specs.Rounds.{received_in, sent_in, after_rounds, since_rounds, received, sent, RunsOut}
+use Rattle.transport.specs.Rounds.{received_in, sent_in, reads_in, after_rounds, since_rounds, received, sent, reads, RunsOut}
 
 -- ---- one round
 
@@ -42,14 +45,14 @@ MayCome polls Receive = Unit {0}
 
 -- whether the event is what is to be done: at least one of the bytes that wait is sent, a request is answered with the
 -- file that it wants, or a piece of at least one byte is received
-abbrev pub DoesWhatIsDue : KnownFiles → Bool → Session → Event → Type 0
-DoesWhatIsDue known polls s (Sent n) = (due_in s ≡ Send) × (1 ≤ n) × (n ≤ length (waiting_of s))
-DoesWhatIsDue known polls s (Turn file) = (due_in s ≡ Answer) × IsGiven known (wanted s) file
-DoesWhatIsDue known polls s (Recv piece) = MayCome polls (due_in s) × (1 ≤ length piece)
-DoesWhatIsDue known polls s Connect = ⊥
-DoesWhatIsDue known polls s (Slice n) = ⊥
-DoesWhatIsDue known polls s Hold = ⊥
-DoesWhatIsDue known polls s DropConnection = ⊥
+abbrev pub DoesWhatIsDue : Bool → Session → Event → Type 0
+DoesWhatIsDue polls s (Sent n) = (due_in s ≡ Send) × (1 ≤ n) × (n ≤ length (waiting_of s))
+DoesWhatIsDue polls s (Turn file) = (due_in s ≡ Answer) × IsGiven (wanted s) file
+DoesWhatIsDue polls s (Recv piece) = MayCome polls (due_in s) × (1 ≤ length piece)
+DoesWhatIsDue polls s Connect = ⊥
+DoesWhatIsDue polls s (Slice n) = ⊥
+DoesWhatIsDue polls s Hold = ⊥
+DoesWhatIsDue polls s DropConnection = ⊥
 
 -- whether a program that made that many moves since bytes came is held: never over a wire that can be looked at
 abbrev pub is_held : Bool → ℕ → Bool
@@ -58,9 +61,9 @@ is_held false made = nat_le most_moves made
 
 -- The round is one of this session over a wire, where the program made that many moves since bytes came. A wire makes a
 -- call that was interrupted again by itself.
-abbrev pub IsRound : KnownFiles → Bool → ℕ → Session → Round → Type 0
-IsRound known polls since s (Did e) = DoesWhatIsDue known polls s e × IsTaken s e
-IsRound known polls since s (Ran holds) = (due_in s ≡ Run) × (holds ≡ is_held polls (since + moves_made s))
+abbrev pub IsRound : Bool → ℕ → Session → Round → Type 0
+IsRound polls since s (Did e) = DoesWhatIsDue polls s e × IsTaken s e
+IsRound polls since s (Ran holds) = (due_in s ≡ Run) × (holds ≡ is_held polls (since + moves_made s))
 
 -- how many looks found nothing, by how many did before a program was given time: one more, where the wire can be looked
 -- at
@@ -76,10 +79,10 @@ idle_after polls count (Ran holds) = idle_looked polls count
 -- ---- one round after the other
 
 -- each round is one of the session after the rounds before it
-abbrev pub AreRounds : KnownFiles → Bool → ℕ → Session → List Round → Type 0
-AreRounds known polls since s [] = Unit {0}
-AreRounds known polls since s (r ∷ rounds) =
-    IsRound known polls since s r × AreRounds known polls (since_round since s r) (after_round s r) rounds
+abbrev pub AreRounds : Bool → ℕ → Session → List Round → Type 0
+AreRounds polls since s [] = Unit {0}
+AreRounds polls since s (r ∷ rounds) =
+    IsRound polls since s r × AreRounds polls (since_round since s r) (after_round s r) rounds
 
 -- how many looks found nothing, after rounds
 abbrev pub idle_after_rounds : Bool → ℕ → List Round → ℕ
@@ -98,8 +101,8 @@ pub data Cause : Type 0 where
   CallFailed : List ℕ → Cause
   -- no memory was left before the first round
   NoRoom : Cause
-  -- no memory was left to answer the request that is due, or to read the file that it wants
-  NoAnswer : Cause
+  -- no memory was left to answer the request that is due, for which these reads were made; or to read the file that it wants
+  NoAnswer : List FileRead → Cause
   -- no memory was left for this piece, which had come, and is lost
   PieceLost : List ℕ → Cause
   -- no memory was left in a slice of the program
@@ -113,7 +116,7 @@ end_of AllSaid = Closed
 end_of InputEnded = Closed
 end_of (CallFailed part) = Fault
 end_of NoRoom = NoMemory
-end_of NoAnswer = NoMemory
+end_of (NoAnswer unused) = NoMemory
 end_of (PieceLost piece) = NoMemory
 end_of TimeCut = NoMemory
 end_of TurnsMade = Turns
@@ -127,6 +130,11 @@ lost_by _ = []
 abbrev pub written_by : Cause → List ℕ
 written_by (CallFailed part) = part
 written_by _ = []
+
+-- the reads of files that were given in no round
+abbrev pub unused_by : Cause → List FileRead
+unused_by (NoAnswer unused) = unused
+unused_by _ = []
 
 -- how many calls of the wire failed, by how many did before
 abbrev pub failed_by : Cause → ℕ → ℕ
@@ -146,6 +154,11 @@ MayFail polls Answer waiting part = ⊥
 MayFail polls Run waiting part = (polls ≡ true) × (part ≡ [])
 MayFail polls Receive waiting part = part ≡ []
 
+-- The reads that were made for a request which was not answered: at most one, of the file that it wants.
+abbrev pub AreUnused : Option (List ℕ) → List FileRead → Type 0
+AreUnused wants [] = Unit {0}
+AreUnused wants (read ∷ others) = (wants ≡ Some read.path) × IsShort read.gave × (others ≡ [])
+
 -- Driving may end for this cause, after `made` rounds of at most `turns`; the session was this one after them, and the
 -- wire has these bytes left to give.
 abbrev pub IsCause : Bool → Cause → Option (List ℕ) → ℕ → ℕ → Session → Type 0
@@ -153,7 +166,7 @@ IsCause polls AllSaid left turns made s = due_in s ≡ Leave
 IsCause polls InputEnded left turns made s = MayCome polls (due_in s) × IsAtEnd left
 IsCause polls (CallFailed part) left turns made s = MayFail polls (due_in s) (waiting_of s) part
 IsCause polls NoRoom left turns made s = made ≡ 0
-IsCause polls NoAnswer left turns made s = due_in s ≡ Answer
+IsCause polls (NoAnswer unused) left turns made s = (due_in s ≡ Answer) × AreUnused (wanted s) unused
 IsCause polls (PieceLost piece) left turns made s = MayCome polls (due_in s) × (1 ≤ length piece)
 IsCause polls TimeCut left turns made s = due_in s ≡ Run
 IsCause polls TurnsMade left turns made s = made ≡ turns
@@ -166,7 +179,7 @@ Leaves AllSaid s new = Stands new (Effect s DropConnection)
 Leaves InputEnded s new = Stands new (Effect s DropConnection)
 Leaves (CallFailed part) s new = Stands new (Effect s DropConnection)
 Leaves NoRoom s new = Stands new s
-Leaves NoAnswer s new = Stands new s
+Leaves (NoAnswer unused) s new = Stands new s
 Leaves (PieceLost piece) s new = Stands new (Effect s DropConnection)
 Leaves TimeCut s new = RunsOut s new
 Leaves TurnsMade s new = Stands new s
@@ -178,24 +191,26 @@ turns_of TurnsMade made = made
 turns_of _ made = made + 1
 
 -- The rounds are made one after the other, in at most that many turns, and then driving ends for the cause: each does what
--- is due, and the files that answers were given are what reads of the files gave. The pieces that they received are what
+-- is due. The pieces that they received are what
 -- the wire gave, but for a piece that was lost at the end; the bytes that they sent are what it took, but for what a call
 -- that failed had written. The wire counts one call that failed where one ends driving, and else none; and one look that
 -- found nothing for each slice that a program got, where it can be looked at, and else none.
-pub record Drove (known : KnownFiles) (old new : Line) (turns : ℕ) (s : Session) (rounds : List Round) (cause : Cause)
+pub record Drove (old new : Line) (turns : ℕ) (s : Session) (rounds : List Round) (cause : Cause)
     : Type 0 where
-  pub are_rounds : AreRounds known old.polls 0 s rounds
+  pub are_rounds : AreRounds old.polls 0 s rounds
   pub few : turns_of cause (length rounds) ≤ turns
   pub moved : Moved old new (received rounds ++ lost_by cause) (sent s rounds ++ written_by cause)
       (failed_by cause old.faults) (idle_by old.polls cause (idle_after_rounds old.polls old.idle rounds))
   pub is_cause : IsCause old.polls cause new.remaining turns (length rounds) (after_rounds s rounds)
 
--- There are rounds, and a cause for which driving ends after them.
-pub record Driven (known : KnownFiles) (old new : Line) (turns : ℕ) (s : Session) (kept : Kept) (end : DriveEnd)
+-- There are rounds, and a cause for which driving ends after them. The reads that the files answered are those that the
+-- rounds were given, one after the other, but for one that was made for a request that was not answered.
+pub record Driven (before after : KnownReads) (old new : Line) (turns : ℕ) (s : Session) (kept : Kept) (end : DriveEnd)
     : Type 0 where
   pub rounds : List Round
   pub cause : Cause
-  pub drove : Drove known old new turns s rounds cause
+  pub drove : Drove old new turns s rounds cause
+  pub files : Records before after (reads s rounds ++ unused_by cause)
   pub is_end : end_of cause ≡ end
   pub leaves : Leaves cause (after_rounds s rounds) kept
 
@@ -206,26 +221,28 @@ abbrev pub Passed : Bool → Line → Line → Type 0
 Passed polls old new = (old.polls ≡ polls) × Moved old new [] [] old.faults (idle_looked polls old.idle)
 
 -- One pass makes a round, and then driving continues, with another count of moves.
-pub record GoesOn (known : KnownFiles) (since next : ℕ) (old new : Line) (s : Session) (kept : Kept) : Type 0 where
+pub record GoesOn (before after : KnownReads) (since next : ℕ) (old new : Line) (s : Session) (kept : Kept) : Type 0 where
   pub round : Round
-  pub is_round : IsRound known old.polls since s round
+  pub is_round : IsRound old.polls since s round
   pub counts : since_round since s round ≡ next
   pub moved : Moved old new (received_in round) (sent_in s round) old.faults (idle_after old.polls old.idle round)
+  pub files : Records before after (reads_in s round)
   pub stands : Stands kept (after_round s round)
 
 -- Driving ends, however many rounds there were.
-pub record Stops (end : DriveEnd) (old new : Line) (s : Session) (kept : Kept) : Type 0 where
+pub record Stops (before after : KnownReads) (end : DriveEnd) (old new : Line) (s : Session) (kept : Kept) : Type 0 where
   pub cause : Cause
   pub moved : Moved old new (lost_by cause) (written_by cause) (failed_by cause old.faults)
       (idle_by old.polls cause old.idle)
+  pub files : Records before after (unused_by cause)
   pub is_end : end_of cause ≡ end
   pub is_cause : (turns made : ℕ) → IsCause old.polls cause new.remaining turns made s
   pub leaves : Leaves cause s kept
 
 -- One pass makes a round, or it ends driving.
-abbrev pub Went : KnownFiles → ℕ → Result ℕ DriveEnd → Line → Line → Session → Kept → Type 0
-Went known since (Ok next) old new s kept = GoesOn known since next old new s kept
-Went known since (Err end) old new s kept = Stops end old new s kept
+abbrev pub Went : KnownReads → KnownReads → ℕ → Result ℕ DriveEnd → Line → Line → Session → Kept → Type 0
+Went before after since (Ok next) old new s kept = GoesOn before after since next old new s kept
+Went before after since (Err end) old new s kept = Stops before after end old new s kept
 
 -- whether there was room to drive
 abbrev pub HasBegun : Cause → Type 0
@@ -240,22 +257,24 @@ IsLeaving Turns = ⊥
 IsLeaving NoMemory = ⊥
 
 -- A session is driven where there is room, and that takes `taken` turns.
-pub record DroveFor (known : KnownFiles) (old new : Line) (turns taken : ℕ) (s : Session) (kept : Kept)
+pub record DroveFor (before after : KnownReads) (old new : Line) (turns taken : ℕ) (s : Session) (kept : Kept)
     (end : DriveEnd) : Type 0 where
   pub rounds : List Round
   pub cause : Cause
-  pub drove : Drove known old new turns s rounds cause
+  pub drove : Drove old new turns s rounds cause
+  pub files : Records before after (reads s rounds ++ unused_by cause)
   pub is_end : end_of cause ≡ end
   pub leaves : Leaves cause (after_rounds s rounds) kept
   pub began : HasBegun cause
   pub counts : turns_of cause (length rounds) ≡ taken
 
 -- Since a session was this one it has been driven for `made` rounds.
-pub record Driving (known : KnownFiles) (old new : Line) (made since : ℕ) (s : Session) (kept : Kept) : Type 0 where
+pub record Driving (before after : KnownReads) (old new : Line) (made since : ℕ) (s : Session) (kept : Kept) : Type 0 where
   pub rounds : List Round
-  pub are_rounds : AreRounds known old.polls 0 s rounds
+  pub are_rounds : AreRounds old.polls 0 s rounds
   pub count : length rounds ≡ made
   pub counts : since_rounds 0 s rounds ≡ since
   pub moved : Moved old new (received rounds) (sent s rounds) old.faults
       (idle_after_rounds old.polls old.idle rounds)
+  pub files : Records before after (reads s rounds)
   pub stands : Stands kept (after_rounds s rounds)

@@ -1,7 +1,7 @@
 -- For private clauses alone: what a server keeps of what it read, step by step.
 --
 -- What a server promises is in `Servers`.
-use Rattle.std.specs.Prelude.{◌≡◌, ℕ, Bool, true, false, List, [], Option, Some, None, Result, Ok, Err}
+use Rattle.std.specs.Prelude.{◌≡◌, ℕ, ◌+◌, Bool, true, false, List, [], Option, Some, None, Result, Ok, Err}
 use Rattle.std.specs.Io.KnownBytes.{Consumes, IsAtEnd}
 use Rattle.framing.specs.Streams.{Unframed}
 use Rattle.protocol.specs.declared.request.Incoming.{Incoming}
@@ -42,6 +42,17 @@ Reads left left' heard (Err Write) new = ⊥
 Reads left left' heard (Err TooManyReads) new = ⊥
 Reads left left' heard (Err NoMemoryLeft) new = Consumes left left' [] × HasRead new heard
 Reads left left' heard (Err SeqSpent) new = ⊥
+
+-- how many reads there were, after that many: one more, except where no memory was left for the piece
+abbrev pub reads_after : Result Bool ServerError → ℕ → ℕ
+reads_after (Ok more) n = n + 1
+reads_after (Err Frame) n = n + 1
+reads_after (Err Message) n = n + 1
+reads_after (Err Read) n = n + 1
+reads_after (Err Write) n = n + 1
+reads_after (Err TooManyReads) n = n + 1
+reads_after (Err NoMemoryLeft) n = n
+reads_after (Err SeqSpent) n = n + 1
 
 -- Some bytes are read, and no message is given yet.
 pub record Listens (left_before left : Option (List ℕ)) (heard : Heard) (new : Unread) : Type 0 where

@@ -73,9 +73,10 @@ pub record Wrote (n : ℕ) (calls : List Call) (held_before held : Option (List 
   pub appended : Appends held_before held (frames_from (n + 1) (written calls) ++ part)
   pub rest : IsPartOfNext (n + length (written calls) + 1) fault part
 
--- Whatever calls are made of a new server, its writer gets the frames of the messages that succeeded, with the numbers
--- 1, 2 and so on, and after a fault of the writer a part of one more.
+-- Whatever calls are made of a server that begins after so many messages, its writer gets the frames of the messages that
+-- succeeded, with the numbers that follow, one after the other, and after a fault of the writer a part of one more. Before
+-- a new server there were none: the first has number 1.
 abbrev pub MessagesAreFramedInOrder : Type 0
-MessagesAreFramedInOrder = (held : Option (List ℕ)) (calls : List Call) (last : Served)
-    → DidAll (record { fault = None; outbox = record { count = 0; waiting = [] }; held = held }) calls last
-    → Wrote 0 calls held last.held last.fault
+MessagesAreFramedInOrder = (written : ℕ) (held : Option (List ℕ)) (calls : List Call) (last : Served)
+    → DidAll (record { fault = None; outbox = record { count = written; waiting = [] }; held = held }) calls last
+    → Wrote written calls held last.held last.fault

@@ -1,5 +1,7 @@
 -- What is done where editors are served over wires, and how that ends.
 
+-- what reads of files give
+pub mod Files
 -- what is due in each round, and what the rounds do to a session
 pub mod Rounds
 -- the rounds over a wire, and how driving ends; at the end of the file one pass of the loop, which private clauses cite alone

@@ -7,8 +7,8 @@
 -- A round is an event of the session, or two where a program is held after its time. How a round goes over a wire,
 -- `Drives` says.
 --
--- Files may say what a read of them gives.
-use Rattle.std.specs.Prelude.{◌≡◌, ℕ, ◌+◌, ◌≤◌, nat_lt, nat_le, Bool, true, false, if◌then◌else◌, List, [], ◌∷◌, ◌++◌}
+-- What a request is answered with is what a read of the file that it wants gave (`Files`).
+use Rattle.std.specs.Prelude.{◌≡◌, ℕ, ◌+◌, nat_lt, nat_le, Bool, true, false, if◌then◌else◌, List, [], ◌∷◌, ◌++◌}
 use Rattle.std.specs.Prelude.{length, take, Option, Some, None, Result, Ok, Err, IsOk, ◌⊎◌}
 use Rattle.transport.specs.declared.end.DriveEnd.{DriveEnd}
 use Rattle.transport.specs.declared.end.DriveEnd.TheVariants.{NoMemory}
@@ -21,32 +21,19 @@ use Rattle.session.specs.Outcomes.{is_finished}
 use Rattle.session.specs.Refusals.{wanted_on}
 use Rattle.session.specs.Sessions.{Session, Effect, Answer as answer_of, histories, waiting_of}
 use Rattle.session.specs.Slices.{is_runnable}
+use Rattle.transport.specs.Files.{FileRead, IsShort}
 
 -- ---- files
 
--- the most bytes that the text of a file may have
-abbrev pub longest_text : ℕ
-longest_text = 1048576
+-- the file that an answer is given: none where it wants none, and else what a read of the path that it wants gave
+abbrev pub IsGiven : Option (List ℕ) → Option (List ℕ) → Type 0
+IsGiven None file = file ≡ None
+IsGiven (Some path) file = IsShort file
 
--- What is known of files, by their paths: what a read gives, where that is known. It gives what the file holds, or
--- nothing where it cannot be read.
-abbrev pub KnownFiles : Type 0
-KnownFiles = List ℕ → Option (Option (List ℕ))
-
--- what a read gave is as known
-abbrev pub IsAsKnown : Option (Option (List ℕ)) → Option (List ℕ) → Type 0
-IsAsKnown None file = Unit {0}
-IsAsKnown (Some known) file = file ≡ known
-
--- a text is not too long
-abbrev pub IsShort : Option (List ℕ) → Type 0
-IsShort None = Unit {0}
-IsShort (Some text) = length text ≤ longest_text
-
--- the file that an answer is given, by the path that it wants, if it wants one
-abbrev pub IsGiven : KnownFiles → Option (List ℕ) → Option (List ℕ) → Type 0
-IsGiven known None file = file ≡ None
-IsGiven known (Some path) file = IsAsKnown (known path) file × IsShort file
+-- the read that gave a file, by the path that is wanted, if one is
+abbrev pub read_for : Option (List ℕ) → Option (List ℕ) → List FileRead
+read_for None file = []
+read_for (Some path) file = record { path = path; gave = file } ∷ []
 
 -- the path of the file that the next answer in a session wants
 abbrev pub wanted : Session → Option (List ℕ)
@@ -157,6 +144,21 @@ abbrev pub sent_in : Session → Round → List ℕ
 sent_in s (Did e) = sent_by s e
 sent_in s (Ran holds) = []
 
+-- the reads of files that an event was given
+abbrev pub reads_by : Session → Event → List FileRead
+reads_by s (Turn file) = read_for (wanted s) file
+reads_by s Connect = []
+reads_by s (Recv piece) = []
+reads_by s (Slice n) = []
+reads_by s Hold = []
+reads_by s (Sent n) = []
+reads_by s DropConnection = []
+
+-- the reads of files that a round was given
+abbrev pub reads_in : Session → Round → List FileRead
+reads_in s (Did e) = reads_by s e
+reads_in s (Ran holds) = []
+
 -- ---- one round after the other
 
 -- the session after rounds
@@ -179,6 +181,11 @@ abbrev pub sent : Session → List Round → List ℕ
 sent s [] = []
 sent s (r ∷ rounds) = sent_in s r ++ sent (after_round s r) rounds
 
+-- the reads of files that rounds were given
+abbrev pub reads : Session → List Round → List FileRead
+reads s [] = []
+reads s (r ∷ rounds) = reads_in s r ++ reads (after_round s r) rounds
+
 -- ---- the end
 
 -- a program that is given time, and no memory is left to tell what it does
@@ -186,6 +193,11 @@ abbrev pub RunsOut : Session → Kept → Type 0
 RunsOut s new = (moved : ℕ) × BreaksOff histories moves_granted moved s (λ t. Stands new t)
 
 -- ---- for private clauses alone
+
+-- the reads that were made to find what an answer wants, by what was found; none where no memory was left for it
+abbrev pub reads_made : {E : Type 0} → Option (List ℕ) → Result (Option (List ℕ)) E → List FileRead
+reads_made wanted (Ok file) = read_for wanted file
+reads_made wanted (Err error) = []
 
 -- What a piece leaves: the session takes it, or no memory was left for it and the connection has ended.
 abbrev pub Took : Result ℕ DriveEnd → List ℕ → Session → Kept → Type 0

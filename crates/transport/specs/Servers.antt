@@ -4,7 +4,7 @@
 -- often the server is asked, it gives the messages of the stream one after the other, and none twice. Where it finds no
 -- memory it has lost nothing. A fault of the stream, or a body that is no message, comes after all the messages before
 -- it, and stays.
-use Rattle.std.specs.Prelude.{◌≡◌, refl, ℕ, ◌+◌, List, [], ◌++◌, Option, Some, None, Result, Ok, Err}
+use Rattle.std.specs.Prelude.{◌≡◌, refl, ℕ, ◌+◌, ◌≤◌, List, [], ◌++◌, Option, Some, None, Result, Ok, Err}
 use Rattle.std.specs.Io.KnownBytes.{Consumes, Appends, IsAtEnd}
 use Rattle.framing.specs.Reading.{reading_of}
 use Rattle.protocol.specs.declared.request.Incoming.{Incoming}
@@ -55,6 +55,11 @@ pub record Polls (left_before left : Option (List ℕ)) (heard : Heard) (result 
   pub read : List ℕ
   pub consumed : Consumes left_before left read
   pub gave : Gave left (and_read heard read) result new
+
+-- How often a poll read: 2,097,152 times at most, and just so often where it gave up.
+pub record ReadSoOften (result : Result (Option Incoming) ServerError) (reads : ℕ) : Type 0 where
+  pub few : reads ≤ 2097152
+  pub all : result ≡ Err TooManyReads → reads ≡ 2097152
 
 -- the error that a server answers from then on
 abbrev pub lasting : Result (Option Incoming) ServerError → Option ServerError

@@ -17,9 +17,10 @@ use Rattle.wires.specs.Doors.{Doorway, IsEmpty, Opened}
 use Rattle.wires.specs.Wires.{Line, one_more}
 use Rattle.transport.specs.declared.end.DriveEnd.{DriveEnd}
 use Rattle.transport.specs.declared.end.DriveEnd.TheVariants.{Closed, Fault, Turns, NoMemory}
-use Rattle.transport.specs.Rounds.{KnownFiles, moves_granted, Round, after_rounds, RunsOut}
+use Rattle.transport.specs.Files.{FileRead, KnownReads, Records}
+use Rattle.transport.specs.Rounds.{moves_granted, Round, after_rounds, reads, RunsOut}
 use Rattle.transport.specs.Drives.{Cause, AllSaid, InputEnded, CallFailed, NoAnswer, PieceLost, TimeCut, TurnsMade}
-use Rattle.transport.specs.Drives.{end_of, turns_of, Drove}
+use Rattle.transport.specs.Drives.{end_of, turns_of, unused_by, Drove}
 
 -- ---- one iteration
 
@@ -40,23 +41,23 @@ HasLeft _ = ⊥
 
 -- The connection ended for a cause that ends serving too: turns or memory.
 abbrev pub IsCut : Cause → Type 0
-IsCut NoAnswer = Unit {0}
+IsCut (NoAnswer unused) = Unit {0}
 IsCut (PieceLost piece) = Unit {0}
 IsCut TimeCut = Unit {0}
 IsCut TurnsMade = Unit {0}
 IsCut _ = ⊥
 
 -- An editor is connected, and its connection is driven for at most that many turns.
-pub record IsConnection (known : KnownFiles) (turns : ℕ) (s : Session) (old new : Line) (rounds : List Round)
+pub record IsConnection (turns : ℕ) (s : Session) (old new : Line) (rounds : List Round)
     (cause : Cause) : Type 0 where
   pub connects : IsOk (answer_of s Connect)
-  pub drove : Drove known old new turns (Effect s Connect) rounds cause
+  pub drove : Drove old new turns (Effect s Connect) rounds cause
 
 -- The session may have this iteration, where that many turns are left.
-abbrev pub IsIteration : KnownFiles → ℕ → Session → Iteration → Type 0
-IsIteration known turns s Unattended = is_runnable s.now ≡ true
-IsIteration known turns s (Connection old new rounds cause) =
-    IsConnection known (turns - 1) s old new rounds cause × HasLeft cause
+abbrev pub IsIteration : ℕ → Session → Iteration → Type 0
+IsIteration turns s Unattended = is_runnable s.now ≡ true
+IsIteration turns s (Connection old new rounds cause) =
+    IsConnection (turns - 1) s old new rounds cause × HasLeft cause
 
 -- how many turns an iteration took
 abbrev pub turns_in : Iteration → ℕ
@@ -73,6 +74,15 @@ abbrev pub lines_in : Iteration → List Line
 lines_in Unattended = []
 lines_in (Connection old new rounds cause) = old ∷ []
 
+-- the reads of files that were made for a connection
+abbrev pub reads_for : Session → List Round → Cause → List FileRead
+reads_for s rounds cause = reads (Effect s Connect) rounds ++ unused_by cause
+
+-- the reads of files in an iteration
+abbrev pub reads_within : Session → Iteration → List FileRead
+reads_within s Unattended = []
+reads_within s (Connection old new rounds cause) = reads_for s rounds cause
+
 -- how many polls of the door accepted no wire, after that many did before
 abbrev pub idle_in : ℕ → Iteration → ℕ
 idle_in count Unattended = one_more count
@@ -81,10 +91,10 @@ idle_in count (Connection old new rounds cause) = count
 -- ---- one iteration after the other
 
 -- The session may have these iterations, where that many turns are left.
-abbrev pub AreIterations : KnownFiles → ℕ → Session → List Iteration → Type 0
-AreIterations known turns s [] = Unit {0}
-AreIterations known turns s (x ∷ iterations) =
-    IsIteration known turns s x × AreIterations known (turns - turns_in x) (after_iteration s x) iterations
+abbrev pub AreIterations : ℕ → Session → List Iteration → Type 0
+AreIterations turns s [] = Unit {0}
+AreIterations turns s (x ∷ iterations) =
+    IsIteration turns s x × AreIterations (turns - turns_in x) (after_iteration s x) iterations
 
 -- how many turns iterations took
 abbrev pub turns_taken : List Iteration → ℕ
@@ -100,6 +110,11 @@ after_iterations s (x ∷ iterations) = after_iterations (after_iteration s x) i
 abbrev pub lines_of : List Iteration → List Line
 lines_of [] = []
 lines_of (x ∷ iterations) = lines_in x ++ lines_of iterations
+
+-- the reads of files in iterations
+abbrev pub reads_of : Session → List Iteration → List FileRead
+reads_of s [] = []
+reads_of s (x ∷ iterations) = reads_within s x ++ reads_of (after_iteration s x) iterations
 
 -- how many polls of the door accepted no wire, after that many did before
 abbrev pub idle_after_iterations : ℕ → List Iteration → ℕ
@@ -142,6 +157,11 @@ lines_by (Refused line) = line ∷ []
 lines_by (ConnectionCut old new rounds cause) = old ∷ []
 lines_by _ = []
 
+-- the reads of files after the last iteration
+abbrev pub reads_at : Session → Why → List FileRead
+reads_at s (ConnectionCut old new rounds cause) = reads_for s rounds cause
+reads_at s _ = []
+
 -- how many calls of the door failed, after that many did before
 abbrev pub failed_at : Why → ℕ → ℕ
 failed_at DoorFailed count = one_more count
@@ -154,15 +174,15 @@ idle_at _ count = count
 
 -- Serving may end for this reason, where the door has these wires left to accept, that many turns are left, that many were
 -- taken, and no editor is connected to the session.
-abbrev pub IsWhy : KnownFiles → Why → Option (List Line) → ℕ → ℕ → Session → Type 0
-IsWhy known DoorClosed wires left taken s = IsEmpty wires
-IsWhy known (Refused line) wires left taken s = IsErr (answer_of s Connect)
-IsWhy known DoorFailed wires left taken s = Unit {0}
-IsWhy known AllMade wires left taken s = left ≡ 0
-IsWhy known NoRoomYet wires left taken s = taken ≡ 0
-IsWhy known UnattendedCut wires left taken s = is_runnable s.now ≡ true
-IsWhy known (ConnectionCut old new rounds cause) wires left taken s =
-    IsConnection known (left - 1) s old new rounds cause × IsCut cause
+abbrev pub IsWhy : Why → Option (List Line) → ℕ → ℕ → Session → Type 0
+IsWhy DoorClosed wires left taken s = IsEmpty wires
+IsWhy (Refused line) wires left taken s = IsErr (answer_of s Connect)
+IsWhy DoorFailed wires left taken s = Unit {0}
+IsWhy AllMade wires left taken s = left ≡ 0
+IsWhy NoRoomYet wires left taken s = taken ≡ 0
+IsWhy UnattendedCut wires left taken s = is_runnable s.now ≡ true
+IsWhy (ConnectionCut old new rounds cause) wires left taken s =
+    IsConnection (left - 1) s old new rounds cause × IsCut cause
 
 -- what is left of a session whose connection was cut, by what it was after the rounds
 abbrev pub LeavesCut : Cause → Session → Kept → Type 0
@@ -177,49 +197,54 @@ LeavesBy _ s new = Stands new s
 
 -- There are iterations, one after the other, and after them serving ends. The accepted wires are those that the door gave.
 -- The door counts one failed call where serving ends as a fault, else none, and one poll that accepted no wire for each slice
--- of an unattended program.
-pub record Served (known : KnownFiles) (old new : Doorway) (turns : ℕ) (s : Session) (kept : Kept) (end : DriveEnd)
+-- of an unattended program. The reads that the files answered are those for the connections, one after the other.
+pub record Served (before after : KnownReads) (old new : Doorway) (turns : ℕ) (s : Session) (kept : Kept) (end : DriveEnd)
     : Type 0 where
   pub iterations : List Iteration
   pub why : Why
-  pub are_iterations : AreIterations known turns s iterations
+  pub are_iterations : AreIterations turns s iterations
   pub few : turns_taken iterations ≤ turns
   pub opened : Opened old new (lines_of iterations ++ lines_by why) (failed_at why old.faults)
       (idle_at why (idle_after_iterations old.idle iterations))
+  pub files : Records before after (reads_of s iterations ++ reads_at (after_iterations s iterations) why)
   pub is_end : end_by why ≡ end
-  pub is_why : IsWhy known why new.wires (turns - turns_taken iterations) (turns_taken iterations)
+  pub is_why : IsWhy why new.wires (turns - turns_taken iterations) (turns_taken iterations)
       (after_iterations s iterations)
   pub leaves : LeavesBy why (after_iterations s iterations) kept
 
 -- ---- one pass of the loop, for private clauses alone
 
 -- One iteration took that many turns, where that many were left.
-pub record Iterated (known : KnownFiles) (left count : ℕ) (old new : Doorway) (s : Session) (kept : Kept) : Type 0 where
+pub record Iterated (before after : KnownReads) (left count : ℕ) (old new : Doorway) (s : Session) (kept : Kept)
+    : Type 0 where
   pub iteration : Iteration
-  pub is_iteration : IsIteration known left s iteration
+  pub is_iteration : IsIteration left s iteration
   pub counts : turns_in iteration ≡ count
   pub opened : Opened old new (lines_in iteration) old.faults (idle_in old.idle iteration)
+  pub files : Records before after (reads_within s iteration)
   pub stands : Stands kept (after_iteration s iteration)
 
 -- Serving ends, however many turns were taken.
-pub record Ended (known : KnownFiles) (left : ℕ) (end : DriveEnd) (old new : Doorway) (s : Session) (kept : Kept)
+pub record Ended (before after : KnownReads) (left : ℕ) (end : DriveEnd) (old new : Doorway) (s : Session) (kept : Kept)
     : Type 0 where
   pub why : Why
   pub opened : Opened old new (lines_by why) (failed_at why old.faults) (idle_at why old.idle)
+  pub files : Records before after (reads_at s why)
   pub is_end : end_by why ≡ end
-  pub is_why : (taken : ℕ) → IsWhy known why new.wires left taken s
+  pub is_why : (taken : ℕ) → IsWhy why new.wires left taken s
   pub leaves : LeavesBy why s kept
 
 -- what one pass of the loop does, by its result
-abbrev pub IteratedOrEnded : KnownFiles → ℕ → Result ℕ DriveEnd → Doorway → Doorway → Session → Kept → Type 0
-IteratedOrEnded known left (Ok count) old new s kept = Iterated known left count old new s kept
-IteratedOrEnded known left (Err end) old new s kept = Ended known left end old new s kept
+abbrev pub IteratedOrEnded : KnownReads → KnownReads → ℕ → Result ℕ DriveEnd → Doorway → Doorway → Session → Kept → Type 0
+IteratedOrEnded before after left (Ok count) old new s kept = Iterated before after left count old new s kept
+IteratedOrEnded before after left (Err end) old new s kept = Ended before after left end old new s kept
 
 -- Since a session was this one it has been served for that many turns, and serving has not ended.
-pub record ServedSoFar (known : KnownFiles) (old new : Doorway) (turns taken : ℕ) (s : Session) (kept : Kept)
+pub record ServedSoFar (before after : KnownReads) (old new : Doorway) (turns taken : ℕ) (s : Session) (kept : Kept)
     : Type 0 where
   pub iterations : List Iteration
-  pub are_iterations : AreIterations known turns s iterations
+  pub are_iterations : AreIterations turns s iterations
   pub count : turns_taken iterations ≡ taken
   pub opened : Opened old new (lines_of iterations) old.faults (idle_after_iterations old.idle iterations)
+  pub files : Records before after (reads_of s iterations)
   pub stands : Stands kept (after_iterations s iterations)

@@ -2,8 +2,9 @@
 ghost use Rattle.std.specs.Prelude.{◌≡◌, ◌+◌, ◌<◌, ◌≤◌, length, true, Err, IfOk, ℕ};
 ghost use Rattle.session.specs.Kept.{OfEach, Stands, see_kept};
 ghost use Rattle.transport.specs.Drives.{Driven, DroveFor, Passed, Went, is_held};
+ghost use Rattle.transport.specs.Files.{KnownReads};
 ghost use Rattle.transport.specs.Rounds as spec;
-ghost use Rattle.transport.specs.Rounds.{KnownFiles, due};
+ghost use Rattle.transport.specs.Rounds.{due};
 ghost use Rattle.wires.specs.Wires.{Line};
 
 use crate::end::DriveEnd;
@@ -38,12 +39,12 @@ pub fn drive<W: Wire, F: Files>(
     alloc: Global,
     session: &mut Session,
     wire: &mut W,
-    files: &F,
+    files: &mut F,
     turns: u64,
 ) -> DriveEnd
     ensures { OfEach session.old
-        (λ s. Driven (F.known files.now) (W.line wire.old) (W.line wire.new) turns s session.new
-        result) }
+        (λ s. Driven (F.past files.old) (F.past files.new) (W.line wire.old) (W.line wire.new) turns
+        s session.new result) }
 {
     let Ok(mut room) = room_of(alloc) else {
         return DriveEnd::NoMemory;
@@ -63,15 +64,15 @@ pub(crate) fn drive_in<W: Wire, F: Files>(
     alloc: Global,
     session: &mut Session,
     wire: &mut W,
-    files: &F,
+    files: &mut F,
     room: &mut [u8],
     turns: u64,
 ) -> Drove
     requires room { 0 < length room.old }
     requires piece { length room.old ≤ 65536 }
     ensures drove { OfEach session.old
-        (λ s. DroveFor (F.known files.now) (W.line wire.old) (W.line wire.new) turns result.turns
-        s session.new result.end) }
+        (λ s. DroveFor (F.past files.old) (F.past files.new) (W.line wire.old) (W.line wire.new)
+        turns result.turns s session.new result.end) }
     ensures few { result.turns ≤ turns }
 {
     let mut since = 0;
@@ -98,7 +99,7 @@ fn turn<W: Wire, F: Files>(
     alloc: Global,
     session: &mut Session,
     wire: &mut W,
-    files: &F,
+    files: &mut F,
     room: &mut [u8],
     since: u64,
 ) -> Result<u64, DriveEnd>
@@ -106,8 +107,8 @@ fn turn<W: Wire, F: Files>(
     requires piece { length room.old ≤ 65536 }
     requires since { since ≤ 10000000 }
     ensures went { OfEach session.old
-        (λ s. Went (F.known files.now) since result (W.line wire.old) (W.line wire.new) s
-        session.new) }
+        (λ s. Went (F.past files.old) (F.past files.new) since result (W.line wire.old)
+        (W.line wire.new) s session.new) }
     ensures since { IfOk result (λ moves. moves ≤ 10000000) }
 {
     if !session.waiting().is_empty() {
@@ -130,8 +131,8 @@ fn turn<W: Wire, F: Files>(
 
 fn send<W: Wire>(session: &mut Session, wire: &mut W, since: u64) -> Result<u64, DriveEnd>
     requires { due (see_kept session.old) ≡ spec.Due.Send }
-    ensures went { (known : KnownFiles)
-        → OfEach session.old (λ s. Went known since result (W.line wire.old)
+    ensures went { (past : KnownReads)
+        → OfEach session.old (λ s. Went past past since result (W.line wire.old)
         (W.line wire.new) s session.new) }
     ensures same { IfOk result (λ moves. moves ≡ since) }
 {
@@ -147,12 +148,13 @@ fn send<W: Wire>(session: &mut Session, wire: &mut W, since: u64) -> Result<u64,
 fn answer<F: Files>(
     alloc: Global,
     session: &mut Session,
-    files: &F,
+    files: &mut F,
     since: u64,
 ) -> Result<u64, DriveEnd>
     requires { due (see_kept session.old) ≡ spec.Due.Answer }
     ensures went { (line : Line)
-        → OfEach session.old (λ s. Went (F.known files.now) since result line line s session.new) }
+        → OfEach session.old (λ s. Went (F.past files.old) (F.past files.new)
+        since result line line s session.new) }
     ensures same { IfOk result (λ moves. moves ≡ since) }
 {
     let Ok(file) = file_wanted(alloc, session, files) else {
@@ -179,8 +181,8 @@ fn look<W: Wire>(
     requires since { since ≤ 10000000 }
     requires due { due (see_kept session.old) ≡ spec.Due.Run }
     requires polls { (W.line wire.old).polls ≡ true }
-    ensures went { (known : KnownFiles)
-        → OfEach session.old (λ s. Went known since result (W.line wire.old)
+    ensures went { (past : KnownReads)
+        → OfEach session.old (λ s. Went past past since result (W.line wire.old)
         (W.line wire.new) s session.new) }
     ensures since { IfOk result (λ moves. moves ≤ 10000000) }
 {
@@ -197,8 +199,8 @@ fn run(session: &mut Session, moves: u32, since: u64, polls: bool) -> Result<u64
     requires moves { moves ≡ spec.moves_granted }
     requires since { since ≤ 10000000 }
     requires due { due (see_kept session.old) ≡ spec.Due.Run }
-    ensures went { (known : KnownFiles) (line line' : Line) → Passed polls line line'
-        → OfEach session.old (λ s. Went known
+    ensures went { (past : KnownReads) (line line' : Line) → Passed polls line line'
+        → OfEach session.old (λ s. Went past past
         since result line line' s session.new) }
     ensures since { IfOk result (λ moves. moves ≤ 10000000) }
 {
@@ -233,8 +235,8 @@ fn receive<W: Wire>(
     requires room { 0 < length room.old }
     requires piece { length room.old ≤ 65536 }
     requires due { due (see_kept session.old) ≡ spec.Due.Receive }
-    ensures went { (known : KnownFiles)
-        → OfEach session.old (λ s. Went known since result (W.line wire.old)
+    ensures went { (past : KnownReads)
+        → OfEach session.old (λ s. Went past past since result (W.line wire.old)
         (W.line wire.new) s session.new) }
     ensures fewer { IfOk result (λ moves. moves ≤ since) }
 {

@@ -1,7 +1,6 @@
 //! The files that an editor names.
-ghost use Rattle.std.specs.Prelude.{◌≡◌, Some, None, Err, IfOk};
-ghost use Rattle.transport.specs.Rounds.{KnownFiles, IsAsKnown, IsShort};
-ghost use Rattle.transport.specs.declared.files.FileFault.TheVariants.{Unreadable};
+ghost use Rattle.std.specs.Prelude.{◌≡◌, Some, IfOk};
+ghost use Rattle.transport.specs.Files.{KnownReads, Records, IsShort, read_of, read_at};
 
 use session::Bytes;
 use std::alloc::{AllocError, Global};
@@ -31,23 +30,26 @@ impl From<AllocError> for FileFault {
     }
 }
 
-/// Reads the files that an editor names.
+/// Reads the files that an editor names. What a file holds may change from one read to the next.
 pub trait Files {
-    ghost known: { Self → KnownFiles } = { λ files path. None };
+    ghost past: { Self → KnownReads };
 
     /// What the file at a path holds.
     ///
     /// - `Unreadable`: it cannot be read, or has more than 1,048,576 bytes.
     /// - `NoMemory`: no memory was left.
-    fn read(&self, alloc: Global, path: &str) -> Result<Bytes, FileFault>
-        ensures known { IfOk result (λ text. IsAsKnown (known self.now path.now) (Some text)) }
-        ensures unreadable { result ≡ Err Unreadable → IsAsKnown (known self.now path.now) None }
+    fn read(&mut self, alloc: Global, path: &str) -> Result<Bytes, FileFault>
+        ensures records { Records (past self.old) (past self.new) (read_of path.now result) }
         ensures short { IfOk result (λ text. IsShort (Some text)) };
 }
 
 /// What the file at a path holds: none where it cannot be read. It fails where no memory is left.
-pub fn file_at<F: Files>(alloc: Global, files: &F, path: &str) -> Result<Option<Bytes>, AllocError>
-    ensures known { IfOk result (λ file. IsAsKnown (F.known files.now path.now) file) }
+pub fn file_at<F: Files>(
+    alloc: Global,
+    files: &mut F,
+    path: &str,
+) -> Result<Option<Bytes>, AllocError>
+    ensures records { Records (F.past files.old) (F.past files.new) (read_at path.now result) }
     ensures short { IfOk result (λ file. IsShort file) }
 {
     match files.read(alloc, path) {

@@ -1,8 +1,8 @@
 //! What was read, and is not yet looked at.
-ghost use Rattle.std.specs.Prelude.{◌≡◌, [], Err, OnOk, OnErr};
+ghost use Rattle.std.specs.Prelude.{◌≡◌, ◌<◌, [], Err, OnOk, OnErr};
 ghost use Rattle.transport.specs.Heard.{Heard, HasHeard, HasRead};
 ghost use Rattle.transport.specs.Servers.{Polled};
-ghost use Rattle.transport.specs.Inbox.{Takes, polled_of, Reads};
+ghost use Rattle.transport.specs.Inbox.{Takes, polled_of, Reads, reads_after};
 
 use crate::room::room_of;
 use crate::server::ServerError;
@@ -89,11 +89,17 @@ impl Inbox {
         }
     }
 
-    /// Reads one piece, and answers whether there was one; else the input has ended.
-    pub(crate) fn read<R: Read>(&mut self, reader: &mut R) -> Result<bool, ServerError>
-        requires { self.old.pending ≡ [] }
+    /// Reads one piece, and answers whether there was one; else the input has ended. It counts the read.
+    pub(crate) fn read<R: Read>(
+        &mut self,
+        reader: &mut R,
+        reads: &mut u32,
+    ) -> Result<bool, ServerError>
+        requires nothing { self.old.pending ≡ [] }
+        requires few { reads.old < 2097152 }
         ensures reads { (heard : Heard) → HasRead self.old heard → Reads (R.remaining reader.old)
             (R.remaining reader.new) heard result self.new }
+        ensures counts { reads.new ≡ reads_after result reads.old }
         ensures patient { result ≡ Err ServerError.TooManyReads → ⊥ }
     {
         if self.room.is_empty() {
@@ -102,6 +108,7 @@ impl Inbox {
                 Err(_) => return Err(ServerError::NoMemory),
             }
         }
+        *reads += 1;
         match reader.read(&mut self.room) {
             Ok(count) => {
                 self.pending = count;

@@ -2,8 +2,9 @@
 //! clause says it.
 ghost use Rattle.transport.specs.Laws as law;
 
-/// Whatever calls are made of a new server, its writer gets the frames of the messages that succeeded,
-/// with the numbers 1, 2 and so on, and after a fault of the writer a part of one more.
+/// Whatever calls are made of a server, its writer gets the frames of the messages that succeeded, with
+/// the numbers that follow those of the messages before it, from 1 for a new one, and after a fault of the
+/// writer a part of one more.
 pub fn messages_are_framed_in_order()
     ensures { law.MessagesAreFramedInOrder }
 {}

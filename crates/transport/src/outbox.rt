@@ -21,7 +21,7 @@ pub enum QueueError {
 }
 
 /// The messages of a connection as they are written: each framed, with the number after that of the
-/// one before, from 1. A contract sees how many there were, and the bytes that still wait.
+/// one before. A contract sees how many there were, and the bytes that still wait.
 #[derive(Drop)]
 pub struct Outbox {
     alloc: Global,
@@ -42,13 +42,14 @@ impl Model for Outbox {
 }
 
 impl Outbox {
-    /// No message yet.
-    pub(crate) fn new(alloc: Global) -> Outbox
-        ensures { result ≡ record { count = 0; waiting = [] } }
+    /// Nothing waits, after so many messages.
+    pub(crate) fn after(alloc: Global, count: u32) -> Outbox
+        requires { count ≤ LAST_SEQ }
+        ensures { result ≡ record { count = count; waiting = [] } }
     {
         Outbox {
             alloc,
-            count: 0,
+            count,
             buffer: Buffer::new(alloc),
         }
     }

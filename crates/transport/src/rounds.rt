@@ -5,7 +5,8 @@ ghost use Rattle.session.specs.declared.event.Applied.TheVariants as applied;
 ghost use Rattle.session.specs.Kept.{Happens, OfEach, Stands, answered};
 ghost use Rattle.session.specs.Refusals.{wanted_on};
 ghost use Rattle.session.specs.Sessions.{Effect};
-ghost use Rattle.transport.specs.Rounds.{IsGiven, Took};
+ghost use Rattle.transport.specs.Files.{Records};
+ghost use Rattle.transport.specs.Rounds.{IsGiven, Took, reads_made};
 
 use crate::end::DriveEnd;
 use crate::files::{Files, file_at};
@@ -19,10 +20,12 @@ pub(crate) const MOVES_GRANTED: u32 = 100_000;
 pub(crate) fn file_wanted<F: Files>(
     alloc: Global,
     session: &Session,
-    files: &F,
+    files: &mut F,
 ) -> Result<Option<Bytes>, AllocError>
-    ensures { IfOk result (λ file. IsGiven (F.known files.now)
-        (wanted_on session.now.now session.now.now.link) file) }
+    ensures given { IfOk result
+        (λ file. IsGiven (wanted_on session.now.now session.now.now.link) file) }
+    ensures reads { Records (F.past files.old) (F.past files.new)
+        (reads_made (wanted_on session.now.now session.now.now.link) result) }
 {
     match session.wants_file() {
         Some(path) => file_at(alloc, files, path),

@@ -1,11 +1,11 @@
 //! A server for programs that answer by themselves: requests are polled, and responses and events written.
-ghost use Rattle.std.specs.Prelude.{◌≡◌, ◌+◌, ◌<◌, ◌↔◌, [], None, Some, Err, Option, IfSome, OnOk, OnErr, IsErrOf};
+ghost use Rattle.std.specs.Prelude.{◌≡◌, ◌+◌, ◌<◌, ◌≤◌, ◌↔◌, [], None, Some, Err, Option, IfSome, OnOk, OnErr, IsErrOf};
 ghost use Rattle.std.specs.Io.KnownBytes.{Appends};
 ghost use Rattle.replies.specs.declared.message.Message.TheVariants as messages;
 ghost use Rattle.session.specs.Writing.{frame_of};
 ghost use Rattle.transport.specs.Heard.{Heard, HasRead};
 ghost use Rattle.transport.specs.Laws.{Polled, Said};
-ghost use Rattle.transport.specs.Servers.{Polls, Writes, lasting};
+ghost use Rattle.transport.specs.Servers.{Polls, ReadSoOften, Writes, lasting};
 
 use crate::inbox::Inbox;
 use crate::outbox::{Outbox, QueueError};
@@ -52,6 +52,7 @@ pub struct Server<R, W> {
     inbox: Inbox,
     outbox: Outbox,
     fault: Option<ServerError>,
+    reads: u32,
 }
 
 impl<R: Read, W: Write> Server<R, W> {
@@ -61,13 +62,28 @@ impl<R: Read, W: Write> Server<R, W> {
         ensures streams { (result.reader ≡ reader) × (result.writer ≡ writer) }
         ensures writes { result.outbox ≡ record { count = 0; waiting = [] } }
         ensures sound { result.fault ≡ None }
+        ensures counts { result.reads ≡ 0 }
+    {
+        Server::continuing(alloc, reader, writer, 0)
+    }
+
+    /// A server that has read nothing, on a connection to which `written` messages were written before: its
+    /// first message has the number after that. It takes no memory.
+    pub fn continuing(alloc: Global, reader: R, writer: W, written: u32) -> Server<R, W>
+        requires { written ≤ LAST_SEQ }
+        ensures reads { HasRead result.inbox (record { read = []; given = [] }) }
+        ensures streams { (result.reader ≡ reader) × (result.writer ≡ writer) }
+        ensures writes { result.outbox ≡ record { count = written; waiting = [] } }
+        ensures sound { result.fault ≡ None }
+        ensures counts { result.reads ≡ 0 }
     {
         Server {
             reader,
             writer,
             inbox: Inbox::new(alloc),
-            outbox: Outbox::new(alloc),
+            outbox: Outbox::after(alloc, written),
             fault: None,
+            reads: 0,
         }
     }
 
@@ -79,6 +95,7 @@ impl<R: Read, W: Write> Server<R, W> {
             → Polls (R.remaining self.old.reader)
             (R.remaining self.new.reader) heard result self.new.inbox }
         ensures fault { self.old.fault ≡ None → self.new.fault ≡ lasting result }
+        ensures counts { self.old.fault ≡ None → ReadSoOften result self.new.reads }
         ensures writes_nothing { (self.new.writer ≡ self.old.writer)
             × (self.new.outbox ≡ self.old.outbox) }
         ensures did { Polled (record {
@@ -97,10 +114,19 @@ impl<R: Read, W: Write> Server<R, W> {
         }
         let mut reads = 0;
         let polled = poll(&mut self.inbox, &mut self.reader, &mut reads);
+        self.reads = reads;
         if let Err(error) = polled {
             self.fault = lasting(error);
         }
         polled
+    }
+
+    /// How many reads the last call of `poll_request` made. A call that only repeats a lasting error makes
+    /// none, and leaves this number.
+    pub fn reads(&self) -> u32
+        ensures { result ≡ self.now.reads }
+    {
+        self.reads
     }
 
     /// Writes a response, as the next message of the connection: the first has number 1. Responses and
@@ -214,16 +240,15 @@ fn poll<R: Read>(
     requires { reads.old ≡ 0 }
     ensures polls { (heard : Heard) → HasRead inbox.old heard
         → Polls (R.remaining reader.old) (R.remaining reader.new) heard result inbox.new }
-    ensures patient { result ≡ Err ServerError.TooManyReads → reads.new ≡ 2097152 }
+    ensures counts { ReadSoOften result reads.new }
 {
-    'reading: for made in 0..MOST_READS {
+    'reading: while *reads < MOST_READS {
         match inbox.next() {
             Ok(Some(incoming)) => return Ok(Some(incoming)),
             Ok(None) => {}
             Err(error) => return Err(error),
         }
-        *reads = made + 1;
-        match inbox.read(reader) {
+        match inbox.read(reader, reads) {
             Ok(true) => {}
             Ok(false) => return Ok(None),
             Err(error) => return Err(error),

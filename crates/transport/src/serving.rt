@@ -2,7 +2,8 @@
 ghost use Rattle.std.specs.Prelude.{◌≡◌, ◌<◌, ◌≤◌, ◌∷◌, [], length, true, IfOk, ℕ};
 ghost use Rattle.session.specs.Kept.{OfEach};
 ghost use Rattle.session.specs.Slices.{is_runnable};
-ghost use Rattle.transport.specs.Rounds.{KnownFiles, moves_granted};
+ghost use Rattle.transport.specs.Files.{KnownReads};
+ghost use Rattle.transport.specs.Rounds.{moves_granted};
 ghost use Rattle.transport.specs.Serving.{IteratedOrEnded, Served};
 ghost use Rattle.wires.specs.Doors.{Doorway, Opened};
 ghost use Rattle.wires.specs.Wires.{one_more};
@@ -33,13 +34,12 @@ pub fn serve<D: Door, F: Files>(
     alloc: Global,
     session: &mut Session,
     door: &mut D,
-    files: &F,
+    files: &mut F,
     turns: u64,
 ) -> DriveEnd
     ensures { OfEach session.old
-        (λ s. Served (F.known files.now) (D.doorway door.old)
-        (D.doorway door.new) turns s session.new
-        result) }
+        (λ s. Served (F.past files.old) (F.past files.new) (D.doorway door.old)
+        (D.doorway door.new) turns s session.new result) }
 {
     let Ok(mut room) = room_of(alloc) else {
         return DriveEnd::NoMemory;
@@ -61,7 +61,7 @@ fn accept<D: Door, F: Files>(
     alloc: Global,
     session: &mut Session,
     door: &mut D,
-    files: &F,
+    files: &mut F,
     room: &mut [u8],
     left: u64,
 ) -> Result<u64, DriveEnd>
@@ -69,8 +69,8 @@ fn accept<D: Door, F: Files>(
     requires piece { length room.old ≤ 65536 }
     requires left { 0 < left }
     ensures outcome { OfEach session.old
-        (λ s. IteratedOrEnded (F.known files.now) left result (D.doorway door.old)
-        (D.doorway door.new) s session.new) }
+        (λ s. IteratedOrEnded (F.past files.old) (F.past files.new) left result
+        (D.doorway door.old) (D.doorway door.new) s session.new) }
     ensures some { IfOk result (λ count. (1 ≤ count) × (count ≤ left)) }
 {
     if session.runnable() {
@@ -88,7 +88,7 @@ fn poll_accept<D: Door, F: Files>(
     alloc: Global,
     session: &mut Session,
     door: &mut D,
-    files: &F,
+    files: &mut F,
     room: &mut [u8],
     left: u64,
 ) -> Result<u64, DriveEnd>
@@ -97,8 +97,8 @@ fn poll_accept<D: Door, F: Files>(
     requires left { 0 < left }
     requires runnable { is_runnable session.old.now ≡ true }
     ensures outcome { OfEach session.old
-        (λ s. IteratedOrEnded (F.known files.now) left result (D.doorway door.old)
-        (D.doorway door.new) s session.new) }
+        (λ s. IteratedOrEnded (F.past files.old) (F.past files.new) left result
+        (D.doorway door.old) (D.doorway door.new) s session.new) }
     ensures some { IfOk result (λ count. (1 ≤ count) × (count ≤ left)) }
 {
     match door.accept_now() {
@@ -113,9 +113,9 @@ fn poll_accept<D: Door, F: Files>(
 fn run_unattended(session: &mut Session, moves: u32) -> Result<u64, DriveEnd>
     requires moves { moves ≡ moves_granted }
     requires runnable { is_runnable session.old.now ≡ true }
-    ensures outcome { (known : KnownFiles) (left : ℕ) (old new : Doorway)
+    ensures outcome { (past : KnownReads) (left : ℕ) (old new : Doorway)
         → Opened old new [] old.faults (one_more old.idle)
-        → OfEach session.old (λ s. IteratedOrEnded known left result old new s session.new) }
+        → OfEach session.old (λ s. IteratedOrEnded past past left result old new s session.new) }
     ensures one { IfOk result (λ count. count ≡ 1) }
 {
     match session.slice(moves).ending {
@@ -129,7 +129,7 @@ fn serve_connection<W: Wire, F: Files>(
     alloc: Global,
     session: &mut Session,
     wire: &mut W,
-    files: &F,
+    files: &mut F,
     room: &mut [u8],
     left: u64,
 ) -> Result<u64, DriveEnd>
@@ -138,7 +138,8 @@ fn serve_connection<W: Wire, F: Files>(
     requires left { 0 < left }
     ensures outcome { (old new : Doorway)
         → Opened old new (W.line wire.old ∷ []) old.faults old.idle → OfEach session.old
-        (λ s. IteratedOrEnded (F.known files.now) left result old new s session.new) }
+        (λ s. IteratedOrEnded (F.past files.old) (F.past files.new) left result old new s
+        session.new) }
     ensures some { IfOk result (λ count. (1 ≤ count) × (count ≤ left)) }
 {
     let Ok(_number) = session.connect() else {

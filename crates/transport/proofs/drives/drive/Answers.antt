@@ -6,4 +6,4 @@ returns-in_default g c s st = no_room_to_drive _ _ c.args.turns s c.args.session
 
 pub returns : goal.returns
 returns g c s st =
-    driven_in _ _ _ c.args.turns c.drive_in.result.turns s c.drive_in.new.session c.drive_in.result.end (c.drive_in.ensures.drove s st)
+    driven_in _ _ _ _ c.args.turns c.drive_in.result.turns s c.drive_in.new.session c.drive_in.result.end (c.drive_in.ensures.drove s st)

@@ -7,5 +7,5 @@ use Rattle.transport.proofs.drives.drive_in.Given as goal
 abbrev pub invariant-driving : goal.invariant-driving
 invariant-driving g l = record {
   since : l.since ≤ 10000000;
-  driving : OfEach l.fn.session (λ s. Driving (g.F.Files.known l.fn.files) (g.W.Wire.line l.fn.wire) (g.W.Wire.line l.wire) l.made l.since s l.session);
+  driving : OfEach l.fn.session (λ s. Driving (g.F.Files.past l.fn.files) (g.F.Files.past l.files) (g.W.Wire.line l.fn.wire) (g.W.Wire.line l.wire) l.made l.since s l.session);
 }

@@ -1,6 +1,10 @@
-use Rattle.std.proofs.Common.{refl}
+use Rattle.std.proofs.Common.{◌≡◌, ℕ, ◌+◌, ◌<◌, ◌≤◌, arith}
 use Rattle.transport.proofs.ServerLemmas.{gives, listens_still, listens_on, ends_reading, read_fails, reads_too_often}
 use Rattle.transport.proofs.server.poll.Goals as goal
+
+-- one read more is no more than there may be
+few_after : (n m : ℕ) → n ≡ m + 1 → m < 2097152 → n ≤ 2097152
+few_after n m e few = omega arith
 
 pub returns-in-Ok-Some-clause-polls : goal.returns-in-Ok-Some-clause-polls
 returns-in-Ok-Some-clause-polls g c heard s =
@@ -22,7 +26,7 @@ returns-in-Err-read-clause-polls g c heard s =
 
 pub reading-preserved : goal.reading-preserved
 reading-preserved g c = record {
-  counted = refl;
+  few = few_after c.read.new.reads c.reading.reads c.in-Ok-true.ensures.counts c.reading-test.true;
   listens =
       λ heard s. listens_on _ _ _ heard c.next.new.self _
       (listens_still _ _ heard c.reading.inbox _ (c.reading.invariant.listens heard s)

@@ -8,7 +8,7 @@ abbrev pub invariant-serving : goal.invariant-serving
 invariant-serving g l = record {
   room : vec_len l.room ≡ 65536;
   few : l.taken ≤ l.fn.turns;
-  serving : OfEach l.fn.session (λ s. ServedSoFar (g.F.Files.known l.fn.files) (g.D.Door.doorway l.fn.door) (g.D.Door.doorway l.door) l.fn.turns l.taken s l.session);
+  serving : OfEach l.fn.session (λ s. ServedSoFar (g.F.Files.past l.fn.files) (g.F.Files.past l.files) (g.D.Door.doorway l.fn.door) (g.D.Door.doorway l.door) l.fn.turns l.taken s l.session);
 }
 
 abbrev pub decreases-serving : goal.decreases-serving
