@@ -1,0 +1,112 @@
+"""Command lines: what their words ask for, which are refused, and where the message goes.
+
+By docs/PROTOCOL.md, section 7, and packaging/rvdap.1: a message on standard output where help or the version is asked for, and else on standard
+error; without a command the memory is 1,024 KiB where none is given.
+"""
+from support.players import Row
+
+PLAYER = "test_options"
+MANUAL = "packaging/rvdap.1, worked by hand"
+PROFILE = "docs/PROTOCOL.md, section 7, worked by hand"
+README = "README.md and the documents for users, worked by hand"
+
+
+def line(call, *words):
+    return " ".join([call, *(word.encode().hex() for word in words)])
+
+
+def text_of(value):
+    return "none" if value is None else value.encode().hex()
+
+
+def asks(*words, mode="serve", file=None, listen=None, program=None, once=False, memory=1024):
+    """The words ask for these options."""
+    options = " ".join([mode, text_of(file), text_of(listen), text_of(program), str(once).lower(), str(memory)])
+    return [(line("options", *words), options), (line("tried", *words), options)]
+
+
+def refused(*words):
+    """The words are refused, with a message on standard error."""
+    return [(line("options", *words), "Words"), (line("tried", *words), "stderr")]
+
+
+def printed(*words):
+    """The words ask for something that is printed on standard output, and no more."""
+    return [(line("options", *words), "Words"), (line("tried", *words), "stdout")]
+
+
+def names(text, *words):
+    """The message on the words has this text."""
+    return line("names", text, *words), "true"
+
+
+def is_silent_on(text, *words):
+    return line("names", text, *words), "false"
+
+
+ADDRESS = "127.0.0.1:4711"
+LISTEN = ("--listen", ADDRESS)
+VERSION = "rvdap 0.1.0\n".encode().hex()
+
+
+def memory(text, kib):
+    """What stands after --memory, in both of its forms."""
+    return asks("--memory", text, memory=kib) + asks("--memory=" + text, memory=kib)
+
+
+def no_memory(text):
+    return refused("--memory", text) + refused("--memory=" + text)
+
+
+ROWS = [
+    Row("without words an editor is served over standard streams", asks(), MANUAL, refused=True),
+    Row("the ways to call it", asks("--memory", "64", memory=64) + asks(*LISTEN, listen=ADDRESS) + asks(*LISTEN, "--program", "sort.s", listen=ADDRESS, program="sort.s")
+        + asks(*LISTEN, "--once", listen=ADDRESS, once=True) + asks(*LISTEN, "--memory", "64", listen=ADDRESS, memory=64)
+        + asks("asm", "sort.s", mode="asm", file="sort.s") + asks("watch", "s", mode="watch", file="s"), MANUAL),
+    Row("all options of a listener at once, in any order", asks(*LISTEN, "--program", "a.s", "--once", "--memory", "8", listen=ADDRESS, program="a.s", once=True, memory=8)
+        + asks("--memory", "8", "--once", "--program", "a.s", *LISTEN, listen=ADDRESS, program="a.s", once=True, memory=8)
+        + asks("--once", "--program=a.s", "--listen=" + ADDRESS, "--memory=8", listen=ADDRESS, program="a.s", once=True, memory=8), MANUAL, refused=True),
+    Row("the examples of the documents", asks("asm", "sort.s", mode="asm", file="sort.s") + asks("asm", "examples/increment.s", mode="asm", file="examples/increment.s")
+        + asks("watch", "examples/sorting.watch", mode="watch", file="examples/sorting.watch")
+        + asks(*LISTEN, "--program", "/home/me/sort.s", listen=ADDRESS, program="/home/me/sort.s") + printed("asm", "--help") + printed("--version"), README),
+    Row("the memory is a multiple of 4 from 4 to 16,384", memory("4", 4) + memory("8", 8) + memory("1024", 1024) + memory("16380", 16380) + memory("16384", 16384)
+        + [step for text in ("0", "1", "2", "3", "5", "6", "7", "1023", "16383", "16385", "16388", "65536") for step in no_memory(text)], PROFILE),
+    Row("no memory is more than all numbers that fit", [step for text in ("4294967296", "4294967300", "4294968320", "18446744073709551616", "4" * 40)
+        for step in no_memory(text)], PROFILE),
+    Row("leading zeros of the memory are fine", memory("0004", 4) + memory("0" * 40 + "16384", 16384), PROFILE),
+    Row("the memory is decimal digits and nothing else", [step for text in ("+8", " 8", "8 ", "0x8", "0x10", "8k", "8K", "8KiB", "4.0", "1e3", "1_024", "1,024", "much", "８", "４")
+        for step in no_memory(text)] + refused("--memory=-8") + refused("--memory="), PROFILE),
+    Row("the message on a memory has the value", [names("'5'", "--memory", "5"), names("much", "--memory=much"), names("--memory", "--memory", "5")], PROFILE),
+    Row("an option has a value", refused("--memory") + refused("--listen") + refused(*LISTEN, "--program") + refused("--memory", "--once") + refused("--listen", "--once"), PROFILE),
+    Row("no option stands twice", refused("--memory", "8", "--memory", "8") + refused(*LISTEN, *LISTEN) + refused(*LISTEN, "--once", "--once")
+        + refused(*LISTEN, "--program", "a.s", "--program", "b.s"), PROFILE),
+    Row("a flag has no value", refused(*LISTEN, "--once=true") + refused(*LISTEN, "--once=false"), PROFILE),
+    Row("a program stands only beside an address", refused("--program", "a.s") + refused("--program=a.s", "--memory", "8") + [names("--program", "--program", "a.s"),
+        names("--listen", "--program", "a.s")], PROFILE),
+    Row("an end after the first connection stands only beside an address", refused("--once") + refused("--once", "--memory", "8") + refused("--once", "--program", "a.s")
+        + [names("--once", "--once"), names("--listen", "--once")], PROFILE),
+    Row("the memory is looked at before what stands beside what", [names("'5'", "--once", "--memory", "5"), is_silent_on("--once'", "--once", "--memory", "5")]
+        + refused("--once", "--memory", "5"), PROFILE),
+    Row("no option stands beside a command", refused("--memory", "8", "asm", "a.s") + refused(*LISTEN, "asm", "a.s") + refused("--once", "asm", "a.s")
+        + refused("--program", "a.s", "asm", "a.s") + refused("--memory", "8", "watch", "s") + refused("asm", "--memory", "8", "a.s") + refused("asm", "a.s", "--once")
+        + refused("watch", *LISTEN, "s") + refused("watch", "s", "--program", "a.s"), PROFILE),
+    Row("a command has one file", refused("asm") + refused("watch") + refused("asm", "a.s", "b.s") + refused("watch", "s", "t") + refused("asm", "a.s", "watch", "s"), PROFILE),
+    Row("the file of a command may look like an option after --", asks("asm", "--", "--help", mode="asm", file="--help") + asks("asm", "--", "-", mode="asm", file="-")
+        + asks("watch", "--", "--once", mode="watch", file="--once") + asks("asm", "--", "--", mode="asm", file="--"), PROFILE),
+    Row("a lone -- is no argument of its own", asks("--") + asks("--memory", "8", "--", memory=8) + refused("asm", "--"), PROFILE),
+    Row("a file named - is no stream", asks("asm", "-", mode="asm", file="-") + asks("watch", "-", mode="watch", file="-"), PROFILE),
+    Row("a file or an address may have any text", asks("asm", "a b.s", mode="asm", file="a b.s") + asks("watch", "naïve.watch", mode="watch", file="naïve.watch")
+        + asks("--listen", "[::1]:4711", listen="[::1]:4711") + asks("--listen", "localhost:4711", listen="localhost:4711")
+        + asks("--listen=nowhere", "--program=ä b.s", listen="nowhere", program="ä b.s") + asks(*LISTEN, "--program==", listen=ADDRESS, program="="), PROFILE),
+    Row("help is printed", printed("--help") + printed("-h") + printed("asm", "--help") + printed("asm", "-h") + printed("watch", "--help") + printed("watch", "-h")
+        + [names("--memory", "--help"), names("--listen", "-h"), names("asm", "--help"), names("watch", "--help")], PROFILE, refused=7),
+    Row("the version is printed", printed("--version") + printed("-V") + [(line("message", "--version"), VERSION), (line("message", "-V"), VERSION)], PROFILE, refused=7),
+    Row("a command has no version", refused("asm", "--version") + refused("asm", "-V") + refused("watch", "-V"), PROFILE),
+    Row("the first of help, the version and a fault decides", printed("--help", "--memories") + printed("--version", "bogus") + refused("--memories", "--help") + refused("bogus", "--version")
+        + printed("--memory", "5", "--help") + printed("--once", "--version") + [(line("message", "-V", "--help"), VERSION)], PROFILE),
+    Row("other words are refused", [step for word in ("", " ", "as", "ASM", "asmm", "a.s", "-", "help", "version", "serve", "listen", "--memories", "--mem", "--Memory", "-memory", "-m", "-l",
+        "-o", "-p", "-x", "--asm", "--watch", "--file", "/help", "4711") for step in refused(word)]
+        + refused("help", "asm") + refused("serve", ADDRESS) + refused(*LISTEN, "a.s") + refused("a.s", *LISTEN), PROFILE),
+    Row("the message on an unknown word has it", [names("bogus", "bogus"), names("--memories", "--memories"), names("-x", "-x")], PROFILE),
+    Row("texts of errors", [("text Words", "usage"), ("text NoMemory", "no memory")], "the doc comments of the errors"),
+]
