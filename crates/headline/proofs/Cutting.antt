@@ -6,7 +6,7 @@ use Rattle.mirror.specs.Folding.{folded}
 use Rattle.mirror.specs.declared.asked.Asked.{Asked}
 use Rattle.session.proofs.Reaching.{if_keeps}
 use Rattle.session.specs.Sessions.{Said, Snapshot, frame_said}
-use Rattle.headline.specs.Headline.{WasSo, known_after, last_seen, told_within}
+use Rattle.headline.specs.Concluding.{WasSo, known_after, last_seen, told_within}
 use Rattle.headline.specs.Holding.{Holds}
 use Rattle.session.specs.Shown.{shown}
 

@@ -26,7 +26,7 @@ use Rattle.headline.proofs.Commands.{AnswerLeads}
 use Rattle.headline.proofs.Cutting.{AllHold, all_hold_more, known_more}
 use Rattle.headline.proofs.Leading.{Leads}
 use Rattle.headline.proofs.Owing.{AllOwe}
-use Rattle.headline.specs.Headline.{known_after, remembered}
+use Rattle.headline.specs.Concluding.{known_after, remembered}
 use Rattle.headline.specs.Holding.{Holds}
 use Rattle.session.specs.Shown.{shown}
 

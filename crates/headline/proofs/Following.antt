@@ -21,7 +21,8 @@ use Rattle.stepping.specs.declared.tick.Tick.{Tick}
 use Rattle.headline.proofs.Agreeing.{OwesOf, OwesRunning, never}
 use Rattle.headline.proofs.Beating.{entered_same}
 use Rattle.headline.proofs.Newly.{Printed, Same, became, became_first, exits_told, halts_told, just_told, nothing_newly, prints_printed, prints_snapshot}
-use Rattle.headline.specs.News.{IsFollowed, as_running}
+use Rattle.facts.specs.declared.run.RunState.TheVariants.{Running}
+use Rattle.headline.specs.News.{IsFollowed, sight_by}
 use Rattle.session.specs.Shown.{shown_of}
 use Rattle.session.proofs.ByMove.{by_move}
 
@@ -38,7 +39,9 @@ checked_same p numbers =
     let same = entered_same p in
     let source = fun_ext (λ (path : List ℕ). same.source numbers path) in
     let instructions = same.instructions numbers in
-    λ i. record (as_running (shown_of p numbers)) { source = source i; instructions = instructions i }
+    λ i. record (sight_by (Some p) numbers) {
+      facts = record (shown_of p numbers) { run = Running; source = source i; instructions = instructions i };
+    }
 
 same_as : (a b c : Option Program) → a ≡ b → Same b c → Same a c
 same_as a b c e same = subst (λ (x : Option Program). Same x c) (sym e) same

@@ -17,11 +17,11 @@ pub mod Framing
 pub mod Changing
 pub mod Listing
 pub mod Leaving
-pub mod Small
 pub mod Frames
 pub mod Readable
-pub mod Numbered
+pub mod Editing
 pub mod Mirrored
+pub mod Referring
 pub mod Newly
 pub mod Following
 pub mod Slicing

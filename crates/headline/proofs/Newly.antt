@@ -9,7 +9,6 @@ use Rattle.debuggee.specs.Programs.{Debuggee, Program, ended, is_running, stoppe
 use Rattle.debuggee.specs.declared.run.Run.{Run}
 use Rattle.debuggee.specs.declared.run.Run.TheVariants as a_run
 use Rattle.debuggee.specs.declared.run.Why.{Why}
-use Rattle.facts.specs.Facts.{Facts}
 use Rattle.facts.specs.declared.run.RunState.TheVariants.{Running}
 use Rattle.replies.specs.declared.event.Event.{Event}
 use Rattle.replies.specs.declared.event.Event.TheVariants as event
@@ -26,8 +25,8 @@ use Rattle.handlers.specs.Telling.{exit_events, output_event, stop_event}
 use Rattle.session.specs.declared.link.Link.{Link}
 use Rattle.session.specs.declared.pending.Pending.{Pending}
 use Rattle.variables.specs.Numbers.{Numbers}
-use Rattle.headline.specs.News.{Fits, IsFollowed, Newly, as_running, says_output, seen_at, seen_now}
-use Rattle.session.specs.Shown.{shown, shown_by, shown_of, state_of}
+use Rattle.headline.specs.News.{Fits, IsFollowed, Newly, Sight, as_running, says_output, seen_at, seen_now, sight, sight_by}
+use Rattle.session.specs.Shown.{shown_of, state_of}
 
 -- all that was queued is what the program printed
 pub record Printed (s t : Session) : Type 0 where
@@ -76,8 +75,8 @@ with_one s t news l m rest so h new life before connections linked same = record
   linked = linked ∙ h.linked;
   silent = λ none. absurd (let no : true ≡ false = h.linked ∙ none in cc);
   fits =
-      subst (λ (f : Facts). All (λ (x : Said). shown x.snapshot ≡ seen_at (says_output x.message) f) (news ++ said_next t.now l m ∷ []))
-      (ap shown (sym same))
+      subst (λ (f : Sight). All (λ (x : Said). sight x.snapshot ≡ seen_at (says_output x.message) f) (news ++ said_next t.now l m ∷ []))
+      (ap sight (sym same))
       (All-push (Fits t) news (said_next t.now l m) h.fits so);
 }
 
@@ -144,8 +143,10 @@ running_state a_run.Running e = refl
 running_state (a_run.Stopped why) e = absurd (let no : false ≡ true = e in cc)
 running_state (a_run.Ended code) e = absurd (let no : false ≡ true = e in cc)
 
-seen_running : (p : Program) (numbers : Numbers) → is_running p.run ≡ true → shown_of p numbers ≡ as_running (shown_of p numbers)
-seen_running p numbers e = let is = running_state p.run e in λ i. record (shown_of p numbers) { run = is i }
+seen_running : (p : Program) (numbers : Numbers) → is_running p.run ≡ true
+    → sight_by (Some p) numbers ≡ as_running (sight_by (Some p) numbers)
+seen_running p numbers e =
+    let is = running_state p.run e in λ i. record (sight_by (Some p) numbers) { facts = record (shown_of p numbers) { run = is i } }
 
 -- what was printed is told while it runs
 pub prints_printed : (now : Now) (p : Program) (printed : Option ℤ) (s t : Session) → t.now.debuggee.program ≡ Some p
@@ -154,7 +155,7 @@ prints_printed now p None s t is runs h = h
 prints_printed now p (Some number) s t is runs h =
     if_keeps (λ (acts : List Act). Printed s (performed histories acts t)) (is_active now.link) _ []
     (λ _. said_printed s t t.now.link (IsEvent (output_event number)) t.now.arrivals.pending refl
-    (subst (λ (x : Option Program). shown_by x t.now.numbers ≡ as_running (shown_by x t.now.numbers)) (sym is)
+    (subst (λ (x : Option Program). sight_by x t.now.numbers ≡ as_running (sight_by x t.now.numbers)) (sym is)
     (seen_running p t.now.numbers runs)) h)
     (λ _. h)
 
@@ -167,19 +168,19 @@ prints_snapshot now (Some number) t = tells_snapshot now (output_event number �
 
 -- two are the same to see, but for how they run
 abbrev pub Same : Option Program → Option Program → Type 0
-Same a b = (numbers : Numbers) → as_running (shown_by a numbers) ≡ as_running (shown_by b numbers)
+Same a b = (numbers : Numbers) → as_running (sight_by a numbers) ≡ as_running (sight_by b numbers)
 
-all_same : (f g : Facts) → as_running f ≡ as_running g → (news : List Said) → All (λ (m : Said). says_output m.message ≡ true) news
-    → All (λ (m : Said). shown m.snapshot ≡ seen_at (says_output m.message) f) news
-    → All (λ (m : Said). shown m.snapshot ≡ seen_at (says_output m.message) g) news
-all_same f g same [] output h = All-nil (λ (m : Said). shown m.snapshot ≡ seen_at (says_output m.message) g)
+all_same : (f g : Sight) → as_running f ≡ as_running g → (news : List Said) → All (λ (m : Said). says_output m.message ≡ true) news
+    → All (λ (m : Said). sight m.snapshot ≡ seen_at (says_output m.message) f) news
+    → All (λ (m : Said). sight m.snapshot ≡ seen_at (says_output m.message) g) news
+all_same f g same [] output h = All-nil (λ (m : Said). sight m.snapshot ≡ seen_at (says_output m.message) g)
 all_same f g same (m ∷ news) output h =
     let is = All-head (λ (m : Said). says_output m.message ≡ true) m news output in
-    All-cons (λ (m : Said). shown m.snapshot ≡ seen_at (says_output m.message) g) m news
-    (All-head (λ (m : Said). shown m.snapshot ≡ seen_at (says_output m.message) f) m news h
+    All-cons (λ (m : Said). sight m.snapshot ≡ seen_at (says_output m.message) g) m news
+    (All-head (λ (m : Said). sight m.snapshot ≡ seen_at (says_output m.message) f) m news h
     ∙ ap (λ (b : Bool). seen_at b f) is ∙ same ∙ ap (λ (b : Bool). seen_at b g) (sym is))
     (all_same f g same news (All-tail (λ (m : Said). says_output m.message ≡ true) m news output)
-    (All-tail (λ (m : Said). shown m.snapshot ≡ seen_at (says_output m.message) f) m news h))
+    (All-tail (λ (m : Said). sight m.snapshot ≡ seen_at (says_output m.message) f) m news h))
 
 pub became : (d : Debuggee) (s t : Session) → Same t.now.debuggee.program d.program → Printed s t → Printed s (performed_on (Become d) t)
 became d s t same h = record {

@@ -15,7 +15,7 @@ use Rattle.session.specs.declared.pending.Ask.{Ask}
 use Rattle.session.specs.Sessions.{Said}
 use Rattle.headline.proofs.Cutting.{AllHold}
 use Rattle.headline.proofs.Knowing.{first_more}
-use Rattle.headline.specs.Headline.{known_after, remembered}
+use Rattle.headline.specs.Concluding.{known_after, remembered}
 use Rattle.headline.specs.Holding.{Holds}
 use Rattle.headline.specs.Known.{IsKnownBy, IsKnownIn, first_asked}
 use Rattle.session.specs.Shown.{shown}

@@ -42,7 +42,7 @@ use Rattle.headline.proofs.Knowing.{IsFirst, Knows, WaitsFirst, knows, none_said
 use Rattle.headline.proofs.Leading.{Leads, telling_leads}
 use Rattle.headline.proofs.Owing.{beat_owes, left_owes, marked_owes, owes_after, telling_owes}
 use Rattle.headline.proofs.Remembering.{all_hold_same, known_same, remembers}
-use Rattle.headline.specs.Headline.{Headline, remembered}
+use Rattle.headline.specs.Concluding.{WhatIsKnownWasSo, remembered}
 use Rattle.headline.specs.Known.{AllKnown}
 
 -- ---- what leaves a session faithful that tells nothing
@@ -257,7 +257,7 @@ module _ (lead : CommandsLead) (owe : CommandsOwe) where
     record { was = record { before = All-nil Held; present = tt; owes = owes_first from.program from.size }; agrees = tt },
   )
 
-  pub headline : (from : Beginning) (events : List Event) (c count : ℕ) → Headline (After from events) c count
+  pub headline : (from : Beginning) (events : List Event) (c count : ℕ) → WhatIsKnownWasSo (After from events) c count
   headline from events c count =
       let s = After from events in
       let h : Told s = reached Told event_so from (told_at_first from) events in

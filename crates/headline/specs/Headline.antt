@@ -1,45 +1,32 @@
--- What an editor knows was so.
+-- The headline: what an editor's mirror holds was true.
 --
--- The bytes of a connection come in order, and some of them have come: a prefix. The messages whose frames lie wholly in
--- it have been told. An editor folds them, one after the other, into what it knows, and for that it remembers its own
--- requests. Whatever it then knows was so when the last of these messages was queued.
-use Rattle.std.specs.Prelude.{ℕ, ◌-◌, nat_le, if◌then◌else◌, List, [], ◌∷◌, length, Option, Some, None, option_map, ⊤}
+-- An editor's mirror was told requests and fed bytes of a connection, in turn, and the bytes are any prefix of it. It has
+-- found no fault then, and what it knows is what the whole messages in that prefix tell, however the requests and the bytes
+-- came in turn; and that was so when the last of these messages was queued. The same holds of each `mirror::Mirror` that
+-- stands for these inputs.
+use Rattle.std.specs.Prelude.{◌≡◌, ℕ, List, length, None}
 use Rattle.facts.specs.Facts.{Facts, nothing_known}
-use Rattle.mirror.specs.Folding.{folded}
-use Rattle.mirror.specs.Requests.{asked_of}
-use Rattle.mirror.specs.declared.asked.Asked.{Asked}
-use Rattle.session.specs.declared.pending.Ask.{Ask}
-use Rattle.session.specs.Sessions.{Session, Said, Snapshot, frame_said, life_of}
-use Rattle.headline.specs.Holding.{Holds}
-use Rattle.headline.specs.Known.{first_asked}
-use Rattle.session.specs.Shown.{shown}
+use Rattle.mirror.specs.Kept.{Kept, facts_of}
+use Rattle.mirror.specs.Streams.{Input, StandsFor, after, stream_fault}
+use Rattle.session.specs.Sessions.{Life, Session, life_of}
+use Rattle.headline.specs.Concluding.{WasSo, known_after, last_seen, remembered, told_within}
+use Rattle.headline.specs.Editors.{IsEditor, fed_in}
 
--- what an editor remembers of its requests: of each number the first
-abbrev pub remembered : List Ask → ℕ → Option Asked
-remembered asks number = option_map (λ r. asked_of r.command) (first_asked asks number)
+-- what is known after the whole messages in the first bytes of a connection, so many of them
+abbrev pub known_within : ℕ → Life → Facts
+known_within count life = known_after (remembered life.heard) nothing_known (told_within count life.said)
 
--- the messages that were told with the first bytes of a connection, so many of them
-abbrev pub told_within : ℕ → List Said → List Said
-told_within count [] = []
-told_within count (m ∷ said) = if nat_le (length (frame_said m)) count
-    then m ∷ told_within (count - length (frame_said m)) said else []
+-- these facts were so when the last of these messages was queued
+abbrev pub WereSo : ℕ → Life → Facts → Type 0
+WereSo count life facts = WasSo facts (last_seen None (told_within count life.said))
 
--- what is known after these messages, and what was known before them
-abbrev pub known_after : (ℕ → Option Asked) → Facts → List Said → Facts
-known_after asked facts [] = facts
-known_after asked facts (m ∷ said) = known_after asked (folded asked facts m.message) said
+-- what a mirror holds by these inputs
+pub record HoldsWhatWasSo (life : Life) (inputs : List Input) : Type 0 where
+  pub readable : stream_fault (fed_in inputs) ≡ None
+  pub facts : (after inputs).facts ≡ known_within (length (fed_in inputs)) life
+  pub so : WereSo (length (fed_in inputs)) life (after inputs).facts
+  pub mirror : (kept : Kept) → StandsFor kept (after inputs) → WereSo (length (fed_in inputs)) life (facts_of kept.known)
 
--- what there was to see when the last message of a list was queued, or before it, where there is none
-abbrev pub last_seen : Option Snapshot → List Said → Option Snapshot
-last_seen before [] = before
-last_seen before (m ∷ said) = last_seen (Some m.snapshot) said
-
--- what is known was so when that was to be seen
-abbrev pub WasSo : Facts → Option Snapshot → Type 0
-WasSo facts None = ⊤
-WasSo facts (Some seen) = Holds facts (shown seen)
-
--- What an editor knows by the first bytes of a connection was so when the last message in them was queued.
-abbrev pub Headline : Session → ℕ → ℕ → Type 0
-Headline s c count = let life = life_of c s in let told = told_within count life.said in
-    WasSo (known_after (remembered life.heard) nothing_known told) (last_seen None told)
+-- An editor's mirror, on whatever connection and fed any prefix of its bytes, holds only facts that were so.
+abbrev pub MirrorsHoldWhatWasSo : Session → Type 0
+MirrorsHoldWhatWasSo s = (c : ℕ) (inputs : List Input) → IsEditor (life_of c s) inputs → HoldsWhatWasSo (life_of c s) inputs

@@ -4,10 +4,14 @@
 pub mod Known
 -- whether what is known is so
 pub mod Holding
--- what an editor knows by the bytes that it got, and that it was so
+-- what an editor concludes from the messages that have come, and that it was so
+pub mod Concluding
+-- an editor that tells its mirror requests and feeds it bytes, in turn
+pub mod Editors
+-- the headline's first half: what an editor's mirror holds was so
 pub mod Headline
--- that a mirror which is told the requests of a connection, and fed its bytes, knows what the headline says
-pub mod Mirrors
+-- its second half: a reference is answered only in the stop and on the connection that issued it
+pub mod References
 -- when it is told what the program printed
 pub mod Printed
 -- what an event queues, and what there is to see once it is done

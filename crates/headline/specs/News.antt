@@ -4,26 +4,39 @@
 -- events only. That is enough: after a turn, and after a slice that makes no move, or one move where nothing is left to
 -- be told before it, there is to see what there was at each message that it queued. There is one exception: what the
 -- program printed is told while it runs, and it may have stopped since.
-use Rattle.std.specs.Prelude.{◌≡◌, ℕ, Bool, true, false, List, [], ◌++◌, All, is_some, Option}
+use Rattle.std.specs.Prelude.{◌≡◌, ℕ, Bool, true, false, List, [], ◌++◌, All, is_some, Option, option_map}
+use Rattle.debuggee.specs.Programs.{Program}
 use Rattle.facts.specs.Facts.{Facts}
 use Rattle.facts.specs.declared.run.RunState.TheVariants.{Running}
 use Rattle.replies.specs.declared.event.Event.TheVariants as event
 use Rattle.replies.specs.declared.message.Message.{Message}
 use Rattle.replies.specs.declared.message.Message.TheVariants.{Response as IsResponse, Event as IsEvent}
 use Rattle.session.specs.Effects.{ended_as, sliced}
-use Rattle.session.specs.Sessions.{Effect, Said, Session, histories, snapshot_of}
-use Rattle.session.specs.Shown.{shown}
+use Rattle.session.specs.Sessions.{Effect, Said, Session, Snapshot, histories, snapshot_of}
+use Rattle.session.specs.Shown.{shown_by}
 use Rattle.session.specs.Slices.{beat, ends}
 use Rattle.session.specs.declared.event.SliceEnd.TheVariants as ending
 use Rattle.session.specs.declared.event.Event.TheVariants.{Slice, Turn}
+use Rattle.variables.specs.Numbers.{Numbers}
 
--- what there is to see
-abbrev pub seen_now : Session → Facts
-seen_now s = shown (snapshot_of s.now)
+-- what there is to see of a program, as facts, and the path of its file, if there is a program
+pub record Sight : Type 0 where
+  pub facts : Facts
+  pub path : Option (List ℕ)
 
--- these facts, of a program that runs
-abbrev pub as_running : Facts → Facts
-as_running f = record f { run = Running }
+abbrev pub sight_by : Option Program → Numbers → Sight
+sight_by program numbers = record { facts = shown_by program numbers; path = option_map (λ p. p.path) program }
+
+abbrev pub sight : Snapshot → Sight
+sight seen = sight_by seen.debuggee.program seen.numbers
+
+-- what there is to see now
+abbrev pub seen_now : Session → Sight
+seen_now s = sight (snapshot_of s.now)
+
+-- the same, of a program that runs
+abbrev pub as_running : Sight → Sight
+as_running s = record s { facts = record s.facts { run = Running } }
 
 -- whether a message says what the program printed
 abbrev pub says_output : Message → Bool
@@ -36,13 +49,13 @@ says_output (IsEvent (event.Exited b)) = false
 says_output (IsEvent event.Terminated) = false
 
 -- what there was to see at such a message, by what there is to see now
-abbrev pub seen_at : Bool → Facts → Facts
-seen_at true f = as_running f
-seen_at false f = f
+abbrev pub seen_at : Bool → Sight → Sight
+seen_at true s = as_running s
+seen_at false s = s
 
 -- there was to see what there is now
 abbrev pub Fits : Session → Said → Type 0
-Fits t m = shown m.snapshot ≡ seen_at (says_output m.message) (seen_now t)
+Fits t m = sight m.snapshot ≡ seen_at (says_output m.message) (seen_now t)
 
 -- These messages were queued between two times, and nothing else happened to the lives.
 pub record Newly (s t : Session) (news : List Said) : Type 0 where

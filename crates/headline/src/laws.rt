@@ -2,11 +2,23 @@
 ghost use Rattle.std.specs.Prelude.{List, ℕ};
 ghost use Rattle.session.specs.declared.event.Event.{Event as AnEvent};
 ghost use Rattle.session.specs.Sessions.{After, Beginning as ABeginning};
-ghost use Rattle.headline.specs.Headline.{Headline};
+ghost use Rattle.headline.specs.Concluding.{WhatIsKnownWasSo};
 ghost use Rattle.headline.specs.Known.{SuccessesAreKnown};
-ghost use Rattle.headline.specs.Mirrors.{MirrorsKnow};
+ghost use Rattle.headline.specs.Headline.{MirrorsHoldWhatWasSo};
 ghost use Rattle.headline.specs.News.{IsSeenAfter};
 ghost use Rattle.headline.specs.Printed.{WhatIsPrintedRuns};
+ghost use Rattle.headline.specs.References.{ReferencesWereGood};
+ghost use Rattle.message_laws.specs.Messages.{HasPath};
+
+/// For every list of events (requests cut anywhere, repeated or cancelled, slices, bytes taken, drops, connections, restarts), an editor's
+/// mirror, fed any prefix of the bytes of its connection, holds only facts that were true of the machine when the last whole message in that
+/// prefix was queued, and a reference is answered only in the stop and on the connection that issued it.
+pub fn what_an_editor_concludes_was_true()
+    ensures facts { (from : ABeginning) (events : List AnEvent)
+        → HasPath from → MirrorsHoldWhatWasSo (After from events) }
+    ensures references { (from : ABeginning) (events : List AnEvent)
+        → ReferencesWereGood from events }
+{}
 
 /// Whatever happens, each success answers the first request that came with its number, and names it.
 pub fn successes_are_known()
@@ -17,14 +29,7 @@ pub fn successes_are_known()
 /// wholly in them was queued: how the program runs, its breakpoints, its frames, its registers and its memory.
 pub fn what_an_editor_knows_was_so()
     ensures { (from : ABeginning) (events : List AnEvent) (connection count : ℕ)
-        → Headline (After from events) connection count }
-{}
-
-/// Whatever happens, a mirror (`mirror::Mirror`) that is told the requests of a connection, and fed the first bytes of it, however many,
-/// knows what the law above speaks of; where it finds no fault in them, and the bytes of the connection are at most 4,294,967,295.
-pub fn a_mirror_knows_what_was_so()
-    ensures { (from : ABeginning) (events : List AnEvent) (connection count : ℕ)
-        → MirrorsKnow (After from events) connection count }
+        → WhatIsKnownWasSo (After from events) connection count }
 {}
 
 /// Whatever happens, what the program prints is told while it runs, also where it stops with it.
