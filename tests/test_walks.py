@@ -141,29 +141,59 @@ def walks(events):
     return made
 
 
-def what_is_known_on_a_walk_was_so():
-    """For each connection of each walk a few cuts, the greatest among them: each fact that is known there was so."""
-    made = walks(EVENTS)
+def walks_with_lengths(events):
+    """Walks with so many events in all, each with how many bytes its connections get."""
+    made = walks(events)
     asked = [walk.lines + ["queued %d" % c for c in range(1, walk.connections + 1)] for walk in made]
     lines, status = play(PLAYER, [line for commands in asked for line in commands])
     expect((len(lines), status), (sum(map(len, asked)), 0), "the answers")
-    chance, commands, at = random.Random(SEED), [], 0
-    for walk, lengths in zip(made, asked):
-        at += len(lengths)
+    at, found = 0, []
+    for walk, commands in zip(made, asked):
+        at += len(commands)
+        found.append((walk, [int(line) for line in lines[at - walk.connections:at]]))
+    return found
+
+
+def what_is_known_on_a_walk_was_so():
+    """For each connection of each walk a few cuts, the greatest among them: each fact that is known there was so."""
+    made = walks_with_lengths(EVENTS)
+    chance, commands = random.Random(SEED), []
+    for walk, lengths in made:
         commands += walk.lines
-        for connection in range(1, walk.connections + 1):
-            queued = int(lines[at - walk.connections + connection - 1])
+        for connection, queued in enumerate(lengths, 1):
             commands += ["compare %d %d" % (connection, cut) for cut in [queued] + [chance.randrange(queued + 1) for _ in range(CUTS)]]
             commands.append("compare %d %d" % (connection, queued + 1))
     answers, status = play(PLAYER, commands)
     expect((len(answers), status), (len(commands), 0), "the answers of the comparisons")
     compared = [(command, answer) for command, answer in zip(commands, answers) if command.startswith("compare")]
     too_long = [answer for _, answer in compared if answer == "CutTooLong: cut too long"]
-    expect(len(too_long), sum(walk.connections for walk in made), "the cuts that are too long")
+    expect(len(too_long), sum(walk.connections for walk, _ in made), "the cuts that are too long")
     facts = [int(answer) for _, answer in compared if answer.isdigit()]
     expect(len(facts) + len(too_long), len(compared), "what is not as it was told: %s" % [pair for pair in compared if not pair[1].isdigit() and "Cut" not in pair[1]][:3])
     expect(sum(facts) > EVENTS, True, "there is much to know: %d facts" % sum(facts))
 
 
+def an_editor_in_turn_knows_the_same():
+    """On each connection an editor tells requests and feeds pieces in turn, as they come: it knows what one knows that told all of them
+    first, and both as many facts."""
+    chance, commands, pairs = random.Random(SEED + 1), [], []
+    for walk, lengths in walks_with_lengths(EVENTS // 10):
+        commands += walk.lines
+        for connection, queued in enumerate(lengths, 1):
+            for cut in [queued] + [chance.randrange(queued + 1) for _ in range(CUTS)]:
+                pairs.append(len(commands))
+                commands.append("interleave %d %d %d" % (connection, cut, chance.choice((1, 7, 100, 10000))))
+                commands.append("compare %d %d" % (connection, cut))
+    answers, status = play(PLAYER, commands)
+    expect((len(answers), status), (len(commands), 0), "the answers")
+    other = [(commands[at], answers[at], answers[at + 1]) for at in pairs if not answers[at].isdigit() or answers[at] != answers[at + 1]]
+    expect(other, [], "what is known in turn, and else")
+    facts = sum(int(answers[at]) for at in pairs)
+    expect(facts > EVENTS // 10, True, "there is much to know: %d facts" % facts)
+
+
 def checks():
-    return [("what is known on a walk was so", what_is_known_on_a_walk_was_so)]
+    return [
+        ("what is known on a walk was so", what_is_known_on_a_walk_was_so),
+        ("an editor in turn knows the same", an_editor_in_turn_knows_the_same),
+    ]

@@ -8,14 +8,14 @@ use testing::{Fault, shown};
 use watch_events::Watched;
 
 /// The path of each program.
-const PATH: &[u8] = b"/w/p.s";
+pub(crate) const PATH: &[u8] = b"/w/p.s";
 
 /// Places that are looked at: of lists, frames and registers, and addresses of memory.
-const PLACES: u32 = 40;
+pub(crate) const PLACES: u32 = 40;
 
-const FIRST_ADDRESS: u32 = 65_528;
+pub(crate) const FIRST_ADDRESS: u32 = 65_528;
 
-const LAST_ADDRESS: u32 = 69_640;
+pub(crate) const LAST_ADDRESS: u32 = 69_640;
 
 /// How many facts are known, or the first kind of which one was not so.
 pub(crate) fn compared(alloc: Global, watched: &Watched) -> Result<String, Fault> {

@@ -4,18 +4,30 @@
 //! - an event by its name, with its arguments: it is listed, and the answer is how many are.
 //! - `queued C`: how many bytes connection C gets of the events so far.
 //! - `compare C N`: how many facts are known by these bytes, or the first that was not so.
+//! - `interleave C N SIZE`: how many facts an editor knows that told the requests of connection C and fed N of its bytes in turn, in pieces of
+//!   SIZE bytes, or the first that is not what is known where all requests were told first.
 #![tactic(auto)]
 
+ghost use Rattle.std.specs.Prelude.{◌≤◌, IfOk, length};
+ghost use Rattle.std.specs.Str.{IsUtf8};
+ghost use Rattle.message_laws.specs.Messages.{IsPath};
+
 mod comparing;
+mod interleaving;
 
 use comparing::compared;
+use interleaving::{Editor, alike};
+use mirror::Mirror;
 use protocol::Text;
-use session::{Bytes, Config, Event, Limits};
+use session::{Bytes, Config, Event, Limits, Session};
 use std::alloc::{AllocError, Global};
 use std::process::ExitCode;
 use test_events::event_of;
 use testing::{Fault, Player, bytes_of, parsed, play, shown};
 use watch_events::{WatchError, Watched, queued, watch};
+
+/// The most bytes of a program's path.
+const LONGEST_PATH: usize = 1_048_576;
 
 /// What is played.
 #[derive(Drop)]
@@ -42,6 +54,15 @@ impl Player for Events {
             ["compare", connection, count] => {
                 let found = self.watch(alloc, parsed(connection)?, parsed(count)?)?;
                 compare(alloc, found)
+            }
+            ["interleave", connection, count, size] => {
+                let (connection, count) = (parsed(connection)?, parsed(count)?);
+                let found = self.watch(alloc, connection, count)?;
+                let mirror = self.interleaved(alloc, connection, count, parsed(size)?)?;
+                match found {
+                    Ok(watched) => alike(alloc, &mirror, &watched.mirror),
+                    Err(error) => error_of(alloc, error),
+                }
             }
             event => self.list(alloc, event),
         }
@@ -96,19 +117,44 @@ impl Events {
         ))
     }
 
-    fn config(&self, alloc: Global) -> Result<Config, Fault> {
+    fn interleaved(
+        &self,
+        alloc: Global,
+        connection: u32,
+        count: usize,
+        size: usize,
+    ) -> Result<Mirror, Fault> {
+        let Ok(mut session) = Session::new(alloc, self.config(alloc)?, Limits::greatest()) else {
+            return Err(Fault::NoMemoryInCall);
+        };
+        let mut editor = Editor::new(alloc, connection, count, size);
+        editor.play(&mut session, &self.events)?;
+        Ok(editor.into_mirror())
+    }
+
+    fn config(&self, alloc: Global) -> Result<Config, Fault>
+        ensures { IfOk result (λ config. IsPath config.program) }
+    {
         let program = match &self.program {
             None => None,
-            Some((path, text)) => {
-                let path = Text::from_string(path.clone()?);
-                Some((path, Bytes::from_vec(text.clone()?)))
-            }
+            Some((path, text)) => Some((path_of(path)?, Bytes::from_vec(text.clone()?))),
         };
         Ok(Config {
             memory_size: self.size,
             program,
         })
     }
+}
+
+// The path of a program. One that is longer than it may be is no command.
+fn path_of(path: &String) -> Result<Text, Fault>
+    ensures { IfOk result (λ path. IsUtf8 path × (length path ≤ 1048576)) }
+{
+    if path.as_bytes().len() > LONGEST_PATH {
+        return Err(Fault::NoCommand);
+    }
+    let own = path.clone()?;
+    Ok(Text::from_string(own))
 }
 
 fn compare(alloc: Global, found: Result<Watched, WatchError>) -> Result<String, Fault> {

@@ -10,7 +10,7 @@ use Rattle.session.specs.Kept.{Kept, Stands}
 use Rattle.session.specs.Outcomes.{Outcome, done, outcome_at, refused}
 use Rattle.session.specs.Sessions.{Answer, Effect, Life, Said, Session, bytes_of, histories, life_of, lives, no_life, up_to_fault, waiting_of}
 use Rattle.session.specs.Acts.{Accept, Open}
-use Rattle.session.specs.Shown.{shown}
+use Rattle.headline.specs.News.{sight}
 use Rattle.session.specs.declared.event.Applied.{Applied}
 use Rattle.session.specs.declared.event.Applied.TheVariants as applied
 use Rattle.session.specs.declared.event.Event.{Event}
@@ -20,7 +20,7 @@ use Rattle.session.specs.declared.event.EventError.TheVariants as error
 use Rattle.session.specs.declared.link.Link.{Link}
 use Rattle.session.specs.declared.state.TheConstants.{LAST_CONNECTION, MOST_PENDING, MOST_PIECE}
 use Rattle.watch_events.proofs.Tracking.{others_same, ours, seen_place, with_session}
-use Rattle.headline.specs.Headline.{last_seen, told_within}
+use Rattle.headline.specs.Concluding.{last_seen, told_within}
 use Rattle.watch_events.specs.Tracking.{IsReached, Tracked, Tracks, with_piece}
 
 -- ---- an event more
@@ -32,7 +32,7 @@ after_more (x ∷ events) e s = after_more events e (Effect s x)
 
 pub reached_next : (s : Session) (e : Event) → IsReached s → IsReached (Effect s e)
 reached_next s e r =
-    record { from = r.from; events = r.events ++ e ∷ []; is = ap (λ (x : Session). Effect x e) r.is ∙ sym (after_more r.events e _) }
+    record { from = r.from; path = r.path; events = r.events ++ e ∷ []; is = ap (λ (x : Session). Effect x e) r.is ∙ sym (after_more r.events e _) }
 
 -- ---- an event that leaves what was said and what came
 
@@ -76,8 +76,7 @@ same_keeps old k s t same connections h stands = record {
   current = h.current ∙ sym connections;
   accepted = same.accepted ∙ h.accepted;
   queued = h.queued ∙ sym (same_bytes (life_of old.connection s) (life_of old.connection t) same);
-  few = h.few;
-  snapshot = h.snapshot ∙ ap (λ (said : List Said). option_map shown (last_seen None (told_within old.count said))) (sym same.said);
+  snapshot = h.snapshot ∙ ap (λ (said : List Said). option_map sight (last_seen None (told_within old.count said))) (sym same.said);
 }
 
 -- ---- what is refused
@@ -91,7 +90,6 @@ refused_keeps old k s e why is stands h =
       current = h.current;
       accepted = h.accepted;
       queued = h.queued;
-      few = h.few;
       snapshot = h.snapshot;
     } in
     subst (Tracks (with_session old k)) (sym same) here
@@ -177,7 +175,6 @@ connect_keeps old k s number is stands h =
       current = sym opened.connections;
       accepted = ap (λ (l : Life). l.accepted) life ∙ h.accepted;
       queued = h.queued ∙ sym (ap bytes_of life);
-      few = h.few;
       snapshot = h.snapshot ∙ seen_place old.count old.count (life_of old.connection s) (life_of old.connection t) refl life;
     }
 
@@ -236,8 +233,7 @@ recv_keeps old k s piece r is stands h = by (eqb old.current old.connection) ref
         accepted = ap (λ (l : Life). l.accepted) y ∙ c.accepted ∙ ap (λ (l : Life). up_to_fault l.accepted piece) (sym x)
             ∙ ap (λ (l : List ℕ). up_to_fault l piece) h.accepted ∙ up_to_fault-append [] old.accepted piece;
         queued = h.queued ∙ ap (λ (said : List Said). bytes_of (record no_life { said = said })) (sym said);
-        few = h.few;
-        snapshot = h.snapshot ∙ ap (λ (said : List Said). option_map shown (last_seen None (told_within old.count said))) (sym said);
+        snapshot = h.snapshot ∙ ap (λ (said : List Said). option_map sight (last_seen None (told_within old.count said))) (sym said);
       }
   by false e =
       let c = accepted_by s.now.link piece s is in

@@ -3,10 +3,11 @@ use Rattle.std.proofs.Common.{Err, ◌≡◌, ℕ, zero, suc, leb, ◌+◌, ◌<
 use Rattle.std.specs.Prelude.{◌&&◌}
 use Rattle.std.proofs.lemmas.Bool.{and_parts}
 use Rattle.std.proofs.lemmas.Bool.Decides.{nat_tests}
+use Rattle.std.proofs.lemmas.List.{length-take-le}
 use Rattle.facts.specs.Facts.{Facts, nothing_known}
 use Rattle.framing.specs.Reading.{reading_of}
 use Rattle.mirror.specs.Kept.{Kept, facts_of}
-use Rattle.mirror.specs.Streams.{Input, after, stream_fault}
+use Rattle.mirror.specs.Streams.{Input, StandsFor, after, stream_fault}
 use Rattle.mirror.specs.Streams.Input.{Sent, Fed}
 use Rattle.protocol.specs.declared.request.Request.{Request as ARequest}
 use Rattle.session_laws.proofs.Cuts.{requests_are_read}
@@ -16,21 +17,23 @@ use Rattle.session.specs.Begins.{AreRight, HasBegun}
 use Rattle.session.specs.Config.{HasImage}
 use Rattle.session.specs.Kept.{Kept as SessionKept, Stands}
 use Rattle.session.specs.Sessions.{After, Beginning, Life, Said, Session, Snapshot, bytes_of, life_of, no_life, start}
-use Rattle.session.specs.Shown.{shown}
-use Rattle.session.specs.Snapshots.{Captured, seen_of}
+use Rattle.session.specs.Snapshots.{Captured}
 use Rattle.session.specs.declared.config.Config.{Config}
 use Rattle.session.specs.declared.event.Event.{Event}
 use Rattle.session.specs.declared.limits.Limits.{Limits}
 use Rattle.mirror.specs.declared.asked.Asked.{Asked}
 use Rattle.watch_events.proofs.Events.{after_more}
-use Rattle.headline.proofs.Leaving.{commands_lead, commands_owe}
-use Rattle.headline.proofs.Mirrored.{mirrors_know}
-use Rattle.headline.proofs.Truth.{headline}
-use Rattle.headline.specs.Headline.{WasSo, known_after, last_seen, remembered, told_within}
+use Rattle.headline.proofs.Editing.{fed_first, is_editor}
+use Rattle.headline.proofs.Mirrored.{mirrors_hold}
+use Rattle.headline.specs.Concluding.{WasSo, known_after, last_seen, remembered, told_within}
 use Rattle.headline.specs.Holding.{Holds}
-use Rattle.headline.specs.Mirrors.{inputs, requests_in}
+use Rattle.headline.specs.Editors.{fed_in, requests_in, told_first}
+use Rattle.headline.specs.Headline.{HoldsWhatWasSo, WereSo, known_within}
+use Rattle.headline.specs.News.{Sight, sight}
+use Rattle.message_laws.proofs.Readable.{messages_are_readable}
+use Rattle.message_laws.specs.Messages.{HasPath, IsPath}
 use Rattle.watch_events.specs.Replaying.{Begun, HoldsOf, IsMade, IsTold, IsWatched, queued_for, requests_of, Shows, Watches}
-use Rattle.watch_events.specs.Tracking.{Keeps, SameWatched, Tracked, Tracks, is_made, untouched}
+use Rattle.watch_events.specs.Tracking.{Keeps, SameWatched, Tracked, Tracks, is_made, sight_in, untouched}
 use Rattle.watch_events.specs.declared.watching.WatchError.{WatchError}
 use Rattle.watch_events.specs.declared.watching.WatchError.TheVariants as watch
 use Rattle.watch_events.specs.declared.watching.Watched.{Watched}
@@ -54,8 +57,7 @@ begins from k connection count stands =
       current = refl;
       accepted = ap (λ (l : Life). l.accepted) none;
       queued = sym (ap bytes_of none);
-      few = omega arith;
-      snapshot = sym (ap (λ (l : Life). option_map shown (last_seen None (told_within count l.said))) none);
+      snapshot = sym (ap (λ (l : Life). option_map sight (last_seen None (told_within count l.said))) none);
     }
 
 -- what a session of these begins with
@@ -82,12 +84,12 @@ begins_tracked c limits k connection count h = (
   refl,
 )
 
-next : (from : Beginning) (events : List Event) (e : Event) (old new : Tracked)
+next : (from : Beginning) → HasPath from → (events : List Event) (e : Event) (old new : Tracked)
     → Keeps e old (let r : Result (Unit {0}) (Unit {0}) = Ok tt in r) new → Tracks old (After from events)
     → Tracks new (After from (events ++ e ∷ []))
-next from events e old new keeps h =
+next from path events e old new keeps h =
     subst (Tracks new) (sym (after_more events e (start from)))
-    (keeps (After from events) (record { from = from; events = events; is = refl }) h)
+    (keeps (After from events) (record { from = from; path = path; events = events; is = refl }) h)
 
 -- ---- what is watched of them
 
@@ -120,53 +122,70 @@ none_told [] e = refl
 none_told (m ∷ said) e = absurd (never_none m.snapshot said e)
 
 holds_of : (asked : ℕ → Option Asked) (known : Facts) (said : List Said) (taken : Option (Option Captured)) (last : Option Snapshot)
-    → last_seen None said ≡ last → known ≡ known_after asked nothing_known said → option_map seen_of taken ≡ option_map shown last
+    → last_seen None said ≡ last → known ≡ known_after asked nothing_known said → option_map sight_in taken ≡ option_map sight last
     → WasSo known last → HoldsOf known taken
 holds_of asked known said None None is knows same so = knows ∙ ap (known_after asked nothing_known) (none_told said is)
 holds_of asked known said None (Some seen) is knows same so = absurd (apart same) where
-  apart : (let o : Option Facts = None in o) ≡ Some (shown seen) → ⊥
+  apart : (let o : Option Sight = None in o) ≡ Some (sight seen) → ⊥
   apart e = cc
 holds_of asked known said (Some taken) None is knows same so = absurd (apart same) where
-  apart : Some (seen_of taken) ≡ (let o : Option Facts = None in o) → ⊥
+  apart : Some (sight_in taken) ≡ (let o : Option Sight = None in o) → ⊥
   apart e = cc
-holds_of asked known said (Some taken) (Some seen) is knows same so = subst (Holds known) (sym (inner same)) so where
-  inner : (let o : Option Facts = Some (seen_of taken) in o) ≡ Some (shown seen) → seen_of taken ≡ shown seen
+holds_of asked known said (Some taken) (Some seen) is knows same so = subst (Holds known) (sym (ap (λ (s : Sight). s.facts) (inner same))) so where
+  inner : (let o : Option Sight = Some (sight_in taken) in o) ≡ Some (sight seen) → sight_in taken ≡ sight seen
   inner e = cc
 
-module _ (from : Beginning) (events : List Event) (t : Tracked) (h : Tracks t (After from events)) (mirror : Kept)
+module _ (from : Beginning) (path : HasPath from) (events : List Event) (t : Tracked) (h : Tracks t (After from events)) (mirror : Kept)
     (told : IsTold t.accepted (take t.count t.queued) mirror) where
   abbrev life : Life
   life = life_of t.connection (After from events)
 
-  knows : facts_of mirror.known ≡ known_after (remembered life.heard) nothing_known (told_within t.count life.said)
-  knows =
+  abbrev inputs : List Input
+  inputs = told_first life t.count
+
+  stands : StandsFor mirror (after inputs)
+  stands =
       let bytes : take t.count t.queued ≡ take t.count (bytes_of life) = ap (take t.count) h.queued in
-      let same : map Sent (requests_of t.accepted) ++ Fed (take t.count t.queued) ∷ [] ≡ inputs life t.count =
+      let same : map Sent (requests_of t.accepted) ++ Fed (take t.count t.queued) ∷ [] ≡ inputs =
       ap (λ (l : List ARequest). map Sent l ++ Fed (take t.count t.queued) ∷ []) (sym (heard_by from events t h))
       ∙ ap (λ (l : List ℕ). map Sent (requests_in life.heard) ++ Fed l ∷ []) bytes in
-      told.stands.facts ∙ ap (λ (l : List Input). (after l).facts) same
-      ∙ mirrors_know from events t.connection t.count (subst (λ (l : List ℕ). length l ≤ 4294967295) h.queued h.few)
-      (ap stream_fault (sym bytes) ∙ told.readable)
+      subst (λ (l : List Input). StandsFor mirror (after l)) same told
+
+  all_hold : HoldsWhatWasSo life inputs
+  all_hold = mirrors_hold from events (messages_are_readable from events path) t.connection inputs (is_editor life t.count)
+
+  fed : fed_in inputs ≡ take t.count (bytes_of life)
+  fed = fed_first (requests_in life.heard) (take t.count (bytes_of life))
 
   watched_by : is_made t ≡ true → t.count ≤ length t.queued
       → IsWatched (After from events) t.connection t.count (record { mirror = mirror; snapshot = t.snapshot })
-  watched_by made few = record {
-    made = made_by (After from events) t h made;
-    within = subst (λ (l : List ℕ). t.count ≤ length l) h.queued few;
-    knows = knows;
-    seen = h.snapshot;
-    holds = holds_of (remembered life.heard) (facts_of mirror.known) (told_within t.count life.said) t.snapshot _ refl knows h.snapshot
-        (subst (λ (f : Facts). WasSo f (last_seen None (told_within t.count life.said))) (sym knows)
-        (headline commands_lead commands_owe from events t.connection t.count));
-  }
+  watched_by made few =
+      let within = subst (λ (l : List ℕ). t.count ≤ length l) h.queued few in
+      let long : length (fed_in inputs) ≡ t.count = ap length fed ∙ length-take-le t.count (bytes_of life) within in
+      let knows = stands.facts ∙ all_hold.facts ∙ ap (λ (n : ℕ). known_within n life) long in
+      let so = subst (λ (n : ℕ). WereSo n life (facts_of mirror.known)) long (all_hold.mirror mirror stands) in
+      record {
+        made = made_by (After from events) t h made;
+        within = within;
+        mirror = stands;
+        readable = ap stream_fault (sym fed) ∙ all_hold.readable;
+        knows = knows;
+        seen = h.snapshot;
+        holds =
+            holds_of (remembered life.heard) (facts_of mirror.known) (told_within t.count life.said) t.snapshot _ refl knows h.snapshot so;
+      }
 
 -- ---- of a session that has begun
 
-next_tracked : (c : Config) (limits : Limits) (events : List Event) (e : Event) (connection count : ℕ) (old new : Tracked)
+-- the path of the program that is given
+abbrev pub PathFits : Config → Type 0
+PathFits c = IsPath c.program
+
+next_tracked : (c : Config) (limits : Limits) → PathFits c → (events : List Event) (e : Event) (connection count : ℕ) (old new : Tracked)
     → Keeps e old (let r : Result (Unit {0}) (Unit {0}) = Ok tt in r) new → SameWatched old new
     → AllTracked c limits events connection count old → AllTracked c limits (events ++ e ∷ []) connection count new
-next_tracked c limits events e connection count old new keeps same h = (
-  record { right = h.0.right; image = h.0.image; so = next (the_beginning c limits h.0.right h.0.image) events e old new keeps h.0.so },
+next_tracked c limits path events e connection count old new keeps same h = (
+  record { right = h.0.right; image = h.0.image; so = next (the_beginning c limits h.0.right h.0.image) path events e old new keeps h.0.so },
   same.0 ∙ h.1,
   same.1 ∙ h.2,
 )
@@ -179,30 +198,30 @@ take_next (x ∷ l) (suc i) e few is =
     let more : suc i + 1 ≡ suc (i + 1) = omega arith in
     ap (λ (n : ℕ). take n (x ∷ l)) more ∙ ap (λ (r : List Event). x ∷ r) (take_next l i e less is)
 
-pub next_taken : (c : Config) (limits : Limits) (events : List Event) (i : ℕ) (e : Event) (connection count : ℕ) (old new : Tracked)
+pub next_taken : (c : Config) (limits : Limits) → PathFits c → (events : List Event) (i : ℕ) (e : Event) (connection count : ℕ) (old new : Tracked)
     → Keeps e old (let r : Result (Unit {0}) (Unit {0}) = Ok tt in r) new → SameWatched old new
     → i < length events → e ≡ get_or events i e → AllTracked c limits (take i events) connection count old
     → AllTracked c limits (take (i + 1) events) connection count new
-next_taken c limits events i e connection count old new keeps same few is h =
+next_taken c limits path events i e connection count old new keeps same few is h =
     subst (λ (l : List Event). AllTracked c limits l connection count new) (sym (take_next events i e few is))
-    (next_tracked c limits (take i events) e connection count old new keeps same h)
+    (next_tracked c limits path (take i events) e connection count old new keeps same h)
 
 pub told_of : (a b q r : List ℕ) (count : ℕ) (mirror : Kept) → a ≡ b → q ≡ r → IsTold a (take count q) mirror
     → IsTold b (take count r) mirror
 told_of a b q r count mirror e f told =
     subst (λ (x : List ℕ). IsTold b (take count x) mirror) f (subst (λ (x : List ℕ). IsTold x (take count q) mirror) e told)
 
-pub is_watched : (c : Config) (limits : Limits) (events : List Event) (connection count : ℕ) (t : Tracked) (mirror : Kept)
+pub is_watched : (c : Config) (limits : Limits) → PathFits c → (events : List Event) (connection count : ℕ) (t : Tracked) (mirror : Kept)
     → AllTracked c limits events connection count t → is_made t ≡ true → count ≤ length t.queued
     → IsTold t.accepted (take count t.queued) mirror
     → Begun c limits (λ from. IsWatched (After from events) connection count (record { mirror = mirror; snapshot = t.snapshot }))
-is_watched c limits events connection count t mirror h made few told = record {
+is_watched c limits path events connection count t mirror h made few told = record {
   right = h.0.right;
   image = h.0.image;
   so =
       let told' = subst (λ (n : ℕ). IsTold t.accepted (take n t.queued) mirror) (sym h.2) told in
       let few' = subst (λ (n : ℕ). n ≤ length t.queued) (sym h.2) few in
-      let w = watched_by (the_beginning c limits h.0.right h.0.image) events t h.0.so mirror told' made few' in
+      let w = watched_by (the_beginning c limits h.0.right h.0.image) path events t h.0.so mirror told' made few' in
       subst (λ (n : ℕ). IsWatched (After (the_beginning c limits h.0.right h.0.image) events) n count
       (record { mirror = mirror; snapshot = t.snapshot })) h.1
       (subst (λ (n : ℕ). IsWatched (After (the_beginning c limits h.0.right h.0.image) events) t.connection n
@@ -250,15 +269,15 @@ is_queued c limits events connection count t h made =
     }
 
 -- what is shown of the connection that was watched is what is to be watched of the events
-pub shows_watched : (c : Config) (limits : Limits) (events : List Event) (connection count : ℕ) (t : Tracked) (result : Result Watched WatchError)
+pub shows_watched : (c : Config) (limits : Limits) → PathFits c → (events : List Event) (connection count : ℕ) (t : Tracked) (result : Result Watched WatchError)
     → AllTracked c limits events connection count t → Shows t count result
     → Watches c limits events connection count result
-shows_watched c limits events connection count t (Ok watched) h shows =
+shows_watched c limits path events connection count t (Ok watched) h shows =
     subst (λ (seen : Option (Option Captured)). Begun c limits
     (λ from. IsWatched (After from events) connection count (record { mirror = watched.mirror; snapshot = seen }))) (sym shows.1.1.1)
-    (is_watched c limits events connection count t watched.mirror h shows.0 shows.1.0 shows.1.1.0)
-shows_watched c limits events connection count t (Err watch.NoSuchConnection) h shows = not_made c limits events connection count t h shows
-shows_watched c limits events connection count t (Err watch.CutTooLong) h shows =
+    (is_watched c limits path events connection count t watched.mirror h shows.0 shows.1.0 shows.1.1.0)
+shows_watched c limits path events connection count t (Err watch.NoSuchConnection) h shows = not_made c limits events connection count t h shows
+shows_watched c limits path events connection count t (Err watch.CutTooLong) h shows =
     is_too_long c limits events connection count t h shows.0 shows.1
-shows_watched c limits events connection count t (Err watch.NoMemory) h shows = h.0.right
-shows_watched c limits events connection count t (Err (watch.Config error)) h shows = absurd shows
+shows_watched c limits path events connection count t (Err watch.NoMemory) h shows = h.0.right
+shows_watched c limits path events connection count t (Err (watch.Config error)) h shows = absurd shows

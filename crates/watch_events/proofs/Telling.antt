@@ -4,7 +4,7 @@ use Rattle.framing.specs.Reading.{reading_of}
 use Rattle.framing.specs.Streams.{Unframed, first_of, lent_from, others_of}
 use Rattle.mirror.proofs.Streaming.{waits_by}
 use Rattle.mirror.specs.Kept.{Kept}
-use Rattle.mirror.specs.Streams.{FeedsPast, Input, Past, StandsFor, TellsPast, after, after_input, answer_by, nothing_past, stream_fault, with_request}
+use Rattle.mirror.specs.Streams.{FeedsPast, Input, Past, StandsFor, TellsPast, after, after_input, nothing_past, with_request}
 use Rattle.mirror.specs.Streams.Input.{Sent, Fed}
 use Rattle.mirror.specs.declared.error.MirrorError.{MirrorError}
 use Rattle.mirror.specs.declared.error.MirrorError.TheVariants as mirror
@@ -15,7 +15,7 @@ use Rattle.protocol.specs.declared.request.MessageError.{MessageError}
 use Rattle.protocol.specs.declared.request.MessageError.TheVariants as message
 use Rattle.protocol.specs.declared.request.Request.{Request as ARequest}
 use Rattle.session.specs.Arrivals.{asks_in, asks_of}
-use Rattle.headline.specs.Mirrors.{requests_in}
+use Rattle.headline.specs.Editors.{requests_in}
 use Rattle.watch_events.specs.Replaying.{IsTold, TellsBody, TellsOne, requests_of}
 
 -- ---- one input more
@@ -27,11 +27,6 @@ after_more past (y ∷ xs) x = after_more (after_input past y) xs x
 sent_more : (xs : List ARequest) (r : ARequest) → map Sent (xs ++ r ∷ []) ≡ map Sent xs ++ Sent r ∷ []
 sent_more [] r = refl
 sent_more (x ∷ xs) r = ap (λ (l : List Input). Sent x ∷ l) (sent_more xs r)
-
--- requests have no bytes
-no_bytes : (past : Past) (xs : List ARequest) → (fold after_input past (map Sent xs)).bytes ≡ past.bytes
-no_bytes past [] = refl
-no_bytes past (x ∷ xs) = no_bytes (with_request past x) xs
 
 -- ---- the requests in the bodies that wait
 
@@ -143,41 +138,20 @@ told_to_fault all waiting body old new first tells t = by (incoming_of body) ref
       (λ (x : Result Incoming MessageError). requests_in (asks_in (x ∷ map incoming_of (others_of waiting)))) is in
       subst (λ (k : Kept). StandsFor k (after (map Sent all))) (sym told.1) (stands_all all waiting old t left)
 
--- ---- one request
+-- ---- one request, and the bytes
 
-no_memory : (let r : Result (Unit {0}) MirrorError = Ok tt in r) ≡ Err mirror.NoMemory → ⊥
-no_memory e = cc
-
-pub tells_request : (request : ARequest) (old new : Kept) → ((past : Past) → StandsFor old past → TellsPast past request old (Ok tt) new)
+pub tells_request : (request : ARequest) (old new : Kept) (result : Result (Unit {0}) MirrorError) → (result ≡ Err mirror.NoMemory → ⊥)
+    → ((past : Past) → StandsFor old past → TellsPast past request old result new)
     → (past : Past) → StandsFor old past → StandsFor new (with_request past request)
-tells_request request old new h past st = by (h past st) where
-  by : TellsPast past request old (Ok tt) new → StandsFor new (with_request past request)
+tells_request request old new result never h past st = by (h past st) where
+  by : TellsPast past request old result new → StandsFor new (with_request past request)
   by (inl told) = told.0
-  by (inr none) = absurd (no_memory none.0)
+  by (inr none) = absurd (never none.0)
 
--- ---- the bytes
-
-answered : (fault : Option MirrorError) → Ok tt ≡ answer_by fault → fault ≡ None
-answered None e = refl
-answered (Some x) e = absurd (apart e) where
-  apart : (let r : Result (Unit {0}) MirrorError = Ok tt in r) ≡ Err x → ⊥
-  apart e = cc
-
-pub is_told : (accepted got : List ℕ) (old new : Kept) → StandsFor old (after (map Sent (requests_of accepted)))
-    → ((past : Past) → StandsFor old past → FeedsPast past got old (Ok tt) new) → IsTold accepted got new
-is_told accepted got old new st h = by (h past st) where
-  sent : List ARequest
-  sent = requests_of accepted
-
-  past : Past
-  past = after (map Sent sent)
-
-  empty : past.bytes ≡ []
-  empty = no_bytes nothing_past sent
-
-  by : FeedsPast past got old (Ok tt) new → IsTold accepted got new
-  by (inl fed) = record {
-    stands = subst (StandsFor new) (sym (after_more nothing_past (map Sent sent) (Fed got))) fed.0;
-    readable = ap (λ (l : List ℕ). stream_fault (l ++ got)) (sym empty) ∙ answered (stream_fault (past.bytes ++ got)) fed.1;
-  }
-  by (inr none) = absurd (no_memory none.0)
+pub is_told : (accepted got : List ℕ) (old new : Kept) (result : Result (Unit {0}) MirrorError) → (result ≡ Err mirror.NoMemory → ⊥)
+    → StandsFor old (after (map Sent (requests_of accepted)))
+    → ((past : Past) → StandsFor old past → FeedsPast past got old result new) → IsTold accepted got new
+is_told accepted got old new result never st h = by (h (after (map Sent (requests_of accepted))) st) where
+  by : FeedsPast (after (map Sent (requests_of accepted))) got old result new → IsTold accepted got new
+  by (inl fed) = subst (StandsFor new) (sym (after_more nothing_past (map Sent (requests_of accepted)) (Fed got))) fed.0
+  by (inr none) = absurd (never none.0)

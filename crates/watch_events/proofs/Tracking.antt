@@ -6,7 +6,6 @@ use Rattle.std.proofs.lemmas.Bool.Decides.{nat_tests}
 use Rattle.std.proofs.lemmas.List.{append_cancel_left, drop_at}
 use Rattle.std.proofs.lemmas.List.Elements.{All-head, All-tail}
 use Rattle.debuggee.specs.Programs.{Debuggee, Program, is_running}
-use Rattle.facts.specs.Facts.{Facts}
 use Rattle.mirror.specs.Streams.{messages_so_far, stream_fault}
 use Rattle.replies.specs.declared.event.Event.TheVariants as event
 use Rattle.replies.specs.declared.message.Message.{Message}
@@ -16,15 +15,16 @@ use Rattle.session_laws.proofs.Waiting.{every_byte_is_taken_or_waits}
 use Rattle.session.specs.Acts.{Now}
 use Rattle.session.specs.Kept.{Kept, Stands}
 use Rattle.session.specs.Sessions.{Life, Said, Session, Snapshot, bytes_of, frame_said, life_of, no_life, not_taken, snapshot_of, up_to_fault, waiting_of}
-use Rattle.session.specs.Shown.{shown, shown_by}
-use Rattle.session.specs.Snapshots.{Captured, IsTaken, as_running as captured_running, seen_of}
+use Rattle.session.specs.Snapshots.{Captured, IsTaken, as_running as captured_running}
 use Rattle.session.specs.declared.link.Link.{Link}
-use Rattle.headline.proofs.Mirrored.{Good, all_are_good, framed_some, messages_within, told_hold}
-use Rattle.headline.specs.News.{Fits, IsFollowed, as_running, says_output, seen_at, seen_now}
-use Rattle.headline.specs.Headline.{last_seen, told_within}
+use Rattle.headline.proofs.Mirrored.{all_are_readable}
+use Rattle.headline.proofs.Readable.{IsReadable, framed_some, has_no_fault, messages_within, told_hold}
+use Rattle.headline.specs.News.{Fits, IsFollowed, Sight, as_running, says_output, seen_at, seen_now, sight, sight_by}
+use Rattle.headline.specs.Concluding.{last_seen, told_within}
 use Rattle.headline.specs.Printed.{PrintsRunning}
 use Rattle.headline.proofs.Printed.{what_is_printed_runs}
-use Rattle.watch_events.specs.Tracking.{IsReached, Noted, NotedIf, SameBut, SeenAfter, Tracked, Tracks, last_from, taken_at}
+use Rattle.message_laws.proofs.Readable.{messages_are_readable}
+use Rattle.watch_events.specs.Tracking.{IsReached, Noted, NotedIf, SameBut, SeenAfter, Tracked, Tracks, last_from, sight_in, taken_at}
 
 -- ---- lives
 
@@ -148,23 +148,28 @@ prints (IsEvent event.Continued) d e h = absurd (let no : false ≡ true = e in 
 prints (IsEvent (event.Exited b)) d e h = absurd (let no : false ≡ true = e in cc)
 prints (IsEvent event.Terminated) d e h = absurd (let no : false ≡ true = e in cc)
 
-seen_output : (taken : Option Captured) (m : Said) (now : Facts) → says_output m.message ≡ true
-    → PrintsRunning m.message m.snapshot.debuggee → seen_of taken ≡ now → shown m.snapshot ≡ as_running now
-    → seen_of (captured_running taken) ≡ shown m.snapshot
+seen_output : (taken : Option Captured) (m : Said) (now : Sight) → says_output m.message ≡ true
+    → PrintsRunning m.message m.snapshot.debuggee → sight_in taken ≡ now → sight m.snapshot ≡ as_running now
+    → sight_in (captured_running taken) ≡ sight m.snapshot
 seen_output (Some c) m now e prints is fits = ap as_running is ∙ sym fits
 seen_output None m now e runs is fits =
     let p = prints m.message m.snapshot.debuggee e runs in
-    let here : (shown m.snapshot).register 32 ≡ Some p.0.machine.hart.pc = ap
-    (λ (x : Option Program). (shown_by x m.snapshot.numbers).register 32) p.1 in
-    let none : (shown m.snapshot).register 32 ≡ None = ap (λ (f : Facts). f.register 32) (fits ∙ sym (ap as_running is)) in
+    let here : (sight m.snapshot).facts.register 32 ≡ Some p.0.machine.hart.pc = ap
+    (λ (x : Option Program). (sight_by x m.snapshot.numbers).facts.register 32) p.1 in
+    let none : (sight m.snapshot).facts.register 32 ≡ None = ap (λ (s : Sight). s.facts.register 32) (fits ∙ sym (ap as_running is)) in
     absurd (let no : Some p.0.machine.hart.pc ≡ None = sym here ∙ none in cc)
 
+taken_sight : (taken : Option Captured) (seen : Snapshot) → IsTaken taken seen → sight_in taken ≡ sight seen
+taken_sight taken seen is = let facts = is.facts in let path = is.path in λ i. record { facts = facts i; path = path i }
+
 seen_taken : (t : Session) (m : Said) (taken : Option Captured) → Fits t m → PrintsRunning m.message m.snapshot.debuggee
-    → IsTaken taken (snapshot_of t.now) → seen_of (taken_at (says_output m.message) taken) ≡ shown m.snapshot
+    → IsTaken taken (snapshot_of t.now) → sight_in (taken_at (says_output m.message) taken) ≡ sight m.snapshot
 seen_taken t m taken fits runs is = by (says_output m.message) refl where
-  by : (b : Bool) → says_output m.message ≡ b → seen_of (taken_at b taken) ≡ shown m.snapshot
-  by true e = seen_output taken m (seen_now t) e runs is.facts (fits ∙ ap (λ (b : Bool). seen_at b (seen_now t)) e)
-  by false e = is.facts ∙ sym (fits ∙ ap (λ (b : Bool). seen_at b (seen_now t)) e)
+  by : (b : Bool) → says_output m.message ≡ b → sight_in (taken_at b taken) ≡ sight m.snapshot
+  by true e =
+      seen_output taken m (seen_now t) e runs (taken_sight taken (snapshot_of t.now) is)
+      (fits ∙ ap (λ (b : Bool). seen_at b (seen_now t)) e)
+  by false e = taken_sight taken (snapshot_of t.now) is ∙ sym (fits ∙ ap (λ (b : Bool). seen_at b (seen_now t)) e)
 
 AllRun : List Said → Type 0
 AllRun said = All (λ (m : Said). PrintsRunning m.message m.snapshot.debuggee) said
@@ -179,14 +184,14 @@ Suits t None = Unit {0}
 Suits t (Some m) = Fits t m × PrintsRunning m.message m.snapshot.debuggee
 
 seen_after : (t : Session) (before : Option Snapshot) (old new : Option (Option Captured)) (news : List Said) (last : Option Said)
-    → option_map seen_of old ≡ option_map shown before
+    → option_map sight_in old ≡ option_map sight before
     → All (Fits t) news → AllRun news → Suits t last
     → SeenAfter (last_from (option_map (λ (m : Said). m.message) last) (map (λ (m : Said). m.message) news)) t.now old new
-    → option_map seen_of new ≡ option_map shown (last_seen (so_far before last) news)
+    → option_map sight_in new ≡ option_map sight (last_seen (so_far before last) news)
 unfolding AllRun so_far Suits
-seen_after t before old new [] None was fits runs suits h = ap (option_map seen_of) h ∙ was
+seen_after t before old new [] None was fits runs suits h = ap (option_map sight_in) h ∙ was
 seen_after t before old new [] (Some m) was fits runs suits h =
-    ap (option_map seen_of) h.1.1 ∙ ap (λ (f : Facts). Some f) (seen_taken t m h.0 suits.0 suits.1 h.1.0)
+    ap (option_map sight_in) h.1.1 ∙ ap (λ (s : Sight). Some s) (seen_taken t m h.0 suits.0 suits.1 h.1.0)
 seen_after t before old new (m ∷ news) last was fits runs suits h =
     seen_after t before old new news (Some m) was (All-tail (Fits t) m news fits)
     (All-tail (λ (m : Said). PrintsRunning m.message m.snapshot.debuggee) m news runs)
@@ -199,8 +204,8 @@ abbrev pub with_session : Tracked → Kept → Tracked
 with_session t k = record t { session = k }
 
 pub seen_place : (a b : ℕ) (x y : Life) → b ≡ a → y ≡ x
-    → option_map shown (last_seen None (told_within a x.said)) ≡ option_map shown (last_seen None (told_within b y.said))
-seen_place a b x y e f = sym (λ i. option_map shown (last_seen None (told_within (e i) (f i).said)))
+    → option_map sight (last_seen None (told_within a x.said)) ≡ option_map sight (last_seen None (told_within b y.said))
+seen_place a b x y e f = sym (λ i. option_map sight (last_seen None (told_within (e i) (f i).said)))
 
 -- what holds of all holds of the last of them
 of_last : (P : Said → Type 0) (xs ys : List Said) → All P (xs ++ ys) → All P ys
@@ -245,13 +250,12 @@ module _ (old new : Tracked) (s t : Session) (k : Kept) (rs : IsReached s) (rt :
         current = same.current ∙ h.current ∙ sym told.newly.connections;
         accepted = ap (λ (l : Life). l.accepted) life ∙ h.accepted ∙ ap (up_to_fault []) (sym same.accepted);
         queued = queued ∙ h.queued ∙ sym (ap bytes_of life);
-        few = subst (λ (l : List ℕ). length l ≤ 4294967295) (sym queued) h.few;
-        snapshot = ap (option_map seen_of) snapshot ∙ h.snapshot
+        snapshot = ap (option_map sight_in) snapshot ∙ h.snapshot
             ∙ seen_place old.count new.count (life_of old.connection s) (life_of new.connection t) same.count life;
       }
 
   seen_here : old.connection ≡ s.now.connections → Noted waited (with_session old k) new
-      → option_map seen_of new.snapshot ≡ option_map shown (last_seen None (told_within old.count (life_of old.connection t).said))
+      → option_map sight_in new.snapshot ≡ option_map sight (last_seen None (told_within old.count (life_of old.connection t).said))
   unfolding AllRun frames so_far Suits
   seen_here e noted =
       let news = told.news in
@@ -259,25 +263,23 @@ module _ (old new : Tracked) (s t : Session) (k : Kept) (rs : IsReached s) (rt :
       let room = old.count - length old.queued in
       let ys = told_within room news in
       let all : (life_of old.connection t).said ≡ said ++ news = more_said e in
-      let good : All Good news = of_last Good said news
-      (subst (All Good) (ap (λ (x : Session). (life_of old.connection x).said) (sym rt.is) ∙ all)
-      (all_are_good rt.from rt.events old.connection)) in
+      let readable : All IsReadable news = of_last IsReadable said news
+      (subst (All IsReadable) (ap (λ (x : Session). (life_of old.connection x).said) (sym rt.is) ∙ all)
+      (all_are_readable rt.from rt.events (messages_are_readable rt.from rt.events rt.path) old.connection)) in
       let run : AllRun news = of_last (λ (m : Said). PrintsRunning m.message m.snapshot.debuggee) said news
       (subst AllRun (ap (λ (x : Session). (life_of old.connection x).said) (sym rt.is) ∙ all)
       (what_is_printed_runs rt.from rt.events old.connection)) in
-      let sum : length new.queued ≡ length old.queued + length (flat_map frame_said news) =
-      ap length (noted.queued ∙ ap (λ (l : List ℕ). old.queued ++ l) news_are) ∙ length-append old.queued (flat_map frame_said news) in
-      let few : length (flat_map frame_said news) ≤ 4294967295 = let most = noted.few in omega (arith, sum, most) in
       let part : take room waited ≡ take room (flat_map frame_said news) = ap (take room) news_are in
-      let read = messages_within news room few good (ap stream_fault (sym part) ∙ noted.readable) in
+      let none : stream_fault (take room waited) ≡ None = ap stream_fault part ∙ has_no_fault news room readable in
+      let read = messages_within news room readable in
       let messages : messages_so_far (take room waited) ≡ map (λ (m : Said). m.message) ys = ap messages_so_far part ∙ read in
       let after = seen_after t (last_seen None (told_within old.count said)) old.snapshot new.snapshot ys None h.snapshot
       (told_hold (Fits t) news room told.newly.fits)
       (told_hold (λ (m : Said). PrintsRunning m.message m.snapshot.debuggee) news room run) tt
       (subst (λ (now : Now). SeenAfter (last_from None (map (λ (m : Said). m.message) ys)) now old.snapshot new.snapshot) stands.now
-      (subst (λ (l : List Message). SeenAfter (last_from None l) k.now old.snapshot new.snapshot) messages noted.snapshot)) in
+      (subst (λ (l : List Message). SeenAfter (last_from None l) k.now old.snapshot new.snapshot) messages (noted.snapshot none))) in
       let place : room ≡ old.count - length (flat_map frame_said said) = ap (λ (l : List ℕ). old.count - length l) h.queued in
-      after ∙ ap (option_map shown) (sym (last_seen_more None (told_within old.count said) ys)
+      after ∙ ap (option_map sight) (sym (last_seen_more None (told_within old.count said) ys)
       ∙ ap (λ (n : ℕ). last_seen None (told_within old.count said ++ told_within n news)) place
       ∙ ap (last_seen None) (sym (told_more said news old.count) ∙ ap (told_within old.count) (sym all)))
 
@@ -295,7 +297,6 @@ module _ (old new : Tracked) (s t : Session) (k : Kept) (rs : IsReached s) (rt :
         current = same.current ∙ h.current ∙ sym told.newly.connections;
         accepted = ap (λ (l : Life). l.accepted) life ∙ accepted ∙ h.accepted ∙ ap (up_to_fault []) (sym same.accepted);
         queued = bytes ∙ sym (ap bytes_of life);
-        few = noted.few;
         snapshot = seen_here e noted ∙ seen_place old.count new.count (life_of old.connection t) (life_of new.connection t) same.count life;
       }
 

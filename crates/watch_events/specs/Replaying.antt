@@ -1,8 +1,9 @@
 -- What an editor knows, beside what there was to see: a list of events is done in a new session, and one connection is watched.
 --
--- A mirror is told all requests that were accepted on it, and is fed the first bytes that were queued for it, so many of them. It then
--- knows what the headline says, and that was so when the last message was queued that lies wholly in these bytes. What there was to see
--- then stands beside it; where no message is whole, there is neither.
+-- A mirror is told all requests that were accepted on it, and is fed the first bytes that were queued for it, so many of them. So it is a
+-- mirror as the headline has it, and can be told and fed on: it found no fault, and what it knows was so when the last message was queued
+-- that lies wholly in these bytes. What there was to see then stands beside it, with the path of the program's file; where no message is
+-- whole, there is neither.
 use Rattle.std.specs.Prelude.{◌≡◌, ℕ, Bool, true, false, ◌<◌, ◌≤◌, List, [], ◌∷◌, ◌++◌, map, length, Option, Some, None, option_map, Result, Ok, Err, take, ⊤}
 use Rattle.facts.specs.Facts.{Facts, nothing_known}
 use Rattle.framing.specs.Reading.{reading_of}
@@ -17,17 +18,18 @@ use Rattle.session.specs.Arrivals.{asks_of}
 use Rattle.session.specs.Begins.{AreRight, Begins, beginning_of}
 use Rattle.session.specs.Config.{HasImage}
 use Rattle.session.specs.Sessions.{After, Beginning, Session, bytes_of, life_of}
-use Rattle.session.specs.Shown.{shown}
 use Rattle.session.specs.Snapshots.{Captured, seen_of}
 use Rattle.session.specs.declared.config.Config.{Config}
 use Rattle.session.specs.declared.config.ConfigError.{ConfigError}
 use Rattle.session.specs.declared.config.ConfigError.TheVariants as config
 use Rattle.session.specs.declared.event.Event.{Event}
 use Rattle.session.specs.declared.limits.Limits.{Limits}
-use Rattle.headline.specs.Headline.{known_after, last_seen, remembered, told_within}
+use Rattle.headline.specs.Concluding.{last_seen, told_within}
+use Rattle.headline.specs.Editors.{requests_in, told_first}
+use Rattle.headline.specs.Headline.{known_within}
 use Rattle.headline.specs.Holding.{Holds}
-use Rattle.headline.specs.Mirrors.{requests_in}
-use Rattle.watch_events.specs.Tracking.{Tracked, Tracks, is_made}
+use Rattle.headline.specs.News.{sight}
+use Rattle.watch_events.specs.Tracking.{Tracked, Tracks, is_made, sight_in}
 use Rattle.watch_events.specs.declared.watching.WatchError.{WatchError}
 use Rattle.watch_events.specs.declared.watching.WatchError.TheVariants as watch
 use Rattle.watch_events.specs.declared.watching.Watched.{Watched}
@@ -52,13 +54,14 @@ HoldsOf known None = known ≡ nothing_known
 HoldsOf known (Some seen) = Holds known (seen_of seen)
 
 -- What an editor knows by the first bytes of a connection, so many of them, and what there was to see when the last message was queued that
--- lies wholly in them.
+-- lies wholly in them: the facts, and the path.
 pub record IsWatched (s : Session) (c count : ℕ) (watched : Watched) : Type 0 where
   pub made : IsMade s c
   pub within : count ≤ queued_for c s
-  pub knows : facts_of watched.mirror.known
-      ≡ known_after (remembered (life_of c s).heard) nothing_known (told_within count (life_of c s).said)
-  pub seen : option_map seen_of watched.snapshot ≡ option_map shown (last_seen None (told_within count (life_of c s).said))
+  pub mirror : StandsFor watched.mirror (after (told_first (life_of c s) count))
+  pub readable : stream_fault (take count (bytes_of (life_of c s))) ≡ None
+  pub knows : facts_of watched.mirror.known ≡ known_within count (life_of c s)
+  pub seen : option_map sight_in watched.snapshot ≡ option_map sight (last_seen None (told_within count (life_of c s).said))
   pub holds : HoldsOf (facts_of watched.mirror.known) watched.snapshot
 
 -- `watch` answers that, or the first error that applies.
@@ -116,10 +119,9 @@ abbrev pub TellsBody : Result Incoming MessageError → Bool → Kept → Kept �
 TellsBody (Ok incoming) is_message old new = (is_message ≡ true) × TellsOne incoming old new
 TellsBody (Err why) is_message old new = (is_message ≡ false) × (new ≡ old)
 
--- it was told the requests, and fed the bytes, which have no fault
-pub record IsTold (accepted got : List ℕ) (mirror : Kept) : Type 0 where
-  pub stands : StandsFor mirror (after (map Sent (requests_of accepted) ++ Fed got ∷ []))
-  pub readable : stream_fault got ≡ None
+-- it was told the requests, and fed the bytes
+abbrev pub IsTold : List ℕ → List ℕ → Kept → Type 0
+IsTold accepted got mirror = StandsFor mirror (after (map Sent (requests_of accepted) ++ Fed got ∷ []))
 
 -- what is shown of the connection that was watched, or why nothing is
 abbrev pub Shows : Tracked → ℕ → Result Watched WatchError → Type 0

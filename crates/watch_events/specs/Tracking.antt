@@ -7,13 +7,13 @@ use Rattle.session.specs.Acts.{Now}
 use Rattle.session.specs.Kept.{Kept, Stands}
 use Rattle.session.specs.Effects.{ended_as, sliced}
 use Rattle.session.specs.Sessions.{After, Beginning, Effect, Session, bytes_of, histories, life_of, snapshot_of, up_to_fault}
-use Rattle.session.specs.Shown.{shown}
-use Rattle.session.specs.Snapshots.{Captured, IsTaken, as_running, seen_of}
+use Rattle.session.specs.Snapshots.{Captured, IsTaken, as_running, path_of, seen_of}
 use Rattle.session.specs.declared.event.SliceEnd.{SliceEnd}
 use Rattle.session.specs.declared.event.Event.{Event}
 use Rattle.session.specs.declared.event.Event.TheVariants.{Slice}
-use Rattle.headline.specs.Headline.{last_seen, told_within}
-use Rattle.headline.specs.News.{IsFollowed, says_output}
+use Rattle.headline.specs.Concluding.{last_seen, told_within}
+use Rattle.headline.specs.News.{IsFollowed, Sight, says_output, sight}
+use Rattle.message_laws.specs.Messages.{HasPath}
 
 -- a session, and the connection that is watched: which it is, and how many of its bytes; how many connections were made;
 -- the pieces that were accepted on it, and the bytes that were queued for it; and what there was to see when the last
@@ -27,9 +27,14 @@ pub record Tracked : Type 0 where
   pub queued : List ℕ
   pub snapshot : Option (Option Captured)
 
--- some list of events leaves it
+-- what was seen, as facts, and the path of the program's file
+abbrev pub sight_in : Option Captured → Sight
+sight_in taken = record { facts = seen_of taken; path = path_of taken }
+
+-- some list of events leaves it, of a session whose program has a path that is short enough
 pub record IsReached (s : Session) : Type 0 where
   pub from : Beginning
+  pub path : HasPath from
   pub events : List Event
   pub is : s ≡ After from events
 
@@ -39,8 +44,7 @@ pub record Tracks (t : Tracked) (s : Session) : Type 0 where
   pub current : t.current ≡ s.now.connections
   pub accepted : (life_of t.connection s).accepted ≡ up_to_fault [] t.accepted
   pub queued : t.queued ≡ bytes_of (life_of t.connection s)
-  pub few : length t.queued ≤ 4294967295
-  pub snapshot : option_map seen_of t.snapshot ≡ option_map shown (last_seen None (told_within t.count (life_of t.connection s).said))
+  pub snapshot : option_map sight_in t.snapshot ≡ option_map sight (last_seen None (told_within t.count (life_of t.connection s).said))
 
 -- before anything happened
 abbrev pub untouched : Kept → ℕ → ℕ → Tracked
@@ -90,10 +94,10 @@ abbrev pub last_from : {A : Type 0} → Option A → List A → Option A
 last_from before [] = before
 last_from before (x ∷ xs) = last_from (Some x) xs
 
--- whether what a body is says what the program printed, if it is a message
-abbrev pub said_by : Result Message MessageError → Option Bool
-said_by (Ok m) = Some (says_output m)
-said_by (Err why) = None
+-- where a body is a message, this is whether it says what the program printed
+abbrev pub SaidBy : Result Message MessageError → Bool → Type 0
+SaidBy (Ok m) says = says ≡ says_output m
+SaidBy (Err why) says = ⊤
 
 -- what there was to see then, by what was taken after it
 abbrev pub taken_at : Bool → Option Captured → Option Captured
@@ -114,12 +118,11 @@ IsSeenNow running now seen = (taken : Option Captured) × (IsTaken taken (snapsh
 abbrev pub watched_part : ℕ → List ℕ → List ℕ → List ℕ
 watched_part count queued news = take (count - length queued) news
 
--- these bytes were queued, for the connection that is watched
+-- these bytes were queued, for the connection that is watched; what there was to see is kept where they are messages, as they are
 pub record Noted (news : List ℕ) (old new : Tracked) : Type 0 where
   pub queued : new.queued ≡ old.queued ++ news
-  pub few : length new.queued ≤ 4294967295
-  pub readable : stream_fault (watched_part old.count old.queued news) ≡ None
-  pub snapshot : SeenAfter (last_from None (messages_so_far (watched_part old.count old.queued news))) old.session.now old.snapshot new.snapshot
+  pub snapshot : stream_fault (watched_part old.count old.queued news) ≡ None
+      → SeenAfter (last_from None (messages_so_far (watched_part old.count old.queued news))) old.session.now old.snapshot new.snapshot
 
 -- nothing else changes
 pub record SameBut (old new : Tracked) : Type 0 where

@@ -1,6 +1,7 @@
 //! A list of events played back: what an editor knows by the bytes that it got, beside what there was to see.
 #![tactic(auto)]
 
+mod bodies;
 mod last;
 mod track;
 mod watching;

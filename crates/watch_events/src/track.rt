@@ -12,9 +12,6 @@ use std::alloc::{AllocError, Global};
 use std::cmp;
 use std::marker::Model;
 
-/// The most bytes that are read of a connection.
-const MOST_BYTES: usize = 4_294_967_295;
-
 /// A session, and what is kept of the connection that is watched: the pieces that were accepted on it, the bytes that were queued for it,
 /// and what there was to see when the last message was queued that lies wholly in the first `count` of these.
 #[derive(Drop)]
@@ -220,9 +217,6 @@ impl Track {
             return Ok(());
         }
         let news = after(self.session.waiting(), before);
-        if news.len() > MOST_BYTES || self.queued.len() > MOST_BYTES - news.len() {
-            return Err(AllocError);
-        }
         let watched = first(news, self.count.saturating_sub(self.queued.len()));
         if let Some(prints) = last_message(self.alloc, watched)? {
             self.snapshot = Some(seen(&self.session, prints)?);

@@ -1,13 +1,13 @@
 //! What an editor knows, beside what there was to see.
 ghost use Rattle.std.specs.Prelude.{◌≡◌, IfOk, OnOk};
-ghost use Rattle.framing.specs.Reading.{reading_of};
 ghost use Rattle.protocol.specs.Reading.{incoming_of};
+ghost use Rattle.message_laws.specs.Messages.{IsPath};
 ghost use Rattle.watch_events.specs.Replaying as spec;
 ghost use Rattle.watch_events.specs.Replaying.{IsTold, Queues, Runs, Shows, TellsAll, TellsBody, TellsOne, Watches};
 
+use crate::bodies::bodies_of;
 use crate::track::Track;
-use framing::{FrameError, Unframer};
-use mirror::Mirror;
+use mirror::{Mirror, MirrorError};
 use protocol::{Incoming, MessageError, read_request};
 use session::{Config, ConfigError, Event, Limits, Session, Snapshot};
 use std::alloc::{AllocError, Global};
@@ -44,11 +44,10 @@ pub enum WatchError {
 
 /// Does events in a new session, and tells and feeds a mirror what an editor sent and got on the connection of this number, which
 /// counts from 1: all requests that were accepted on it, and the first `count` of the bytes that were queued for it. An event that is
-/// refused is passed over.
+/// refused is passed over. The path of a program that is given has at most 1,048,576 bytes.
 ///
 /// The errors apply in this order. `Config`: there is no session of this (`Session::new`). `NoSuchConnection`: fewer connections were
-/// made, or the number is 0. `CutTooLong`: fewer bytes were queued. `NoMemory`, at any time: no memory was left, or more than
-/// 4,294,967,295 bytes were queued for the connection.
+/// made, or the number is 0. `CutTooLong`: fewer bytes were queued. `NoMemory`, at any time: no memory was left.
 pub fn watch(
     alloc: Global,
     config: Config,
@@ -57,6 +56,7 @@ pub fn watch(
     connection: u32,
     count: usize,
 ) -> Result<Watched, WatchError>
+    requires { IsPath config.program }
     ensures { Watches config limits events.now connection count result }
 {
     let track = replayed(alloc, config, limits, events, connection, count)?;
@@ -91,6 +91,7 @@ pub fn queued(
     events: &[Event],
     connection: u32,
 ) -> Result<usize, WatchError>
+    requires { IsPath config.program }
     ensures { Queues config limits events.now connection result }
 {
     let track = replayed(alloc, config, limits, events, connection, 0)?;
@@ -110,6 +111,7 @@ fn replayed(
     connection: u32,
     count: usize,
 ) -> Result<Track, WatchError>
+    requires { IsPath config.program }
     ensures { Runs config limits events.now connection count result }
 {
     let session = match Session::new(alloc, config, limits) {
@@ -136,14 +138,15 @@ fn no_session(error: ConfigError) -> WatchError
 }
 
 // A mirror that was told the requests in the bytes that came from an editor, and was fed the bytes that it got.
+#[tactic(auto, using(crate::proofs::Telling::is_told))]
 fn mirror_of(alloc: Global, accepted: &[u8], got: &[u8]) -> Result<Mirror, AllocError>
     ensures { IfOk result (λ mirror. IsTold accepted.now got.now mirror) }
 {
     let mut mirror = Mirror::new(alloc);
     tell(alloc, &mut mirror, accepted)?;
     match mirror.feed(got) {
-        Ok(()) => Ok(mirror),
-        Err(_) => Err(AllocError),
+        Err(MirrorError::NoMemory) => Err(AllocError),
+        _ => Ok(mirror),
     }
 }
 
@@ -151,25 +154,13 @@ fn mirror_of(alloc: Global, accepted: &[u8], got: &[u8]) -> Result<Mirror, Alloc
 fn tell(alloc: Global, mirror: &mut Mirror, accepted: &[u8]) -> Result<(), AllocError>
     ensures { OnOk result (TellsAll mirror.old accepted.now mirror.new) }
 {
-    let mut unframer = bodies_of(alloc, accepted)?;
+    let mut unframer = bodies_of(alloc, REQUEST_LIMIT, accepted)?;
     while let Some(body) = unframer.next_body() {
         if !tell_body(alloc, mirror, body)? {
             return Ok(());
         }
     }
     Ok(())
-}
-
-// The bodies in bytes that came from an editor.
-fn bodies_of(alloc: Global, accepted: &[u8]) -> Result<Unframer, AllocError>
-    ensures { IfOk result (λ unframer. unframer.waiting
-        ≡ (reading_of 1048576 accepted.now).bodies) }
-{
-    let mut unframer = Unframer::new(alloc, REQUEST_LIMIT);
-    match unframer.feed(accepted) {
-        Err(FrameError::NoMemory) => Err(AllocError),
-        _ => Ok(unframer),
-    }
 }
 
 // Tells a mirror the request that a body is, if it is one, and answers whether it is a message.
@@ -194,8 +185,8 @@ fn tell_one(mirror: &mut Mirror, incoming: &Incoming) -> Result<(), AllocError>
 {
     match incoming {
         Incoming::Request(request) => match mirror.sent(request) {
-            Ok(()) => Ok(()),
-            Err(_) => Err(AllocError),
+            Err(MirrorError::NoMemory) => Err(AllocError),
+            _ => Ok(()),
         },
         _ => Ok(()),
     }
