@@ -1,32 +1,118 @@
--- Why a script is not played to its end, and what was written then.
+-- What a script means, why it is not played to its end, and what was written then.
 --
--- Of a script whose lines are wrong the first of these is said. Else it is played, and where there is nothing to watch its last line is said: the one that
--- says what is watched. Nothing was written in both cases.
-use Rattle.std.specs.Prelude.{◌≡◌, ℕ, ◌+◌, List, length, Option, Result, Ok, Err, IsOk}
-use Rattle.watch_events.specs.declared.watching.WatchError.{WatchError}
-use Rattle.watch_events.specs.declared.watching.WatchError.TheVariants.{Config, NoSuchConnection, CutTooLong, NoMemory as OutOfMemory}
+-- A script whose lines are right lists what happens to a session, in order: with the files that its lines name, read one
+-- after the other. Its last line says what is watched: a connection, and how many of its bytes. What an editor then knows is
+-- what `watch` answers for these events, in a session with 1 MiB of memory, no program and the greatest limits.
+--
+-- Of a script whose lines are wrong the first of these is said. Else its last line is said, the one that says what is
+-- watched, where there is nothing to watch: no connection has that number, or it got fewer bytes. Nothing was written in
+-- both cases.
+use Rattle.std.specs.Prelude.{◌≡◌, ◌⊎◌, ℕ, ◌+◌, List, [], ◌∷◌, ◌++◌, length, Option, Some, None, Result, Ok, Err}
 use Rattle.scripts.specs.Scripts.{script_of}
 use Rattle.scripts.specs.declared.fault.ScriptFault.{ScriptFault}
 use Rattle.scripts.specs.declared.fault.ScriptFault.TheVariants.{Line, Write, NoMemory}
 use Rattle.scripts.specs.declared.step.Step.{Step}
+use Rattle.scripts.specs.declared.step.Step.TheVariants as step
+use Rattle.scripts.specs.declared.watch.Cut.{Cut}
+use Rattle.scripts.specs.declared.watch.Cut.TheVariants.{At, All}
 use Rattle.scripts.specs.declared.watch.Watch.{Watch}
+use Rattle.session.specs.Limits.{greatest_limits}
+use Rattle.session.specs.declared.config.Config.{Config}
+use Rattle.session.specs.declared.event.Event.{Event}
+use Rattle.session.specs.declared.event.Event.TheVariants as event
+use Rattle.transport.specs.Files.{FileRead, KnownReads, Records}
+use Rattle.transport.specs.Rounds.{read_for}
+use Rattle.watch_events.specs.Replaying.{Queues, Watches}
+use Rattle.watch_events.specs.declared.watching.WatchError.{WatchError}
+use Rattle.watch_events.specs.declared.watching.WatchError.TheVariants as watch
+use Rattle.watch_events.specs.declared.watching.Watched.{Watched}
 
--- the line that is said of a script that was read so: the first wrong one, or the last
-abbrev pub line_of : Result (List Step × Watch) ℕ → ℕ
-line_of (Ok script) = length script.0 + 1
-line_of (Err number) = number
+-- ---- the events of a script
 
--- why it is not played; the bytes that the writer has, where they are known, before and after
-abbrev pub Fails : ScriptFault → List ℕ → (before after : Option (List ℕ)) → Type 0
-Fails (Line number) text before after = (number ≡ line_of (script_of text)) × (after ≡ before)
-Fails Write text before after = IsOk (script_of text)
-Fails NoMemory text before after = after ≡ before
+-- the path of the file that a step reads, if it reads one
+abbrev pub path_in : Step → Option (List ℕ)
+path_in (step.Turn path) = path
+path_in other = None
+
+-- what happens by a step: a turn is given what was read, if its line names a file
+abbrev pub event_of : Step → Option (List ℕ) → Event
+event_of step.Connect file = event.Connect
+event_of (step.Recv piece) file = event.Recv piece
+event_of (step.Turn None) file = event.Turn None
+event_of (step.Turn (Some path)) file = event.Turn file
+event_of (step.Slice moves) file = event.Slice moves
+event_of step.Hold file = event.Hold
+event_of (step.Sent count) file = event.Sent count
+event_of step.DropConnection file = event.DropConnection
+
+-- the events of steps, with the reads that they took, one after the other
+abbrev pub AreEvents : List Step → List FileRead → List Event → Type 0
+AreEvents [] reads events = (reads ≡ []) × (events ≡ [])
+AreEvents (s ∷ steps) reads events = (file : Option (List ℕ)) × (others : List FileRead) × (more : List Event)
+    × ((reads ≡ read_for (path_in s) file ++ others) × ((events ≡ event_of s file ∷ more) × AreEvents steps others more))
+
+-- ---- what is watched
+
+-- a session with 1 MiB of memory, and no program
+abbrev pub config : Config
+config = record { memory_size = 1048576; program = None }
+
+-- how many bytes of the connection are watched
+abbrev pub IsCut : Cut → List Event → ℕ → ℕ → Type 0
+IsCut (At count) events connection n = n ≡ count
+IsCut All events connection n = Queues config greatest_limits events connection (Ok n)
+
+-- what `watch` answers for so many bytes; or why it is not known how many all are
+abbrev pub IsWatched : List Event → Watch → Result Watched WatchError → Type 0
+IsWatched events w (Ok watched) = (n : ℕ) × (IsCut w.cut events w.connection n
+    × Watches config greatest_limits events w.connection n (Ok watched))
+IsWatched events w (Err error) = ((n : ℕ) × (IsCut w.cut events w.connection n
+    × Watches config greatest_limits events w.connection n (Err error)))
+    ⊎ ((w.cut ≡ All) × Queues config greatest_limits events w.connection (Err error))
+
+-- ---- what is answered
+
+-- A script that can be read was played: this is so of its steps, of what it watches, and of its events.
+pub record Played (text : List ℕ) (before after : KnownReads) (IsSo : List Step → Watch → List Event → Type 0) : Type 0 where
+  pub steps : List Step
+  pub watch : Watch
+  pub script : script_of text ≡ Ok (steps, watch)
+  pub reads : List FileRead
+  pub files : Records before after reads
+  pub events : List Event
+  pub are : AreEvents steps reads events
+  pub so : IsSo steps watch events
+
+-- there is something to watch
+abbrev pub IsSomething : List Step → Watch → List Event → Type 0
+IsSomething steps w events = (watched : Watched) × IsWatched events w (Ok watched)
+
+-- there is not, and this is the number of the last line
+abbrev pub WatchesNone : ℕ → List Step → Watch → List Event → Type 0
+WatchesNone number steps w events = (number ≡ length steps + 1)
+    × (IsWatched events w (Err watch.NoSuchConnection) ⊎ IsWatched events w (Err watch.CutTooLong))
+
+-- why it is not played; the reads of the files, and the bytes that the writer has, where they are known, before and after
+abbrev pub Fails : ScriptFault → List ℕ → (files files' : KnownReads) → (before after : Option (List ℕ)) → Type 0
+Fails (Line number) text files files' before after =
+    (after ≡ before) × ((script_of text ≡ Err number) ⊎ Played text files files' (WatchesNone number))
+Fails Write text files files' before after = Played text files files' IsSomething
+Fails NoMemory text files files' before after = after ≡ before
 
 -- ---- for private clauses alone
 
+-- the files gave what an event takes, and what events take
+abbrev pub HasEvent : Step → KnownReads → KnownReads → Event → Type 0
+HasEvent s before after event =
+    (file : Option (List ℕ)) × (Records before after (read_for (path_in s) file) × (event ≡ event_of s file))
+
+abbrev pub HasEvents : List Step → KnownReads → KnownReads → List Event → Type 0
+HasEvents steps before after events =
+    (reads : List FileRead) × (Records before after reads × AreEvents steps reads events)
+
 -- what is said where nothing is watched, by the number of the last line
 abbrev pub fault_of : ℕ → WatchError → ScriptFault
-fault_of last (Config error) = NoMemory
-fault_of last NoSuchConnection = Line last
-fault_of last CutTooLong = Line last
-fault_of last OutOfMemory = NoMemory
+fault_of last (watch.Config error) = NoMemory
+fault_of last watch.NoSuchConnection = Line last
+fault_of last watch.CutTooLong = Line last
+fault_of last watch.NoMemory = NoMemory

@@ -1,4 +1,9 @@
 //! The events of a script.
+ghost use Rattle.std.specs.Prelude.{◌≡◌, IfOk};
+ghost use Rattle.transport.specs.Files.{Records};
+ghost use Rattle.transport.specs.Rounds.{read_for};
+ghost use Rattle.watch_command.specs.Playing as spec;
+ghost use Rattle.watch_command.specs.Playing.{HasEvent, HasEvents};
 
 use scripts::Step;
 use session::{Bytes, Event};
@@ -9,8 +14,11 @@ use transport::{Files, file_at};
 pub(crate) fn events_of<F: Files>(
     alloc: Global,
     steps: Vec<Step>,
-    files: &F,
-) -> Result<Vec<Event>, AllocError> {
+    files: &mut F,
+) -> Result<Vec<Event>, AllocError>
+    ensures { IfOk result (λ events. HasEvents steps.items
+        (F.past files.old) (F.past files.new) events.items) }
+{
     let mut events = Vec::new(alloc);
     for step in steps {
         events.push(event_of(alloc, step, files)?)?;
@@ -18,7 +26,9 @@ pub(crate) fn events_of<F: Files>(
     Ok(events)
 }
 
-fn event_of<F: Files>(alloc: Global, step: Step, files: &F) -> Result<Event, AllocError> {
+fn event_of<F: Files>(alloc: Global, step: Step, files: &mut F) -> Result<Event, AllocError>
+    ensures { IfOk result (λ event. HasEvent step (F.past files.old) (F.past files.new) event) }
+{
     Ok(match step {
         Step::Connect => Event::Connect,
         Step::Recv(piece) => Event::Recv(piece),
@@ -31,7 +41,9 @@ fn event_of<F: Files>(alloc: Global, step: Step, files: &F) -> Result<Event, All
     })
 }
 
-/// A count of bytes; the greatest for more.
-pub(crate) fn within(count: u64) -> usize {
+/// A count of bytes.
+pub(crate) fn within(count: u64) -> usize
+    ensures { result ≡ count }
+{
     usize::try_from(count).unwrap_or(usize::MAX)
 }

@@ -1,12 +1,11 @@
 //! A script is played.
-ghost use Rattle.std.specs.Prelude.{◌≡◌, IfErr, IsOk, OnOk};
+ghost use Rattle.std.specs.Prelude.{◌≡◌, IfErr, OnOk};
 ghost use Rattle.watch_command.specs.Playing as spec;
-ghost use Rattle.watch_command.specs.Playing.{Fails};
-ghost use Rattle.scripts.specs.Scripts.{script_of};
+ghost use Rattle.watch_command.specs.Playing.{Fails, IsSomething, IsWatched, Played};
 
 use crate::events::{events_of, within};
 use crate::lines::lines_of;
-use scripts::{Cut, Script, ScriptFault, read_script};
+use scripts::{Cut, Script, ScriptFault, Watch, read_script};
 use session::{Config, Event, Limits};
 use std::alloc::Global;
 use std::io::Write;
@@ -26,17 +25,18 @@ const MEMORY_SIZE: u32 = 1_048_576;
 pub fn watch_script<F: Files, W: Write>(
     alloc: Global,
     script: &[u8],
-    files: &F,
+    files: &mut F,
     writer: &mut W,
 ) -> Result<(), ScriptFault>
-    ensures ok { OnOk result (IsOk (script_of script.now)) }
-    ensures err { IfErr result
-        (λ fault. Fails fault script.now (W.contents writer.old) (W.contents writer.new)) }
+    ensures ok { OnOk result
+        (Played script.now (F.past files.old) (F.past files.new) IsSomething) }
+    ensures err { IfErr result (λ fault. Fails fault script.now
+        (F.past files.old) (F.past files.new) (W.contents writer.old) (W.contents writer.new)) }
 {
     let Script { steps, watch } = read_script(alloc, script)?;
     let last = steps.len() as u64 + 1;
     let events = events_of(alloc, steps, files)?;
-    let watched = match watched_by(alloc, &events, watch.connection, watch.cut) {
+    let watched = match watched_by(alloc, &events, watch) {
         Ok(watched) => watched,
         Err(error) => return Err(fault_of(error, last)),
     };
@@ -47,12 +47,10 @@ pub fn watch_script<F: Files, W: Write>(
     }
 }
 
-fn watched_by(
-    alloc: Global,
-    events: &[Event],
-    connection: u32,
-    cut: Cut,
-) -> Result<Watched, WatchError> {
+fn watched_by(alloc: Global, events: &[Event], asked: Watch) -> Result<Watched, WatchError>
+    ensures { IsWatched events.now asked result }
+{
+    let Watch { connection, cut } = asked;
     let count = match cut {
         Cut::At(count) => within(count),
         Cut::All => queued(alloc, config(), Limits::greatest(), events, connection)?,
@@ -67,7 +65,9 @@ fn watched_by(
     )
 }
 
-fn config() -> Config {
+fn config() -> Config
+    ensures { result ≡ spec.config }
+{
     Config {
         memory_size: MEMORY_SIZE,
         program: None,

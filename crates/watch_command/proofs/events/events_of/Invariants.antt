@@ -1,0 +1,6 @@
+use Rattle.watch_command.specs.Playing.{HasEvents}
+use Rattle.watch_command.proofs.events.events_of.Given as goal
+
+-- the steps so far have these events
+abbrev pub invariant-loop-step : goal.invariant-loop-step
+invariant-loop-step g l = HasEvents l.yielded (g.F.Files.past l.fn.files) (g.F.Files.past l.files) l.events.items
