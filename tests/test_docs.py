@@ -9,6 +9,11 @@ from support.program import TOP, expect
 
 SPAN = re.compile(r"`([^`\n]+)`")
 FOLDERS = ("bench", "crates", "docs", "editors", "examples", "tests")
+# The sentence that is proved, word for word.
+HEADLINE = (
+    "For every list of events (requests cut anywhere, repeated or cancelled, slices, bytes taken, drops, connections, restarts), an editor's mirror, fed "
+    "any prefix of the bytes of its connection, holds only facts that were true of the machine when the last whole message in that prefix was queued, "
+    "and a reference is answered only in the stop and on the connection that issued it.")
 # Folders of a crate, whose paths may be given without the crate, and without the ending of a definition's file.
 PARTS = ("specs", "src", "proofs")
 
@@ -41,6 +46,17 @@ def links_lead_to_what_is_there():
             expect(os.path.exists(os.path.join(TOP, target)), True, "%s: the file of the link %s" % (name, link))
             if anchor:
                 expect(anchor in anchors_of(target), True, "%s: the heading of the link %s" % (name, link))
+
+
+def the_headline_is_one_sentence():
+    """It stands word for word in README, where it is led through, and above its law."""
+    quoted = {name: [" ".join(re.sub(r"^> ?", "", block, flags=re.M).split()) for block in re.findall(r"(?:^>.*\n)+", text_of(*name.split("/")), re.M)]
+              for name in ("README.md", "docs/HEADLINE.md")}
+    for name, blocks in quoted.items():
+        expect(blocks.count(HEADLINE), 1, "%s: the headline" % name)
+    laws = text_of("crates", "headline", "src", "laws.rt")
+    above = re.search(r"((?:^///.*\n)+)pub fn what_an_editor_concludes_was_true\(\)", laws, re.M)
+    expect(" ".join(re.sub(r"^/// ?", "", above[1], flags=re.M).split()), HEADLINE, "the headline above its law")
 
 
 def alternatives(path):
@@ -320,6 +336,7 @@ def the_transcripts_are_what_their_commands_print():
 def checks():
     """Each check with its name."""
     return [(check.__name__.replace("_", " "), check) for check in (
+        the_headline_is_one_sentence,
         links_lead_to_what_is_there,
         paths_that_are_named_are_there,
         crates_txt_has_each_crate,
