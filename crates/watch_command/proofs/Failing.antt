@@ -5,7 +5,7 @@ use Rattle.scripts.specs.declared.step.Step.{Step}
 use Rattle.scripts.specs.declared.watch.Watch.{Watch}
 use Rattle.session.specs.declared.event.Event.{Event}
 use Rattle.transport.specs.Files.{KnownReads}
-use Rattle.watch_command.specs.Playing.{Fails, HasEvents, IsWatched, Played, WatchesNone, fault_of}
+use Rattle.watch_command.specs.Playing.{Fails, HasEvents, WatchAnswers, Played, WatchesNone, fault_of}
 use Rattle.watch_events.specs.declared.watching.WatchError.{WatchError}
 use Rattle.watch_events.specs.declared.watching.WatchError.TheVariants as watch
 
@@ -23,7 +23,7 @@ module _ (text : List ℕ) (files files' : KnownReads) (held : Option (List ℕ)
     so = none;
   }
 
-  pub none_watched : (error : WatchError) → IsWatched events w (Err error)
+  pub none_watched : (error : WatchError) → WatchAnswers events w (Err error)
       → Fails (fault_of (length steps + 1) error) text files files' held held
   none_watched (watch.Config error) h = refl
   none_watched watch.NoSuchConnection h = (refl, inr (played (refl, inl h)))

@@ -63,10 +63,10 @@ IsCut (At count) events connection n = n ≡ count
 IsCut All events connection n = Queues config greatest_limits events connection (Ok n)
 
 -- what `watch` answers for so many bytes; or why it is not known how many all are
-abbrev pub IsWatched : List Event → Watch → Result Watched WatchError → Type 0
-IsWatched events w (Ok watched) = (n : ℕ) × (IsCut w.cut events w.connection n
+abbrev pub WatchAnswers : List Event → Watch → Result Watched WatchError → Type 0
+WatchAnswers events w (Ok watched) = (n : ℕ) × (IsCut w.cut events w.connection n
     × Watches config greatest_limits events w.connection n (Ok watched))
-IsWatched events w (Err error) = ((n : ℕ) × (IsCut w.cut events w.connection n
+WatchAnswers events w (Err error) = ((n : ℕ) × (IsCut w.cut events w.connection n
     × Watches config greatest_limits events w.connection n (Err error)))
     ⊎ ((w.cut ≡ All) × Queues config greatest_limits events w.connection (Err error))
 
@@ -85,12 +85,12 @@ pub record Played (text : List ℕ) (before after : KnownReads) (IsSo : List Ste
 
 -- there is something to watch
 abbrev pub IsSomething : List Step → Watch → List Event → Type 0
-IsSomething steps w events = (watched : Watched) × IsWatched events w (Ok watched)
+IsSomething steps w events = (watched : Watched) × WatchAnswers events w (Ok watched)
 
 -- there is not, and this is the number of the last line
 abbrev pub WatchesNone : ℕ → List Step → Watch → List Event → Type 0
 WatchesNone number steps w events = (number ≡ length steps + 1)
-    × (IsWatched events w (Err watch.NoSuchConnection) ⊎ IsWatched events w (Err watch.CutTooLong))
+    × (WatchAnswers events w (Err watch.NoSuchConnection) ⊎ WatchAnswers events w (Err watch.CutTooLong))
 
 -- why it is not played; the reads of the files, and the bytes that the writer has, where they are known, before and after
 abbrev pub Fails : ScriptFault → List ℕ → (files files' : KnownReads) → (before after : Option (List ℕ)) → Type 0

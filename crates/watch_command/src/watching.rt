@@ -1,7 +1,7 @@
 //! A script is played.
 ghost use Rattle.std.specs.Prelude.{◌≡◌, IfErr, OnOk};
 ghost use Rattle.watch_command.specs.Playing as spec;
-ghost use Rattle.watch_command.specs.Playing.{Fails, IsSomething, IsWatched, Played};
+ghost use Rattle.watch_command.specs.Playing.{Fails, IsSomething, WatchAnswers, Played};
 
 use crate::events::{events_of, within};
 use crate::lines::lines_of;
@@ -48,7 +48,7 @@ pub fn watch_script<F: Files, W: Write>(
 }
 
 fn watched_by(alloc: Global, events: &[Event], asked: Watch) -> Result<Watched, WatchError>
-    ensures { IsWatched events.now asked result }
+    ensures { WatchAnswers events.now asked result }
 {
     let Watch { connection, cut } = asked;
     let count = match cut {
