@@ -1,4 +1,9 @@
 pub mod Maps
+mod Places
+mod Flat
+pub mod Reading
+pub mod Writing
+mod Tables
 mod Finding
 pub mod Rows
 pub mod Nearest

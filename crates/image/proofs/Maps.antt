@@ -5,12 +5,12 @@ use Rattle.std.proofs.lemmas.Bool.Decides.{nat_tests}
 use Rattle.image.specs.Laws.{BytesLieFromFirst, EachHasByte, NewIsZero}
 use Rattle.image.specs.Memory.{byte_at, bytes_at, first_address, has_bytes, with_bytes}
 
-get_first : (a b : List ℕ) (k : ℕ) → k < length a → slice_get (a ++ b) k ≡ slice_get a k
+pub get_first : (a b : List ℕ) (k : ℕ) → k < length a → slice_get (a ++ b) k ≡ slice_get a k
 get_first [] b k h = absurd (omega arith)
 get_first (x ∷ a) b zero h = refl
 get_first (x ∷ a) b (suc k) h = get_first a b k (omega arith)
 
-get_later : (a b : List ℕ) (j k : ℕ) → k ≡ length a + j → slice_get (a ++ b) k ≡ slice_get b j
+pub get_later : (a b : List ℕ) (j k : ℕ) → k ≡ length a + j → slice_get (a ++ b) k ≡ slice_get b j
 get_later [] b j k e = let f : k ≡ j = omega arith in ap (slice_get b) f
 get_later (x ∷ a) b j zero e = absurd (omega arith)
 get_later (x ∷ a) b j (suc k) e = get_later a b j k (omega arith)
@@ -140,7 +140,7 @@ has_element [] k h = absurd (omega arith)
 has_element (x ∷ m) zero h = refl
 has_element (x ∷ m) (suc k) h = has_element m k (omega arith)
 
-copy_at : (value size k : ℕ) → k < size → slice_get (replicate size value) k ≡ Some value
+pub copy_at : (value size k : ℕ) → k < size → slice_get (replicate size value) k ≡ Some value
 copy_at value zero k h = absurd (omega arith)
 copy_at value (suc size) zero h = refl
 copy_at value (suc size) (suc k) h = copy_at value size k (omega arith)

@@ -1,5 +1,5 @@
 -- Memory is a map. Each of these statements is the contract of a function of the module `laws`.
-use Rattle.std.specs.Prelude.{◌≡◌, ℕ, ◌+◌, ◌<◌, ◌≤◌, ◌↔◌, true, List, length, replicate, slice_get, Some, IsSome}
+use Rattle.std.specs.Prelude.{◌≡◌, ℕ, ◌+◌, ◌/◌, ◌%◌, ◌<◌, ◌≤◌, ◌↔◌, true, List, length, replicate, slice_get, Some, IsSome}
 use Rattle.image.specs.Memory.{byte_at, bytes_at, fault_at, has_bytes, with_bytes}
 use Rattle.image.specs.declared.fault.MemFault.TheVariants.{NoMemory}
 
@@ -18,10 +18,15 @@ abbrev pub NewIsZero : Type 0
 NewIsZero = (size address : ℕ) → 0x10000 ≤ address → address < 0x10000 + size →
     byte_at (replicate size 0) address ≡ Some 0
 
--- No access takes memory.
+-- No access is refused for want of memory by its address: that comes from the growth of a page alone.
 abbrev pub TakesNoMemory : Type 0
 TakesNoMemory = (memory : List ℕ) (aligned address count : ℕ) →
     fault_at memory aligned address count ≡ Some NoMemory → ⊥
+
+-- So many bytes at a multiple of that lie in one page.
+abbrev pub LieInOnePage : ℕ → Type 0
+LieInOnePage count = (address k : ℕ) → address % count ≡ 0 → k < count →
+    (address + k) / 4096 ≡ address / 4096
 
 -- What is read from an address on is the bytes there, one after the other.
 abbrev pub ReadsBytes : Type 0

@@ -9,3 +9,5 @@ pub mod Lines
 -- ---- what only private clauses cite
 -- what a line table keeps beside that, so that a label can be found by halving
 pub mod Orders
+-- pages: a table of them as the list of the bytes of memory
+pub mod Pages

@@ -4,13 +4,17 @@
 -- so the map is written as the list of its bytes in the order of their addresses: the byte at 0x00010000 + k is the
 -- k-th of the list. All other addresses have none, and an access to one of these is a fault.
 --
+-- Memory is made of pages of 4,096 bytes. Whether a page takes room yet is nothing that a reader of memory can tell: a
+-- byte that was never written is 0. A write may find no room for a page, and then nothing is written; that can only be a
+-- page of which each byte is still 0.
+--
 -- A halfword is 2 bytes and a word is 4, little-endian: the byte at the lowest address has the least weight. A halfword
 -- lies at a multiple of 2, a word at a multiple of 4; that is looked at before anything else.
-use Rattle.std.specs.Prelude.{◌≡◌, ℕ, ◌+◌, ◌-◌, ◌*◌, ◌/◌, ◌%◌, Bool, ◌==◌, nat_le, nat_lt, if◌then◌else◌, ◌&&◌, ◌||◌}
+use Rattle.std.specs.Prelude.{◌≡◌, ℕ, ◌+◌, ◌-◌, ◌*◌, ◌/◌, ◌%◌, ◌<◌, ◌≤◌, Bool, ◌==◌, nat_le, nat_lt, if◌then◌else◌, ◌&&◌, ◌||◌}
 use Rattle.std.specs.Prelude.{not, List, [], ◌∷◌, ◌++◌, length, take, drop, slice_get, Option, Some, None, Result, Ok}
 use Rattle.std.specs.Prelude.{Err, refl}
 use Rattle.image.specs.declared.fault.MemFault.{MemFault}
-use Rattle.image.specs.declared.fault.MemFault.TheVariants.{Misaligned, Outside}
+use Rattle.image.specs.declared.fault.MemFault.TheVariants.{Misaligned, Outside, NoMemory}
 
 -- the lowest address that has a byte
 abbrev pub first_address : ℕ
@@ -61,6 +65,10 @@ abbrev pub unless_fault : {A : Type 0} → Option MemFault → A → Result A Me
 unless_fault None value = Ok value
 unless_fault (Some fault) value = Err fault
 
+-- the halfword at an address, or the fault
+abbrev pub halfword_at : List ℕ → ℕ → Result ℕ MemFault
+halfword_at memory address = unless_fault (fault_at memory 2 address 2) (little_endian (bytes_at memory address 2))
+
 -- the word at an address, or the fault
 abbrev pub word_at : List ℕ → ℕ → Result ℕ MemFault
 word_at memory address = unless_fault (fault_at memory 4 address 4) (little_endian (bytes_at memory address 4))
@@ -76,3 +84,24 @@ pub record Writes (aligned : ℕ) (before : List ℕ) (address : ℕ) (bytes : L
   pub answers : answer ≡ unless_fault (fault_at before aligned address (length bytes)) tt
   pub leaves :
       after ≡ memory_after (fault_at before aligned address (length bytes)) (with_bytes before address bytes) before
+
+-- ---- room
+
+-- each byte of the page of an address is 0
+abbrev pub IsBlank : List ℕ → ℕ → Type 0
+IsBlank memory address = (other : ℕ) → other / 4096 ≡ address / 4096 → byte_at memory other ≡ Some 0
+
+-- Bytes could be written from an address on, but for the room of a page: there is no fault, and one of the bytes lies
+-- in a page of which each byte is 0.
+pub record NeedsPage (aligned : ℕ) (memory : List ℕ) (address count : ℕ) : Type 0 where
+  pub no_fault : fault_at memory aligned address count ≡ None
+  pub at : ℕ
+  pub from : address ≤ at
+  pub below : at < address + count
+  pub blank : IsBlank memory at
+
+-- The same, or no room was left for a page, and nothing is written.
+abbrev pub WritesOrLacks : ℕ → List ℕ → ℕ → List ℕ → Result (Unit {0}) MemFault → List ℕ → Type 0
+WritesOrLacks aligned before address bytes (Err NoMemory) after =
+    NeedsPage aligned before address (length bytes) × (after ≡ before)
+WritesOrLacks aligned before address bytes answer after = Writes aligned before address bytes answer after

@@ -11,8 +11,7 @@ pub enum MemFault {
     /// A byte of the access has no address in memory.
     #[error("access outside memory")]
     Outside,
-    /// No memory was left for the page that is written. No call answers it as long as all bytes are
-    /// made at the start, which the law `takes_no_memory` says.
+    /// No memory was left for a page that is written first.
     #[error("no memory")]
     NoMemory,
 }

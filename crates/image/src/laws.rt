@@ -1,6 +1,16 @@
 //! Memory is a map from address to byte: each law is the contract of a function that does nothing.
 
-ghost use Rattle.image.specs.Laws.{BytesLieFromFirst, EachHasByte, KeepsAbove, KeepsBelow, NewIsZero, ReadsBytes, TakesNoMemory, WritesBytes};
+ghost use Rattle.image.specs.Laws.{
+  BytesLieFromFirst,
+  EachHasByte,
+  KeepsAbove,
+  KeepsBelow,
+  LieInOnePage,
+  NewIsZero,
+  ReadsBytes,
+  TakesNoMemory,
+  WritesBytes,
+};
 
 /// What is read from an address on is the bytes there.
 pub fn reads_are_bytes()
@@ -26,7 +36,14 @@ pub fn new_is_zero()
     ensures { NewIsZero }
 {}
 
-/// No access to memory answers that none is left: all bytes are made at the start.
+/// What an access answers by its address is never that no memory is left: that comes from the growth
+/// of a page alone.
 pub fn takes_no_memory()
     ensures { TakesNoMemory }
+{}
+
+/// Bytes that lie at a multiple of how many they are, as halfwords and words do, lie in one page.
+pub fn aligned_lie_in_one_page()
+    ensures halves { LieInOnePage 2 }
+    ensures words { LieInOnePage 4 }
 {}

@@ -6,6 +6,8 @@ mod fault;
 pub mod laws;
 mod lines;
 mod memory;
+mod page;
+mod table;
 mod words;
 
 pub use byte_strings::Bytes;

@@ -1,4 +1,4 @@
-//! Memory as one list of bytes.
+//! Memory as pages, each made at its first write.
 
 ghost use Rattle.std.specs.Prelude.{
   ◌≡◌,
@@ -7,6 +7,7 @@ ghost use Rattle.std.specs.Prelude.{
   ◌^◌,
   ◌%◌,
   ◌≤◌,
+  ℕ,
   [],
   ◌∷◌,
   length,
@@ -18,16 +19,19 @@ ghost use Rattle.image.specs.Memory.{
   byte_at,
   bytes_at,
   fault_at,
+  halfword_at,
+  halfword_bytes,
   memory_after,
   first_address,
-  halfword_bytes,
   unless_fault,
   word_at,
   word_bytes,
-  Writes,
+  WritesOrLacks,
 };
 
-use crate::{MemFault, word_at_index};
+use crate::page::{self, PAGE};
+use crate::words::{halfword_at_index, word_at_index};
+use crate::{MemFault, table};
 use std::alloc::{AllocError, Global};
 use std::marker::Model;
 
@@ -35,25 +39,29 @@ use std::marker::Model;
 pub const FIRST_ADDRESS: u32 = 0x0001_0000;
 
 /// Memory of a fixed size, from 0x00010000 on (RISC-V Unprivileged ISA 20191213, section 1.4). A
-/// contract sees its bytes in the order of their addresses.
+/// contract sees its bytes in the order of their addresses. Its pages of 4,096 bytes take no room
+/// until they are written first.
 #[derive(Drop)]
 pub struct Memory {
-    bytes: Vec<u8>,
+    alloc: Global,
+    pages: Vec<Vec<u8>>,
 }
 
 impl Model for Memory {
-    ghost use Rattle.std.specs.Prelude.{List, ℕ, length, ◌≤◌};
+    ghost use Rattle.std.specs.Prelude.{List, ℕ};
+    ghost use Rattle.image.specs.Pages.{AreWhole, flat};
 
     ghost Value = { List ℕ };
 
-    ghost view = { λ m. m.bytes.items };
+    ghost view = { λ m. flat m.pages.items };
 
-    ghost invariant = { λ m. length m.bytes.items ≤ 16777216 };
+    ghost invariant = { λ m. AreWhole m.pages.items };
 }
 
 impl Memory {
-    /// Memory in which each byte is 0, or the library's error where there is no room for it. `base` is
-    /// 0x00010000; `size` is the number of bytes, a multiple of 4,096 from 4,096 to 16,777,216.
+    /// Memory in which each byte is 0, or the library's error where there is no room for its table of
+    /// pages. `base` is 0x00010000; `size` is the number of bytes, a multiple of 4,096 from 4,096 to
+    /// 16,777,216.
     pub fn new(alloc: Global, base: u32, size: u32) -> Result<Memory, AllocError>
         requires base { base ≡ 65536 }
         requires whole { size % 4096 ≡ 0 }
@@ -62,29 +70,57 @@ impl Memory {
         ensures { IfOk result (λ memory. memory ≡ replicate size 0) }
     {
         prove!(base == FIRST_ADDRESS);
-        let bytes = vec![in alloc; 0u8; size as usize]?;
-        Ok(Memory { bytes })
+        let pages = table::blanks(alloc, size as usize / PAGE)?;
+        Ok(Memory { alloc, pages })
     }
 
     /// A memory with these bytes. It fails where no memory is left.
     pub fn copied(&self, alloc: Global) -> Result<Memory, AllocError>
         ensures { IfOk result (λ copy. copy ≡ self.now) }
     {
-        Ok(Memory {
-            bytes: Vec::from_slice(alloc, self.bytes.as_slice())?,
-        })
+        let pages = table::copies(alloc, self.pages.as_slice())?;
+        Ok(Memory { alloc, pages })
     }
 
     /// The byte at an address; `None`: it has none.
+    #[inline]
     pub fn byte(&self, addr: u32) -> Option<u8>
         ensures { result ≡ byte_at self.now addr }
     {
-        let bytes = self.bytes.as_slice();
-        let index = addr.wrapping_sub(FIRST_ADDRESS) as usize;
-        if index < bytes.len() {
-            Some(bytes[index])
+        let place = addr.wrapping_sub(FIRST_ADDRESS) as usize;
+        let index = place / PAGE;
+        if index >= self.pages.len() {
+            return None;
+        }
+        let page = &self.pages[index];
+        let offset = place % PAGE;
+        if offset < page.len() {
+            Some(page[offset])
         } else {
-            None
+            Some(0)
+        }
+    }
+
+    /// The little-endian halfword at an address. `Misaligned`: the address is odd; else `Outside`: one
+    /// of the two bytes is not there.
+    #[inline]
+    pub fn half(&self, addr: u32) -> Result<u16, MemFault>
+        ensures { result ≡ halfword_at self.now addr }
+    {
+        if addr % 2 != 0 {
+            return Err(MemFault::Misaligned);
+        }
+        let place = addr.wrapping_sub(FIRST_ADDRESS) as usize;
+        let index = place / PAGE;
+        if index >= self.pages.len() {
+            return Err(MemFault::Outside);
+        }
+        let page = &self.pages[index];
+        let offset = place % PAGE;
+        if offset + 2 <= page.len() {
+            Ok(halfword_at_index(page, offset))
+        } else {
+            Ok(0)
         }
     }
 
@@ -97,12 +133,18 @@ impl Memory {
         if addr % 4 != 0 {
             return Err(MemFault::Misaligned);
         }
-        let bytes = self.bytes.as_slice();
-        let index = addr.wrapping_sub(FIRST_ADDRESS) as usize;
-        if index + 4 > bytes.len() {
+        let place = addr.wrapping_sub(FIRST_ADDRESS) as usize;
+        let index = place / PAGE;
+        if index >= self.pages.len() {
             return Err(MemFault::Outside);
         }
-        Ok(word_at_index(bytes, index))
+        let page = &self.pages[index];
+        let offset = place % PAGE;
+        if offset + 4 <= page.len() {
+            Ok(word_at_index(page, offset))
+        } else {
+            Ok(0)
+        }
     }
 
     /// Copies the bytes from an address on into `into`, as many as it has room for. `Outside`: one of
@@ -116,77 +158,87 @@ impl Memory {
         if into.is_empty() {
             return Ok(());
         }
-        let bytes = self.bytes.as_slice();
-        let index = addr.wrapping_sub(FIRST_ADDRESS) as usize;
-        let end = index + into.len();
-        if end > bytes.len() {
+        let place = addr.wrapping_sub(FIRST_ADDRESS) as usize;
+        if place + into.len() > self.pages.len() * PAGE {
             return Err(MemFault::Outside);
         }
-        into.copy_from_slice(&bytes[index..end]);
+        table::read_bytes(self.pages.as_slice(), place, into);
         Ok(())
     }
 
-    /// Writes a byte. `Outside`: the address has none, and nothing is written.
+    // Writes bytes that lie in one page, from an address on whose alignment was looked at.
     #[inline]
-    pub fn write_byte(&mut self, addr: u32, value: u8) -> Result<(), MemFault>
-        ensures { Writes 1 self.old addr (value ∷ []) result self.new }
+    fn store(&mut self, addr: u32, bytes: &[u8]) -> Result<(), MemFault>
+        requires some { 1 ≤ length bytes.now }
+        requires within { addr % 4096 + length bytes.now ≤ 4096 }
+        ensures { (aligned : ℕ) → addr % aligned ≡ 0
+            → WritesOrLacks aligned self.old addr bytes.now result self.new }
     {
-        let index = addr.wrapping_sub(FIRST_ADDRESS) as usize;
-        if index >= self.bytes.len() {
+        let place = addr.wrapping_sub(FIRST_ADDRESS) as usize;
+        let index = place / PAGE;
+        if index >= self.pages.len() {
             return Err(MemFault::Outside);
         }
-        self.bytes[index] = value;
+        let page = &mut self.pages[index];
+        let Ok(()) = page::store(self.alloc, page, place % PAGE, bytes) else {
+            return Err(MemFault::NoMemory);
+        };
         Ok(())
+    }
+
+    /// Writes a byte. `Outside`: the address has none; `NoMemory`: no memory is left for its page.
+    /// Either way nothing is written.
+    #[inline]
+    pub fn write_byte(&mut self, addr: u32, value: u8) -> Result<(), MemFault>
+        ensures { WritesOrLacks 1 self.old addr (value ∷ []) result self.new }
+    {
+        self.store(addr, &[value])
     }
 
     /// Writes a little-endian halfword. `Misaligned`: the address is odd; else `Outside`: one of the two
-    /// bytes is not there. Either way nothing is written.
+    /// bytes is not there; else `NoMemory`: no memory is left for the page. Then nothing is written.
     #[inline]
     pub fn write_half(&mut self, addr: u32, value: u16) -> Result<(), MemFault>
-        ensures { Writes 2 self.old addr (halfword_bytes value) result self.new }
+        ensures { WritesOrLacks 2 self.old addr (halfword_bytes value) result self.new }
     {
         if addr % 2 != 0 {
             return Err(MemFault::Misaligned);
         }
-        let index = addr.wrapping_sub(FIRST_ADDRESS) as usize;
-        if index + 2 > self.bytes.len() {
-            return Err(MemFault::Outside);
-        }
-        self.bytes[index..index + 2].copy_from_slice(&value.to_le_bytes());
-        Ok(())
+        self.store(addr, &value.to_le_bytes())
     }
 
     /// Writes a little-endian word. `Misaligned`: the address is no multiple of 4; else `Outside`: one
-    /// of the four bytes is not there. Either way nothing is written.
+    /// of the four bytes is not there; else `NoMemory`: no memory is left for the page. Then nothing is
+    /// written.
     #[inline]
     pub fn write_word(&mut self, addr: u32, value: u32) -> Result<(), MemFault>
-        ensures { Writes 4 self.old addr (word_bytes value) result self.new }
+        ensures { WritesOrLacks 4 self.old addr (word_bytes value) result self.new }
     {
         if addr % 4 != 0 {
             return Err(MemFault::Misaligned);
         }
-        let index = addr.wrapping_sub(FIRST_ADDRESS) as usize;
-        if index + 4 > self.bytes.len() {
-            return Err(MemFault::Outside);
-        }
-        self.bytes[index..index + 4].copy_from_slice(&value.to_le_bytes());
-        Ok(())
+        self.store(addr, &value.to_le_bytes())
     }
 
-    /// Writes bytes from an address on. `Outside`: one of the addresses has no byte, and nothing is
-    /// written. No bytes can be written anywhere.
+    /// Writes bytes from an address on. `Outside`: one of the addresses has no byte; else `NoMemory`:
+    /// no memory is left for one of their pages. Then nothing is written. No bytes can be written
+    /// anywhere.
     pub fn write(&mut self, addr: u32, bytes: &[u8]) -> Result<(), MemFault>
-        ensures { Writes 1 self.old addr bytes.now result self.new }
+        ensures { WritesOrLacks 1 self.old addr bytes.now result self.new }
     {
         if bytes.is_empty() {
             return Ok(());
         }
-        let index = addr.wrapping_sub(FIRST_ADDRESS) as usize;
-        let end = index + bytes.len();
-        if end > self.bytes.len() {
+        let place = addr.wrapping_sub(FIRST_ADDRESS) as usize;
+        let end = place + bytes.len();
+        if end > self.pages.len() * PAGE {
             return Err(MemFault::Outside);
         }
-        self.bytes[index..end].copy_from_slice(bytes);
+        let last = end.div_ceil(PAGE);
+        let Ok(()) = table::make_each(self.alloc, &mut self.pages, place / PAGE, last) else {
+            return Err(MemFault::NoMemory);
+        };
+        table::put_bytes(&mut self.pages, place, bytes);
         Ok(())
     }
 }

@@ -15,3 +15,12 @@ pub fn word_at_index(bytes: &[u8], index: usize) -> u32
         bytes[index + 3],
     ])
 }
+
+/// The little-endian halfword that begins at an index.
+#[inline]
+pub(crate) fn halfword_at_index(bytes: &[u8], index: usize) -> u16
+    requires { index + 2 ≤ length bytes.now }
+    ensures { result ≡ little_endian (take 2 (drop index bytes.now)) }
+{
+    u16::from_le_bytes([bytes[index], bytes[index + 1]])
+}

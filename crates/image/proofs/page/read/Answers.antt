@@ -1,0 +1,13 @@
+use Rattle.std.proofs.Common.{◌≡◌, length, take, drop, sym, ap, ◌∙◌, rules}
+use Rattle.std.proofs.lemmas.List.{nil_from_length}
+use Rattle.image.specs.Pages.{page_bytes}
+use Rattle.image.proofs.Reading.{blank_part}
+use Rattle.image.proofs.page.read.Goals as goal
+
+pub returns-then-is_empty : goal.returns-then-is_empty
+returns-then-is_empty c =
+    let none : length c.args.page.now ≡ 0 = search rules in
+    let n = length c.args.into.now in
+    c.fill.ensures.after (λ y h. h)
+    ∙ sym (blank_part c.args.offset n c.requires.within)
+    ∙ ap (λ b. take n (drop c.args.offset (page_bytes b))) (sym (nil_from_length c.args.page.now none))

@@ -1,0 +1,11 @@
+use Rattle.std.proofs.Common.{◌≡◌, length, ap, ◌∙◌, arith}
+use Rattle.image.specs.Pages.{page_bytes}
+use Rattle.image.proofs.Flat.{page_length}
+use Rattle.image.proofs.page.store.Goals as goal
+
+pub put_bytes-requires : goal.put_bytes-requires
+put_bytes-requires c =
+    let all : length (page_bytes c.args.page.now.items) ≡ 4096 = page_length c.args.page.now.items c.requires.page in
+    let is : length c.deref_mut.result.now ≡ length (page_bytes c.args.page.now.items) =
+    ap length (c.deref_mut.ensures.value ∙ c.in_ok-make.ensures.ok) in
+    omega (arith, all, is, c.requires.within)

@@ -1,0 +1,5 @@
+use Rattle.image.specs.Pages.{AreBlank}
+use Rattle.image.proofs.table.blanks.Given as goal
+
+abbrev pub invariant-loop : goal.invariant-loop
+invariant-loop l = AreBlank l.pages.items l.counter
