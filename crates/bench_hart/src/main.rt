@@ -29,7 +29,7 @@ fn main(rt: HostRuntime) -> io::Result<ExitCode> {
         return Ok(ExitCode::from(2));
     };
     let mut memory = Memory::new(rt.alloc(), FIRST_ADDRESS, SIZE)?;
-    place(&mut memory, program);
+    place(&mut memory, program)?;
     let ending = run(&mut memory, argument)?;
     let retired = ending.retired;
     match ending.stepped {
@@ -52,12 +52,16 @@ fn load_of(arguments: &[String]) -> Option<(&'static [u32], u32)> {
     }
 }
 
-fn place(memory: &mut Memory, program: &[u32]) {
+// The program lies in memory, so all that can be wrong is that none is left for its page.
+fn place(memory: &mut Memory, program: &[u32]) -> Result<(), AllocError> {
     let mut at = FIRST_ADDRESS;
     for word in program {
-        let _ = memory.write_word(at, *word);
+        if memory.write_word(at, *word).is_err() {
+            return Err(AllocError);
+        }
         at = at.wrapping_add(4);
     }
+    Ok(())
 }
 
 /// A hart at the program's start, with the argument in a0.

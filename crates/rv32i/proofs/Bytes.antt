@@ -4,7 +4,7 @@ use Rattle.std.specs.Prelude.{slice_get}
 use Rattle.std.proofs.lemmas.Bool.Decides.{nat_tests}
 use Rattle.image.specs.Memory.{byte_at}
 use Rattle.rv32i.specs.Steps.{loaded}
-use Rattle.rv32i.specs.declared.perform.Halt.TheVariants.{Stopped}
+use Rattle.rv32i.specs.declared.performing.Halt.TheVariants.{Stopped}
 use Rattle.rv32i.specs.declared.stepped.Cause.TheVariants.{LoadOutside}
 
 pub record Found (bytes : List ℕ) (k byte : ℕ) : Type 0 where

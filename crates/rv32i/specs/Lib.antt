@@ -14,7 +14,7 @@ pub mod Names
 pub mod Texts
 -- what holds of every word and of every machine
 pub mod Laws
--- ---- what only private clauses cite
+-- ---- what no reader of a step needs
 -- how the code makes a move: its core and what settles the rest
 pub mod Steps
 -- how the code finds the register that a name means

@@ -7,12 +7,13 @@
 -- precise: it leaves the machine as it was, and so does the end of the program. Where no memory is left for an access,
 -- the answer says so; that is no trap, and leaves the machine as it was too.
 use Rattle.std.specs.Prelude.{◌≡◌, ℕ, ℤ, ◌+◌, ◌-◌, ◌*◌, ◌/◌, ◌%◌, ◌^◌, Bool, ◌==◌, nat_lt, not, if◌then◌else◌, List, []}
-use Rattle.std.specs.Prelude.{◌∷◌, slice_index, slice_set, bit_and, bit_or, bit_xor, Option, Some, None, Result, Ok}
+use Rattle.std.specs.Prelude.{◌∷◌, length, slice_index, slice_set, bit_and, bit_or, bit_xor, Option, Some, None, Result, Ok}
 use Rattle.std.specs.Prelude.{Err, MatchResult, ⊤, alloc_error}
 use Rattle.std.specs.Int.{cast_signed, cast_unsigned, int_shr, w32}
 use Rattle.std.specs.Int.RustNames.{int_lt}
 use Rattle.std.specs.declared.alloc.AllocError.{AllocError}
-use Rattle.image.specs.Memory.{fault_at, bytes_at, with_bytes, little_endian, halfword_bytes, word_bytes, word_at}
+use Rattle.image.specs.Memory.{NeedsPage, fault_at, bytes_at, with_bytes, little_endian, halfword_bytes}
+use Rattle.image.specs.Memory.{word_bytes, word_at}
 use Rattle.image.specs.declared.fault.MemFault.{MemFault}
 use Rattle.image.specs.declared.fault.MemFault.TheVariants.{Misaligned, Outside, NoMemory}
 use Rattle.rv32i.specs.Encoding.{Encodes, IsDecoding, IsIllegal}
@@ -250,6 +251,32 @@ IsMove before effect = MatchResult (word_at before.memory before.pc)
 -- an instruction, or none, is what the word at pc decodes to
 abbrev pub IsDecodedAtPc : Machine → Option Instr → Type 0
 IsDecodedAtPc m instr = (word : ℕ) × ((word_at m.memory m.pc ≡ Ok word) × IsDecoding word instr)
+
+-- ---- memory for a move
+
+-- bytes that are stored from an address on, which is a multiple of how many they are
+pub record Store : Type 0 where
+  pub address : ℕ
+  pub bytes : List ℕ
+
+-- what an instruction stores, if it does (section 2.6)
+abbrev pub store_of : Instr → Machine → Option Store
+store_of (Sb rs1 rs2 imm) m = Some (record { address = sum (value rs1 m) imm; bytes = value rs2 m % 256 ∷ [] })
+store_of (Sh rs1 rs2 imm) m = Some (record { address = sum (value rs1 m) imm; bytes = halfword_bytes (value rs2 m) })
+store_of (Sw rs1 rs2 imm) m = Some (record { address = sum (value rs1 m) imm; bytes = word_bytes (value rs2 m) })
+store_of instr m = None
+
+-- An instruction stores, and could but for the room of the page.
+pub record StoreNeedsPage (instr : Instr) (m : Machine) : Type 0 where
+  pub store : Store
+  pub stores : store_of instr m ≡ Some store
+  pub needs : NeedsPage (length store.bytes) m.memory store.address (length store.bytes)
+
+-- Memory is made for a move only at the first store into a page: the instruction at pc is such a store.
+pub record MoveNeedsPage (m : Machine) : Type 0 where
+  pub instr : Instr
+  pub decoded : IsDecodedAtPc m (Some instr)
+  pub store : StoreNeedsPage instr m
 
 -- ---- what holds of each move
 

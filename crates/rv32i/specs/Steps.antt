@@ -1,14 +1,14 @@
--- What only private clauses cite: how the code makes a move. `perform` answers the next pc, or why there is none, and
--- `settle` makes of that what the step answers. A reader of the public calls needs none of this.
-use Rattle.std.specs.Prelude.{◌≡◌, ℕ, ◌%◌, ◌==◌, if◌then◌else◌, List, [], Option, Some, None, Result, Ok, Err}
+-- How the code makes a move: cited by `perform` and `settle` alone. `perform` answers the next pc, or why there is none,
+-- and `settle` makes of that what a step answers. A reader of `Hart::step` needs none of this.
+use Rattle.std.specs.Prelude.{◌≡◌, ℕ, ◌%◌, ◌==◌, if◌then◌else◌, List, [], length, Option, Some, None, Result, Ok, Err}
 use Rattle.std.specs.Prelude.{alloc_error}
 use Rattle.std.specs.declared.alloc.AllocError.{AllocError}
-use Rattle.image.specs.Memory.{fault_at, bytes_at, with_bytes, memory_after, little_endian}
+use Rattle.image.specs.Memory.{NeedsPage, fault_at, bytes_at, with_bytes, memory_after, little_endian}
 use Rattle.image.specs.declared.fault.MemFault.{MemFault}
 use Rattle.image.specs.declared.fault.MemFault.TheVariants.{Misaligned, Outside, NoMemory as NoRoom}
-use Rattle.rv32i.specs.Machine.{Machine, effect_of, calls, sum, with_register}
-use Rattle.rv32i.specs.declared.perform.Halt.{Halt}
-use Rattle.rv32i.specs.declared.perform.Halt.TheVariants.{Stopped, NoMemory, Calls, Breaks}
+use Rattle.rv32i.specs.Machine.{Machine, Store, StoreNeedsPage, effect_of, calls, store_of, sum, with_register}
+use Rattle.rv32i.specs.declared.performing.Halt.{Halt}
+use Rattle.rv32i.specs.declared.performing.Halt.TheVariants.{Stopped, NoMemory, Calls, Breaks}
 use Rattle.rv32i.specs.declared.stepped.Cause.TheVariants.{JumpMisaligned, LoadMisaligned, LoadOutside, StoreMisaligned}
 use Rattle.rv32i.specs.declared.stepped.Cause.TheVariants.{StoreOutside}
 use Rattle.rv32i.specs.declared.stepped.Stepped.{Stepped}
@@ -62,11 +62,22 @@ abbrev pub stored_unless : Option MemFault → ℕ → Result ℕ Halt
 stored_unless None next = Ok next
 stored_unless (Some fault) next = Err (store_halt fault)
 
--- a store of so many bytes: what it answers, and the memory after it
+-- a store of so many bytes: what it answers, and the memory after it; or it finds no room for the page
 abbrev pub Stores : ℕ → List ℕ → ℕ → ℕ → List ℕ → Result ℕ Halt → List ℕ → Type 0
+Stores count bytes address next before (Err NoMemory) after =
+    NeedsPage count before address count × (after ≡ before)
 Stores count bytes address next before answer after =
     (answer ≡ stored_unless (fault_at before count address count) next)
     × (after ≡ memory_after (fault_at before count address count) (with_bytes before address bytes) before)
+
+-- no memory is left: a store has found no room for its page, and nothing has changed; all else is as the effect says
+abbrev pub Lacks : Option Store → Instr → Machine → List ℕ → List ℕ → Type 0
+Lacks (Some store) i before x memory =
+    NeedsPage (length store.bytes) before.memory store.address (length store.bytes)
+    × ((x ≡ before.x) × (memory ≡ before.memory))
+Lacks None i before x memory =
+    effect_of i before
+    ≡ record { answer = Err alloc_error; machine = record { pc = before.pc; x = x; memory = memory } }
 
 -- what `perform` answers for an effect, and the registers and memory that it leaves
 abbrev pub Performs : Instr → Machine → Result ℕ Halt → List ℕ → List ℕ → Type 0
@@ -75,11 +86,14 @@ Performs i before (Ok pc) x memory =
 Performs i before (Err (Stopped cause)) x memory =
     effect_of i before
     ≡ record { answer = Ok (Trap cause); machine = record { pc = before.pc; x = x; memory = memory } }
-Performs i before (Err NoMemory) x memory =
-    effect_of i before
-    ≡ record { answer = Err alloc_error; machine = record { pc = before.pc; x = x; memory = memory } }
+Performs i before (Err NoMemory) x memory = Lacks (store_of i before) i before x memory
 Performs i before (Err Calls) x memory = (i ≡ Ecall) × (x ≡ before.x) × (memory ≡ before.memory)
 Performs i before (Err Breaks) x memory = (i ≡ Ebreak) × (x ≡ before.x) × (memory ≡ before.memory)
+
+-- what an instruction is carried out to: its effect, or it needs a page, and nothing has changed
+abbrev pub CarriesOut : Instr → Machine → Result Stepped AllocError → Machine → Type 0
+CarriesOut i before (Ok stepped) after = record { answer = Ok stepped; machine = after } ≡ effect_of i before
+CarriesOut i before (Err error) after = StoreNeedsPage i before × (after ≡ before)
 
 -- what a step answers where there is no next pc, and the pc after it
 abbrev pub settles : Halt → ℕ → List ℕ → Result Stepped AllocError → ℕ → Type 0

@@ -6,7 +6,7 @@ ghost use Rattle.rv32i.specs.Machine.{byte_extended, halfword_extended};
 ghost use Rattle.rv32i.specs.Steps as steps;
 ghost use Rattle.rv32i.specs.Steps.{extended, loaded, Stores};
 
-use crate::perform::Halt;
+use crate::performing::Halt;
 use crate::stepped::Cause;
 use image::{MemFault, Memory};
 
@@ -29,12 +29,8 @@ pub(crate) fn load_half(memory: &Memory, address: u32) -> Result<u32, Halt>
     ensures value { result ≡ loaded 2 memory.now address }
     ensures within { IfOk result (λ halfword. halfword < 65536) }
 {
-    if address % 2 != 0 {
-        return Err(Halt::Stopped(Cause::LoadMisaligned));
-    }
-    let mut bytes = [0; 2];
-    match memory.read(address, &mut bytes) {
-        Ok(()) => Ok(u32::from(u16::from_le_bytes(bytes))),
+    match memory.half(address) {
+        Ok(halfword) => Ok(u32::from(halfword)),
         Err(fault) => Err(load_halt(fault)),
     }
 }

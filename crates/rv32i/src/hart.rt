@@ -4,7 +4,7 @@ ghost use Rattle.std.specs.Prelude.{◌≡◌, slice_index};
 
 use crate::Instr;
 use crate::decoding::decode;
-use crate::perform::{Halt, perform};
+use crate::performing::{Halt, perform};
 use crate::stepped::{Cause, Stepped};
 use image::{MemFault, Memory};
 use std::alloc::AllocError;
@@ -31,9 +31,9 @@ pub struct Hart {
 }
 
 impl Hart {
-    ghost use Rattle.std.specs.Prelude.{[], slice_set, replicate, IsOk};
-    ghost use Rattle.rv32i.specs.Machine.{calls, machine_of, IsDecodedAtPc, IsMove, Keeps, effect_of};
-    ghost use Rattle.rv32i.specs.Steps.{settles};
+    ghost use Rattle.std.specs.Prelude.{[], slice_set, replicate, OnErr, OnOk};
+    ghost use Rattle.rv32i.specs.Machine.{calls, machine_of, IsDecodedAtPc, IsMove, Keeps, MoveNeedsPage};
+    ghost use Rattle.rv32i.specs.Steps.{settles, CarriesOut};
 
     /// A hart at an entry, with the stack pointer (x2) set and all other registers 0.
     pub fn new(entry: u32, sp: u32) -> Hart
@@ -46,24 +46,22 @@ impl Hart {
     }
 
     /// One step: fetches the word at pc, decodes it, and does what the instruction says. After a trap
-    /// or an exit the hart and memory are as they were. `Err`: no memory was left, and all is as it was;
-    /// it does not come as long as memory has all its bytes from the start.
+    /// or an exit the hart and memory are as they were. `Err`: no memory was left for the page that the
+    /// instruction is the first to store into, and all is as it was.
     pub fn step(&mut self, memory: &mut Memory) -> Result<Stepped, AllocError>
-        ensures moves { IsMove (machine_of self.old memory.old)
-            (record { answer = result; machine = machine_of self.new memory.new }) }
+        ensures moves { OnOk result (IsMove (machine_of self.old memory.old)
+            (record { answer = result; machine = machine_of self.new memory.new })) }
 
         // A trap and an exit change nothing, nor does a step without memory, and pc stays a multiple of 4.
         ensures keeps { Keeps (machine_of self.old memory.old)
             (record { answer = result; machine = machine_of self.new memory.new }) }
-
-        // No access takes memory.
-        ensures answers { IsOk result }
+        ensures lacks { OnErr result (MoveNeedsPage (machine_of self.old memory.old)) }
     {
         let word = match memory.word(self.pc) {
             Ok(word) => word,
             Err(MemFault::Misaligned) => return Ok(Stepped::Trap(Cause::JumpMisaligned)),
             Err(MemFault::Outside) => return Ok(Stepped::Trap(Cause::FetchOutside)),
-            Err(MemFault::NoMemory) => return Err(AllocError),
+            Err(MemFault::NoMemory) => unreachable!(),
         };
         self.execute(decode(word), memory)
     }
@@ -77,11 +75,11 @@ impl Hart {
         memory: &mut Memory,
     ) -> Result<Stepped, AllocError>
         requires { IsDecodedAtPc (machine_of self.old memory.old) instr }
-        ensures moves { IsMove (machine_of self.old memory.old)
-            (record { answer = result; machine = machine_of self.new memory.new }) }
+        ensures moves { OnOk result (IsMove (machine_of self.old memory.old)
+            (record { answer = result; machine = machine_of self.new memory.new })) }
         ensures keeps { Keeps (machine_of self.old memory.old)
             (record { answer = result; machine = machine_of self.new memory.new }) }
-        ensures answers { IsOk result }
+        ensures lacks { OnErr result (MoveNeedsPage (machine_of self.old memory.old)) }
     {
         match instr {
             Some(instr) => self.carry_out(&instr, memory),
@@ -92,8 +90,8 @@ impl Hart {
     // Does what an instruction says.
     #[inline]
     fn carry_out(&mut self, instr: &Instr, memory: &mut Memory) -> Result<Stepped, AllocError>
-        ensures { record { answer = result; machine = machine_of self.new memory.new }
-            ≡ effect_of instr.now (machine_of self.old memory.old) }
+        ensures { CarriesOut instr.now (machine_of self.old memory.old)
+            result (machine_of self.new memory.new) }
     {
         match perform(&mut self.x, self.pc, instr, memory) {
             Ok(pc) => {
@@ -104,10 +102,11 @@ impl Hart {
         }
     }
 
-    // What a step answers where there is no next pc.
+    /// What a step answers where `perform` finds no next pc, for this reason: a trap, an exit and a lack of
+    /// memory leave the hart as it is; a call that prints and EBREAK move it to the following instruction.
     #[cold]
     #[inline(never)]
-    fn settle(&mut self, halt: Halt) -> Result<Stepped, AllocError>
+    pub fn settle(&mut self, halt: Halt) -> Result<Stepped, AllocError>
         ensures pc { settles halt self.old.pc self.old.x result self.new.pc }
         ensures x { self.new.x ≡ self.old.x }
     {

@@ -1,14 +1,10 @@
-use Rattle.std.proofs.Common.{sym, subst}
-use Rattle.rv32i.specs.Encoding.{IsDecoding}
-use Rattle.rv32i.proofs.Moves.{moves}
-use Rattle.rv32i.proofs.Keeps.{step_answers, step_keeps}
+use Rattle.std.proofs.Common.{subst}
+use Rattle.rv32i.specs.Machine.{IsDecodedAtPc, machine_of}
+use Rattle.rv32i.proofs.Moves.{carried}
 use Rattle.rv32i.proofs.hart.Hart.execute.Goals as goal
 
 pub returns-in-Some : goal.returns-in-Some
-returns-in-Some c = record {
-  moves =
-      moves _ _ c.requires.0 c.in-Some.instr (sym c.requires.1.0)
-      (subst (IsDecoding c.requires.0) c.in-Some.is c.requires.1.1) c.carry_out.ensures;
-  keeps = step_keeps _ _ c.in-Some.instr c.carry_out.ensures;
-  answers = step_answers _ _ c.in-Some.instr c.carry_out.ensures;
-}
+returns-in-Some c =
+    let before = machine_of c.args.self.now c.args.memory.now in
+    let all = carried before c.in-Some.instr _ _ (subst (IsDecodedAtPc before) c.in-Some.is c.requires) c.carry_out.ensures in
+    record { moves = all.moves; keeps = all.keeps; lacks = all.lacks }

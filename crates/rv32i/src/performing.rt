@@ -12,16 +12,16 @@ use crate::fields::{Imm, Reg};
 use crate::stepped::Cause;
 use image::Memory;
 
-/// Why there is no next pc.
-#[derive(Clone, Copy)]
-pub(crate) enum Halt {
-    /// A trap.
+/// Why an instruction has no next one.
+#[derive(Clone, Copy, Debug, PartialEq, Eq)]
+pub enum Halt {
+    /// It traps.
     Stopped(Cause),
-    /// No memory was left for the page of an access.
+    /// It is the first to store into a page, for which no memory was left.
     NoMemory,
-    /// ECALL, which is not settled yet.
+    /// It is ECALL, and was not carried out.
     Calls,
-    /// EBREAK, which is not settled yet.
+    /// It is EBREAK, and was not carried out.
     Breaks,
 }
 
@@ -94,14 +94,12 @@ fn linked_jump(target: u32, reg: Reg, x: &mut [u32; 32], next: u32) -> Result<u3
     put(next, reg, x, target)
 }
 
-/// Does what an instruction says to the registers and to memory, and answers the next pc.
+/// Does to the registers and to memory what the instruction at an address says, and answers the address
+/// of the next one; x0 is 0 before and after. `Err`: there is none, and nothing has changed: it traps, or
+/// finds no memory for the page that it is the first to store into, or is ECALL or EBREAK, which
+/// `Hart::settle` carries out.
 #[inline]
-pub(crate) fn perform(
-    x: &mut [u32; 32],
-    pc: u32,
-    instr: &Instr,
-    memory: &mut Memory,
-) -> Result<u32, Halt>
+pub fn perform(x: &mut [u32; 32], pc: u32, instr: &Instr, memory: &mut Memory) -> Result<u32, Halt>
     requires { slice_index x.old 0 ≡ 0 }
     ensures performs { Performs instr.now
         (record { pc = pc; x = x.old; memory = memory.old }) result x.new memory.new }
