@@ -1,6 +1,6 @@
 //! The two lists of breakpoints.
 
-ghost use Rattle.std.specs.Prelude.{◌≡◌, ◌+◌, ◌<◌, ◌≤◌, ◌^◌, ◌++◌, ◌∷◌, ◌||◌, [], IfOk, OnErr, OnOk, false, length, map, vec_capacity, vec_len};
+ghost use Rattle.std.specs.Prelude.{◌≡◌, ◌+◌, ◌<◌, ◌≤◌, ◌^◌, ◌++◌, ◌∷◌, ◌||◌, [], IfOk, OnErr, OnOk, false, length, map, nat_lt, vec_capacity, vec_len};
 ghost use Rattle.std.specs.Bool.{OnFalse};
 ghost use Rattle.std.specs.List.{list_any};
 ghost use Rattle.breakpoints.specs.Places.{is_at, Covers};
@@ -112,6 +112,15 @@ impl Breaks {
     {
         reset_list(&mut self.source);
         reset_list(&mut self.instructions);
+    }
+
+    /// Whether there are any.
+    #[inline]
+    pub fn has_any(&self) -> bool
+        ensures { result ≡ (nat_lt 0 (length self.now.source)
+            || nat_lt 0 (length self.now.instructions)) }
+    {
+        !self.source.is_empty() || !self.instructions.is_empty()
     }
 
     /// Whether a breakpoint of either list is at an address: where none is, a check there counts nothing and stops nothing.

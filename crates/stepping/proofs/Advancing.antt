@@ -16,7 +16,8 @@ use Rattle.rv32i.proofs.Keeps.{step_answers, step_keeps}
 use Rattle.rv32i.proofs.OneMove.{one_move}
 use Rattle.stepping.specs.RunLaws.{EachTickAnswers}
 use Rattle.stepping.specs.Stopping.{Advances, After, Answers, entered, has_retired}
-use Rattle.stepping.specs.Ticks.{Debugged, IsFetched, IsTick, Moves, entry_checked, entry_tick, Settles, gone_on, moved_as, settled, stayed, tick_of}
+use Rattle.course.specs.Positions.{IsFetched}
+use Rattle.stepping.specs.Ticks.{Debugged, IsTick, Moves, entry_checked, entry_tick, Settles, gone_on, moved_as, settled, stayed, tick_of}
 use Rattle.stepping.specs.declared.tick.Tick.{Tick}
 use Rattle.stepping.proofs.Determined.{harts_equal, one_settled}
 use Rattle.stepping.proofs.Moving.{decoded_is_fetched}

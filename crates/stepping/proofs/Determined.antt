@@ -14,7 +14,8 @@ use Rattle.rv32i.specs.declared.instr.Instr.{Instr}
 use Rattle.rv32i.specs.declared.stepped.Stepped.{Stepped}
 use Rattle.rv32i.proofs.OneMove.{one_move}
 use Rattle.rv32i.proofs.Unique.{one_instruction}
-use Rattle.stepping.specs.Ticks.{Debugged, IsFetched, Moves, Settles, entry_checked, entry_tick, moved_as, settled, tick_of}
+use Rattle.course.specs.Positions.{IsFetched}
+use Rattle.stepping.specs.Ticks.{Debugged, Moves, Settles, entry_checked, entry_tick, moved_as, settled, tick_of}
 use Rattle.stepping.specs.RunLaws.{TickIsDeterministic}
 use Rattle.stepping.specs.declared.tick.Tick.{Tick}
 

@@ -12,7 +12,8 @@ use Rattle.rv32i.specs.declared.stepped.Stepped.{Stepped}
 use Rattle.rv32i.specs.declared.stepped.Stepped.TheVariants.{Retired, Printed, Break, Exit, Trap}
 use Rattle.rv32i.proofs.Moving.{the_decoding, the_move}
 use Rattle.stepping.specs.RunLaws.{HasTick}
-use Rattle.stepping.specs.Ticks.{Debugged, IsFetched, IsTick, Moves, entry_checked, entry_tick, moved_as, settled, tick_of}
+use Rattle.course.specs.Positions.{IsFetched}
+use Rattle.stepping.specs.Ticks.{Debugged, IsTick, Moves, entry_checked, entry_tick, moved_as, settled, tick_of}
 use Rattle.stepping.specs.declared.tick.Tick.{Tick}
 use Rattle.stepping.proofs.Advancing.{move_answers}
 

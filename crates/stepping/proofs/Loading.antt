@@ -4,7 +4,7 @@ use Rattle.std.specs.Prelude.{replicate}
 use Rattle.image.specs.Memory.{first_address, with_bytes}
 use Rattle.image.specs.declared.Image.{Image}
 use Rattle.breakpoints.specs.Stops.{Lists}
-use Rattle.stepping.specs.Calls.{nothing_kept}
+use Rattle.course.specs.Calls.{nothing_kept}
 use Rattle.stepping.specs.Loading.{IsLoaded, loaded, LabelsAreNotLoaded, not_hit, OneIsLoaded, OneIsReloaded, started}
 use Rattle.stepping.specs.Ticks.{Debugged}
 use Rattle.stepping.specs.declared.goal.Goal.TheVariants.{Go}

@@ -19,15 +19,3 @@ quiet d none unmet = record {
       ∙ ap (λ (met : Bool). outcome_of (record { source = false; instruction = false }) met) unmet;
   checked = ap (λ (l : Lists). record d { lists = l }) (no_check d.hart.pc d.hart d.memory d.lists none);
 }
-
--- the same, by what the two tests answer
-pub quiet_where : (d : Debugged) (has : Bool) (out depth : ℕ) → has ≡ false
-    → has ≡ (list_any (is_at d.hart.pc) d.lists.source || list_any (is_at d.hart.pc) d.lists.instructions) → depth ≡ d.calls.depth
-    → IsOutOfReach out d.goal d.start → d.calls.depth ≤ 2 ^ 62 → OnTrue (nat_le out depth) (IsQuiet d)
-quiet_where d has out depth h e at unmet few = go (nat_le out depth) refl where
-  within : nat_le out depth ≡ true → out ≤ depth
-  within t = grind (arith, nat_tests)
-
-  go : (t : Bool) → nat_le out depth ≡ t → OnTrue t (IsQuiet d)
-  go true t = quiet d (sym e ∙ h) (unmet d.table d.hart.pc d.calls.depth (subst (λ (k : ℕ). out ≤ k) at (within t)) few)
-  go false t = tt

@@ -12,12 +12,13 @@ use Rattle.rv32i.specs.declared.instr.Instr.{Instr}
 use Rattle.rv32i.specs.declared.stepped.Cause.TheVariants.{Illegal}
 use Rattle.rv32i.specs.declared.stepped.Stepped.{Stepped}
 use Rattle.rv32i.specs.declared.stepped.Stepped.TheVariants as stepped
-use Rattle.stepping.specs.Calls.{Kept, StandsFor, with_retired}
-use Rattle.stepping.specs.Marks.{Retired}
+use Rattle.course.specs.Calls.{Kept, StandsFor, with_retired}
+use Rattle.course.specs.Marks.{Retired}
 use Rattle.stepping.specs.Past.{IsAdded, LoadedRemembersNone, Remembers, TicksRemember}
-use Rattle.stepping.specs.Ticks.{Debugged, IsFetched, Moves, entry_checked, entry_tick, gone_on, moved_as, Settles}
+use Rattle.course.specs.Positions.{IsFetched}
+use Rattle.stepping.specs.Ticks.{Debugged, Moves, entry_checked, entry_tick, gone_on, moved_as, Settles}
 use Rattle.stepping.specs.declared.tick.Tick.{Tick}
-use Rattle.stepping.proofs.Standing.{noted_stands, nothing_stands}
+use Rattle.course.proofs.Standing.{noted_stands, nothing_stands}
 
 abbrev Grown : Debugged → Debugged → List Retired → Type 0
 Grown before after retired = (added : List Retired) × (IsAdded before added × Remembers after (retired ++ added))

@@ -1,6 +1,6 @@
 -- Ticks stop at the least number at which a reason applies.
 use Rattle.std.proofs.Common.{◌≡◌, ℕ, zero, suc, ◌<◌, ◌≤◌, Bool, true, false, ◌⊎◌, inl, inr, Option, None, Result, Ok, Err, IsOk, MatchBool, if◌then◌else◌, eqb, Decides, refl, sym, ap, subst, ◌∙◌, arith}
-use Rattle.std.specs.Prelude.{ℤ, alloc_error}
+use Rattle.std.specs.Prelude.{ℤ}
 use Rattle.std.specs.List.{list_any}
 use Rattle.std.specs.declared.alloc.AllocError.{AllocError}
 use Rattle.std.proofs.lemmas.Bool.Decides.{Decides-eqb, not_from_Decides}
@@ -223,5 +223,5 @@ runs_say_where most ran start after run = go ran.ending run.ends where
 
   go : (ending : RunEnd) → EndsRun most ran.went ending run.middle after → EndingSays ran.went ending start after
   go Spent e = none
-  go NoMemory e = let never : false ≡ true = each_tick_answers run.middle after (Err alloc_error) e.1 in cc
+  go NoMemory e = none
   go (Ticked tick) e = ticks_say_where ran.went start run.middle after tick went e.1.1

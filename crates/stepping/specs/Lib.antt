@@ -1,11 +1,5 @@
 -- The definitions of `stepping`, in reading order.
 
--- what an instruction means for the call stack: a push, a pop, both or nothing
-pub mod Marks
--- the calls of a running program: how deep they are, and which of them are kept
-pub mod Calls
--- what holds of every program
-pub mod Laws
 -- where a run is meant to stop
 pub mod Goals
 -- one tick: a move, and what a debugger makes of it
@@ -25,3 +19,5 @@ pub mod Past
 pub mod Lending
 -- What follows is cited by private clauses alone: what holds of every machine that is debugged.
 pub mod Running
+-- instructions in a row, of which there is nothing to report
+pub mod Bursts

@@ -4,7 +4,7 @@ use Rattle.breakpoints.specs.Stops.{Lists, reset}
 use Rattle.image.specs.Memory.{first_address, with_bytes}
 use Rattle.image.specs.declared.Image.{Image}
 use Rattle.rv32i.specs.declared.hart.Hart.{Hart}
-use Rattle.stepping.specs.Calls.{nothing_kept}
+use Rattle.course.specs.Calls.{nothing_kept}
 use Rattle.stepping.specs.Ticks.{Debugged}
 use Rattle.stepping.specs.declared.goal.Goal.TheVariants.{Go}
 

@@ -8,10 +8,11 @@ use Rattle.breakpoints.specs.Stops.{Lists}
 use Rattle.image.specs.declared.Image.{Image}
 use Rattle.rv32i.specs.Machine.{machine_of}
 use Rattle.rv32i.specs.declared.instr.Instr.{Instr}
-use Rattle.stepping.specs.Calls.{StandsFor}
+use Rattle.course.specs.Calls.{StandsFor}
 use Rattle.stepping.specs.Loading.{IsLoaded}
-use Rattle.stepping.specs.Marks.{Retired}
-use Rattle.stepping.specs.Ticks.{Debugged, IsFetched, IsTick}
+use Rattle.course.specs.Marks.{Retired}
+use Rattle.course.specs.Positions.{IsFetched}
+use Rattle.stepping.specs.Ticks.{Debugged, IsTick}
 use Rattle.stepping.specs.declared.tick.Tick.{Tick}
 
 -- these are all the instructions that have retired, each with its address

@@ -42,7 +42,7 @@ abbrev pub TickIsDeterministic : Type 0
 TickIsDeterministic = (before after other : Debugged) (answer another : Result Tick AllocError) →
     IsTick before answer after → IsTick before another other → (answer ≡ another) × (after ≡ other)
 
--- No tick lacks memory: all of it was made when the machine was.
+-- Each tick of a machine has an answer: that a call found no memory for a page is none.
 abbrev pub EachTickAnswers : Type 0
 EachTickAnswers = (before after : Debugged) (answer : Result Tick AllocError) → IsTick before answer after → IsOk answer
 
@@ -100,11 +100,11 @@ RunsStopThere = (ticks n : ℕ) (outcome : Outcome) (start before after : Debugg
 
 -- ---- many ticks in one call
 
--- what they say, by what ended them, which is never a lack of memory
+-- what they say, by what ended them; where no memory was left for one more, it says nothing
 abbrev pub EndingSays : ℕ → RunEnd → Debugged → Debugged → Type 0
 EndingSays went Spent start after = NoneBelow (number_after went start) start
 EndingSays went (Ticked tick) start after = Says (number_after went start) tick.outcome start after
-EndingSays went NoMemory start after = ⊥
+EndingSays went NoMemory start after = NoneBelow (number_after went start) start
 
 -- What they say is so.
 abbrev pub RunsSayWhere : Type 0

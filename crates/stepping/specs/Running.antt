@@ -1,19 +1,13 @@
 -- What holds of every machine that is debugged, and how a run goes on or ends: cited by private clauses alone.
-use Rattle.std.specs.Prelude.{◌≡◌, ◌≢◌, ℕ, ◌+◌, ◌%◌, ◌^◌, ◌<◌, ◌≤◌, Bool, true, false, Option}
-use Rattle.std.specs.Prelude.{Some, None, Result, Ok, Err, alloc_error}
-use Rattle.std.specs.declared.alloc.AllocError.{AllocError}
+use Rattle.std.specs.Prelude.{◌≡◌, ◌≢◌, ℕ, ◌+◌, ◌%◌, ◌^◌, ◌<◌, ◌≤◌, Bool, true, false, Option, Some, None}
 use Rattle.image.specs.Lines.{Table}
-use Rattle.stepping.specs.Calls.{Kept}
 use Rattle.stepping.specs.Goals.{is_met, may_end}
 use Rattle.stepping.specs.Plain.{plain_tick}
-use Rattle.rv32i.specs.declared.instr.Instr.{Instr}
-use Rattle.rv32i.specs.declared.stepped.Stepped.TheVariants.{Retired}
-use Rattle.stepping.specs.Ticks.{Debugged, IsTick, Moves, hit_at_pc, noted_if, outcome_of, settled, stayed, tick_of}
-use Rattle.stepping.specs.Ticks.{with_check}
+use Rattle.stepping.specs.Runs.{Goes, IsRun}
+use Rattle.stepping.specs.Ticks.{Debugged, seen, stayed, with_check}
 use Rattle.stepping.specs.declared.goal.Goal.{Goal}
 use Rattle.stepping.specs.declared.tick.RunEnd.{RunEnd}
 use Rattle.stepping.specs.declared.tick.RunEnd.TheVariants.{Spent, Ticked, NoMemory}
-use Rattle.stepping.specs.declared.tick.Outcome.{Outcome}
 use Rattle.stepping.specs.declared.tick.Outcome.TheVariants.{Went}
 use Rattle.stepping.specs.declared.tick.Tick.{Tick}
 
@@ -40,44 +34,21 @@ pub record IsSound (size depth retired out_of_reach : ℕ) (goal : Goal) (start 
 
 -- ---- after a move
 
--- what there is to see at pc: the breakpoints, and whether the goal is met
-abbrev pub seen : Debugged → Outcome
-seen d = outcome_of (hit_at_pc d) (is_met d.goal d.start d.table d.hart.pc d.calls.depth)
-
--- nothing: the machine goes on, and a look at the breakpoints finds none
+-- nothing is to see at pc: the machine goes on, and a look at the breakpoints finds none
 pub record IsQuiet (d : Debugged) : Type 0 where
   pub went : seen d ≡ Went
   pub checked : with_check d ≡ stayed d
 
--- an instruction, or none, has the marks of another
-abbrev pub HasMarksOf : Option Instr → Option Instr → Type 0
-HasMarksOf jump instr = (calls : Kept) (pc : ℕ) → noted_if calls jump pc ≡ noted_if calls instr pc
-
--- An instruction has retired, and it is known at once that there is nothing to report; or it has its marks, and no
--- breakpoint was looked at yet.
-abbrev pub RetiresQuietly : Bool → Option Instr → ℕ → Debugged → Debugged → Type 0
-RetiresQuietly true instr pc before after =
-    (tick_of Retired instr pc before ≡ plain_tick) × (after ≡ settled Retired instr pc before)
-RetiresQuietly false instr pc before after =
-    after ≡ record before { calls = noted_if before.calls instr pc; retired = before.retired + 1 }
-
 -- ---- a tick of a run
 
--- how a run ends by what a tick answers; where there is nothing to report it goes on
-abbrev pub IsEnding : Result Tick AllocError → Option RunEnd → Type 0
-IsEnding answer None = answer ≡ Ok plain_tick
-IsEnding answer (Some Spent) = ⊥
-IsEnding answer (Some (Ticked tick)) = (answer ≡ Ok tick) × (tick ≢ plain_tick)
-IsEnding answer (Some NoMemory) = answer ≡ Err alloc_error
+-- how a run ends by what a tick comes to; where there is nothing to report it goes on
+abbrev pub IsEnding : Tick → Option RunEnd → Type 0
+IsEnding tick None = tick ≡ plain_tick
+IsEnding tick (Some Spent) = ⊥
+IsEnding tick (Some (Ticked other)) = (other ≡ tick) × (tick ≢ plain_tick)
+IsEnding tick (Some NoMemory) = ⊥
 
--- the hart moves, and a run ends so, or goes on
-pub record MovesOn (before : Debugged) (ending : Option RunEnd) (after : Debugged) : Type 0 where
-  pub answer : Result Tick AllocError
-  pub is_ending : IsEnding answer ending
-  pub moves : Moves before answer after
-
--- and so does a tick
-pub record Advances (before : Debugged) (ending : Option RunEnd) (after : Debugged) : Type 0 where
-  pub answer : Result Tick AllocError
-  pub is_ending : IsEnding answer ending
-  pub tick : IsTick before answer after
+-- A run of some ticks, which may be so many, ends so, or goes on after at least one.
+abbrev pub Stretches : ℕ → Debugged → ℕ → Option RunEnd → Debugged → Type 0
+Stretches most before went None after = (1 ≤ went) × ((went ≤ most) × Goes went before after)
+Stretches most before went (Some ending) after = IsRun most before (record { went = went; ending = ending }) after

@@ -1,7 +1,8 @@
 -- Runs: many ticks.
-use Rattle.std.specs.Prelude.{◌≡◌, ◌≢◌, ℕ, zero, suc, ◌<◌, Ok, Err, alloc_error}
+use Rattle.std.specs.Prelude.{◌≡◌, ◌≢◌, ℕ, zero, suc, ◌<◌, false, None, Ok}
+use Rattle.rv32i.specs.Machine.{MoveNeedsPage, machine_of}
 use Rattle.stepping.specs.Plain.{plain_tick}
-use Rattle.stepping.specs.Ticks.{Debugged, IsTick}
+use Rattle.stepping.specs.Ticks.{Debugged, IsTick, seen, with_check}
 use Rattle.stepping.specs.declared.tick.RunEnd.{RunEnd}
 use Rattle.stepping.specs.declared.tick.RunEnd.TheVariants.{Spent, Ticked, NoMemory}
 use Rattle.stepping.specs.declared.tick.Ran.{Ran}
@@ -11,12 +12,22 @@ abbrev pub Goes : ℕ → Debugged → Debugged → Type 0
 Goes zero before after = after ≡ before
 Goes (suc n) before after = (middle : Debugged) × (Goes n before middle × IsTick middle (Ok plain_tick) after)
 
+-- An instruction has retired, and the machine is as its tick leaves it, but that the breakpoints were not looked at yet.
+pub record HasMoved (before after : Debugged) : Type 0 where
+  pub due : before.check_due ≡ false
+  pub tick : IsTick before (Ok (record { printed = None; outcome = seen after })) (with_check after)
+
+-- Memory is made for a tick only where it is a move that needs a page.
+pub record TickNeedsPage (d : Debugged) : Type 0 where
+  pub moves : d.check_due ≡ false
+  pub needs : MoveNeedsPage (machine_of d.hart d.memory)
+
 -- and what ended them: that these were as many as were asked for, a tick of which there is something to report, or
--- one for which no memory was left
+-- one more needs a page for which no memory was left, and was not made
 abbrev pub EndsRun : ℕ → ℕ → RunEnd → Debugged → Debugged → Type 0
 EndsRun most went Spent middle after = (went ≡ most) × (after ≡ middle)
 EndsRun most went (Ticked tick) middle after = (went < most) × ((tick ≢ plain_tick) × IsTick middle (Ok tick) after)
-EndsRun most went NoMemory middle after = (went < most) × IsTick middle (Err alloc_error) after
+EndsRun most went NoMemory middle after = (went < most) × ((after ≡ middle) × TickNeedsPage middle)
 
 -- a run of so many ticks at most
 pub record IsRun (most : ℕ) (before : Debugged) (ran : Ran) (after : Debugged) : Type 0 where

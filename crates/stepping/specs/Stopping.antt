@@ -30,7 +30,7 @@ use Rattle.rv32i.specs.declared.instr.Instr.{Instr}
 use Rattle.rv32i.specs.declared.stepped.Cause.{Cause}
 use Rattle.rv32i.specs.declared.stepped.Stepped.{Stepped}
 use Rattle.rv32i.specs.declared.stepped.Stepped.TheVariants.{Retired, Printed, Break, Exit, Trap}
-use Rattle.stepping.specs.Calls.{noted, nothing_kept}
+use Rattle.course.specs.Calls.{noted, nothing_kept}
 use Rattle.stepping.specs.Goals.{is_met}
 use Rattle.stepping.specs.Ticks.{Debugged}
 use Rattle.stepping.specs.declared.goal.Goal.TheVariants.{Go}

@@ -20,7 +20,8 @@ use Rattle.rv32i.specs.declared.hart.Hart.{Hart}
 use Rattle.rv32i.specs.declared.instr.Instr.{Instr}
 use Rattle.rv32i.specs.declared.stepped.Stepped.{Stepped}
 use Rattle.rv32i.specs.declared.stepped.Stepped.TheVariants as stepped
-use Rattle.stepping.specs.Calls.{Kept, noted}
+use Rattle.course.specs.Calls.{Kept}
+use Rattle.course.specs.Positions.{IsFetched, Position, noted_if}
 use Rattle.stepping.specs.Goals.{is_met}
 use Rattle.stepping.specs.declared.goal.Goal.{Goal}
 use Rattle.stepping.specs.declared.tick.Outcome.{Outcome}
@@ -43,6 +44,10 @@ pub record Debugged : Type 0 where
   pub check_due : Bool
   pub table : Table
 
+-- where its program stands
+abbrev pub position_of : Debugged → Position
+position_of d = record { hart = d.hart; memory = d.memory; calls = d.calls }
+
 -- what the breakpoints come to, and then the goal
 abbrev pub outcome_of : Hit → Bool → Outcome
 outcome_of hit goal_met =
@@ -59,6 +64,10 @@ hit_at_pc d = hit_in d.hart.pc d.hart d.memory d.lists
 abbrev pub with_check : Debugged → Debugged
 with_check d = record d { lists = checked d.hart.pc d.hart d.memory d.lists }
 
+-- what there is to see at pc: the breakpoints, and whether the goal is met
+abbrev pub seen : Debugged → Outcome
+seen d = outcome_of (hit_at_pc d) (is_met d.goal d.start d.table d.hart.pc d.calls.depth)
+
 -- ---- the check at the entry
 
 abbrev pub entry_tick : Debugged → Tick
@@ -68,11 +77,6 @@ abbrev pub entry_checked : Debugged → Debugged
 entry_checked d = with_check (record d { check_due = false })
 
 -- ---- after a move
-
--- the calls after an instruction, if one was fetched
-abbrev pub noted_if : Kept → Option Instr → ℕ → Kept
-noted_if calls None pc = calls
-noted_if calls (Some instr) pc = noted calls instr pc
 
 -- An instruction, which was at this pc, has retired: its marks, and the breakpoints at the new pc.
 abbrev pub gone_on : Option Instr → ℕ → Debugged → Debugged
@@ -106,10 +110,6 @@ settled (stepped.Exit code) instr pc d = stayed d
 settled (stepped.Trap cause) instr pc d = stayed d
 
 -- ---- the tick
-
--- the instruction of the word at pc, or none where there is no word, or the word is illegal
-abbrev pub IsFetched : Machine → Option Instr → Type 0
-IsFetched m instr = MatchResult (word_at m.memory m.pc) (λ word. IsDecoding word instr) (λ fault. instr ≡ None)
 
 -- a machine with its hart and memory as another has them
 abbrev pub moved_as : Debugged → Debugged → Debugged

@@ -1,16 +1,8 @@
 //! What holds of every program: each law is the contract of a function that does nothing.
 
-ghost use Rattle.stepping.specs.Laws.{ReturnsKeepCalls, ReturnsKeepDepth};
 ghost use Rattle.stepping.specs.Loading.{LabelsAreNotLoaded, OneIsLoaded, OneIsReloaded};
 ghost use Rattle.stepping.specs.Past.{LoadedRemembersNone, TicksRemember};
 ghost use Rattle.stepping.specs.RunLaws.{CountsAnew, EachMachineTicks, EachTickAnswers, EndsWithCodes, MovesEnd, RunsSayWhere, RunsStopThere, StopIsUnique, TickIsDeterministic, TicksSayWhere};
-
-/// Calls that returned leave the depth as it was. Of the calls of before they leave those that were
-/// never forgotten meanwhile, and no other comes back.
-pub fn returns_undo_calls()
-    ensures depth { ReturnsKeepDepth }
-    ensures calls { ReturnsKeepCalls }
-{}
 
 /// An image, a size of memory and breakpoints settle the machine that is as the image says: it is the one that
 /// `Loading.loaded` makes of them. Loaded anew, the machine before gives the size and the breakpoints. The labels of
@@ -51,7 +43,7 @@ pub fn tick_is_deterministic()
     ensures { TickIsDeterministic }
 {}
 
-/// No tick lacks memory, so that each one answers.
+/// Each tick of a machine answers. That a call found no memory for a page is no answer of a tick.
 pub fn each_tick_answers()
     ensures { EachTickAnswers }
 {}

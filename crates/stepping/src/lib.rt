@@ -1,7 +1,7 @@
 //! What a debugger keeps of a running RISC-V program while it steps (RISC-V Unprivileged ISA 20191213).
 #![tactic(auto)]
 
-mod calls;
+mod burst;
 mod goal;
 pub mod laws;
 mod lending;
@@ -9,7 +9,6 @@ mod runner;
 mod running;
 mod tick;
 
-pub use calls::Calls;
 pub use goal::{Goal, Granularity};
 pub use runner::Runner;
 pub use tick::{Outcome, Ran, Reason, RunEnd, Tick};

@@ -1,29 +1,27 @@
 //! A debugged machine, which goes tick by tick.
 
 ghost use Rattle.std.specs.Prelude.{◌≡◌, ◌+◌, ◌^◌, ◌<◌, ◌≤◌, IfOk, OnErr, OnOk, length, replicate};
-ghost use Rattle.image.specs.Memory.{fault_at, first_address, memory_after, unless_fault, with_bytes};
+ghost use Rattle.image.specs.Memory.{first_address, with_bytes, WritesOrLacks};
 ghost use Rattle.stepping.specs.Loading.{CanBeLoaded, IsLoaded, no_breakpoints, not_hit};
-ghost use Rattle.stepping.specs.Runs.{IsRun};
+ghost use Rattle.stepping.specs.Runs.{IsRun, TickNeedsPage};
 ghost use Rattle.stepping.specs.Ticks.{IsTick};
 
-use crate::calls::Calls;
 use crate::goal::Goal;
 use crate::tick::{Ran, RunEnd, Tick};
 use breakpoints::Breaks;
+use course::{Calls, Course};
 use image::{FIRST_ADDRESS, Image, LineTable, MemFault, Memory};
 use rv32i::Hart;
 use std::alloc::{AllocError, Global};
 use std::marker::Model;
 
-/// A debugged machine: hart and memory, the calls of the running program, breakpoints, and the goal of the run. A contract sees
+/// A debugged machine: hart, memory and the calls of the running program, breakpoints, and the goal of the run. A contract sees
 /// it as a debugger does.
 #[derive(Drop)]
 pub struct Runner {
     alloc: Global,
-    pub(crate) hart: Hart,
-    pub(crate) memory: Memory,
+    pub(crate) course: Course,
     size: u32,
-    pub(crate) calls: Calls,
     pub(crate) breaks: Breaks,
     pub(crate) retired: u64,
     pub(crate) goal: Goal,
@@ -45,10 +43,10 @@ impl Model for Runner {
     ghost coded = { Prim.hlevel (codes, coded_tree) };
 
     ghost view = { λ r. record {
-      hart = r.hart;
-      memory = r.memory;
+      hart = r.course.hart;
+      memory = r.course.memory;
       size = r.size;
-      calls = r.calls;
+      calls = r.course.calls;
       lists = r.breaks;
       retired = r.retired;
       goal = r.goal;
@@ -57,7 +55,7 @@ impl Model for Runner {
       table = r.lines;
     } };
 
-    ghost invariant = { λ r. IsSound r.size r.calls.depth r.retired r.out_of_reach r.goal r.start };
+    ghost invariant = { λ r. IsSound r.size r.course.calls.depth r.retired r.out_of_reach r.goal r.start };
 }
 
 impl Runner {
@@ -69,14 +67,13 @@ impl Runner {
         ensures { IfOk result (λ runner. IsLoaded image.now size no_breakpoints runner) }
     {
         let memory = loaded_memory(alloc, image, size)?;
-        let calls = Calls::new(alloc)?;
+        let hart = Hart::new(image.entry, FIRST_ADDRESS + size);
+        let course = Course::new(alloc, hart, memory)?;
         let lines = image.lines.without_labels(alloc)?;
         Ok(Runner {
             alloc,
-            hart: Hart::new(image.entry, FIRST_ADDRESS + size),
-            memory,
+            course,
             size,
-            calls,
             breaks: Breaks::new(alloc),
             retired: 0,
             goal: Goal::Go,
@@ -96,11 +93,9 @@ impl Runner {
         ensures err { OnErr result (self.new ≡ self.old) }
     {
         let memory = loaded_memory(self.alloc, image, self.size)?;
-        let calls = Calls::new(self.alloc)?;
         let lines = image.lines.without_labels(self.alloc)?;
-        self.hart = Hart::new(image.entry, FIRST_ADDRESS + self.size);
-        self.memory = memory;
-        self.calls = calls;
+        let hart = Hart::new(image.entry, FIRST_ADDRESS + self.size);
+        self.course.restart(hart, memory);
         self.breaks.reset_hits();
         self.retired = 0;
         self.goal = Goal::Go;
@@ -118,16 +113,18 @@ impl Runner {
             { goal = goal; start = self.old.calls.depth; check_due = first } }
     {
         self.goal = goal;
-        self.start = self.calls.depth();
+        self.start = self.course.calls().depth();
         self.out_of_reach = goal.out_of_reach(self.start);
         self.check_due = first;
     }
 
-    /// One tick: the check that is due at the entry, or one move and what it comes to. `Err`: no memory was left for the move, and
-    /// nothing changes. Fewer than 2^62 instructions have retired before it.
+    /// One tick: the check that is due at the entry, or one move and what it comes to. `Err`: no memory was left for the page that
+    /// the move is the first to store into, and nothing changes. Fewer than 2^62 instructions have retired before it.
     pub fn tick(&mut self) -> Result<Tick, AllocError>
         requires { self.old.retired < 2 ^ 62 }
-        ensures tick { IsTick self.old result self.new }
+        ensures tick { OnOk result (IsTick self.old result self.new) }
+        ensures err { OnErr result (self.new ≡ self.old) }
+        ensures lacks { OnErr result (TickNeedsPage self.old) }
         ensures retired { self.new.retired ≤ self.old.retired + 1 }
     {
         match self.go(1).ending {
@@ -147,39 +144,34 @@ impl Runner {
         self.go(most)
     }
 
-    /// Writes bytes to memory. `Outside`: one of the addresses has no byte, and nothing is written.
+    /// Writes bytes to memory. `Outside`: one of the addresses has no byte; `NoMemory`: no memory was left for a page that is written
+    /// first. Then nothing is written.
     pub fn write(&mut self, addr: u32, bytes: &[u8]) -> Result<(), MemFault>
-        ensures answers { result
-            ≡ unless_fault (fault_at self.old.memory 1 addr (length bytes.now)) tt }
-        ensures leaves { self.new
-            ≡ record self.old {
-              memory = memory_after
-                  (fault_at self.old.memory 1 addr (length bytes.now))
-                  (with_bytes self.old.memory addr bytes.now) self.old.memory;
-            } }
+        ensures writes { WritesOrLacks 1 self.old.memory addr bytes.now result self.new.memory }
+        ensures rest { self.new ≡ record self.old { memory = self.new.memory } }
     {
-        self.memory.write(addr, bytes)
+        self.course.write(addr, bytes)
     }
 
     /// Gives the hart other registers and another pc.
     pub fn set_hart(&mut self, hart: Hart)
         ensures { self.new ≡ record self.old { hart = hart } }
     {
-        self.hart = hart;
+        self.course.set_hart(hart);
     }
 
     /// The hart.
     pub fn hart(&self) -> &Hart
         ensures { result.now ≡ self.now.hart }
     {
-        &self.hart
+        self.course.hart()
     }
 
     /// Memory.
     pub fn memory(&self) -> &Memory
         ensures { result.now ≡ self.now.memory }
     {
-        &self.memory
+        self.course.memory()
     }
 
     /// How many bytes memory has.
@@ -193,7 +185,7 @@ impl Runner {
     pub fn calls(&self) -> &Calls
         ensures { result.now ≡ self.now.calls }
     {
-        &self.calls
+        self.course.calls()
     }
 
     /// The breakpoints.
@@ -227,6 +219,7 @@ fn loaded_memory(alloc: Global, image: &Image, size: u32) -> Result<Memory, Allo
     let mut memory = Memory::new(alloc, FIRST_ADDRESS, size)?;
     match memory.write(FIRST_ADDRESS, image.bytes.as_slice()) {
         Ok(()) => Ok(memory),
+        Err(MemFault::NoMemory) => Err(AllocError),
         Err(_) => unreachable!(),
     }
 }

@@ -1,55 +1,39 @@
 //! The ticks of a run. After most moves there is nothing to report: no breakpoint is at the new pc, and the goal is out of reach.
 
-ghost use Rattle.std.specs.Prelude.{◌≡◌, ◌+◌, ◌^◌, ◌<◌, ◌≤◌, IsOk, true};
-ghost use Rattle.std.specs.Bool.{OnTrue};
-ghost use Rattle.image.specs.Memory.{word_at};
-ghost use Rattle.rv32i.specs.Machine.{IsDecodedAtPc, IsMove, machine_of};
-ghost use Rattle.stepping.specs.Running.{HasMarksOf, IsEnding, IsQuiet, MovesOn, RetiresQuietly, seen};
+ghost use Rattle.std.specs.Prelude.{◌≡◌, ◌+◌, ◌^◌, ◌<◌, ◌≤◌, ◌-◌, None, false, true};
+ghost use Rattle.course.specs.Positions.{Halts};
+ghost use Rattle.stepping.specs.Bursts.{Ends, EndsHalted, stretch_of};
+ghost use Rattle.stepping.specs.Running.{IsEnding, Stretches};
 ghost use Rattle.stepping.specs.Runs.{IsRun};
-ghost use Rattle.stepping.specs.Ticks.{entry_checked, entry_tick, gone_on, moved_as, noted_if, outcome_of, settled, tick_of, went_on, with_check};
+ghost use Rattle.stepping.specs.Ticks.{entry_checked, entry_tick, gone_on, hit_at_pc, outcome_of, position_of, seen, settled, tick_of, went_on, with_check};
 
+use crate::burst::{BurstEnd, retire};
 use crate::runner::Runner;
 use crate::tick::{Outcome, Ran, Reason, RunEnd, Tick};
 use breakpoints::Hit;
-use image::MemFault;
-use rv32i::{Cause, Instr, Stepped, decode};
-use std::alloc::AllocError;
+use rv32i::{Halt, Stepped};
+
+/// Some ticks of a run.
+#[derive(Clone, Copy)]
+pub(crate) struct Stretch {
+    /// How many went, with nothing printed.
+    pub went: u32,
+    /// What ended the run; `None`: it goes on.
+    pub ending: Option<RunEnd>,
+}
 
 impl Runner {
     /// Makes so many ticks at most, and ends with the first of which there is something to report.
-    #[inline(never)]
     pub(crate) fn go(&mut self, most: u32) -> Ran
         requires { self.old.retired + most ≤ 2 ^ 62 }
         ensures run { IsRun most self.old result self.new }
         ensures retired { self.new.retired ≤ self.old.retired + most }
     {
-        for went in 0..most {
-            if self.check_due {
-                match self.check_entry() {
-                    None => continue,
-                    Some(ending) => return Ran { went, ending },
-                }
-            }
-            let pc = self.hart.pc;
-            let instr = match self.memory.word(pc) {
-                Ok(word) => decode(word),
-                Err(fault) => match self.fault(fault) {
-                    None => continue,
-                    Some(ending) => return Ran { went, ending },
-                },
-            };
-            let jump = jump_in(&instr);
-            let slow = match self.move_by(instr) {
-                Ok(Stepped::Retired) => {
-                    if self.retires_quietly(&jump, pc) {
-                        continue;
-                    }
-                    self.look_closely()
-                }
-                Ok(stepped) => self.settle(stepped, &jump, pc),
-                Err(_) => Some(RunEnd::NoMemory),
-            };
-            if let Some(ending) = slow {
+        let mut went = 0;
+        while went < most {
+            let stretch = self.stretch(most - went);
+            went += stretch.went;
+            if let Some(ending) = stretch.ending {
                 return Ran { went, ending };
             }
         }
@@ -59,33 +43,54 @@ impl Runner {
         }
     }
 
-    // The hart moves by an instruction, or by none where the word at pc is illegal.
-    #[inline]
-    fn move_by(&mut self, instr: Option<Instr>) -> Result<Stepped, AllocError>
-        requires { IsDecodedAtPc (machine_of self.old.hart self.old.memory) instr }
-        ensures moves { IsMove (machine_of self.old.hart self.old.memory)
-            (record { answer = result; machine = machine_of self.new.hart self.new.memory }) }
-        ensures rest { self.new ≡ moved_as self.old self.new }
-        ensures answers { IsOk result }
-        ensures decoded { IsDecodedAtPc (machine_of self.old.hart self.old.memory) instr }
+    // Some ticks of a run, which are so many at most: those up to the first that has to be looked at, and that one.
+    fn stretch(&mut self, most: u32) -> Stretch
+        requires some { 0 < most }
+        requires few { self.old.retired + most ≤ 2 ^ 62 }
+        ensures { Stretches most self.old result.went result.ending self.new }
     {
-        self.hart.execute(instr, &mut self.memory)
+        if self.check_due {
+            return stretch_of(0, self.check_entry());
+        }
+        let (went, ending) = self.advance(most);
+        match ending {
+            BurstEnd::Spent => Stretch { went, ending: None },
+            BurstEnd::Near => stretch_of(went, self.look_closely()),
+            BurstEnd::Halted(halt) => Stretch {
+                went,
+                ending: Some(self.halted(halt)),
+            },
+        }
     }
 
-    // A move where no word can be fetched: the hart traps.
+    // Instructions in a row, so many at most: how many went, and what ended them.
+    fn advance(&mut self, most: u32) -> (u32, BurstEnd)
+        requires due { self.old.check_due ≡ false }
+        requires few { self.old.retired + most ≤ 2 ^ 62 }
+        ensures { Ends most result.0 result.1 self.old self.new }
+    {
+        let burst = retire(&mut self.course, &self.breaks, self.out_of_reach, most);
+        let moved = burst.moved();
+        self.course.set_pc(burst.pc);
+        self.retired += moved;
+        if moved > 0 {
+            self.breaks.forget_ids();
+        }
+        (burst.went, burst.ending)
+    }
+
+    // The instruction at pc halts: what comes of it, which ends the run.
     #[cold]
     #[inline(never)]
-    fn fault(&mut self, fault: MemFault) -> Option<RunEnd>
-        requires retired { self.old.retired < 2 ^ 62 }
-        requires fault { word_at self.old.memory self.old.hart.pc ≡ Err fault }
-        ensures moves { MovesOn self.old result self.new }
-        ensures retired { self.new.retired ≤ self.old.retired + 1 }
+    fn halted(&mut self, halt: Halt) -> RunEnd
+        requires due { self.old.check_due ≡ false }
+        requires few { self.old.retired < 2 ^ 62 }
+        requires halts { Halts self.old.hart.pc halt (position_of self.old) }
+        ensures { EndsHalted self.old result self.new }
     {
-        let pc = self.hart.pc;
-        match fault {
-            MemFault::Misaligned => self.settle(Stepped::Trap(Cause::JumpMisaligned), &None, pc),
-            MemFault::Outside => self.settle(Stepped::Trap(Cause::FetchOutside), &None, pc),
-            MemFault::NoMemory => Some(RunEnd::NoMemory),
+        match self.course.settle(halt) {
+            Ok(stepped) => RunEnd::Ticked(self.tick_after(stepped)),
+            Err(_) => RunEnd::NoMemory,
         }
     }
 
@@ -96,7 +101,7 @@ impl Runner {
         ensures state { self.new ≡ entry_checked self.old }
     {
         self.check_due = false;
-        let hit = self.breaks.check(self.hart.pc, &self.hart, &self.memory);
+        let hit = self.hit();
         Tick {
             printed: None,
             outcome: outcome_of(hit, false),
@@ -108,57 +113,30 @@ impl Runner {
     #[inline(never)]
     fn check_entry(&mut self) -> Option<RunEnd>
         requires { self.old.check_due ≡ true }
-        ensures ending { IsEnding (Ok (entry_tick self.old)) result }
+        ensures ending { IsEnding (entry_tick self.old) result }
         ensures state { self.new ≡ entry_checked self.old }
     {
         let tick = self.check();
         ending_of(tick)
     }
 
-    // An instruction, which was at this pc, has retired. Whether it is known at once that there is nothing to report; else it
-    // is left to look at the breakpoints and the goal.
-    #[inline]
-    fn retires_quietly(&mut self, instr: &Option<Instr>, pc: u32) -> bool
+    // The tick of a move that was made, by an instruction that is no jump, where it retired.
+    fn tick_after(&mut self, stepped: Stepped) -> Tick
         requires { self.old.retired < 2 ^ 62 }
-        ensures { RetiresQuietly result instr.now pc self.old self.new }
-    {
-        self.note(instr, pc);
-        if !self.is_quiet() {
-            return false;
-        }
-        self.breaks.forget_ids();
-        true
-    }
-
-    // What comes of a move that was made, from this pc.
-    #[cold]
-    #[inline(never)]
-    fn settle(&mut self, stepped: Stepped, instr: &Option<Instr>, pc: u32) -> Option<RunEnd>
-        requires { self.old.retired < 2 ^ 62 }
-        ensures ending { IsEnding (Ok (tick_of stepped instr.now pc self.old)) result }
-        ensures state { self.new ≡ settled stepped instr.now pc self.old }
-    {
-        let tick = self.tick_after(stepped, instr, pc);
-        ending_of(tick)
-    }
-
-    // The tick of a move that was made, from this pc.
-    fn tick_after(&mut self, stepped: Stepped, instr: &Option<Instr>, pc: u32) -> Tick
-        requires { self.old.retired < 2 ^ 62 }
-        ensures tick { result ≡ tick_of stepped instr.now pc self.old }
-        ensures state { self.new ≡ settled stepped instr.now pc self.old }
+        ensures tick { result ≡ tick_of stepped None 0 self.old }
+        ensures state { self.new ≡ settled stepped None 0 self.old }
     {
         match stepped {
             Stepped::Retired => Tick {
                 printed: None,
-                outcome: self.go_on(instr, pc),
+                outcome: self.go_on(),
             },
             Stepped::Printed(number) => Tick {
                 printed: Some(number),
-                outcome: self.go_on(instr, pc),
+                outcome: self.go_on(),
             },
             Stepped::Break => {
-                self.go_on(instr, pc);
+                self.go_on();
                 Tick {
                     printed: None,
                     outcome: Outcome::Stopped(Reason::Ebreak),
@@ -181,46 +159,20 @@ impl Runner {
         }
     }
 
-    // An instruction, which was at this address, has retired.
-    fn go_on(&mut self, instr: &Option<Instr>, at: u32) -> Outcome
+    // An instruction that is no jump has retired.
+    fn go_on(&mut self) -> Outcome
         requires { self.old.retired < 2 ^ 62 }
-        ensures outcome { result ≡ went_on instr.now at self.old }
-        ensures state { self.new ≡ gone_on instr.now at self.old }
+        ensures outcome { result ≡ went_on None 0 self.old }
+        ensures state { self.new ≡ gone_on None 0 self.old }
     {
-        self.note(instr, at);
+        self.retired += 1;
         self.look()
     }
 
-    // The marks of an instruction that has retired.
-    #[inline]
-    fn note(&mut self, instr: &Option<Instr>, pc: u32)
-        requires { self.old.retired < 2 ^ 62 }
-        ensures { self.new ≡ record self.old
-            { calls = noted_if self.old.calls instr.now pc; retired = self.old.retired + 1 } }
-    {
-        if let Some(instr) = instr {
-            self.calls.note(instr, pc);
-        }
-        self.retired += 1;
-    }
-
-    // Whether it is known that there is nothing to see.
-    #[inline]
-    fn is_quiet(&self) -> bool
-        requires { self.now.retired ≤ 2 ^ 62 }
-        ensures { OnTrue result (IsQuiet self.now) }
-    {
-        if self.breaks.has(self.hart.pc) {
-            return false;
-        }
-        self.calls.depth() >= self.out_of_reach
-    }
-
     // What there is to see at pc, and how a run ends with it.
-    #[cold]
-    #[inline(never)]
+    #[inline]
     fn look_closely(&mut self) -> Option<RunEnd>
-        ensures ending { IsEnding (Ok (record { printed = None; outcome = seen self.old })) result }
+        ensures ending { IsEnding (record { printed = None; outcome = seen self.old }) result }
         ensures state { self.new ≡ with_check self.old }
     {
         let outcome = self.look();
@@ -231,52 +183,53 @@ impl Runner {
     }
 
     // What there is to see at pc: the breakpoints, and whether the goal is met.
+    #[inline]
     fn look(&mut self) -> Outcome
         ensures outcome { result ≡ seen self.old }
         ensures state { self.new ≡ with_check self.old }
     {
-        let hit = self.breaks.check(self.hart.pc, &self.hart, &self.memory);
-        let met = self
-            .goal
-            .is_met(self.start, &self.lines, self.hart.pc, self.calls.depth());
+        let hit = self.hit();
+        let pc = self.course.hart().pc;
+        let depth = self.course.calls().depth();
+        let met = self.goal.is_met(self.start, &self.lines, pc, depth);
         outcome_of(hit, met)
     }
-}
 
-// The instruction where it is a jump, which alone may leave marks: to keep each instruction is slow, since a processor that has
-// written the parts of one has to wait before it can read it as a whole.
-#[inline]
-fn jump_in(instr: &Option<Instr>) -> Option<Instr>
-    ensures { HasMarksOf result instr.now }
-{
-    match instr {
-        Some(instr) => jump_of(instr),
-        None => None,
+    // Looks at the breakpoints at pc. Most steps end where there are none, which is known at once.
+    #[inline(always)]
+    fn hit(&mut self) -> Hit
+        ensures hit { result ≡ hit_at_pc self.old }
+        ensures state { self.new ≡ with_check self.old }
+    {
+        let hart = self.course.hart();
+        if !self.breaks.has(hart.pc) {
+            self.breaks.forget_ids();
+            return Hit {
+                source: false,
+                instruction: false,
+            };
+        }
+        self.breaks.check(hart.pc, hart, self.course.memory())
     }
 }
 
-// An instruction where it is a jump.
-#[inline]
-fn jump_of(instr: &Instr) -> Option<Instr>
-    ensures { HasMarksOf result (Some instr.now) }
+// So many ticks went, and then one more, after which a run ends so, or goes on.
+fn stretch_of(went: u32, ending: Option<RunEnd>) -> Stretch
+    requires { went < 2 ^ 32 - 1 }
+    ensures { result ≡ stretch_of went ending }
 {
-    match instr {
-        Instr::Jal { rd, offset } => Some(Instr::Jal {
-            rd: *rd,
-            offset: *offset,
-        }),
-        Instr::Jalr { rd, rs1, imm } => Some(Instr::Jalr {
-            rd: *rd,
-            rs1: *rs1,
-            imm: *imm,
-        }),
-        _ => None,
+    match ending {
+        Some(_) => Stretch { went, ending },
+        None => Stretch {
+            went: went + 1,
+            ending,
+        },
     }
 }
 
 // How a run ends by a tick; `None`: it goes on.
 fn ending_of(tick: Tick) -> Option<RunEnd>
-    ensures { IsEnding (Ok tick) result }
+    ensures { IsEnding tick result }
 {
     if tick.is_plain() {
         None

@@ -1,0 +1,7 @@
+pub mod Depths
+pub mod Keeping
+pub mod Standing
+pub mod Returning
+pub mod Others
+pub mod Remembering
+pub mod Moving

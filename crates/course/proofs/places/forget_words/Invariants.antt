@@ -1,0 +1,11 @@
+use Rattle.std.proofs.Common.{◌≡◌, ℕ, ◌+◌, ◌*◌, ◌/◌, List}
+use Rattle.std.specs.Prelude.{vec_capacity}
+use Rattle.course.specs.Words.{AreKnown}
+use Rattle.course.proofs.places.forget_words.Given as goal
+
+abbrev pub invariant-loop-k : goal.invariant-loop-k
+invariant-loop-k l = record {
+  forgets : (memory : List ℕ) → AreKnown memory 0 0 l.fn.entries.items
+      → AreKnown memory (l.at / 4 * 4) (l.at / 4 * 4 + 4 * l.k) l.entries.items;
+  room : vec_capacity l.entries ≡ vec_capacity l.fn.entries;
+}

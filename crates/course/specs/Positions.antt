@@ -1,0 +1,71 @@
+-- Where a running program stands: a hart in its memory, and the calls that have not returned.
+--
+-- The instruction at an address *retires*, and then the next one is at another address, the registers and memory are as
+-- the move says, and the calls have its marks; or it *halts*, and nothing has changed: it traps, it asks for the
+-- environment, or it is the first to store into a page for which no memory was left.
+--
+-- Where a program runs, the hart's own pc is not looked at: the address is told, and the next one is answered.
+use Rattle.std.specs.Prelude.{◌≡◌, ℕ, ◌%◌, List, Option, Some, None, Result, Ok, Err, MatchResult}
+use Rattle.image.specs.Memory.{word_at}
+use Rattle.rv32i.specs.Encoding.{IsDecoding}
+use Rattle.rv32i.specs.Machine.{IsDecodedAtPc, IsMove, Machine, MoveNeedsPage, effect_of, trapped}
+use Rattle.rv32i.specs.declared.hart.Hart.{Hart}
+use Rattle.rv32i.specs.declared.instr.Instr.{Instr}
+use Rattle.rv32i.specs.declared.instr.Instr.TheVariants.{Ecall, Ebreak}
+use Rattle.rv32i.specs.declared.performing.Halt.{Halt}
+use Rattle.rv32i.specs.declared.performing.Halt.TheVariants.{Stopped, NoMemory, Calls, Breaks}
+use Rattle.rv32i.specs.declared.stepped.Stepped.TheVariants.{Retired}
+use Rattle.course.specs.Calls.{Kept, noted, nothing_kept}
+
+-- a hart, memory, and the calls of the program that are kept
+pub record Position : Type 0 where
+  pub hart : Hart
+  pub memory : List ℕ
+  pub calls : Kept
+
+-- before the first instruction
+abbrev pub start_of : Hart → List ℕ → Position
+start_of hart memory = record { hart = hart; memory = memory; calls = nothing_kept }
+
+-- the machine that stands there, but for its pc
+abbrev pub machine_at : ℕ → Position → Machine
+machine_at pc p = record { pc = pc; x = p.hart.x; memory = p.memory }
+
+-- the instruction of the word at pc, or none where there is no word, or the word is illegal
+abbrev pub IsFetched : Machine → Option Instr → Type 0
+IsFetched m instr = MatchResult (word_at m.memory m.pc) (λ word. IsDecoding word instr) (λ fault. instr ≡ None)
+
+-- the calls after an instruction, if one was fetched
+abbrev pub noted_if : Kept → Option Instr → ℕ → Kept
+noted_if calls None pc = calls
+noted_if calls (Some instr) pc = noted calls instr pc
+
+-- The instruction at an address retires, and the next one is at another: that is its move, and it leaves its marks on the
+-- calls. The hart's own pc stays.
+pub record Retires (at next : ℕ) (before after : Position) : Type 0 where
+  pub instr : Instr
+  pub decoded : IsDecodedAtPc (machine_at at before) (Some instr)
+  pub moves : IsMove (machine_at at before) (record { answer = Ok Retired; machine = machine_at next after })
+  pub aligned : next % 4 ≡ 0
+  pub calls : after.calls ≡ noted before.calls instr at
+  pub pc : after.hart.pc ≡ before.hart.pc
+
+-- what it says that an instruction, or none, halts: it traps; it is the first to store into a page, for which no memory
+-- was left; it is an environment call, or EBREAK, and was not carried out
+abbrev pub Says : Halt → Option Instr → Machine → Type 0
+Says (Stopped cause) instr m = IsMove m (trapped cause m)
+Says NoMemory instr m = MoveNeedsPage m
+Says Calls instr m = (instr ≡ Some Ecall) × IsMove m (effect_of Ecall m)
+Says Breaks instr m = (instr ≡ Some Ebreak) × IsMove m (effect_of Ebreak m)
+
+-- the instruction at an address halts
+pub record Halts (at : ℕ) (halt : Halt) (p : Position) : Type 0 where
+  pub instr : Option Instr
+  pub fetched : IsFetched (machine_at at p) instr
+  pub says : Says halt instr (machine_at at p)
+
+-- what comes of the instruction at an address: it retires and the next one is answered, or it halts, and nothing has
+-- changed
+abbrev pub Goes : ℕ → Position → Result ℕ Halt → Position → Type 0
+Goes at before (Ok next) after = Retires at next before after
+Goes at before (Err halt) after = Halts at halt before × (after ≡ before)

@@ -1,0 +1,50 @@
+use Rattle.std.proofs.Common.{◌≡◌, ◌≤◌, ℕ, refl, sym, ap, ◌∙◌, subst, arith}
+use Rattle.course.specs.Calls.{Kept}
+use Rattle.stepping.specs.Bursts.{IsFar, Retire}
+use Rattle.stepping.proofs.Bursting.{retire_more, retires_deeper}
+use Rattle.stepping.proofs.burst.retire.Goals as goal
+use Rattle.stepping.proofs.burst.retire.Goals.{else-watches-via-then-watches+else-is_near, else-watches-via-else-watches}
+
+pub returns-then-is_near : goal.returns-then-is_near
+returns-then-is_near c = record {
+  pc = c.loop-went.pc;
+  middle = c.loop-went.course;
+  retire = c.loop-went.invariant.retire;
+  ends = (c.loop-went-test.true, c.in-Ok.ensures);
+  stays = c.in-Ok.ensures.pc ∙ c.loop-went.invariant.stays;
+}
+
+pub returns-in-Err : goal.returns-in-Err
+returns-in-Err c = record {
+  pc = c.loop-went.pc;
+  middle = c.loop-went.course;
+  retire = c.loop-went.invariant.retire;
+  ends = (c.loop-went-test.true, (c.in-Err.ensures.0, (refl, c.in-Err.ensures.1)));
+  stays = ap (λ p. p.hart.pc) c.in-Err.ensures.1 ∙ c.loop-went.invariant.stays;
+}
+
+pub loop-went-preserved : goal.loop-went-preserved
+loop-went-preserved c =
+    let far : IsFar c.args.breaks.now c.args.reach c.in-Ok.next c.quick.new.self.calls.depth = elim c.else-watches.branch [
+      | else-watches-via-then-watches+else-is_near w ↦
+          subst (λ (k : Kept). IsFar c.args.breaks.now c.args.reach c.in-Ok.next k.depth) w.calls.ensures w.if-is_near.ensures
+      | else-watches-via-else-watches w ↦ w.if-watches.ensures c.in-Ok.next c.quick.new.self.calls.depth
+    ] in
+    record {
+      retire =
+          retire_more c.loop-went.went _ _ _ c.loop-went.pc c.in-Ok.next _ c.loop-went.course c.quick.new.self c.loop-went.invariant.retire c.in-Ok.ensures far;
+      deep = omega (arith, c.loop-went.invariant.deep, retires_deeper c.loop-went.pc c.in-Ok.next c.loop-went.course c.quick.new.self c.in-Ok.ensures);
+      stays = c.in-Ok.ensures.pc ∙ c.loop-went.invariant.stays;
+    }
+
+pub returns : goal.returns
+returns c =
+    let all : c.loop-went.went ≡ c.args.most = omega (arith, c.loop-went.auto.went-end, c.loop-went-test.false) in
+    record {
+      pc = c.loop-went.pc;
+      middle = c.loop-went.course;
+      retire = subst (λ (n : ℕ). Retire n c.args.breaks.now c.args.reach c.args.course.now.hart.pc c.args.course.now c.loop-went.pc c.loop-went.course) all
+          c.loop-went.invariant.retire;
+      ends = (refl, (refl, refl));
+      stays = c.loop-went.invariant.stays;
+    }

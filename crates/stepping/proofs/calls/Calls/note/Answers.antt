@@ -1,6 +1,0 @@
-use Rattle.stepping.proofs.Standing.{notes}
-use Rattle.stepping.proofs.calls.Calls.note.Goals as goal
-
-pub returns-in-Jal-clause-past : goal.returns-in-Jal-clause-past
-returns-in-Jal-clause-past c =
-    notes c.args.self.now c.note_jump.new.self c.args.instr.now c.args.pc c.note_jump.ensures

@@ -1,0 +1,49 @@
+use Rattle.std.proofs.Common.{◌≡◌, ◌<◌, ◌≤◌, ◌+◌, ◌^◌, false, ℕ, refl, sym, ap, ◌∙◌, subst, arith}
+use Rattle.stepping.specs.Bursts.{Ends, moved_by}
+use Rattle.stepping.specs.Ticks.{Debugged}
+use Rattle.stepping.specs.contracts.runner.Runner as runner
+use Rattle.stepping.proofs.Bursting.{arrived, arrives_none, arrives_some, bursts_deeper, bursts_end, bursts_few, midway}
+use Rattle.stepping.proofs.runner.Runner.advance.Goals as goal
+
+pub invariant_of-self : goal.invariant_of-self
+invariant_of-self c =
+    let r = c.self.inside in
+    let i = c.self.invariant in
+    let deep = bursts_deeper c.args.most _ _ _ c.retire-burst.result c.retire-burst.new.course c.retire-burst.ensures in
+    record {
+      whole = i.whole;
+      some = i.some;
+      few = i.few;
+      called = omega (arith, i.called, deep, c.moved-moved.ensures, ap (λ p. p.calls.depth) c.set_pc.ensures);
+      unmet = i.unmet;
+    }
+
+pub returns-then-moved-gt0 : goal.returns-then-moved-gt0
+returns-then-moved-gt0 c =
+    let d : Debugged = runner.the_view c.self.inside in
+    let due : d.check_due ≡ false = ap (λ (x : Debugged). x.check_due) c.self.view_is ∙ c.requires.due in
+    let few : d.retired + c.args.most ≤ 2 ^ 62 = subst (λ (x : Debugged). x.retired + c.args.most ≤ 2 ^ 62) (sym c.self.view_is) c.requires.few in
+    let deep : d.calls.depth + c.args.most ≤ 2 ^ 62 = omega (arith, few, c.self.invariant.called) in
+    let b = c.retire-burst.result in
+    let ends = bursts_end c.args.most c.self.inside.out_of_reach b c.retire-burst.new.course d due c.self.invariant.unmet deep c.retire-burst.ensures in
+    let moved = c.moved-moved.ensures in
+    let there = ap (λ (n : ℕ). arrived n c.set_pc.new.self c.forget_ids.new.self d) moved
+    ∙ arrives_some (moved_by b.went b.ending) b.pc c.retire-burst.new.course c.set_pc.new.self c.forget_ids.new.self d
+    (subst (λ (n : ℕ). 0 < n) moved c.if-moved-gt0.true) c.set_pc.ensures c.forget_ids.ensures in
+    subst (λ (x : Debugged). Ends c.args.most b.went b.ending x (arrived c.moved-moved.result c.set_pc.new.self c.forget_ids.new.self d)) c.self.view_is
+    (subst (λ (x : Debugged). Ends c.args.most b.went b.ending d x) (sym there) ends)
+
+pub returns-else-moved-gt0 : goal.returns-else-moved-gt0
+returns-else-moved-gt0 c =
+    let d : Debugged = runner.the_view c.self.inside in
+    let due : d.check_due ≡ false = ap (λ (x : Debugged). x.check_due) c.self.view_is ∙ c.requires.due in
+    let few : d.retired + c.args.most ≤ 2 ^ 62 = subst (λ (x : Debugged). x.retired + c.args.most ≤ 2 ^ 62) (sym c.self.view_is) c.requires.few in
+    let deep : d.calls.depth + c.args.most ≤ 2 ^ 62 = omega (arith, few, c.self.invariant.called) in
+    let b = c.retire-burst.result in
+    let ends = bursts_end c.args.most c.self.inside.out_of_reach b c.retire-burst.new.course d due c.self.invariant.unmet deep c.retire-burst.ensures in
+    let moved = c.moved-moved.ensures in
+    let there = ap (λ (n : ℕ). arrived n c.set_pc.new.self d.lists d) moved
+    ∙ arrives_none (moved_by b.went b.ending) b.pc c.retire-burst.new.course c.set_pc.new.self d
+    (subst (λ (n : ℕ). n ≤ 0) moved c.if-moved-gt0.false) c.set_pc.ensures in
+    subst (λ (x : Debugged). Ends c.args.most b.went b.ending x (arrived c.moved-moved.result c.set_pc.new.self d.lists d)) c.self.view_is
+    (subst (λ (x : Debugged). Ends c.args.most b.went b.ending d x) (sym there) ends)

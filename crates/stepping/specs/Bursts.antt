@@ -1,0 +1,70 @@
+-- What only private clauses cite: instructions that retire one after the other, at none of which there is anything to see.
+--
+-- Where the addresses of breakpoints are far and the goal is out of reach, nothing has to be looked at: a run then goes
+-- from one address to the next, and the hart's pc and the count of instructions are set where it ends.
+use Rattle.std.specs.Prelude.{◌≡◌, ◌≢◌, ℕ, zero, suc, ◌+◌, ◌<◌, ◌≤◌, false, ◌||◌, Option, Some, None, Ok}
+use Rattle.std.specs.List.{list_any}
+use Rattle.breakpoints.specs.Places.{is_at}
+use Rattle.breakpoints.specs.Stops.{Lists}
+use Rattle.course.specs.Positions.{Halts, Position, Retires}
+use Rattle.stepping.specs.Plain.{plain_tick}
+use Rattle.stepping.specs.Runs.{Goes, HasMoved, TickNeedsPage}
+use Rattle.stepping.specs.Ticks.{Debugged, IsTick, position_of}
+use Rattle.stepping.specs.declared.running.Stretch.{Stretch}
+use Rattle.stepping.specs.declared.tick.RunEnd.{RunEnd}
+use Rattle.stepping.specs.declared.tick.RunEnd.TheVariants as run
+use Rattle.stepping.specs.declared.burst.Burst.{Burst}
+use Rattle.stepping.specs.declared.burst.BurstEnd.{BurstEnd}
+use Rattle.stepping.specs.declared.burst.BurstEnd.TheVariants.{Spent, Near, Halted}
+
+-- no breakpoint is at an address, and so many calls are open that the goal is out of reach
+pub record IsFar (lists : Lists) (reach pc depth : ℕ) : Type 0 where
+  pub none : (list_any (is_at pc) lists.source || list_any (is_at pc) lists.instructions) ≡ false
+  pub deep : reach ≤ depth
+
+-- so many instructions retire one after the other, and each leads to where there is nothing to see
+abbrev pub Retire : ℕ → Lists → ℕ → ℕ → Position → ℕ → Position → Type 0
+Retire zero lists reach at before next after = (next ≡ at) × (after ≡ before)
+Retire (suc n) lists reach at before next after = (pc : ℕ) × (middle : Position)
+    × (Retire n lists reach at before pc middle × Retires pc next middle after × IsFar lists reach next after.calls.depth)
+
+-- what ended them: as many as were asked for retired; one more retired, and led to where there may be something to see;
+-- or the next one halts
+abbrev pub EndsBurst : ℕ → ℕ → BurstEnd → ℕ → Position → ℕ → Position → Type 0
+EndsBurst most went Spent pc middle next after = (went ≡ most) × ((next ≡ pc) × (after ≡ middle))
+EndsBurst most went Near pc middle next after = (went < most) × Retires pc next middle after
+EndsBurst most went (Halted halt) pc middle next after =
+    (went < most) × (Halts pc halt middle × ((next ≡ pc) × (after ≡ middle)))
+
+-- how many retired
+abbrev pub moved_by : ℕ → BurstEnd → ℕ
+moved_by went Spent = went
+moved_by went Near = went + 1
+moved_by went (Halted halt) = went
+
+pub record Bursts (most : ℕ) (lists : Lists) (reach : ℕ) (before : Position) (burst : Burst) (after : Position) : Type 0 where
+  pub pc : ℕ
+  pub middle : Position
+  pub retire : Retire burst.went lists reach before.hart.pc before pc middle
+  pub ends : EndsBurst most burst.went burst.ending pc middle burst.pc after
+  pub stays : after.hart.pc ≡ before.hart.pc
+
+-- ---- of a machine
+
+-- The instruction at pc ends a run: its tick is not plain, or it needs a page for which no memory was left.
+abbrev pub EndsHalted : Debugged → RunEnd → Debugged → Type 0
+EndsHalted before run.Spent after = ⊥
+EndsHalted before (run.Ticked tick) after = (tick ≢ plain_tick) × IsTick before (Ok tick) after
+EndsHalted before run.NoMemory after = (after ≡ before) × TickNeedsPage before
+
+-- the same as ticks: nothing was to report of them, and the machine is where they ended
+abbrev pub Ends : ℕ → ℕ → BurstEnd → Debugged → Debugged → Type 0
+Ends most went Spent before after = (went ≡ most) × Goes went before after
+Ends most went Near before after = (went < most) × ((middle : Debugged) × (Goes went before middle × HasMoved middle after))
+Ends most went (Halted halt) before after =
+    (went < most) × (Goes went before after × (after.check_due ≡ false) × Halts after.hart.pc halt (position_of after))
+
+-- so many ticks went, and then one more, after which a run ends so, or goes on
+abbrev pub stretch_of : ℕ → Option RunEnd → Stretch
+stretch_of went (Some ending) = record { went = went; ending = Some ending }
+stretch_of went None = record { went = went + 1; ending = None }

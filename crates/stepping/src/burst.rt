@@ -1,0 +1,92 @@
+//! Instructions in a row, of which there is nothing to report.
+
+ghost use Rattle.std.specs.Prelude.{◌≡◌, ◌+◌, ◌^◌, ◌≤◌, ℕ};
+ghost use Rattle.std.specs.Bool.{OnFalse};
+ghost use Rattle.stepping.specs.Bursts.{Bursts, IsFar, moved_by};
+
+use breakpoints::Breaks;
+use course::{Calls, Course};
+use rv32i::Halt;
+
+/// What came of instructions in a row.
+#[derive(Clone, Copy)]
+pub(crate) struct Burst {
+    /// How many retired, and led to where there is nothing to see.
+    pub went: u32,
+    /// Where the hart is then.
+    pub pc: u32,
+    /// What ended them.
+    pub ending: BurstEnd,
+}
+
+/// What ended instructions in a row.
+#[derive(Clone, Copy)]
+pub(crate) enum BurstEnd {
+    /// As many retired as were asked for.
+    Spent,
+    /// One more retired, and led to where there may be something to see.
+    Near,
+    /// The next one halts.
+    Halted(Halt),
+}
+
+impl Burst {
+    /// How many instructions retired.
+    pub(crate) fn moved(self) -> u64
+        ensures { result ≡ moved_by self.went self.ending }
+    {
+        let went = u64::from(self.went);
+        match self.ending {
+            BurstEnd::Near => went + 1,
+            _ => went,
+        }
+    }
+}
+
+/// Executes so many instructions at most, from the hart's pc on, up to the first that leads to a breakpoint, or to where fewer
+/// calls are open than `reach`. The hart's pc stays: it is answered where it would be. This is the loop in which a program
+/// runs. So `quick` is called here alone, which makes it part of the loop; pc is kept apart; and whether there is anything to
+/// look for is decided once.
+#[inline(never)]
+pub(crate) fn retire(course: &mut Course, breaks: &Breaks, reach: u64, most: u32) -> Burst
+    requires { course.old.calls.depth + most ≤ 2 ^ 62 }
+    ensures { Bursts most breaks.now reach course.old result course.new }
+{
+    let watches = watches(breaks, reach);
+    let mut pc = course.hart().pc;
+    for went in 0..most {
+        match course.quick(pc) {
+            Ok(next) => {
+                pc = next;
+                if watches && is_near(breaks, course.calls(), reach, pc) {
+                    let ending = BurstEnd::Near;
+                    return Burst { went, pc, ending };
+                }
+            }
+            Err(halt) => {
+                let ending = BurstEnd::Halted(halt);
+                return Burst { went, pc, ending };
+            }
+        }
+    }
+    Burst {
+        went: most,
+        pc,
+        ending: BurstEnd::Spent,
+    }
+}
+
+// Whether there is anything to look for.
+fn watches(breaks: &Breaks, reach: u64) -> bool
+    ensures { OnFalse result ((pc depth : ℕ) → IsFar breaks.now reach pc depth) }
+{
+    reach > 0 || breaks.has_any()
+}
+
+// Whether there may be something to see at an address.
+#[inline(always)]
+fn is_near(breaks: &Breaks, calls: &Calls, reach: u64, pc: u32) -> bool
+    ensures { OnFalse result (IsFar breaks.now reach pc calls.now.depth) }
+{
+    breaks.has(pc) || calls.depth() < reach
+}
