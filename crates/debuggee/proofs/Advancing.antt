@@ -6,7 +6,7 @@ use Rattle.rv32i.specs.declared.instr.Instr.{Instr}
 use Rattle.rv32i.specs.declared.stepped.Stepped.{Stepped}
 use Rattle.rv32i.specs.declared.stepped.Stepped.TheVariants.{Retired, Printed, Break, Exit, Trap}
 use Rattle.stepping.specs.Plain.{plain_tick}
-use Rattle.stepping.specs.Runs.{Goes, IsRun, EndsRun}
+use Rattle.stepping.specs.Runs.{Goes, IsRun, EndsRun, TickNeedsPage}
 use Rattle.stepping.specs.Ticks.{Debugged, IsTick, Moves, Settles, entry_checked, entry_tick, hit_at_pc, moved_as, outcome_of, meets_goal, settled, stayed, tick_of}
 use Rattle.stepping.specs.declared.tick.RunEnd.{RunEnd}
 use Rattle.stepping.specs.declared.tick.RunEnd.TheVariants as ending
@@ -19,7 +19,7 @@ use Rattle.stepping.proofs.Advancing.{stays_so}
 use Rattle.stepping.proofs.Determined.{tick_is_deterministic}
 use Rattle.stepping.proofs.Existing.{the_tick}
 use Rattle.debuggee.specs.Programs.{Program, Advances, GoesQuietly, moved, next_tick, owing, owing_by, stays}
-use Rattle.debuggee.specs.declared.program.Advanced.TheVariants.{Owes, Meets}
+use Rattle.debuggee.specs.declared.program.Advanced.TheVariants.{Owes, Meets, Lacks}
 use Rattle.debuggee.proofs.Naming.{looks_name_none}
 
 -- ---- one tick
@@ -187,6 +187,25 @@ spent_names_none most before ran after none e h =
     let ends : EndsRun most ran.went ending.Spent h.middle after = subst
     (λ (x : RunEnd). EndsRun most ran.went x h.middle after) e h.ends in
     ap (λ (d : Debugged). d.lists.ids) ends.1 ∙ none_named_after ran.went before h.middle none h.goes
+
+pub run_lacks : (most : ℕ) (p : Program) (ran : Ran) (after : Debugged) → p.owed ≡ None → ran.ending ≡ ending.NoMemory
+    → IsRun most p.machine ran after → Advances most p (Lacks ran.went) (with_machine p after)
+run_lacks most p ran after none e h =
+    let ends : EndsRun most ran.went ending.NoMemory h.middle after = subst
+    (λ (x : RunEnd). EndsRun most ran.went x h.middle after) e h.ends in (
+      ends.0,
+      (
+        subst (λ (d : Debugged). GoesQuietly ran.went p (with_machine p d)) (sym ends.1.0) (goes_quietly ran.went p h.middle none h.goes),
+        subst TickNeedsPage (sym ends.1.0) ends.1.1,
+      ),
+    )
+
+pub lacking_names_none : (most : ℕ) (before : Debugged) (ran : Ran) (after : Debugged) → before.lists.ids ≡ []
+    → ran.ending ≡ ending.NoMemory → IsRun most before ran after → after.lists.ids ≡ []
+lacking_names_none most before ran after none e h =
+    let ends : EndsRun most ran.went ending.NoMemory h.middle after = subst
+    (λ (x : RunEnd). EndsRun most ran.went x h.middle after) e h.ends in
+    ap (λ (d : Debugged). d.lists.ids) ends.1.0 ∙ none_named_after ran.went before h.middle none h.goes
 
 pub run_meets : (most : ℕ) (p : Program) (ran : Ran) (tick : Tick) (after : Debugged) → p.owed ≡ None → p.machine.lists.ids ≡ []
     → p.machine.check_due ≡ false → ran.ending ≡ ending.Ticked tick → stays tick.outcome ≡ true → IsRun most p.machine ran after

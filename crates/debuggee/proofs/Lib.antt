@@ -1,3 +1,4 @@
 pub mod Naming
 pub mod Advancing
 pub mod Loading
+pub mod Writing

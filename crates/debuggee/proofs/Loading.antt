@@ -52,7 +52,7 @@ run_size most before ran after h = by ran.ending h.ends ∙ goes_size ran.went b
   by : (e : RunEnd) → EndsRun most ran.went e h.middle after → after.size ≡ h.middle.size
   by Spent e = ap (λ (d : Debugged). d.size) e.1
   by (Ticked tick) e = tick_size h.middle after (Ok tick) e.1.1
-  by NoMemory e = tick_size h.middle after _ e.1
+  by NoMemory e = ap (λ (d : Debugged). d.size) e.1.0
 
 pub still_loadable : (image : Image) (most : ℕ) (before : Debugged) (ran : Ran) (after : Debugged) → IsRun most before ran after
     → CanBeLoaded image before.size → CanBeLoaded image after.size

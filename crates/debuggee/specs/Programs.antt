@@ -12,12 +12,15 @@
 -- A machine has one tick: it has one, and no second (the laws `each_machine_ticks` and `tick_is_deterministic` of
 -- `stepping`). `the_tick` is that one, with what it answers and what it leaves.
 use Rattle.std.specs.Prelude.{◌≡◌, ◌≢◌, ◌<◌, zero, suc, ℕ, ℤ}
-use Rattle.std.specs.Prelude.{Bool, true, false, if◌then◌else◌, List, [], length, map, Option, Some, None}
+use Rattle.std.specs.Prelude.{Bool, true, false, if◌then◌else◌, List, [], length, map, Option, Some, None, Result, Err}
 use Rattle.breakpoints.specs.Stops.{Wanted, fresh}
-use Rattle.image.specs.Memory.{fault_at, memory_after, with_bytes}
+use Rattle.image.specs.Memory.{NeedsPage, fault_at, memory_after, unless_fault, with_bytes}
 use Rattle.image.specs.declared.Image.{Image}
+use Rattle.image.specs.declared.fault.MemFault.{MemFault}
+use Rattle.image.specs.declared.fault.MemFault.TheVariants.{NoMemory}
 use Rattle.rv32i.specs.declared.hart.Hart.{Hart}
 use Rattle.stepping.specs.Loading.{loaded, no_breakpoints, reloaded}
+use Rattle.stepping.specs.Runs.{TickNeedsPage}
 use Rattle.stepping.specs.Ticks.{Debugged, entry_tick, entry_checked}
 use Rattle.stepping.specs.declared.goal.Goal.{Goal}
 use Rattle.stepping.specs.declared.goal.Goal.TheVariants.{Go}
@@ -29,7 +32,7 @@ use Rattle.stepping.specs.declared.tick.Tick.{Tick}
 use Rattle.stepping.specs.Plain.{plain_tick}
 use Rattle.stepping.proofs.Existing.{the_tick}
 use Rattle.debuggee.specs.declared.program.Advanced.{Advanced}
-use Rattle.debuggee.specs.declared.program.Advanced.TheVariants.{Spent, Owes, Meets}
+use Rattle.debuggee.specs.declared.program.Advanced.TheVariants.{Spent, Owes, Meets, Lacks}
 use Rattle.debuggee.specs.declared.run.Run.{Run}
 use Rattle.debuggee.specs.declared.run.Run.TheVariants.{Running, Stopped, Ended}
 use Rattle.debuggee.specs.declared.run.Mark.{Mark}
@@ -185,6 +188,15 @@ written address bytes p = let memory = p.machine.memory in record p {
   };
 }
 
+-- What a call that does so answers: the fault, if there is one; or that no memory was left for a page which is written
+-- first, and then nothing is written.
+abbrev pub IsWritten : ℕ → List ℕ → Program → Result (Unit {0}) MemFault → Program → Type 0
+IsWritten address bytes before (Err NoMemory) after =
+    NeedsPage 1 before.machine.memory address (length bytes) × (after ≡ before)
+IsWritten address bytes before answer after =
+    (answer ≡ unless_fault (fault_at before.machine.memory 1 address (length bytes)) tt)
+    × (after ≡ written address bytes before)
+
 -- ---- an editor goes
 
 -- the run that is left of one that owes this: a stop that is owed is made
@@ -239,10 +251,11 @@ GoesQuietly (suc n) p q = (middle : Program)
     × (GoesQuietly n p middle × ((next_tick middle ≡ plain_tick) × (q ≡ moved middle)))
 
 -- What comes of moves, so many at most: all of them, with nothing to tell; or so many, the last of which is to be told;
--- or so many, before an instruction that stays.
+-- or so many, before an instruction that stays; or so many, before one that needs a page for which no memory was left.
 abbrev pub Advances : ℕ → Program → Advanced → Program → Type 0
 Advances most p Spent q = GoesQuietly most p q
 Advances most p (Owes n) q = (middle : Program) × (k : ℕ) × ((n ≡ suc k) × ((k < most) × (GoesQuietly k p middle
     × ((stays (next_tick middle).outcome ≡ false) × ((next_tick middle ≢ plain_tick) × (q ≡ moved middle))))))
 Advances most p (Meets n tick) q =
     (n < most) × (GoesQuietly n p q × ((next_tick q ≡ tick) × (stays tick.outcome ≡ true)))
+Advances most p (Lacks n) q = (n < most) × (GoesQuietly n p q × TickNeedsPage q.machine)

@@ -1,8 +1,7 @@
 //! A program that was loaded, and what is done to it.
-ghost use Rattle.std.specs.Prelude.{◌≡◌, ◌+◌, ◌^◌, ◌<◌, ◌≤◌, length, true, false, map, Some, None, IfOk, OnErr, OnOk};
+ghost use Rattle.std.specs.Prelude.{◌≡◌, ◌+◌, ◌^◌, ◌<◌, ◌≤◌, true, false, map, Some, None, IfOk, OnErr, OnOk};
 ghost use Rattle.breakpoints.specs.Stops.{CanBeSet, wanted_by};
 ghost use Rattle.debuggee.specs.Programs as spec;
-ghost use Rattle.image.specs.Memory.{fault_at, unless_fault};
 ghost use Rattle.stepping.specs.Loading.{CanBeLoaded};
 
 use crate::run::{Mark, Run, Why};
@@ -64,6 +63,9 @@ pub enum Advanced {
     /// So many were made, and there is nothing to tell of them. The instruction that comes next was not made: it traps or ends the
     /// program, and would come to this.
     Meets(u32, Tick),
+    /// So many were made, and there is nothing to tell of them. The move that comes next was not made: it is the first to store into
+    /// a page, and no memory was left for that.
+    Lacks(u32),
 }
 
 impl Program {
@@ -160,8 +162,8 @@ impl Program {
     }
 
     /// Makes `most` moves, or fewer: up to the first of which there is something to tell, which it then owes, and none that traps or
-    /// ends the program, since a stop that is not told is not made. It runs or not as before. No check at the entry is due, it
-    /// owes nothing, and no more than 2^62 instructions will have retired.
+    /// ends the program, since a stop that is not told is not made, nor one for which no memory was left. It runs or not as before.
+    /// No check at the entry is due, it owes nothing, and no more than 2^62 instructions will have retired.
     pub fn advance(&mut self, most: u32) -> Advanced
         requires due { self.old.machine.check_due ≡ false }
         requires few { self.old.machine.retired + most ≤ 2 ^ 62 }
@@ -179,7 +181,7 @@ impl Program {
                     Advanced::Owes(ran.went + 1)
                 }
             }
-            RunEnd::NoMemory => unreachable!(),
+            RunEnd::NoMemory => Advanced::Lacks(ran.went),
         }
     }
 
@@ -223,12 +225,11 @@ impl Program {
         self.runner.set_hart(hart);
     }
 
-    /// Writes bytes to its memory, from an address on (`WriteMemoryRequest`). `Outside`: one of their addresses has no byte, and nothing
-    /// is written. It takes no memory.
+    /// Writes bytes to its memory, from an address on (`WriteMemoryRequest`). `Outside`: one of their addresses has no byte; `NoMemory`:
+    /// no memory was left for a page that is written first. Then nothing is written.
+    #[tactic(auto, using(crate::proofs::Writing::writes_so))]
     pub fn write(&mut self, address: u32, bytes: &[u8]) -> Result<(), MemFault>
-        ensures answers { result
-            ≡ unless_fault (fault_at self.old.machine.memory 1 address (length bytes.now)) tt }
-        ensures leaves { self.new ≡ spec.written address bytes.now self.old }
+        ensures { spec.IsWritten address bytes.now self.old result self.new }
     {
         self.runner.write(address, bytes)
     }

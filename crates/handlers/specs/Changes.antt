@@ -1,7 +1,8 @@
 -- What the code of an answer changes, and the answer that it stands for.
-use Rattle.std.specs.Prelude.{List, [], ◌∷◌, Option, Some, None}
+use Rattle.std.specs.Prelude.{List, [], ◌∷◌, length, Option, Some, None, ⊤}
 use Rattle.debuggee.specs.Programs.{Debuggee, Program, ended, first_run, left, marked, on_program, restarted, resumed, with_instructions}
 use Rattle.debuggee.specs.Programs.{with_hart, with_program, with_source, written}
+use Rattle.image.specs.Memory.{NeedsPage}
 use Rattle.replies.specs.declared.event.Event.{Event as AnEvent}
 use Rattle.handlers.specs.declared.answer.Answer.{Answer as AnAnswer}
 use Rattle.handlers.specs.declared.change.Change.{Change}
@@ -23,6 +24,17 @@ changed_one (one.Write address bytes) p = written address bytes.items p
 changed_one one.Restart p = first_run (restarted p)
 changed_one one.End p = ended None p
 changed_one (one.Leave ends stands) p = departed ends stands (left p)
+
+-- A change may find no memory: to load a program anew, or for a page that is written first.
+abbrev pub MayLack : ProgramChange → Program → Type 0
+MayLack one.Begin p = ⊥
+MayLack (one.Resume goal) p = ⊥
+MayLack (one.Mark mark) p = ⊥
+MayLack (one.SetHart hart) p = ⊥
+MayLack (one.Write address bytes) p = NeedsPage 1 p.machine.memory address (length bytes.items)
+MayLack one.Restart p = ⊤
+MayLack one.End p = ⊥
+MayLack (one.Leave ends stands) p = ⊥
 
 -- what it makes of the one that is debugged
 abbrev pub changed : Change → Debuggee → Debuggee

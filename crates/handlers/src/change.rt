@@ -1,12 +1,14 @@
 //! What an answer changes.
-ghost use Rattle.std.specs.Prelude.{◌≡◌, None, Some, OnErr, OnOk, if◌then◌else◌};
-ghost use Rattle.debuggee.specs.Programs.{first_run, restarted};
-ghost use Rattle.handlers.specs.Changes.{call_of_one, changed_one};
+ghost use Rattle.std.specs.Prelude.{◌≡◌, length, None, Some, OnErr, OnOk, if◌then◌else◌};
+ghost use Rattle.debuggee.specs.Programs.{first_run, restarted, written};
+ghost use Rattle.handlers.specs.Changes.{call_of_one, changed_one, MayLack};
+ghost use Rattle.image.specs.Memory.{NeedsPage};
 ghost use Rattle.handlers.specs.Disconnect.{departed};
 ghost use Rattle.variables.specs.Laws.Call.{EndStop};
 
 use crate::numbered::Numbered;
 use debuggee::{Mark, Program, Run, Why};
+use image::MemFault;
 use rv32i::Hart;
 use std::alloc::AllocError;
 use stepping::Goal;
@@ -61,16 +63,16 @@ pub enum ProgramChange {
 }
 
 impl ProgramChange {
-    /// Makes it. It fails where no memory is left, and then the program is as before.
+    /// Makes it. It fails where no memory is left, which only a new start and a page that is written first need, and then the program
+    /// is as before.
     pub fn make(self, program: &mut Program) -> Result<(), AllocError>
         ensures ok { OnOk result (program.new ≡ changed_one self program.old) }
         ensures err { OnErr result (program.new ≡ program.old) }
+        ensures lacks { OnErr result (MayLack self program.old) }
     {
         match self {
             ProgramChange::SetHart(hart) => program.set_hart(hart),
-            ProgramChange::Write { address, bytes } => {
-                let _ = program.write(address, &bytes);
-            }
+            ProgramChange::Write { address, bytes } => return write(program, address, &bytes),
             ProgramChange::Begin => program.begin(),
             ProgramChange::Resume(goal) => program.resume(goal),
             ProgramChange::Mark(mark) => program.set_mark(mark),
@@ -92,6 +94,19 @@ impl ProgramChange {
             self,
             ProgramChange::Resume(_) | ProgramChange::Restart | ProgramChange::Leave { .. }
         )
+    }
+}
+
+// Bytes are written to the memory of a program; nothing is where one of their addresses has no byte.
+fn write(program: &mut Program, address: u32, bytes: &[u8]) -> Result<(), AllocError>
+    ensures ok { OnOk result (program.new ≡ written address bytes.now program.old) }
+    ensures err { OnErr result (program.new ≡ program.old) }
+    ensures lacks { OnErr result
+        (NeedsPage 1 program.old.machine.memory address (length bytes.now)) }
+{
+    match program.write(address, bytes) {
+        Err(MemFault::NoMemory) => Err(AllocError),
+        Ok(()) | Err(MemFault::Misaligned | MemFault::Outside) => Ok(()),
     }
 }
 

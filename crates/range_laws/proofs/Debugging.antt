@@ -11,11 +11,12 @@ use Rattle.rv32i.specs.declared.instr.Instr.{Instr}
 use Rattle.rv32i.specs.declared.instr.Instr.TheVariants.{Jal, Jalr}
 use Rattle.rv32i.specs.declared.stepped.Stepped.{Stepped}
 use Rattle.rv32i.specs.declared.stepped.Stepped.TheVariants.{Retired, Printed, Break, Exit, Trap}
-use Rattle.stepping.specs.Calls.{Kept, with_mark, with_marks}
+use Rattle.course.specs.Calls.{Kept, with_mark, with_marks}
 use Rattle.stepping.specs.Loading.{not_hit}
-use Rattle.stepping.specs.Marks.{Mark, is_link, jalr_marks, marks_at}
-use Rattle.stepping.specs.Marks.Mark.{Push, Pop}
-use Rattle.stepping.specs.Ticks.{Debugged, Moves, Settles, entry_checked, entry_tick, moved_as, noted_if, settled}
+use Rattle.course.specs.Marks.{Mark, is_link, jalr_marks, marks_at}
+use Rattle.course.specs.Marks.Mark.{Push, Pop}
+use Rattle.course.specs.Positions.{noted_if}
+use Rattle.stepping.specs.Ticks.{Debugged, Moves, Settles, entry_checked, entry_tick, moved_as, settled}
 use Rattle.stepping.specs.declared.tick.Tick.{Tick}
 use Rattle.range_laws.specs.Debugging.{CallsInRange, DebuggedInRange, HartInRange, HartsStayInRange, LoadedIsInRange, ReloadedIsInRange, TicksStayInRange, WritesStayInRange}
 use Rattle.range_laws.specs.Machines.{AreBytes, InRange, IsByte, IsWord}

@@ -1,5 +1,5 @@
 -- Moves of which there is nothing to tell are as many beats.
-use Rattle.std.proofs.Common.{◌≡◌, ℕ, zero, suc, ◌+◌, ◌<◌, ◌≤◌, Bool, true, false, leb, ltb, Option, Some, None, Result, Ok, Err, MatchBool, refl, sym, ap, ◌∙◌, subst, arith}
+use Rattle.std.proofs.Common.{◌≡◌, ℕ, zero, suc, ◌+◌, ◌<◌, ◌≤◌, Bool, true, false, leb, ltb, Option, Some, None, Result, Ok, Err, MatchBool, inr, refl, sym, ap, ◌∙◌, subst, arith}
 use Rattle.std.proofs.lemmas.Bool.Decides.{nat_tests}
 use Rattle.std.specs.declared.alloc.AllocError.{AllocError}
 use Rattle.rv32i.specs.declared.instr.Instr.{Instr}
@@ -12,14 +12,17 @@ use Rattle.stepping.specs.declared.tick.Tick.{Tick}
 use Rattle.stepping.proofs.Existing.{the_tick}
 use Rattle.debuggee.specs.Programs.{Program, Advances, GoesQuietly, moved, next_tick, owing, stays}
 use Rattle.debuggee.specs.declared.program.Advanced.{Advanced}
-use Rattle.debuggee.specs.declared.program.Advanced.TheVariants.{Spent, Owes, Meets}
+use Rattle.debuggee.specs.declared.program.Advanced.TheVariants.{Spent, Owes, Meets, Lacks}
 use Rattle.debuggee.specs.declared.run.Run.{Run}
-use Rattle.session.specs.Beats.{IsFree, MeetsNext, Moved, Stretches, going, moves_of, unless_memory}
+use Rattle.session.specs.Beats.{IsAhead, Moved, Stretches, going, moves_of, unless_memory}
 use Rattle.session.specs.declared.event.SliceEnd.{SliceEnd}
+use Rattle.session.specs.declared.event.SliceEnd.TheVariants as ending
+use Rattle.session.specs.declared.slices.Ahead.{Ahead}
+use Rattle.session.specs.declared.slices.Ahead.TheVariants as ahead
 use Rattle.session.specs.declared.slices.Moves.{Moves}
-use Rattle.session.specs.Effects.{Slicing, after_beat, beat_may_lack, beats_on, next_beat}
+use Rattle.session.specs.Effects.{MakesPage, MayLack, Slicing, after_beat, beats_on, next_beat}
 use Rattle.session.specs.Kept.{Kept, keepings}
-use Rattle.session.specs.Slices.{Beat, beat, is_runnable_by, moves_by, retires}
+use Rattle.session.specs.Slices.{Beat, IsFree, beat, is_runnable_by, moves_by, retires}
 use Rattle.session.proofs.Deciding.{free_beat}
 use Rattle.session.proofs.Told.{with_one}
 use Rattle.session.proofs.ByMove.{by_move}
@@ -65,7 +68,7 @@ retiring k p outcome =
     (λ _ e. absurd (let never : true ≡ false = e in cc)) (λ _ e. absurd (let never : true ≡ false = e in cc))
 
 -- one beat more
-one_more : (n m j : ℕ) (k t : Kept) (p : Program) → ltb (m + j) n ≡ true → IsFree p t → stays (next_tick p).outcome ≡ false
+one_more : (n m j : ℕ) (k t : Kept) (p : Program) → ltb (m + j) n ≡ true → IsFree p (keepings.see t) → stays (next_tick p).outcome ≡ false
     → beats_on keepings n j (going k m) ≡ going t (m + j)
     → beats_on keepings n (suc j) (going k m) ≡ going (with_one (moved p) t) (m + suc j)
 one_more n m j k t p lt free e h =
@@ -96,8 +99,8 @@ still_fewer last retired theirs j most e lt few =
     let h : theirs < last = omega (arith, e, lt, few) in
     grind (arith, nat_tests)
 
-still_free : (k : Kept) (p q : Program) (j most : ℕ) → IsFree p k → Still j p q → j < most
-    → p.machine.retired + most ≤ k.now.limits.last_retired → IsFree q (with_one q k)
+still_free : (k : Kept) (p q : Program) (j most : ℕ) → IsFree p (keepings.see k) → Still j p q → j < most
+    → p.machine.retired + most ≤ k.now.limits.last_retired → IsFree q (keepings.see (with_one q k))
 still_free k p q j most f s lt few = record {
   program = refl;
   owed = s.owed;
@@ -130,7 +133,7 @@ record Quietly (n m j : ℕ) (k : Kept) (p q : Program) : Type 0 where
   goes : beats_on keepings n j (going k m) ≡ going (with_one q k) (m + j)
   still : Still j p q
 
-quietly : (n m most j : ℕ) (k : Kept) (p q : Program) → IsFree p k → j ≤ most → m + most ≤ n
+quietly : (n m most j : ℕ) (k : Kept) (p q : Program) → IsFree p (keepings.see k) → j ≤ most → m + most ≤ n
     → p.machine.retired + most ≤ k.now.limits.last_retired → GoesQuietly j p q → Quietly n m j k p q
 quietly n m most zero k p q f le room few g =
     let none : m ≡ m + zero = omega arith in
@@ -158,7 +161,25 @@ quietly n m most (suc j) k p q f le room few g =
 
 -- ---- what is made of them
 
-pub advance_moves : (left most : ℕ) (k new : Kept) (p q : Program) (a : Advanced) → IsFree p k → 1 ≤ most → most ≤ left
+-- so many moves, of none of which there is anything to tell, before one that is not made
+quiet_before : (left most count : ℕ) (k new : Kept) (p q : Program) (next : Ahead) → IsFree p (keepings.see k) → most ≤ left
+    → p.machine.retired + most ≤ k.now.limits.last_retired → count < most → GoesQuietly count p q → new ≡ with_one q k
+    → (count < left → IsFree q (keepings.see new) → IsAhead left count next new) → Moved left k (record { moved = count; ahead = next }) new
+quiet_before left most count k new p q next f le few lt g e is =
+    let less : count ≤ left = omega (arith, lt, le) in
+    let fewer : count < left = omega (arith, lt, le) in
+    let within : count ≤ most = omega (arith, lt) in
+    let none : 0 + most ≤ most = omega arith in
+    let still : Still count p q = (quietly most 0 most count k p q f within none few g).still in
+    record {
+      few = less;
+      goes = λ n m room.
+          let before : m + most ≤ n = omega (arith, le, room) in
+          (quietly n m most count k p q f within before few g).goes ∙ ap (λ (x : Kept). going x (m + count)) (sym e);
+      next = is fewer (subst (λ (x : Kept). IsFree q (keepings.see x)) (sym e) (still_free k p q count most f still lt few));
+    }
+
+pub advance_moves : (left most : ℕ) (k new : Kept) (p q : Program) (a : Advanced) → IsFree p (keepings.see k) → 1 ≤ most → most ≤ left
     → p.machine.retired + most ≤ k.now.limits.last_retired → Advances most p a q → new ≡ with_one q k → Moved left k (moves_of most a) new
 advance_moves left most k new p q Spent f some le few g e = record {
   few = le;
@@ -189,19 +210,9 @@ advance_moves left most k new p q (Owes count) f some le few g e =
       next = subst (λ (x : ℕ). 1 ≤ x) (sym is) one;
     }
 advance_moves left most k new p q (Meets count tick) f some le few g e =
-    let lt = g.0 in
-    let less : count ≤ left = omega (arith, lt, le) in
-    let fewer : count < left = omega (arith, lt, le) in
-    let within : count ≤ most = omega (arith, lt) in
-    let none : 0 + most ≤ most = omega arith in
-    let still : Still count p q = (quietly most 0 most count k p q f within none few g.1.0).still in
-    record {
-      few = less;
-      goes =
-          λ n m room. let before : m + most ≤ n = omega (arith, le, room) in (quietly n m most count k p q f within before few g.1.0).goes
-          ∙ ap (λ (x : Kept). going x (m + count)) (sym e);
-      next = (fewer, (q, (subst (IsFree q) (sym e) (still_free k p q count most f still lt few), g.1.1)));
-    }
+    quiet_before left most count k new p q (ahead.Meets tick) f le few g.0 g.1.0 e (λ fewer free. (fewer, (q, (free, g.1.1))))
+advance_moves left most k new p q (Lacks count) f some le few g e =
+    quiet_before left most count k new p q ahead.Lacks f le few g.0 g.1.0 e (λ fewer free. (fewer, (q, (free, g.1.1))))
 
 -- ---- then the slice goes on, or the instruction that stays comes
 
@@ -211,11 +222,11 @@ beats_after n j (suc i) d =
     let e : j + suc i ≡ suc (j + i) = omega arith in ap (λ (x : ℕ). beats_on keepings n x d) e ∙ ap (next_beat keepings n)
     (beats_after n j i d)
 
-pub moves_stretch : (left m : ℕ) (k new : Kept) (moves : Moves) → Moved left k moves new → moves.meets ≡ None
+pub moves_stretch : (left m : ℕ) (k new : Kept) (moves : Moves) → Moved left k moves new → moves.ahead ≡ ahead.Open
     → Stretches (m + left) m k (record { moved = moves.moved; ending = None }) new
 moves_stretch left m k new moves h e =
     let all : m + left ≤ m + left = omega arith in
-    let next : MeetsNext left moves.moved None new = subst (λ (x : Option Tick). MeetsNext left moves.moved x new) e h.next in
+    let next : IsAhead left moves.moved ahead.Open new = subst (λ (x : Ahead). IsAhead left moves.moved x new) e h.next in
     record { count = moves.moved; goes = h.goes (m + left) m all; some = λ none. next; lacks = λ out. absurd (cc) }
 
 pub moves_then : (left m : ℕ) (k middle new : Kept) (moves : Moves) (end : Option SliceEnd) → Moved left k moves middle
@@ -231,22 +242,39 @@ moves_then left m k middle new moves end h s some =
           ∙ s.goes
           ∙ (λ i. record { state = new; moved = sum i; ending = unless_memory end });
       some = λ none. absurd (some none);
-      lacks = λ out. ap (λ (x : ℕ). beat_may_lack (keepings.see new) (ltb x (m + left))) (sym sum) ∙ s.lacks out;
+      lacks = λ out. subst (λ (x : ℕ). MayLack (keepings.see new) (ltb x (m + left))) sum (s.lacks out);
     }
 
 pub is_before : (left m moved : ℕ) → moved < left → ltb (m + moved) (m + left) ≡ true
 is_before left m moved lt = let h : m + moved < m + left = omega (arith, lt) in grind (arith, nat_tests)
 
+pub moves_lack : (left m : ℕ) (k new : Kept) (moves : Moves) → Moved left k moves new → moves.ahead ≡ ahead.Lacks
+    → Stretches (m + left) m k (record { moved = moves.moved; ending = Some ending.NoMemory }) new
+moves_lack left m k new moves h e =
+    let all : m + left ≤ m + left = omega arith in
+    let next : IsAhead left moves.moved ahead.Lacks new = subst (λ (x : Ahead). IsAhead left moves.moved x new) e h.next in
+    record {
+      count = moves.moved;
+      goes = h.goes (m + left) m all;
+      some = λ none. absurd (cc);
+      lacks = λ _. inr (record {
+        goes = is_before left m moves.moved next.0;
+        program = next.1.0;
+        free = next.1.1.0;
+        needs = next.1.1.1;
+      });
+    }
+
 some_or : Program → Option Program → Program
 some_or p None = p
 some_or p (Some q) = q
 
-pub the_free_one : (k : Kept) (p q : Program) → k.now.debuggee.program ≡ Some q → IsFree p k → IsFree q k
+pub the_free_one : (k : Kept) (p q : Program) → k.now.debuggee.program ≡ Some q → IsFree p (keepings.see k) → IsFree q (keepings.see k)
 unfolding some_or
-the_free_one k p q e f = subst (λ (x : Program). IsFree x k) (ap (some_or p) (sym f.program ∙ e)) f
+the_free_one k p q e f = subst (λ (x : Program). IsFree x (keepings.see k)) (ap (some_or p) (sym f.program ∙ e)) f
 
-pub advances_so : (left most : ℕ) (k new : Kept) (p q : Program) (a : Advanced) (made : Moves) → made ≡ moves_of most a → IsFree p k
-    → 1 ≤ most → most ≤ left → p.machine.retired + most ≤ k.now.limits.last_retired → Advances most p a q → new ≡ with_one q k
-    → Moved left k made new
+pub advances_so : (left most : ℕ) (k new : Kept) (p q : Program) (a : Advanced) (made : Moves) → made ≡ moves_of most a
+    → IsFree p (keepings.see k) → 1 ≤ most → most ≤ left → p.machine.retired + most ≤ k.now.limits.last_retired → Advances most p a q
+    → new ≡ with_one q k → Moved left k made new
 advances_so left most k new p q a made is f some le few g e =
     subst (λ (x : Moves). Moved left k x new) (sym is) (advance_moves left most k new p q a f some le few g e)

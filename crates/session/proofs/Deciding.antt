@@ -8,9 +8,9 @@ use Rattle.debuggee.specs.declared.run.Why.TheVariants as why
 use Rattle.session.specs.declared.event.SliceEnd.TheVariants as ending
 use Rattle.session.specs.declared.slices.Next.TheVariants as next
 use Rattle.session.specs.declared.state.TheConstants.{FULL}
-use Rattle.session.specs.Beats.{Decides, IsFree}
+use Rattle.session.specs.Beats.{Decides}
 use Rattle.session.specs.Kept.{Kept, keepings}
-use Rattle.session.specs.Slices.{Beat, beat, beat_by, beat_of, becomes, ends, goes, goes_unless, is_runnable_by, moves, stops}
+use Rattle.session.specs.Slices.{Beat, IsFree, beat, beat_by, beat_of, becomes, ends, goes, goes_unless, is_runnable_by, moves, stops}
 use Rattle.stepping.specs.declared.tick.Tick.{Tick}
 
 -- where nothing is owed, and the program is given time and room
@@ -102,7 +102,7 @@ free_there k p more is owed runnable room e due going few = (
 )
 
 -- the beat of a program that is free to move
-pub free_beat : (p : Program) (k : Kept) → IsFree p k → beat (keepings.see k) true ≡ moves k.now p
+pub free_beat : (p : Program) (k : Kept) → IsFree p (keepings.see k) → beat (keepings.see k) true ≡ moves k.now p
 unfolding by_tests checked_beat
 free_beat p k f =
     unmarked_beat p k true (record { program = f.program; owed = f.owed; runnable = f.runnable; room = f.room }) f.mark

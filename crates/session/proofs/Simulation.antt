@@ -3,7 +3,7 @@ use Rattle.std.proofs.Common.{◌≡◌, ℕ, zero, suc, ◌+◌, ltb, List, [],
 use Rattle.session.specs.declared.event.Event.{Event}
 use Rattle.session.specs.declared.event.SliceEnd.{SliceEnd}
 use Rattle.session.specs.declared.event.Event.TheVariants.{Connect, Recv, Turn, Slice, Hold, Sent, DropConnection}
-use Rattle.session.specs.Effects.{World, performed, Slicing, with_beat, next_by, next_beat, beat_may_lack, beats, enough, sliced, ended_as, effect, answer, after_all, BreaksOff}
+use Rattle.session.specs.Effects.{World, performed, Slicing, with_beat, next_by, next_beat, MayLack, beats, enough, sliced, ended_as, effect, answer, after_all, BreaksOff}
 use Rattle.session.specs.Acts.{Act, Seen}
 use Rattle.session.specs.Slices.{Beat, beat}
 use Rattle.session.specs.Outcomes.{outcome}
@@ -79,9 +79,8 @@ module _ {S T : Type 0} (v : World S) (w : World T) (R : S → T → Type 0) (si
         goes_on = sym same.ending ∙ b.goes_on;
         moves = sym same.moved ∙ b.moves;
         lacks =
-            ap (λ (x : Seen). beat_may_lack x (ltb (beats w n b.count t).moved n)) (sym (sim.sees _ _ same.state))
-            ∙ ap (λ (m : ℕ). beat_may_lack (v.see (beats v n b.count s).state) (ltb m n)) (sym same.moved)
-            ∙ b.lacks;
+            subst (λ (x : Seen). MayLack x (ltb (beats w n b.count t).moved n)) (sim.sees _ _ same.state)
+            (subst (λ (m : ℕ). MayLack (v.see (beats v n b.count s).state) (ltb m n)) same.moved b.lacks);
         holds = k _ _ same.state b.holds;
       }
 

@@ -8,7 +8,7 @@ use Rattle.session.specs.declared.event.Event.TheVariants.{Slice}
 use Rattle.session.specs.declared.event.EventError.{EventError}
 use Rattle.session.specs.declared.slices.Step.{Step}
 use Rattle.session.specs.Beats.{Reached, Stretches, going, unless_memory, concluded}
-use Rattle.session.specs.Effects.{EndsWell, Slicing, answer, beat_may_lack, beats, beats_on, enough, from_here, ran_out_at, slice_answer, sliced}
+use Rattle.session.specs.Effects.{EndsWell, Slicing, MayLack, answer, beats, beats_on, enough, from_here, ran_out_at, slice_answer, sliced}
 use Rattle.session.specs.Kept.{Kept, keepings, settled}
 use Rattle.session.proofs.Advancing.{beats_after}
 use Rattle.session.proofs.Enough.{is_sliced, not_after, Follows}
@@ -93,7 +93,7 @@ whole n count moved s new e h =
 
 by_ending : (n count moved : ℕ) (s new : Kept) (e : SliceEnd)
     → beats keepings n count s ≡ record { state = new; moved = moved; ending = unless_memory (Some e) }
-    → (e ≡ NoMemory → beat_may_lack (keepings.see new) (ltb moved n) ≡ true) → EndsSo n moved s new e
+    → (e ≡ NoMemory → MayLack (keepings.see new) (ltb moved n)) → EndsSo n moved s new e
 by_ending n count moved s new Spent h may = whole n count moved s new Spent h
 by_ending n count moved s new Full h may = whole n count moved s new Full h
 by_ending n count moved s new Idle h may = whole n count moved s new Idle h
@@ -103,7 +103,7 @@ by_ending n count moved s new NoMemory h may = record {
   count = count;
   goes_on = ap (λ (d : Slicing Kept). d.ending) h;
   moves = ap (λ (d : Slicing Kept). d.moved) h;
-  lacks = ap (λ (d : Slicing Kept). beat_may_lack (keepings.see d.state) (ltb d.moved n)) h ∙ may refl;
+  lacks = subst (λ (d : Slicing Kept). MayLack (keepings.see d.state) (ltb d.moved n)) (sym h) (may refl);
   holds = sym (ap (λ (d : Slicing Kept). d.state) h);
 }
 
@@ -119,8 +119,8 @@ slice_ends n i m s k new step e r t is =
     } in d) is)
     (λ out. let within = r.within in
     let all : m + (n - m) ≡ n = omega (arith, within) in
-    ap (λ (x : ℕ). beat_may_lack (keepings.see new) (ltb (m + step.moved) x)) (sym all)
-    ∙ t.lacks (is ∙ ap (λ (x : SliceEnd). Some x) out))
+    subst (λ (x : ℕ). MayLack (keepings.see new) (ltb (m + step.moved) x)) all
+    (t.lacks (is ∙ ap (λ (x : SliceEnd). Some x) out)))
 
 pub has_ended : (n i m : ℕ) (s k : Kept) → Reached n i s m k → enough n ≤ i → ⊥
 has_ended n i m s k r le =

@@ -1,5 +1,5 @@
 -- Beats of a slice: one, or many of which there is nothing to tell.
-use Rattle.std.proofs.Common.{◌≡◌, ℕ, ◌+◌, Bool, true, false, cond, ltb, List, [], ◌∷◌, map, Option, Some, None, refl, sym, ap, ◌∙◌, subst, arith}
+use Rattle.std.proofs.Common.{◌≡◌, ℕ, ◌+◌, Bool, true, false, cond, ltb, List, [], ◌∷◌, map, Option, Some, None, inl, refl, sym, ap, ◌∙◌, subst, arith}
 use Rattle.std.proofs.lemmas.Bool.{or_left, or_right}
 use Rattle.replies.specs.declared.event.Event.{Event as Told}
 use Rattle.replies.specs.declared.event.Event.TheVariants as event
@@ -14,10 +14,10 @@ use Rattle.debuggee.specs.declared.run.Why.{Why}
 use Rattle.session.specs.declared.event.SliceEnd.{SliceEnd}
 use Rattle.session.specs.declared.event.SliceEnd.TheVariants as ending
 use Rattle.session.specs.declared.slices.Next.TheVariants as next
-use Rattle.session.specs.Beats.{Decides, IsFree, Stretches, going, owed_of, unless_memory}
-use Rattle.session.specs.Effects.{Slicing, after_beat, beat_may_lack, beats_on, performed}
+use Rattle.session.specs.Beats.{Decides, Stretches, going, owed_of, unless_memory}
+use Rattle.session.specs.Effects.{MayLack, Slicing, after_beat, beats_on, performed}
 use Rattle.session.specs.Kept.{Kept, keepings}
-use Rattle.session.specs.Slices.{Beat, beat, beat_by, beat_of, becomes, concludes, ending_of, ends, halts, moves_by, stops, telling, tells as telling_of}
+use Rattle.session.specs.Slices.{Beat, IsFree, beat, beat_by, beat_of, becomes, concludes, ending_of, ends, halts, moves_by, stops, telling, tells as telling_of}
 use Rattle.stepping.specs.declared.tick.Outcome.{Outcome}
 use Rattle.stepping.specs.declared.tick.Outcome.TheVariants.{Went, Stopped, Ended}
 use Rattle.stepping.specs.declared.tick.Tick.{Tick}
@@ -55,7 +55,7 @@ stretches_by n m more k new b lt is ends e = record {
 }
 
 -- memory was lacking, and nothing happened
-lacks_memory : (n m : ℕ) (more : Bool) (k new : Kept) → ltb m n ≡ more → new ≡ k → beat_may_lack (keepings.see k) more ≡ true
+lacks_memory : (n m : ℕ) (more : Bool) (k new : Kept) → ltb m n ≡ more → new ≡ k → MayLack (keepings.see k) more
     → Stretches n m k (record { moved = 0; ending = Some ending.NoMemory }) new
 lacks_memory n m more k new lt e may =
     let none : m ≡ m + 0 = omega arith in
@@ -63,9 +63,8 @@ lacks_memory n m more k new lt e may =
       count = 0;
       goes = (λ j. record { state = sym e j; moved = none j; ending = None });
       some = λ none. absurd (cc);
-      lacks = λ _. ap (λ (x : Kept). beat_may_lack (keepings.see x) (ltb (m + 0) n)) e
-          ∙ ap (λ (x : ℕ). beat_may_lack (keepings.see k) (ltb x n)) (sym none)
-          ∙ ap (beat_may_lack (keepings.see k)) lt ∙ may;
+      lacks = λ _. subst (λ (x : Kept). MayLack (keepings.see x) (ltb (m + 0) n)) (sym e)
+          (subst (λ (x : ℕ). MayLack (keepings.see k) (ltb x n)) none (subst (MayLack (keepings.see k)) (sym lt) may));
     }
 
 owes_some : (program : Option Program) (tick : Tick) → owed_of program ≡ Some tick → is_owed program ≡ true
@@ -76,7 +75,7 @@ owes_some (Some p) tick e = ap is_owed_by e
 pub lacks_telling : (n m : ℕ) (k new : Kept) (tick : Tick) → owed_of k.now.debuggee.program ≡ Some tick → new ≡ k
     → Stretches n m k (record { moved = 0; ending = Some ending.NoMemory }) new
 lacks_telling n m k new tick owes e =
-    lacks_memory n m (ltb m n) k new refl e (or_left _ _ (owes_some k.now.debuggee.program tick owes))
+    lacks_memory n m (ltb m n) k new refl e (inl (or_left _ _ (owes_some k.now.debuggee.program tick owes)))
 
 -- an editor that has said all would have been told
 acts_need : (now : Now) (p : Program) (e : Told) (es : List Told) → is_active now.link ≡ true
@@ -87,8 +86,8 @@ pub lacks_stopping : (n m : ℕ) (k new : Kept) (reason : Why) (more : Bool) →
     → is_active k.now.link ≡ true → new ≡ k → Stretches n m k (record { moved = 0; ending = Some ending.NoMemory }) new
 lacks_stopping n m k new reason more lt d active e =
     lacks_memory n m more k new lt e
-    (or_right (is_owed k.now.debuggee.program) _
-    (ap (λ (b : Beat). needs_memory b.acts) d.1.1 ∙ acts_need k.now (stopped reason d.0) (stop_event reason []) [] active))
+    (inl (or_right (is_owed k.now.debuggee.program) _
+    (ap (λ (b : Beat). needs_memory b.acts) d.1.1 ∙ acts_need k.now (stopped reason d.0) (stop_event reason []) [] active)))
 
 -- the slice ends
 pub ends_there : (n m : ℕ) (more : Bool) (k : Kept) (e : SliceEnd) → ltb m n ≡ more → Decides (next.End e) k more
@@ -159,7 +158,7 @@ stays_beat k p outcome =
     (λ o goes e. absurd (let never : false ≡ true = sym goes ∙ e in cc)) (λ _ _. refl) (λ _ _. refl)
 
 pub meets_next : (n m : ℕ) (k new : Kept) (tick : Tick) → ltb m n ≡ true
-    → (p : Program) × (IsFree p k × ((next_tick p ≡ tick) × (stays tick.outcome ≡ true)))
+    → (p : Program) × (IsFree p (keepings.see k) × ((next_tick p ≡ tick) × (stays tick.outcome ≡ true)))
     → ((p : Program) → k.now.debuggee.program ≡ Some p → new ≡ performed keepings (concludes k.now p tick.outcome []) k)
     → Stretches n m k (record { moved = 0; ending = ending_of tick.outcome }) new
 unfolding concluding
@@ -178,13 +177,13 @@ concluding_needs now p (Ended code) so active =
     acts_need now (ended (Some code) p) (event.Exited (record { exit_code = code })) (event.Terminated ∷ []) active
 
 pub lacks_meeting : (n m : ℕ) (k new : Kept) (tick : Tick) → ltb m n ≡ true
-    → (p : Program) × (IsFree p k × ((next_tick p ≡ tick) × (stays tick.outcome ≡ true))) → is_active k.now.link ≡ true → new ≡ k
-    → Stretches n m k (record { moved = 0; ending = Some ending.NoMemory }) new
+    → (p : Program) × (IsFree p (keepings.see k) × ((next_tick p ≡ tick) × (stays tick.outcome ≡ true))) → is_active k.now.link ≡ true
+    → new ≡ k → Stretches n m k (record { moved = 0; ending = Some ending.NoMemory }) new
 unfolding concluding
 lacks_meeting n m k new tick lt d active e =
     let p = d.0 in
     lacks_memory n m true k new lt e
-    (or_right (is_owed k.now.debuggee.program) _
+    (inl (or_right (is_owed k.now.debuggee.program) _
     (ap (λ (b : Beat). needs_memory b.acts)
     (free_beat p k d.1.0 ∙ ap (λ (t : Tick). moves_by k.now p t.outcome) d.1.1.0 ∙ stays_beat k p tick.outcome d.1.1.1)
-    ∙ concluding_needs k.now p tick.outcome d.1.1.1 active))
+    ∙ concluding_needs k.now p tick.outcome d.1.1.1 active)))

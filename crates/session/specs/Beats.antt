@@ -1,5 +1,5 @@
 -- For private clauses alone: what comes next in a slice, and many beats at once.
-use Rattle.std.specs.Prelude.{◌≡◌, ℕ, ℤ, ◌+◌, ◌<◌, ◌≤◌, nat_lt, nat_le, Bool, true, false, List, [], ◌∷◌, ◌++◌, length, Option, Some, None}
+use Rattle.std.specs.Prelude.{◌≡◌, ℕ, ℤ, ◌+◌, ◌<◌, ◌≤◌, nat_lt, Bool, true, false, List, [], ◌∷◌, ◌++◌, Option, Some, None}
 use Rattle.debuggee.specs.Programs.{Program, ended, entered, next_tick, stays, stopped, told}
 use Rattle.debuggee.specs.declared.program.Advanced.{Advanced}
 use Rattle.debuggee.specs.declared.program.Advanced.TheVariants as advanced
@@ -7,17 +7,19 @@ use Rattle.debuggee.specs.declared.run.Why.TheVariants as why
 use Rattle.replies.specs.declared.event.Event.{Event}
 use Rattle.session.specs.declared.event.SliceEnd.{SliceEnd}
 use Rattle.session.specs.declared.event.SliceEnd.TheVariants as ending
+use Rattle.session.specs.declared.slices.Ahead.{Ahead}
+use Rattle.session.specs.declared.slices.Ahead.TheVariants as ahead
 use Rattle.session.specs.declared.slices.Made.{Made}
 use Rattle.session.specs.declared.slices.Made.TheVariants as made
 use Rattle.session.specs.declared.slices.Moves.{Moves}
 use Rattle.session.specs.declared.slices.Next.{Next}
 use Rattle.session.specs.declared.slices.Next.TheVariants as next
 use Rattle.session.specs.declared.slices.Step.{Step}
-use Rattle.session.specs.declared.state.TheConstants.{FULL}
-use Rattle.session.specs.Effects.{Slicing, beat_may_lack, beats, beats_on}
+use Rattle.session.specs.Effects.{MayLack, Slicing, beats, beats_on}
 use Rattle.session.specs.Kept.{Drafted, Kept, keepings, settled}
-use Rattle.session.specs.Slices.{beat, ends, is_runnable_by, stops, becomes}
+use Rattle.session.specs.Slices.{IsFree, beat, ends, stops, becomes}
 use Rattle.handlers.specs.Telling.{exit_events, output_event, stop_event}
+use Rattle.stepping.specs.Runs.{TickNeedsPage}
 use Rattle.stepping.specs.declared.tick.Outcome.{Outcome}
 use Rattle.stepping.specs.declared.tick.Outcome.TheVariants.{Went, Stopped, Ended}
 use Rattle.stepping.specs.declared.tick.Tick.{Tick}
@@ -71,16 +73,6 @@ unless_memory (Some ending.NoMemory) = None
 
 -- ---- what comes next
 
--- the program makes moves where nothing stands in its way
-pub record IsFree (p : Program) (k : Kept) : Type 0 where
-  pub program : k.now.debuggee.program ≡ Some p
-  pub owed : p.owed ≡ None
-  pub runnable : is_runnable_by k.now.link p.run ≡ true
-  pub mark : p.mark ≡ None
-  pub room : nat_lt FULL (length k.waiting) ≡ false
-  pub due : p.machine.check_due ≡ false
-  pub few : nat_le k.now.limits.last_retired p.machine.retired ≡ false
-
 -- what comes next is what the beat does
 abbrev pub Decides : Next → Kept → Bool → Type 0
 Decides (next.Tell tick) k more = owed_of k.now.debuggee.program ≡ Some tick
@@ -90,7 +82,7 @@ Decides (next.Stop reason) k more =
 Decides next.Check k more = (p : Program) × ((k.now.debuggee.program ≡ Some p)
     × ((beat (keepings.see k) more ≡ record { acts = becomes k.now (entered p) ∷ []; moved = 0; ending = None })
     × ((p.machine.check_due ≡ true) × (p.owed ≡ None))))
-Decides next.Advance k more = (more ≡ true) × ((p : Program) × IsFree p k)
+Decides next.Advance k more = (more ≡ true) × ((p : Program) × IsFree p (keepings.see k))
 
 -- ---- many beats
 
@@ -104,26 +96,30 @@ pub record Stretches (n moved : ℕ) (old : Kept) (step : Step) (new : Kept) : T
   pub goes : beats_on keepings n count (going old moved)
       ≡ record { state = new; moved = moved + step.moved; ending = unless_memory step.ending }
   pub some : step.ending ≡ None → 1 ≤ count
-  pub lacks : step.ending ≡ Some ending.NoMemory → beat_may_lack (keepings.see new) (nat_lt (moved + step.moved) n) ≡ true
+  pub lacks : step.ending ≡ Some ending.NoMemory → MayLack (keepings.see new) (nat_lt (moved + step.moved) n)
 
--- what would come next: some move was made, or the next one is known
-abbrev pub MeetsNext : ℕ → ℕ → Option Tick → Kept → Type 0
-MeetsNext left moved None k = 1 ≤ moved
-MeetsNext left moved (Some tick) k = (moved < left)
-    × ((p : Program) × (IsFree p k × ((next_tick p ≡ tick) × (stays tick.outcome ≡ true))))
+-- what is known of what comes next: nothing, as some move was made; or that the next one traps or ends the program; or
+-- that it needs a page
+abbrev pub IsAhead : ℕ → ℕ → Ahead → Kept → Type 0
+IsAhead left moved ahead.Open k = 1 ≤ moved
+IsAhead left moved (ahead.Meets tick) k = (moved < left)
+    × ((p : Program) × (IsFree p (keepings.see k) × ((next_tick p ≡ tick) × (stays tick.outcome ≡ true))))
+IsAhead left moved ahead.Lacks k = (moved < left)
+    × ((p : Program) × (IsFree p (keepings.see k) × TickNeedsPage p.machine))
 
 -- what came of moves, so many at most
 abbrev pub moves_of : ℕ → Advanced → Moves
-moves_of most advanced.Spent = record { moved = most; meets = None }
-moves_of most (advanced.Owes n) = record { moved = n; meets = None }
-moves_of most (advanced.Meets n tick) = record { moved = n; meets = Some tick }
+moves_of most advanced.Spent = record { moved = most; ahead = ahead.Open }
+moves_of most (advanced.Owes n) = record { moved = n; ahead = ahead.Open }
+moves_of most (advanced.Meets n tick) = record { moved = n; ahead = ahead.Meets tick }
+moves_of most (advanced.Lacks n) = record { moved = n; ahead = ahead.Lacks }
 
--- so many moves, all but the last of which have nothing to tell, are as many beats; and where the next instruction
--- traps or ends the program, it would come next
+-- so many moves, all but the last of which have nothing to tell, are as many beats; and what is known of the next
+-- instruction is so
 pub record Moved (left : ℕ) (old : Kept) (moves : Moves) (new : Kept) : Type 0 where
   pub few : moves.moved ≤ left
   pub goes : (n moved : ℕ) → moved + left ≤ n → beats_on keepings n moves.moved (going old moved) ≡ going new (moved + moves.moved)
-  pub next : MeetsNext left moves.moved moves.meets new
+  pub next : IsAhead left moves.moved moves.ahead new
 
 -- a slice under way, after so many beats at least
 pub record Reached (n least : ℕ) (s : Kept) (moved : ℕ) (k : Kept) : Type 0 where

@@ -3,8 +3,9 @@
 -- A session is seen in two ways: with all of its past, and as what the code keeps. Both are worlds in which events
 -- happen, and what an event is (`Outcomes`) is said once for both: a world is what is seen of a session, and what an
 -- act makes of it.
-use Rattle.std.specs.Prelude.{◌≡◌, ℕ, zero, suc, ◌+◌, ◌*◌, nat_lt, Bool, true, ◌||◌, List, [], ◌∷◌, Option, Some, None}
+use Rattle.std.specs.Prelude.{◌≡◌, ◌⊎◌, ℕ, zero, suc, ◌+◌, ◌*◌, nat_lt, Bool, true, ◌||◌, List, [], ◌∷◌, Option, Some, None}
 use Rattle.std.specs.Prelude.{Result, Ok, Err}
+use Rattle.debuggee.specs.Programs.{Program}
 use Rattle.session.specs.declared.event.Applied.{Applied}
 use Rattle.session.specs.declared.event.Applied.TheVariants.{Connect as Connected, Recv as Received, Turn as DidTurn}
 use Rattle.session.specs.declared.event.Applied.TheVariants.{Slice as DidSlice, Hold as Held, Sent as DidSend}
@@ -19,7 +20,8 @@ use Rattle.session.specs.declared.event.EventError.TheVariants.{PieceTooLong, Cl
 use Rattle.session.specs.Acts.{Seen, Act}
 use Rattle.session.specs.declared.event.Sliced.{Sliced}
 use Rattle.session.specs.Outcomes.{is_owed, may_lack, needs_memory, outcome}
-use Rattle.session.specs.Slices.{Beat, beat}
+use Rattle.session.specs.Slices.{Beat, IsFree, beat}
+use Rattle.stepping.specs.Runs.{TickNeedsPage}
 
 -- a world of sessions: what is seen of each, and what an act makes of it
 pub record World (S : Type 0) : Type 0 where
@@ -136,16 +138,27 @@ moves_asked Hold = 0
 moves_asked (Sent n) = 0
 moves_asked DropConnection = 0
 
--- whether a beat may lack memory: something is owed, or the beat tells something
-abbrev pub beat_may_lack : Seen → Bool → Bool
-beat_may_lack seen more = is_owed seen.now.debuggee.program || needs_memory (beat seen more).acts
+-- whether a beat may lack memory for what it tells: something is owed, or the beat tells something
+abbrev pub telling_may_lack : Seen → Bool → Bool
+telling_may_lack seen more = is_owed seen.now.debuggee.program || needs_memory (beat seen more).acts
+
+-- A beat is a move, and memory is made for it: it is the first to store into a page.
+pub record MakesPage (seen : Seen) (more : Bool) : Type 0 where
+  pub goes : more ≡ true
+  pub program : Program
+  pub free : IsFree program seen
+  pub needs : TickNeedsPage program.machine
+
+-- A beat may lack memory: for what it tells, or for a page.
+abbrev pub MayLack : Seen → Bool → Type 0
+MayLack seen more = (telling_may_lack seen more ≡ true) ⊎ MakesPage seen more
 
 -- A slice that found no memory: some beats were made, none of them ended it, and the next one may lack memory.
 pub record BreaksOff {S : Type 0} (w : World S) (n moved : ℕ) (s : S) (P : S → Type 0) : Type 0 where
   pub count : ℕ
   pub goes_on : (beats w n count s).ending ≡ None
   pub moves : (beats w n count s).moved ≡ moved
-  pub lacks : beat_may_lack (w.see (beats w n count s).state) (nat_lt (beats w n count s).moved n) ≡ true
+  pub lacks : MayLack (w.see (beats w n count s).state) (nat_lt (beats w n count s).moved n)
   pub holds : P (beats w n count s).state
 
 -- The answer is the event's, and P holds of what the event leaves; of a slice that found no memory, P holds of what

@@ -10,7 +10,7 @@
 -- the program, does not: the stop or the end is made and told at once.
 --
 -- Only an editor that has said all is told.
-use Rattle.std.specs.Prelude.{ℕ, ℤ, nat_lt, nat_le, Bool, false, ◌&&◌, not, if◌then◌else◌, List, [], ◌∷◌}
+use Rattle.std.specs.Prelude.{◌≡◌, ℕ, ℤ, nat_lt, nat_le, Bool, true, false, ◌&&◌, not, if◌then◌else◌, List, [], ◌∷◌}
 use Rattle.std.specs.Prelude.{◌++◌, map, Option, Some, None}
 use Rattle.debuggee.specs.Programs.{Program, ended, entered, is_running, moved, next_tick, stopped, told}
 use Rattle.debuggee.specs.Programs.{why_marked}
@@ -139,6 +139,16 @@ beat_of (Some p) seen more = beat_by p.owed seen p more
 -- one beat of a slice, which has more moves to make, or not
 abbrev pub beat : Seen → Bool → Beat
 beat seen more = beat_of seen.now.debuggee.program seen more
+
+-- A move comes next, if the slice has one more to make: nothing else does.
+pub record IsFree (p : Program) (seen : Seen) : Type 0 where
+  pub program : seen.now.debuggee.program ≡ Some p
+  pub owed : p.owed ≡ None
+  pub runnable : is_runnable_by seen.now.link p.run ≡ true
+  pub room : nat_lt FULL seen.waits ≡ false
+  pub mark : p.mark ≡ None
+  pub due : p.machine.check_due ≡ false
+  pub few : nat_le seen.now.limits.last_retired p.machine.retired ≡ false
 
 -- whether a slice would do something
 abbrev pub is_runnable_of : Option Link → Option Program → Bool

@@ -54,7 +54,7 @@ pub enum Turned {
     Full,
 }
 
-/// What a program did with the time that it was given.
+/// What a program did with the time that it was given: so many instructions retired, and then something ended the slice.
 #[derive(Clone, Copy, Debug, PartialEq, Eq)]
 pub struct Sliced {
     /// How many instructions retired.
@@ -76,8 +76,8 @@ pub enum SliceEnd {
     Stopped,
     /// The program ended.
     Ended,
-    /// No memory was left to tell what it did. What is owed will be told first by the next slice, or
-    /// the next turn; a stop that no move made was not made.
+    /// No memory was left: to tell what the program did, or for a page. What is owed will be told first by the next slice, or
+    /// the next turn; a stop that no move made was not made, nor was the move that is the first to store into the page.
     NoMemory,
 }
 

@@ -8,8 +8,9 @@ ghost use Rattle.session.specs.Effects.{performed};
 ghost use Rattle.session.specs.Kept.{Goes, draft_told, drafted_all, keepings, see_kept};
 ghost use Rattle.session.specs.Phases.{is_active};
 ghost use Rattle.session.specs.Slices as spec;
+ghost use Rattle.session.specs.Slices.{IsFree};
 ghost use Rattle.handlers.specs.Telling.{exit_events, output_event, stop_event};
-ghost use Rattle.session.specs.Beats.{moves_of, outcome_events, Decides, IsFree, Moved, Stretches, after_made, concluded, owed_of, queued_with, tick_events};
+ghost use Rattle.session.specs.Beats.{moves_of, outcome_events, Decides, Moved, Stretches, after_made, concluded, owed_of, queued_with, tick_events};
 
 use crate::draft::Draft;
 use crate::event::{SliceEnd, Sliced};
@@ -46,8 +47,27 @@ impl Step {
 pub struct Moves {
     /// How many were made.
     pub moved: u32,
-    /// What the next one would answer, where it traps or ends the program.
-    pub meets: Option<Tick>,
+    /// What is known of the next one.
+    pub ahead: Ahead,
+}
+
+impl Moves {
+    fn before(moved: u32, ahead: Ahead) -> Moves
+        ensures { result ≡ record { moved = moved; ahead = ahead } }
+    {
+        Moves { moved, ahead }
+    }
+}
+
+/// What is known of the move that comes next, after some were made.
+#[derive(Clone, Copy, Debug, PartialEq, Eq)]
+pub enum Ahead {
+    /// Nothing.
+    Open,
+    /// It traps or ends the program, and would answer this.
+    Meets(Tick),
+    /// It is the first to store into a page, for which no memory was left.
+    Lacks,
 }
 
 /// What is made of a program as the editor is told of it.
@@ -198,33 +218,37 @@ impl State {
         }
     }
 
-    // The program makes moves, so many at most, until there is something to tell.
-    #[tactic(auto, using(crate::proofs::Advancing::moves_stretch, crate::proofs::Advancing::moves_then, crate::proofs::Advancing::is_before))]
+    // The program makes moves, so many at most, until there is something to tell or no memory is left for one.
+    #[tactic(auto, using(crate::proofs::Advancing::moves_stretch, crate::proofs::Advancing::moves_then, crate::proofs::Advancing::moves_lack, crate::proofs::Advancing::is_before))]
     fn step_advancing(&mut self, left: u32) -> Step
-        requires free { (p : AProgram) × IsFree p self.old }
+        requires free { (p : AProgram) × IsFree p (keepings.see self.old) }
         requires some { 0 < left }
         ensures moved { result.moved ≤ left }
         ensures stretches { (moved : ℕ) → Stretches (moved + left) moved self.old result self.new }
     {
         let moves = self.advance(left);
-        match moves.meets {
-            None => Step {
+        match moves.ahead {
+            Ahead::Open => Step {
                 moved: moves.moved,
                 ending: None,
             },
-            Some(tick) => {
+            Ahead::Meets(tick) => {
                 let ending = self.meet(tick);
                 Step {
                     moved: moves.moved,
                     ending,
                 }
             }
+            Ahead::Lacks => Step {
+                moved: moves.moved,
+                ending: Some(SliceEnd::NoMemory),
+            },
         }
     }
 
     // The moves of which there is nothing to tell, and one that is to be told, if one comes.
     fn advance(&mut self, left: u32) -> Moves
-        requires free { (p : AProgram) × IsFree p self.old }
+        requires free { (p : AProgram) × IsFree p (keepings.see self.old) }
         requires some { 0 < left }
         ensures { Moved left self.old result self.new }
     {
@@ -241,7 +265,8 @@ impl State {
     #[tactic(auto, using(crate::proofs::Stretching::meets_next, crate::proofs::Stretching::lacks_meeting))]
     fn meet(&mut self, tick: Tick) -> Option<SliceEnd>
         requires { (p : AProgram)
-            × (IsFree p self.old × ((next_tick p ≡ tick) × (stays tick.outcome ≡ true))) }
+            × (IsFree p (keepings.see self.old)
+            × ((next_tick p ≡ tick) × (stays tick.outcome ≡ true))) }
         ensures stretches { (n moved : ℕ) → nat_lt moved n ≡ true
             → Stretches n moved self.old (record { moved = 0; ending = result }) self.new }
         ensures some { result ≡ None → ⊥ }
@@ -441,15 +466,10 @@ fn moves_of(most: u32, advanced: Advanced) -> Moves
     ensures { result ≡ moves_of most advanced }
 {
     match advanced {
-        Advanced::Spent => Moves {
-            moved: most,
-            meets: None,
-        },
-        Advanced::Owes(moved) => Moves { moved, meets: None },
-        Advanced::Meets(moved, tick) => Moves {
-            moved,
-            meets: Some(tick),
-        },
+        Advanced::Spent => Moves::before(most, Ahead::Open),
+        Advanced::Owes(moved) => Moves::before(moved, Ahead::Open),
+        Advanced::Meets(moved, tick) => Moves::before(moved, Ahead::Meets(tick)),
+        Advanced::Lacks(moved) => Moves::before(moved, Ahead::Lacks),
     }
 }
 

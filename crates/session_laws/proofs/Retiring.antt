@@ -45,11 +45,12 @@ use Rattle.session.specs.declared.state.TheConstants.{MOST_PIECE, MOST_PENDING, 
 use Rattle.stepping.proofs.Determined.{one_fetched}
 use Rattle.stepping.proofs.Existing.{the_tick}
 use Rattle.stepping.proofs.Remembering.{ticks_remember}
-use Rattle.stepping.proofs.Standing.{nothing_stands}
-use Rattle.stepping.specs.Calls.{Kept, StandsFor, nothing_kept}
-use Rattle.stepping.specs.Marks.{Retired}
+use Rattle.course.proofs.Standing.{nothing_stands}
+use Rattle.course.specs.Calls.{Kept, StandsFor, nothing_kept}
+use Rattle.course.specs.Marks.{Retired}
 use Rattle.stepping.specs.Past.{IsAdded, Remembers}
-use Rattle.stepping.specs.Ticks.{Debugged, IsFetched}
+use Rattle.course.specs.Positions.{IsFetched}
+use Rattle.stepping.specs.Ticks.{Debugged}
 use Rattle.stepping.specs.declared.tick.Outcome.{Outcome}
 use Rattle.stepping.specs.declared.tick.Outcome.TheVariants.{Went, Stopped, Ended}
 use Rattle.stepping.specs.declared.tick.Reason.TheVariants as met

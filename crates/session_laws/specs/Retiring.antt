@@ -27,8 +27,8 @@ use Rattle.session.specs.Kinds.{is_success}
 use Rattle.session.specs.Sessions.{After, Beginning, Effect, Session, histories, start}
 use Rattle.session.specs.Slices.{beat}
 use Rattle.session_laws.specs.Turns.{Answered, answered}
-use Rattle.stepping.specs.Calls.{calls_of}
-use Rattle.stepping.specs.Marks.{Retired}
+use Rattle.course.specs.Calls.{calls_of}
+use Rattle.course.specs.Marks.{Retired}
 use Rattle.stepping.specs.Past.{Remembers}
 use Rattle.stepping.specs.Ticks.{Debugged}
 

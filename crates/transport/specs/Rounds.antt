@@ -188,7 +188,7 @@ reads s (r ∷ rounds) = reads_in s r ++ reads (after_round s r) rounds
 
 -- ---- the end
 
--- a program that is given time, and no memory is left to tell what it does
+-- a program that is given time, and no memory is left: to tell what it does, or for a page
 abbrev pub RunsOut : Session → Kept → Type 0
 RunsOut s new = (moved : ℕ) × BreaksOff histories moves_granted moved s (λ t. Stands new t)
 

@@ -3,7 +3,7 @@ use Rattle.answers.specs.StackTrace.{addresses}
 use Rattle.facts.specs.declared.frame.FrameInfo.{FrameInfo}
 use Rattle.session.specs.Shown.{frame_in}
 use Rattle.session.specs.Snapshots.{frames_from}
-use Rattle.stepping.specs.Calls.{Kept}
+use Rattle.course.specs.Calls.{Kept}
 use Rattle.session.proofs.Seeing.{one_more}
 use Rattle.session.proofs.captured.frames.Goals as goal
 

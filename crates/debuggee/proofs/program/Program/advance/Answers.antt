@@ -1,7 +1,7 @@
 use Rattle.std.proofs.Common.{◌≡◌, ◌+◌, Some, None, ap, sym, ◌∙◌, subst}
 use Rattle.debuggee.specs.Programs.{Program, GoesQuietly, Advances}
-use Rattle.debuggee.specs.declared.program.Advanced.TheVariants.{Owes, Meets}
-use Rattle.debuggee.proofs.Advancing.{run_meets, run_owes, run_spends, spent_names_none}
+use Rattle.debuggee.specs.declared.program.Advanced.TheVariants.{Owes, Meets, Lacks}
+use Rattle.debuggee.proofs.Advancing.{lacking_names_none, run_lacks, run_meets, run_owes, run_spends, spent_names_none}
 use Rattle.debuggee.proofs.Loading.{still_loadable}
 use Rattle.debuggee.proofs.program.Program.advance.Goals as goal
 
@@ -84,3 +84,25 @@ invariant_of-self-else-stays c = (
   λ none. absurd (let never : Some c.in-Ticked.tick ≡ None = none in cc),
   still_loadable c.self.inside.image c.args.most _ c.run-ran.result c.run-ran.new.self c.run-ran.ensures.run c.self.invariant.1,
 )
+
+pub invariant_of-self-in-NoMemory : goal.invariant_of-self-in-NoMemory
+invariant_of-self-in-NoMemory c = (
+  λ none. lacking_names_none c.args.most _ c.run-ran.result c.run-ran.new.self
+      (c.self.invariant.0 none) c.in-NoMemory.is c.run-ran.ensures.run,
+  still_loadable c.self.inside.image c.args.most _ c.run-ran.result c.run-ran.new.self c.run-ran.ensures.run c.self.invariant.1,
+)
+
+pub returns-in-NoMemory : goal.returns-in-NoMemory
+returns-in-NoMemory c =
+    let p : Program = record {
+      image = c.self.inside.image;
+      path = c.self.inside.path;
+      stop_on_entry = c.self.inside.stop_on_entry;
+      run = c.self.inside.run;
+      mark = c.self.inside.mark;
+      machine = c.self.inside.runner;
+      owed = c.self.inside.owed;
+    } in
+    let none = ap (λ (x : Program). x.owed) c.self.view_is ∙ c.requires.owed in
+    subst (λ (x : Program). Advances c.args.most x (Lacks c.run-ran.result.went) (record p { machine = c.run-ran.new.self })) c.self.view_is
+    (run_lacks c.args.most p c.run-ran.result c.run-ran.new.self none c.in-NoMemory.is c.run-ran.ensures.run)
