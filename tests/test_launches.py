@@ -1,5 +1,6 @@
 """The built program, as an editor meets it that launches a program: what it answers, and what it tells of the program."""
 import os
+import re
 import time
 
 from support.allocations import each_refusal
@@ -51,6 +52,13 @@ STORES_BEFORE = """        li t0, %d
         mv a0, sp
         ecall
         sw t0, 0(t0)
+"""
+
+# Stores at the start of memory and at its end, and stops.
+STORES_AT_BOTH_ENDS = """_start: auipc t0, 0
+        sw t0, 0(t0)
+        sw t0, -4(sp)
+        ebreak
 """
 
 # What is said of a KIB that is not taken.
@@ -238,6 +246,38 @@ def memory_ends_where_the_command_line_says():
             expect(answered(sent, told, words), (told, b"", 0), "a program at the end of its memory, by %r" % (words,))
 
 
+def resident_kib(talk):
+    """How many KiB of the running program lie in memory."""
+    with open("/proc/%d/status" % talk.process.pid, encoding="ascii") as file:
+        return int(re.search(r"VmRSS:\s+(\d+) kB", file.read())[1])
+
+
+def page_faults(talk):
+    """How many pages were given to the running program so far."""
+    with open("/proc/%d/stat" % talk.process.pid, encoding="ascii") as file:
+        return int(file.read().rpartition(")")[2].split()[7])
+
+
+def memory_takes_room_where_it_is_written():
+    with file_of(STORES_AT_BOTH_ENDS) as path, Talk(("--memory", "16384")) as talk:
+        expect(talk.answers(FIRST, FIRST_ANSWER), FIRST_ANSWER, "the first answer")
+        before = resident_kib(talk)
+        sent, told = (it.removeprefix(first) for it, first in zip(started(path), (FIRST, FIRST_ANSWER)))
+        told += frame(STOPPED % ("breakpoint", 5))
+        expect(talk.answers(sent, told), told, "what is told of a program that stores at both ends of its memory")
+        expect(resident_kib(talk) - before < 3 * 1024, True, "16 MiB of memory, two pages of which are written, take less than 3 MiB")
+
+
+def a_launch_takes_few_pages():
+    for kib in (4, 1024, 16384):
+        with file_of("li a0, 1\nli a7, 93\necall\n") as path, Talk(("--memory", str(kib))) as talk:
+            expect(talk.answers(FIRST, FIRST_ANSWER), FIRST_ANSWER, "the first answer")
+            before, told = page_faults(talk), frames(DONE % ("launch", 2, 2), INITIALIZED % 3)
+            expect(talk.answers(request(2, "launch", program=path), told), told, "what is told of a launch")
+            faults = page_faults(talk) - before
+            expect(faults <= 100, True, "a launch in %d KiB of memory has few page faults, and not %d" % (kib, faults))
+
+
 def a_text_fits_exactly_the_memory_that_was_asked_for():
     for words, kib in (((), 1024), (("--memory", "4"), 4), (("--memory", "16384"), 16384)):
         with file_of(".space %d\nnop\n" % (1024 * kib)) as too_large, file_of(".space %d\nnop\n" % (1024 * kib - 4)) as fitting:
@@ -314,6 +354,8 @@ def checks():
         an_editor_that_vanishes_while_the_program_runs_is_a_fault,
         a_program_that_prints_more_than_may_wait_loses_nothing_to_a_slow_editor,
         memory_ends_where_the_command_line_says,
+        memory_takes_room_where_it_is_written,
+        a_launch_takes_few_pages,
         a_text_fits_exactly_the_memory_that_was_asked_for,
         memory_that_is_not_offered_is_a_fault_of_usage,
         an_option_out_of_place_is_a_fault_of_usage,

@@ -209,7 +209,7 @@ ROWS = [
         feed_once(b"Content-Length: 3\r\n\r\n[1]"),
         RETRACT,
         lends(b"{}"), NONE_WAITS,
-    ], BY_HAND, refused=True, otherwise=["ok", "ok", "NoMemory", "ok", "none", "none"]),
+    ], BY_HAND, refused=True, otherwise=[["ok", "ok", "NoMemory", "ok", "none", "none"]]),
     Row("a frame that found no memory can be made again", [frame(b"{}", b"Content-Length: 2\r\n\r\n{}")], PROTOCOL, refused=True),
     Row("a body of 1 MiB is framed", [frame(LONGEST, b"Content-Length: 1048576\r\n\r\n" + LONGEST)], PROTOCOL, refused=True),
     Row("a body of 1 MiB comes back in pieces of 65,536 bytes", [

@@ -1,5 +1,5 @@
 """The memory of the machine: what is read and written, and each fault."""
-from support.players import Row
+from support.players import NO_MEMORY, Row
 
 PLAYER = "test_machine"
 BASE = 0x10000
@@ -18,6 +18,10 @@ def new(size=4096):
 
 def byte(address, wanted):
     return "memory byte %d" % address, str(wanted)
+
+
+def half(address, wanted):
+    return "memory half %d" % address, str(wanted)
 
 
 def word(address, wanted):
@@ -43,6 +47,34 @@ def write_word(address, value, answer="ok"):
 
 def write(address, block, answer="ok"):
     return "memory write %d %s" % (address, block.hex()), answer
+
+
+def once(step):
+    """The same, and not made again where it finds no memory."""
+    command, answer = step
+    return command.replace("memory ", "memory once ", 1), answer
+
+
+def over_three_pages(*made):
+    """A write of bytes that lie in three pages, of which these were made before, and the same write again. Where the first finds no memory for
+    one of the others, it writes no byte."""
+    start, block = 4094, BLOCK[:4100]
+    before = bytearray(16384)
+    for page in made:
+        before[4096 * page + 100] = 9
+    after = bytes(before[:start]) + block + bytes(before[start + len(block):])
+
+    def goes(answer, left):
+        yield new(16384)
+        yield from (write_byte(BASE + 4096 * page + 100, 9) for page in made)
+        yield once(write(BASE + start, block, answer))
+        yield read(BASE, bytes(16384), left)
+        yield write(BASE + start, block)
+        yield read(BASE, bytes(16384), after)
+
+    otherwise = [] if len(made) == 3 else [[answer for _, answer in goes(NO_MEMORY, before)]]
+    there = "".join(", page %d being there" % page for page in made)
+    return Row("a write over three pages" + there, list(goes("ok", after)), BY_HAND, refused=True, otherwise=otherwise)
 
 
 ROWS = [
@@ -103,6 +135,36 @@ ROWS = [
         read(0x100fff8, bytes(8), BLOCK[-8:-7] + b"\xf9\xfa\xfb\xfc\xfd\xfe\xff"),
         byte(0x100ffff, 255),
     ], BY_HAND),
+    Row("halfwords, and those of a page that was not written", [
+        new(8192),
+        half(BASE, 0),
+        half(0x11ffe, 0),
+        half(0x10001, "Misaligned"),
+        half(0x12001, "Misaligned"),
+        half(0x12000, "Outside"),
+        half(0xfffe, "Outside"),
+        half(0xfffffffe, "Outside"),
+        write_word(0x10ffc, 0x84838281),
+        half(0x10ffc, 0x8281),
+        half(0x10ffe, 0x8483),
+        half(0x11000, 0),
+        write_half(0x11ffe, 0xfedc),
+        half(0x11ffe, 0xfedc),
+        byte(0x11fff, 0xfe),
+        half(0x11ffc, 0),
+    ], BY_HAND, refused=True),
+    Row("reads over pages of which one was written", [
+        step for at, wanted in ((4095, b"\7" + bytes(8192)), (4096, b"\0\7" + bytes(8191)), (8191, bytes(4096) + b"\7" + bytes(4096)),
+                                (8192, bytes(4097) + b"\7" + bytes(4095))) for step in (
+            new(16384),
+            write_byte(BASE + at, 7),
+            read(BASE + 4095, b"\xff" * 8193, wanted),
+            read(BASE + at - 1, b"\xff" * 3, b"\0\7\0"),
+            read(BASE + 12288, b"\xff" * 4096, bytes(4096)),
+            word(BASE + 12288, 0),
+        )
+    ], BY_HAND),
+    *(over_three_pages(*made) for made in ((), (0,), (1,), (2,), (0, 1), (0, 2), (1, 2), (0, 1, 2))),
     Row("memory that was not there is there when it is asked for again", [new(8192), write_word(0x11ffc, 7), word(0x11ffc, 7), byte(BASE, 0)],
         PROFILE, refused=True),
 ]

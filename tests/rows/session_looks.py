@@ -310,6 +310,12 @@ def data_that_is_written():
     return script.reads("0x0001fffe", 4, 0x1fffe, bytes(4))
 
 
+def written_to_new_pages():
+    """A write into pages that were not written takes memory. Where it finds none nothing is answered, and the turn comes again."""
+    script = looking(DATA).slices(9, 1, "Stopped", EBREAK).writes("0x00080ffe", b"\1\2\3\4", 4).reads("0x00080ffd", 6, 0x80ffd, b"\0\1\2\3\4\0")
+    return script.writes("0x00080ffe", b"\5", 1).reads("0x00080ffe", 2, 0x80ffe, b"\5\2").evaluates("[0x80ffc]", 0x02050000)
+
+
 BAD_REFERENCES = ("", "0x", "0X00010000", "0x000010000", " 0x00010000", "65536 ", "+65536", "-65536", "4294967296", "0x100010000", "sp", "1e5")
 
 
@@ -378,6 +384,7 @@ ROWS = [
     Row("no bytes are written", nothing_written().steps, PROFILE),
     Row("data that is no base64", bad_data().steps, PROFILE),
     Row("data that is written is loaded", data_that_is_written().steps, PROFILE),
+    Row("data that is written to new pages", written_to_new_pages().steps, PROFILE, refused=True),
     Row("memory references that are none", bad_references().steps, PROFILE),
     Row("too much is refused before where it is", too_much_outside().steps, PROFILE),
     Row("instructions as memory has them", instructions().steps, PROFILE),

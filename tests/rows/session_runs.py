@@ -2,7 +2,7 @@
 from support.debugging import (ASSEMBLY_FAILED, ENDED, INITIALIZED, PATH, TERMINATED, UNREADABLE, WAS_CANCELLED, WRONG_PHASE, Debugging,
                                debugging, exits, printed, stopped, success_text)
 from support.players import Row
-from support.programs import CALLS, CIRCLES, COUNTS, PRINTS, RECURS
+from support.programs import CALLS, CIRCLES, COUNTS, PRINTS, RECURS, WRITES_ITSELF
 
 PLAYER = "test_session"
 PROFILE = "docs/PROTOCOL.md and docs/MACHINE.md, worked by hand"
@@ -21,6 +21,10 @@ KEEPS = b"_start: la t0, n\nlw a0, 0(t0)\naddi a0, a0, 1\nsw a0, 0(t0)\nli a7, 1
 EXITS = b"li a0, -1\nli a7, 93\necall\n"
 # Exits with what it has stored at the end of memory.
 STORES = b"li a0, 7\nsw a0, -4(sp)\nlw a0, -4(sp)\nli a7, 93\necall\n"
+# Stores into a page that was not written, and stops.
+STORES_FAR = b"lui a0, 0x80\nsw a0, 0(a0)\nebreak\n"
+# Counts for ever, in memory of its own.
+KEEPS_ON = b"_start: la t0, n\ne: lw a0, 0(t0)\naddi a0, a0, 1\nsw a0, 0(t0)\ncall f\nj e\nf: ret\nn: .word 7\n"
 # Stops at once, and again and again.
 STOPS = b"e: ebreak\nj e\n"
 
@@ -230,6 +234,13 @@ def restarts():
     script = debugging(KEEPS).slices(99, 8, "Stopped", printed(8), EBREAK).asks("continue").slices(99, 9, "Stopped", printed(9), EBREAK)
     script.asks("restart").runs(True).slices(99, 8, "Stopped", printed(8), EBREAK)
     script.asks("continue").slices(5, 5, "Spent").asks("restart").slices(5, 5, "Spent").slices(99, 3, "Stopped", printed(8), EBREAK)
+    return script
+
+
+def restarts_what_wrote_itself():
+    """A program that has changed its own instructions is loaded anew, by a restart and by a launch."""
+    script = debugging(WRITES_ITSELF).slices(99, 15, "Stopped", EBREAK).asks("restart").slices(99, 15, "Stopped", EBREAK)
+    script.asks("disconnect").drops().begins(WRITES_ITSELF).slices(7, 7, "Spent").asks("restart").slices(99, 15, "Stopped", EBREAK)
     return script
 
 
@@ -474,7 +485,28 @@ FOUND_NONE = [
 def without_memory(name, session):
     found, found_none = session(True).steps, session(False).steps
     assert [command for command, _ in found] == [command for command, _ in found_none]
-    return Row(name, found, PROFILE, refused=True, otherwise=[answer for _, answer in found_none])
+    return Row(name, found, PROFILE, refused=True, otherwise=[[answer for _, answer in found_none]])
+
+
+def stores_far(*slices):
+    """A program that stores into a page that was not written is given time twice; then it has stored, and stands at its ebreak."""
+    script = debugging(STORES_FAR)
+    for moved, ending in slices:
+        script.does("slice_once 10", "%d %s" % (moved, ending))
+    script.tells(EBREAK).takes().does("seen byte %d" % 0x80002, "8")
+    return script.asks("continue").slices(9, 0, "Stopped", stopped("exception", "illegal instruction")).steps
+
+
+def store_made_later():
+    """A store that found no memory was not made; an ebreak that found none was, and is told by the next slice."""
+    others = [stores_far((1, "NoMemory"), (2, "Stopped")), stores_far((3, "NoMemory"), (0, "Stopped"))]
+    return Row("a store that finds no memory for its page is made by the next slice", stores_far((3, "Stopped"), (0, "Idle")), PROFILE, refused=True,
+               otherwise=[[answer for _, answer in steps] for steps in others])
+
+
+def runs_on(file):
+    """A program that has nothing to tell, and stores nowhere anew, needs no memory."""
+    return debugging(file).does("slice_once 1000", "1000 Spent").does("slice_once 1000", "1000 Spent").asks("pause").slices(9, 0, "Stopped", PAUSE)
 
 
 ROWS = [
@@ -498,6 +530,7 @@ ROWS = [
     *(Row("a step over a call, %d moves at a time" % most, steps_in_slices(most).steps, PROFILE) for most in (1, 3, 7)),
     Row("a pause ends a step", steps_and_pauses().steps, PROFILE),
     Row("a restart loads the program anew", restarts().steps, PROFILE, refused=True),
+    Row("a restart loads the program anew that wrote itself", restarts_what_wrote_itself().steps, PROFILE, refused=True),
     Row("a restart after a pause", restarts_what_runs().steps, PROFILE),
     Row("as many instructions retire as may", limits().steps, PROFILE, refused=True),
     Row("the limit comes after the stop of the last move", limits_at_an_end().steps, PROFILE),
@@ -528,4 +561,7 @@ ROWS = [
     Row("the most moves", most_moves().steps, PROFILE),
     Row("a program that is debugged where events found no memory and are given again", anew().steps, PROFILE, refused=True),
     *(without_memory(name, session) for name, session in FOUND_NONE),
+    store_made_later(),
+    *(Row("a program that %s needs no memory to run" % what, runs_on(file).steps, PROFILE, refused=True)
+      for what, file in (("goes in a circle", CIRCLES), ("stores where it has stored", KEEPS_ON))),
 ]

@@ -1,6 +1,6 @@
 """A debugged machine by ticks: where it stops and why, its calls, and what a run of many ticks answers."""
 from support.players import Row
-from support.programs import CALLS, COUNTS, PRINTS, RECURS
+from support.programs import CALLS, COUNTS, PRINTS, RECURS, WRITES_ITSELF
 
 PLAYER = "test_stepping"
 BASE = 0x10000
@@ -9,6 +9,19 @@ BY_HAND = "worked by hand from docs/MACHINE.md, \"Running and stepping\""
 
 FAULTS = b"lw a0, 2(zero)\n"
 MANY = b"t: call t\n"
+
+# The instruction at p is run three times, and each time the one before it has made it anew: it adds 1, 16 and 256.
+WRITES_THE_NEXT = (b"_start: la t0, n\nla t2, p\nla t3, end\nr: lw t1, 0(t0)\nsw t1, 0(t2)\np: addi a0, a0, 1\naddi t0, t0, 4\nbne t0, t3, r\n"
+                   b"ebreak\nn: addi a0, a0, 1\naddi a0, a0, 16\naddi a0, a0, 256\nend: nop\n")
+# The upper byte of the instruction at p is 0, 1 and 2, so that it adds 1, 17 and 33.
+WRITES_A_BYTE = b"_start: la t2, p\nli t3, 3\nr: sb t1, 3(t2)\np: addi a0, a0, 1\naddi t1, t1, 1\nblt t1, t3, r\nebreak\n"
+# The upper half of it has a0 as the register that is read, and then adds 0, 1 and 2.
+WRITES_A_HALF = b"_start: la t2, p\nli t1, 0x5\nli t3, 0x35\nr: sh t1, 2(t2)\np: addi a0, a0, 1\naddi t1, t1, 0x10\nblt t1, t3, r\nebreak\n"
+# The instructions at a and b are 65,536 bytes apart, and run in turn. The store at a makes the one at b anew, which ran as it was before.
+WRITES_FAR = (b"_start: la t2, b\nla t0, n\nlw t1, 0(t0)\nli t3, 3\nj b\na: sw t1, 0(t2)\naddi a0, a0, 1\nbeq a0, t3, end\nj b\nend: ebreak\n"
+              b"n: addi a1, a1, 16\n.space 65512\nb: addi a1, a1, 1\nj a\n")
+# What is stored 65,536 bytes from the instruction at p leaves that as it is.
+STORES_FAR = b"_start: la t2, p\nli t3, 3\nlui t4, 16\nadd t2, t2, t4\np: addi a0, a0, 1\nsw t3, 0(t2)\nsb t3, 5(t2)\nblt a0, t3, p\nebreak\n"
 
 
 def load(text, size=4096):
@@ -32,11 +45,15 @@ def at(pc, depth=0, retired=None):
     return found + ([] if retired is None else [("retired", str(retired))])
 
 
+# Stores into a page that was not written, and stops.
+STORES_ANEW = b"lui a0, 0x20\nsw a0, 0(a0)\nebreak\n"
+
 WENT = "Went"
 GOAL = "Stopped(Goal)"
 SOURCE = "Stopped(Source)"
 INSTRUCTION = "Stopped(Instruction)"
 EBREAK = "Stopped(Ebreak)"
+ILLEGAL = "Stopped(Exception(Illegal))"
 
 ROWS = [
     Row("a program without a goal runs to its end, and ends again",
@@ -68,6 +85,26 @@ ROWS = [
     Row("a breakpoint stops each time, and code that is written is met",
         [load(COUNTS), does("source 1 %d 1" % (BASE + 8)), does("first go"), runs(100, "4 " + SOURCE), does("x 10", "1"),
          does("write %d 13052500" % (BASE + 0xC)), does("begin go"), runs(100, "4 " + SOURCE), does("x 10", "3"), does("ids", "[1]")], BY_HAND),
+    *(Row("a program that writes %s: as it wrote it, and from the start again" % what,
+          [load(text, 262144)] + 2 * [runs(1000, "%d %s" % (moves, EBREAK)), *(does("x %d" % x, str(value)) for x, value in left), does("reload")], BY_HAND,
+          refused=what == "itself") for what, text, moves, left in (
+        ("the next instruction", WRITES_THE_NEXT, 21, ((10, 273),)), ("itself", WRITES_ITSELF, 14, ((10, 3),)),
+        ("a byte of an instruction", WRITES_A_BYTE, 15, ((10, 51), (6, 3))), ("half of an instruction", WRITES_A_HALF, 16, ((10, 3),)),
+        ("an instruction 65,536 bytes away", WRITES_FAR, 24, ((10, 3), (11, 33))), ("65,536 bytes from an instruction", STORES_FAR, 17, ((10, 3),)))),
+    Row("what is written over parts of instructions that ran is met",
+        [load(COUNTS, 262144), runs(8, "8 Spent"), does("x 10", "2")]
+        + [step for at, written, value, link in ((0xF, "01", 19, 0), (0xE, "10006782", 1, BASE + 0x14), (0xB, "ff13053500", 4, BASE + 0x14)) for step in (
+            does("write %d %s" % (BASE + at, written)), runs(5, "5 Spent"), does("x 10", str(value)), does("x 4", str(link)))]
+        + [does("write %d %s" % (BASE, bytes(65540).hex())), runs(9, "0 " + ILLEGAL), does("reload"), runs(3, "3 Spent"),
+           does("x 10", "1")], BY_HAND),
+    Row("a store that finds no memory for its page ends a run, and the next makes it",
+        [load(STORES_ANEW, 262144), runs(9, "2 " + EBREAK), runs(9, "0 " + ILLEGAL), does("word 131072", "Ok(131072)")] + at(BASE + 0xC, 0, 3), BY_HAND,
+        refused=True, otherwise=[["ok", "1 NoMemory", "1 " + EBREAK, "Ok(131072)", str(BASE + 0xC), "0", "3"]]),
+    Row("a tick that finds no memory for a page is made again",
+        [load(STORES_ANEW, 262144)] + ticks(WENT, WENT, EBREAK) + [does("word 131072", "Ok(131072)")] + at(BASE + 0xC, 0, 3), BY_HAND, refused=True),
+    Row("a write that finds no memory for one of its pages writes nothing",
+        [load(STORES_ANEW, 262144), does("write 131070 01020304"), does("word 131068", "Ok(33619968)"), does("word 131072", "Ok(1027)")], BY_HAND,
+        refused=True, otherwise=[["ok", "NoMemory", "Ok(0)", "Ok(0)"]]),
     Row("a first run begins with the check at the entry, another does not",
         [load(CALLS), does("source 4 %d 1" % BASE), does("instructions 5 %d 1" % BASE), does("first go")] + ticks(SOURCE) + at(BASE, 0, 0)
         + [does("ids", "[4, 5]")] + ticks(WENT) + at(BASE + 4, 0, 1) + [does("reload"), does("begin go")] + ticks(WENT) + at(BASE + 4, 0, 1),

@@ -22,13 +22,13 @@ class Row:
     """Commands and their answers, from a fresh start of the layer.
 
     steps: pairs of a command and the answer that is expected. source: where the expected answers come from. refused: where the row is
-    also played without memory, one allocation of how many is refused in turn: True, which is 1, is each. otherwise: the answers that
-    may come then in place of those of the steps, where a command that is not made again found no memory."""
+    also played without memory, one allocation of how many is refused in turn: True, which is 1, is each. otherwise: lists of answers, each
+    of which comes then in place of those of the steps, where a command that is not made again found no memory."""
     name: str
     steps: list
     source: str
     refused: int = False
-    otherwise: list = None
+    otherwise: list = ()
 
 
 def program_of(player):
@@ -76,15 +76,16 @@ def is_played_without_memory(player, row):
         lines, status = play(player, [command for command, _ in row.steps], environment)
         which = "%s, allocation %s refused" % (row.name, environment["REFUSE_ALLOC"])
         expect(status in (0, 3), True, "%s: the status %d is right" % (which, status))
-        is_otherwise = bool(row.otherwise) and lines == first_of(row.otherwise, lines, status)
-        if not is_otherwise:
+        others = [other for other in row.otherwise if lines == first_of(other, lines, status)]
+        if not others:
             rest = without_the_line(lines)
             expect_answers(rest, Row(which, first_of(row.steps, rest, status), row.source))
-        return NO_MEMORY in lines and status == 0, is_otherwise and status == 0
+        return NO_MEMORY in lines and status == 0, others if status == 0 else []
 
     runs = each_refusal(once, int(row.refused))
     expect(any(found_none for found_none, _ in runs), True, "%s: a call found no memory" % row.name)
-    expect(not row.otherwise or any(is_otherwise for _, is_otherwise in runs), True, "%s: the other answers came" % row.name)
+    for other in row.otherwise:
+        expect(any(other in others for _, others in runs), True, "%s: the other answers came: %s" % (row.name, shown(" / ".join(other))))
 
 
 def first_of(wanted, lines, status):

@@ -5,8 +5,10 @@ ghost use Rattle.answers.specs.Looking.{looks_in};
 
 use crate::program::{Program, request_in, show_answer};
 use answers::{Look, look, set_variable, write_memory};
+use image::MemFault;
 use protocol::{Command, Request, SetVariableArguments, WriteMemoryArguments};
 use std::alloc::Global;
+use stepping::RunEnd;
 use test_targets::{target_of, targets_of};
 use testing::{Fault, Line, bytes_of, called, parsed};
 use variables::{Handles, IssueError, Target};
@@ -52,9 +54,11 @@ impl Program {
     }
 
     fn write(&mut self, address: u32, bytes: &[u8]) -> Result<(), Fault> {
-        self.runner
-            .write(address, bytes)
-            .map_err(|_| Fault::NoCommand)
+        match self.runner.write(address, bytes) {
+            Ok(()) => Ok(()),
+            Err(MemFault::NoMemory) => Err(Fault::NoMemoryInCall),
+            Err(_) => Err(Fault::NoCommand),
+        }
     }
 
     fn set(&mut self, number: u32, value: u32) -> Result<(), Fault> {
@@ -78,7 +82,11 @@ impl Program {
         if self.runner.retired() > MOST_RETIRED {
             return Err(Fault::NoCommand);
         }
-        self.runner.run(count);
+        let ran = self.runner.run(count);
+        if ran.ending == RunEnd::NoMemory {
+            // The store that found none is made again.
+            self.runner.run(count.saturating_sub(ran.went));
+        }
         line.word("ok")
     }
 

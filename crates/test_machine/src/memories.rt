@@ -1,12 +1,14 @@
 //! Memory.
 //!
 //! - `new SIZE`: memory of so many bytes.
-//! - `byte ADDRESS`, `word ADDRESS`: the value; `none` or a fault.
+//! - `byte ADDRESS`, `half ADDRESS`, `word ADDRESS`: the value; `none` or a fault.
 //! - `read ADDRESS BYTES`: what came of it, and what the bytes then are that are read into.
 //! - `write_byte ADDRESS VALUE`, `write_half`, `write_word`; `write ADDRESS BYTES`.
+//! - `once COMMAND`: the same, and not made again where it found no memory.
 
 use image::{MemFault, Memory};
 use std::alloc::Global;
+use std::fmt::Display;
 use test_image::found;
 use testing::{Fault, bytes_of, called, hexadecimal, parsed, shown};
 
@@ -26,11 +28,19 @@ pub(crate) fn answer_memory(
     arguments: &[&str],
 ) -> Result<String, Fault> {
     match arguments {
-        ["byte", address] => found(alloc, memory.byte(parsed(address)?)),
-        ["word", address] => match memory.word(parsed(address)?) {
-            Ok(word) => shown(alloc, word),
-            Err(fault) => failed(alloc, fault),
+        ["once", rest @ ..] => match asked(alloc, memory, rest) {
+            Err(Fault::NoMemoryInCall) => shown(alloc, "NoMemory"),
+            answer => answer,
         },
+        arguments => asked(alloc, memory, arguments),
+    }
+}
+
+fn asked(alloc: Global, memory: &mut Memory, arguments: &[&str]) -> Result<String, Fault> {
+    match arguments {
+        ["byte", address] => found(alloc, memory.byte(parsed(address)?)),
+        ["half", address] => value(alloc, memory.half(parsed(address)?)),
+        ["word", address] => value(alloc, memory.word(parsed(address)?)),
         ["read", address, bytes] => read(alloc, memory, parsed(address)?, bytes),
         ["write_byte", address, value] => {
             done(alloc, memory.write_byte(parsed(address)?, parsed(value)?))
@@ -46,6 +56,13 @@ pub(crate) fn answer_memory(
             done(alloc, memory.write(parsed(address)?, &bytes))
         }
         _ => Err(Fault::NoCommand),
+    }
+}
+
+fn value<D: Display + Drop>(alloc: Global, answer: Result<D, MemFault>) -> Result<String, Fault> {
+    match answer {
+        Ok(value) => shown(alloc, value),
+        Err(fault) => failed(alloc, fault),
     }
 }
 
