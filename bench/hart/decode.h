@@ -15,7 +15,10 @@ struct instr { uint8_t op, rd, rs1, rs2; uint32_t imm; };
 
 struct hart { uint32_t pc, x[32]; };
 
-static uint8_t *memory;
+#define PAGE 4096u
+
+/* Memory: a table of pages, each made at the first write into it. NULL: not made, and each byte is 0. */
+static uint8_t *pages[SIZE / PAGE];
 
 __attribute__((noinline)) static struct instr decode(uint32_t w)
 {
@@ -59,9 +62,41 @@ __attribute__((noinline)) static struct instr decode(uint32_t w)
     return i;
 }
 
-static uint8_t *at(uint32_t address, uint32_t count)
+/* Whether so many bytes lie at an address that is a multiple of their number. */
+static inline int lies(uint32_t address, uint32_t count)
 {
-    uint32_t k = address - BASE;
-    if (address % count != 0 || k > SIZE - count) return NULL;
-    return memory + k;
+    return address % count == 0 && (address - BASE) / PAGE < SIZE / PAGE;
+}
+
+/* Loads so many bytes; 0: that is a fault. */
+static inline int load(uint32_t address, uint32_t count, void *into)
+{
+    const uint8_t *page;
+    if (!lies(address, count)) return 0;
+    page = pages[(address - BASE) / PAGE];
+    if (page) memcpy(into, page + address % PAGE, count);
+    else memset(into, 0, count);
+    return 1;
+}
+
+__attribute__((noinline, cold)) static uint8_t *made(uint32_t page)
+{
+    pages[page] = calloc(1, PAGE);
+    if (!pages[page]) exit(3);
+    return pages[page];
+}
+
+/* Stores so many bytes; 0: that is a fault. */
+static inline int store(uint32_t address, uint32_t count, const void *from)
+{
+    uint32_t k = (address - BASE) / PAGE;
+    if (!lies(address, count)) return 0;
+    memcpy((pages[k] ? pages[k] : made(k)) + address % PAGE, from, count);
+    return 1;
+}
+
+/* Puts the words of a program into memory, from its first address on. */
+static void put(const uint32_t *words, size_t bytes)
+{
+    for (uint32_t i = 0; i < bytes / 4; i++) store(BASE + 4 * i, 4, &words[i]);
 }

@@ -7,10 +7,9 @@ enum stepped { RETIRED, EXIT, STOP };
 static enum stepped step(struct hart *h)
 {
     uint32_t *x = h->x, pc = h->pc, next = pc + 4, v = 0, w, target;
-    uint8_t *p = at(pc, 4);
     uint16_t halfword;
-    if (!p) return STOP;
-    memcpy(&w, p, 4);
+    uint8_t byte;
+    if (!load(pc, 4, &w)) return STOP;
     struct instr i = decode(w);
     uint32_t a = x[i.rs1], b = x[i.rs2], sum = a + i.imm;
     int taken;
@@ -25,19 +24,14 @@ static enum stepped step(struct hart *h)
     case BGE: taken = (int32_t)a >= (int32_t)b; goto branch;
     case BLTU: taken = a < b; goto branch;
     case BGEU: taken = a >= b; goto branch;
-    case LB: if (!(p = at(sum, 1))) return STOP; v = (uint32_t)(int8_t)*p; break;
-    case LBU: if (!(p = at(sum, 1))) return STOP; v = *p; break;
-    case LH: if (!(p = at(sum, 2))) return STOP; memcpy(&halfword, p, 2); v = (uint32_t)(int16_t)halfword; break;
-    case LHU: if (!(p = at(sum, 2))) return STOP; memcpy(&halfword, p, 2); v = halfword; break;
-    case LW: if (!(p = at(sum, 4))) return STOP; memcpy(&v, p, 4); break;
-    case SB: if (!(p = at(sum, 1))) return STOP; *p = (uint8_t)b; h->pc = next; return RETIRED;
-    case SH:
-        if (!(p = at(sum, 2))) return STOP;
-        halfword = (uint16_t)b;
-        memcpy(p, &halfword, 2);
-        h->pc = next;
-        return RETIRED;
-    case SW: if (!(p = at(sum, 4))) return STOP; memcpy(p, &b, 4); h->pc = next; return RETIRED;
+    case LB: if (!load(sum, 1, &byte)) return STOP; v = (uint32_t)(int8_t)byte; break;
+    case LBU: if (!load(sum, 1, &byte)) return STOP; v = byte; break;
+    case LH: if (!load(sum, 2, &halfword)) return STOP; v = (uint32_t)(int16_t)halfword; break;
+    case LHU: if (!load(sum, 2, &halfword)) return STOP; v = halfword; break;
+    case LW: if (!load(sum, 4, &v)) return STOP; break;
+    case SB: byte = (uint8_t)b; if (!store(sum, 1, &byte)) return STOP; h->pc = next; return RETIRED;
+    case SH: halfword = (uint16_t)b; if (!store(sum, 2, &halfword)) return STOP; h->pc = next; return RETIRED;
+    case SW: if (!store(sum, 4, &b)) return STOP; h->pc = next; return RETIRED;
     case ADDI: v = sum; break;
     case SLTI: v = (int32_t)a < (int32_t)i.imm; break;
     case SLTIU: v = a < i.imm; break;
@@ -83,11 +77,10 @@ int main(int count, char **words)
     struct hart h = { BASE, { 0 } };
     enum stepped stepped;
     uint64_t retired = 0;
-    memory = calloc(1, SIZE);
-    if (count != 3 || !memory) return 2;
-    if (!strcmp(words[1], "tight")) memcpy(memory, tight, sizeof tight);
-    else if (!strcmp(words[1], "sort")) memcpy(memory, sort, sizeof sort);
-    else memcpy(memory, fib, sizeof fib);
+    if (count != 3) return 2;
+    if (!strcmp(words[1], "tight")) put(tight, sizeof tight);
+    else if (!strcmp(words[1], "sort")) put(sort, sizeof sort);
+    else put(fib, sizeof fib);
     h.x[2] = BASE + SIZE;
     h.x[10] = (uint32_t)strtoul(words[2], NULL, 10);
     while ((stepped = step(&h)) == RETIRED) retired++;

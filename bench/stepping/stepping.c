@@ -1,15 +1,23 @@
-/* A debugger's machine for RV32I, beside which bench/stepping/run times crates/bench_stepping. Each tick fetches, decodes to a
-   record and executes that, as bench/hart/hart.c does; notes calls and returns, of which it keeps 256; looks at the breakpoints
-   at the new pc, by a bit for each word of memory and a sorted list; and then at the goal. Words: the program, the value of a0 at
-   the start, and how it is run: `go COUNT`, `over` or `if CONDITION`, as in crates/bench_stepping/src/way.rt. */
+/* A debugger's machine for RV32I, beside which bench/stepping/run times crates/bench_stepping, of the same design. A word is
+   decoded once, to a record that names its address, and forgotten where a store changes it; memory is a table of pages. In the
+   loop the pc and the count of moves are kept apart; calls and returns are noted, of which 256 are kept; and where there are
+   breakpoints, or the goal may be met, the new pc is looked up by a mark for each word of 256 KiB, and then closer, in a sorted list
+   and by the goal. Words: the program, the value of a0 at the start, and how it is run: `go COUNT`, `over` or `if CONDITION`, as in
+   crates/bench_stepping/src/way.rt. */
 #include "../hart/decode.h"
 
 #define FAR 0x00020000u
 #define KEPT 256
 #define LIMIT 1024
 #define SLICE 100000
+#define PLACES 16384u
+#define MARKS 65536u
 
-enum stepped { RETIRED, PRINTED, BREAK, EXIT, TRAP };
+/* What an instruction comes to; a call of the environment and EBREAK are settled apart. */
+enum done { RETIRED, TRAP, CALL, BREAK };
+
+/* A decoded word, which names its address, 1 where there is none. A plain one changes registers and pc alone. */
+struct entry { uint32_t pc; uint8_t is_plain, stores; struct instr i; };
 
 /* The calls kept, in a ring, and how many have not returned. */
 struct calls { uint64_t depth; uint32_t newest, kept, at[KEPT]; };
@@ -32,27 +40,35 @@ struct tick { enum outcome outcome; int prints; int32_t number; };
 
 enum ending { SPENT, TICKED };
 
+/* What ended moves in a row: that there were so many, a place that has to be looked at, or a move that is no plain one. */
+enum end { ENOUGH, NEAR, HALTED };
+
+struct burst { uint32_t went, pc; enum end end; enum done done; };
+
 struct ran { uint32_t went; enum ending ending; struct tick tick; };
 
 struct runner {
     struct hart hart;
     struct calls calls;
-    uint64_t retired, start;
+    uint64_t retired, start, reach;
     enum goal goal;
+    struct entry entries[PLACES];
     struct breakpoint list[LIMIT];
     uint32_t count, ids[LIMIT], stopped;
-    uint64_t marks[SIZE / 4 / 64];
+    uint8_t marks[MARKS];
     struct row rows[64];
     uint32_t lines;
 };
 
-static enum stepped execute(struct hart *h, const struct instr *i)
+/* Does what an instruction at pc says; next: the pc after it. */
+static inline __attribute__((always_inline)) enum done execute(struct hart *h, uint32_t pc, const struct instr *i, uint32_t *next)
 {
-    uint32_t *x = h->x, pc = h->pc, next = pc + 4, v = 0, target;
-    uint8_t *p;
+    uint32_t *x = h->x, v = 0, target;
     uint16_t halfword;
+    uint8_t byte;
     uint32_t a = x[i->rs1], b = x[i->rs2], sum = a + i->imm;
     int taken;
+    *next = pc + 4;
     switch (i->op) {
     case LUI: v = i->imm; break;
     case AUIPC: v = pc + i->imm; break;
@@ -64,19 +80,14 @@ static enum stepped execute(struct hart *h, const struct instr *i)
     case BGE: taken = (int32_t)a >= (int32_t)b; goto branch;
     case BLTU: taken = a < b; goto branch;
     case BGEU: taken = a >= b; goto branch;
-    case LB: if (!(p = at(sum, 1))) return TRAP; v = (uint32_t)(int8_t)*p; break;
-    case LBU: if (!(p = at(sum, 1))) return TRAP; v = *p; break;
-    case LH: if (!(p = at(sum, 2))) return TRAP; memcpy(&halfword, p, 2); v = (uint32_t)(int16_t)halfword; break;
-    case LHU: if (!(p = at(sum, 2))) return TRAP; memcpy(&halfword, p, 2); v = halfword; break;
-    case LW: if (!(p = at(sum, 4))) return TRAP; memcpy(&v, p, 4); break;
-    case SB: if (!(p = at(sum, 1))) return TRAP; *p = (uint8_t)b; h->pc = next; return RETIRED;
-    case SH:
-        if (!(p = at(sum, 2))) return TRAP;
-        halfword = (uint16_t)b;
-        memcpy(p, &halfword, 2);
-        h->pc = next;
-        return RETIRED;
-    case SW: if (!(p = at(sum, 4))) return TRAP; memcpy(p, &b, 4); h->pc = next; return RETIRED;
+    case LB: if (!load(sum, 1, &byte)) return TRAP; v = (uint32_t)(int8_t)byte; break;
+    case LBU: if (!load(sum, 1, &byte)) return TRAP; v = byte; break;
+    case LH: if (!load(sum, 2, &halfword)) return TRAP; v = (uint32_t)(int16_t)halfword; break;
+    case LHU: if (!load(sum, 2, &halfword)) return TRAP; v = halfword; break;
+    case LW: if (!load(sum, 4, &v)) return TRAP; break;
+    case SB: byte = (uint8_t)b; return store(sum, 1, &byte) ? RETIRED : TRAP;
+    case SH: halfword = (uint16_t)b; return store(sum, 2, &halfword) ? RETIRED : TRAP;
+    case SW: return store(sum, 4, &b) ? RETIRED : TRAP;
     case ADDI: v = sum; break;
     case SLTI: v = (int32_t)a < (int32_t)i->imm; break;
     case SLTIU: v = a < i->imm; break;
@@ -96,29 +107,24 @@ static enum stepped execute(struct hart *h, const struct instr *i)
     case SRA: v = (uint32_t)((int32_t)a >> (b & 31)); break;
     case OR: v = a | b; break;
     case AND: v = a & b; break;
-    case FENCE: h->pc = next; return RETIRED;
-    case ECALL:
-        if (x[17] == 93) return EXIT;
-        if (x[17] != 1) return TRAP;
-        h->pc = next;
-        return PRINTED;
-    case EBREAK: h->pc = next; return BREAK;
+    case FENCE: return RETIRED;
+    case ECALL: return CALL;
+    case EBREAK: return BREAK;
     default: return TRAP;
     }
     x[i->rd] = v;
     x[0] = 0;
-    h->pc = next;
     return RETIRED;
 jump:
     if (target % 4 != 0) return TRAP;
-    x[i->rd] = next;
+    x[i->rd] = pc + 4;
     x[0] = 0;
-    h->pc = target;
+    *next = target;
     return RETIRED;
 branch:
-    target = taken ? pc + i->imm : next;
+    target = taken ? pc + i->imm : pc + 4;
     if (target % 4 != 0) return TRAP;
-    h->pc = target;
+    *next = target;
     return RETIRED;
 }
 
@@ -143,9 +149,9 @@ static void pop(struct calls *c)
     c->newest = (c->newest + KEPT - 1) % KEPT;
 }
 
+/* Notes a jump. */
 static void note(struct calls *c, const struct instr *i, uint32_t pc)
 {
-    if (i->op != JAL && i->op != JALR) return;
     int calls = is_link(i->rd), returns = i->op == JALR && is_link(i->rs1) && !(calls && i->rd == i->rs1);
     if (returns) pop(c);
     if (calls) push(c, pc);
@@ -159,9 +165,7 @@ static int evaluate(const struct node *n, const struct hart *h, uint32_t *value)
     case NUMBER: *value = n->number; return 1;
     case REGISTER: *value = h->x[n->number]; return 1;
     case WORD:
-        if (!evaluate(n->left, h, &a) || a - BASE > SIZE - 4) return 0;
-        memcpy(value, memory + (a - BASE), 4);
-        return 1;
+        return evaluate(n->left, h, &a) && load(a, 4, value);
     default: break;
     }
     if (!evaluate(n->left, h, &a) || !evaluate(n->right, h, &b)) return 0;
@@ -192,10 +196,10 @@ __attribute__((noinline)) static int check(struct runner *r, uint32_t pc)
     return r->stopped > 0;
 }
 
-static int is_marked(const struct runner *r, uint32_t pc)
+/* Whether a breakpoint may be at pc, or as far from it as there are marks. */
+static inline int is_marked(const struct runner *r, uint32_t pc)
 {
-    uint32_t k = (pc - BASE) / 4;
-    return k < SIZE / 4 && (r->marks[k / 64] >> k % 64 & 1);
+    return r->marks[pc / 4 % MARKS];
 }
 
 /* Whether pc is the first address of a line, or outside all lines. */
@@ -215,37 +219,93 @@ static int is_met(const struct runner *r)
     return r->goal == OVER && r->calls.depth <= r->start && is_place(r, r->hart.pc);
 }
 
-static struct tick tick(struct runner *r)
+/* Decodes the word at pc, if there is one, and remembers it; 0: it traps. */
+__attribute__((noinline, cold)) static int learn(struct runner *r, uint32_t pc)
 {
-    struct tick t = { WENT, 0, 0 };
-    uint32_t pc = r->hart.pc, w;
-    uint8_t *p = at(pc, 4);
+    struct entry e = { pc, 1, 0, { 0, 0, 0, 0, 0 } };
+    uint32_t w;
+    if (!load(pc, 4, &w)) return 0;
+    e.i = decode(w);
+    if (e.i.op == ILLEGAL) return 0;
+    e.stores = e.i.op == SB || e.i.op == SH || e.i.op == SW;
+    e.is_plain = !e.stores && !(e.i.op == JAL && is_link(e.i.rd))
+        && !(e.i.op == JALR && (is_link(e.i.rd) || is_link(e.i.rs1)));
+    r->entries[pc / 4 % PLACES] = e;
+    return 1;
+}
+
+static inline void forget(struct runner *r, uint32_t address)
+{
+    struct entry *e = &r->entries[address / 4 % PLACES];
+    if (e->pc == (address & ~3u)) e->pc = 1;
+}
+
+/* Makes moves in a row, so many at most. */
+__attribute__((noinline)) static struct burst retire(struct runner *r, uint32_t most)
+{
+    int watches = r->count > 0 || r->reach > 0;
+    struct burst b = { 0, 0, ENOUGH, RETIRED };
+    uint32_t pc = r->hart.pc, next = 0, went;
+    for (went = 0; went < most; went++) {
+        struct entry *e = &r->entries[pc / 4 % PLACES];
+        enum done done = e->pc == pc || learn(r, pc) ? execute(&r->hart, pc, &e->i, &next) : TRAP;
+        if (done != RETIRED) {
+            b.end = HALTED;
+            b.done = done;
+            break;
+        }
+        if (!e->is_plain) {
+            if (e->stores) forget(r, r->hart.x[e->i.rs1] + e->i.imm);
+            else note(&r->calls, &e->i, pc);
+        }
+        pc = next;
+        if (watches && (is_marked(r, pc) || r->calls.depth < r->reach)) {
+            b.end = NEAR;
+            break;
+        }
+    }
+    b.went = went;
+    b.pc = pc;
+    return b;
+}
+
+/* What there is to see at pc: a breakpoint that stops, and then the goal. */
+static enum outcome look(struct runner *r)
+{
     r->stopped = 0;
-    if (!p) { t.outcome = EXCEPTION; return t; }
-    memcpy(&w, p, 4);
-    struct instr i = decode(w);
-    enum stepped stepped = execute(&r->hart, &i);
-    if (stepped == TRAP) { t.outcome = EXCEPTION; return t; }
-    if (stepped == EXIT) { t.outcome = ENDED; t.number = (int32_t)r->hart.x[10]; return t; }
-    if (stepped == PRINTED) { t.prints = 1; t.number = (int32_t)r->hart.x[10]; }
-    note(&r->calls, &i, pc);
+    if (is_marked(r, r->hart.pc) && check(r, r->hart.pc)) return INSTRUCTION;
+    return is_met(r) ? GOAL : WENT;
+}
+
+/* The move that is no plain one. */
+__attribute__((noinline, cold)) static struct tick settle(struct runner *r, enum done done)
+{
+    struct tick t = { EXCEPTION, 0, 0 };
+    uint32_t *x = r->hart.x;
+    if (done == TRAP || (done == CALL && x[17] != 93 && x[17] != 1)) return t;
+    t.number = (int32_t)x[10];
+    if (done == CALL && x[17] == 93) { t.outcome = ENDED; return t; }
+    r->hart.pc += 4;
     r->retired++;
-    if (is_marked(r, r->hart.pc) && check(r, r->hart.pc)) t.outcome = INSTRUCTION;
-    else if (is_met(r)) t.outcome = GOAL;
-    if (stepped == BREAK) t.outcome = EBREAK_STOP;
+    t.prints = done == CALL;
+    t.outcome = look(r);
+    if (done == BREAK) t.outcome = EBREAK_STOP;
     return t;
 }
 
 static struct ran run(struct runner *r, uint32_t most)
 {
     struct ran ran = { 0, SPENT, { WENT, 0, 0 } };
-    for (; ran.went < most; ran.went++) {
-        struct tick t = tick(r);
-        if (t.outcome != WENT || t.prints) {
-            ran.ending = TICKED;
-            ran.tick = t;
-            return ran;
-        }
+    while (ran.went < most) {
+        struct burst b = retire(r, most - ran.went);
+        r->hart.pc = b.pc;
+        r->retired += b.went + (b.end == NEAR);
+        ran.went += b.went;
+        if (b.end == ENOUGH) break;
+        if (b.end == HALTED) ran.tick = settle(r, b.done);
+        else ran.tick.outcome = look(r);
+        if (ran.tick.outcome != WENT || ran.tick.prints) { ran.ending = TICKED; return ran; }
+        ran.went++;
     }
     return ran;
 }
@@ -254,15 +314,15 @@ static void begin(struct runner *r, enum goal goal)
 {
     r->goal = goal;
     r->start = r->calls.depth;
+    r->reach = goal == GO ? 0 : r->start + 1;
 }
 
 /* One more breakpoint, at an address above those of the others. */
 static void add(struct runner *r, uint32_t address, uint32_t hit, const struct node *condition)
 {
     struct breakpoint b = { r->count, address, hit, 0, condition };
-    uint32_t k = (address - BASE) / 4;
     r->list[r->count++] = b;
-    r->marks[k / 64] |= (uint64_t)1 << k % 64;
+    r->marks[address / 4 % MARKS] = 1;
 }
 
 /* The conditions that are measured; NULL: another text. */
@@ -278,10 +338,11 @@ static const struct node *condition_of(const char *text)
     return NULL;
 }
 
-/* Loads words, each of which is a line of its own. */
-static void load(struct runner *r, const uint32_t *words, size_t bytes)
+/* Loads a program, each word of which is a line of its own. */
+static void begin_with(struct runner *r, const uint32_t *words, size_t bytes)
 {
-    memcpy(memory, words, bytes);
+    put(words, bytes);
+    for (uint32_t k = 0; k < PLACES; k++) r->entries[k].pc = 1;
     for (uint32_t i = 0; i < bytes / 4; i++) {
         struct row row = { i + 1, BASE + 4 * i, 1 };
         r->rows[r->lines++] = row;
@@ -293,11 +354,10 @@ int main(int count, char **words)
     struct runner *r = calloc(1, sizeof *r);
     struct ran ran;
     enum goal goal = GO;
-    memory = calloc(1, SIZE);
-    if (count < 4 || !memory || !r) return 2;
-    if (!strcmp(words[1], "tight")) load(r, tight, sizeof tight);
-    else if (!strcmp(words[1], "sort")) load(r, sort, sizeof sort);
-    else load(r, fib, sizeof fib);
+    if (count < 4 || !r) return 2;
+    if (!strcmp(words[1], "tight")) begin_with(r, tight, sizeof tight);
+    else if (!strcmp(words[1], "sort")) begin_with(r, sort, sizeof sort);
+    else begin_with(r, fib, sizeof fib);
     r->hart.pc = BASE;
     r->hart.x[2] = BASE + SIZE - 16;
     r->hart.x[10] = (uint32_t)strtoul(words[2], NULL, 10);
