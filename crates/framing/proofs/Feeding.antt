@@ -5,7 +5,7 @@ use Rattle.framing.specs.Headers.{Field, length_fields}
 use Rattle.framing.specs.Reading.{Reading, Tail, size_of, start_by, start_at, start_of, content_length, length_by, length_among, length_or_fault, number_in, fields_in, lines_of, reading_of}
 use Rattle.byte_strings.specs.Blanks.{trimmed}
 use Rattle.framing.specs.Reading.Tail.{Partial, Faulty}
-use Rattle.framing.specs.Parts.{Parts, tail_by, is_broken}
+use Rattle.framing.specs.Parts.{tail_by, is_broken}
 use Rattle.framing.specs.Streams.{Before, Unframed, fed, fault_of, Feeds}
 use Rattle.framing.specs.declared.error.FrameError.{FrameError}
 use Rattle.framing.specs.declared.error.FrameError.TheVariants.{Header, NoLength, TwoLengths, BadLength, TooLong, HeaderTooLong, NoMemory}
@@ -97,7 +97,9 @@ pub record Went (limit : ℕ) (waiting : List (List ℕ)) (start : Start) (rest 
     (waited : List (List ℕ)) (prefix : List ℕ) : Type 0 where
   pub bodies : List (List ℕ)
   pub whole : is_broken start ≡ false
-  pub parts : Parts limit (rest ++ piece) bodies next left
+  pub starts : next ≡ start_of limit (drop (length (rest ++ piece) - left) (rest ++ piece))
+  pub reads : reading_of limit (rest ++ piece)
+      ≡ record { bodies = bodies; tail = tail_by next (drop (length (rest ++ piece) - left) (rest ++ piece)) }
   pub added : now ≡ waiting ++ bodies
   pub waited_is : waited ≡ waiting
   pub prefix_is : prefix ≡ rest
@@ -115,7 +117,7 @@ went_fed limit waiting start rest piece before now next left waited prefix tail 
     ∙ ap (λ (t : Tail). gone_on limit (waiting ++ w.bodies) waiting t (tail_by start prefix)) tail_is
     ∙ ap (λ (l : List ℕ). gone_on limit (waiting ++ w.bodies) waiting (tail_by next (after_frames left (rest ++ piece)))
     (tail_by start l)) w.prefix_is
-    ∙ sym (fed_is limit waiting start rest piece before w.bodies (tail_by next (after_frames left (rest ++ piece))) w.whole w.parts.reads)
+    ∙ sym (fed_is limit waiting start rest piece before w.bodies (tail_by next (after_frames left (rest ++ piece))) w.whole w.reads)
 
 -- a fault is answered
 feeds_fault : (T : Type 0) (old : Unframed) (piece : List ℕ) (new : Unframed) (fault : FrameError) → new ≡ fed old piece
@@ -142,7 +144,7 @@ fault_came T old limit waiting start rest piece before now next left waited pref
     (broken_tail next fault kept (after_frames left (rest ++ piece)) breaks) ∙ ap (λ (o : Unframed). fed o piece) was in
     let f : fault_of (tail_by next kept) ≡ Some fault = ap (λ s. fault_of (tail_by s kept)) breaks in
     feeds_fault T old piece new fault e f
-    (λ m. absurd (no_memory_fault limit (after_frames left (rest ++ piece)) (sym w.parts.starts ∙ breaks ∙ ap (λ x. Breaks x) m)))
+    (λ m. absurd (no_memory_fault limit (after_frames left (rest ++ piece)) (sym w.starts ∙ breaks ∙ ap (λ x. Breaks x) m)))
 
 -- a piece that brings none
 no_fault_by : (next : Start) (rest : List ℕ) → is_broken next ≡ false → fault_of (tail_by next rest) ≡ None

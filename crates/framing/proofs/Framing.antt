@@ -41,7 +41,7 @@ frame_first limit f body more h =
     (reading_some limit (f ++ more) body more (start_of limit (f ++ more)) refl (frame_parts limit f body more h)).reads
 
 -- the first whole frame of some bytes is a frame
-first_frame : (limit : ℕ) (bytes body after : List ℕ) (s : Start) → s ≡ start_of limit bytes → parts_of s bytes ≡ some_of body after
+pub first_frame : (limit : ℕ) (bytes body after : List ℕ) (s : Start) → s ≡ start_of limit bytes → parts_of s bytes ≡ some_of body after
     → (f : List ℕ) × (bytes ≡ f ++ after) × Frame limit f body
 first_frame limit bytes body after Waits e h = absurd (none_is h) where
   none_is : (let x : Parted = None in x) ≡ some_of body after → ⊥

@@ -10,5 +10,6 @@ pub mod Fields
 pub mod Heads
 pub mod Faults
 pub mod Framing
+pub mod Passing
 pub mod Pasts
 pub mod Minimal

@@ -1,15 +1,12 @@
 -- The reading of a stream, frame by frame.
-use Rattle.std.proofs.Common.{◌≡◌, ℕ, ◌+◌, ◌-◌, ◌<◌, ◌≤◌, zero, suc, Bool, true, false, cond, ltb, leb, List, [], ◌∷◌, ◌++◌, length, take, drop, Option, Some, None, Result, Ok, Err, refl, sym, ap, ◌∙◌, subst, arith, length-append, length-drop, append_assoc}
-use Rattle.std.proofs.lemmas.List.{drop-drop, append-nil, take-append-le, take-append-drop, length-take-le}
+use Rattle.std.proofs.Common.{◌≡◌, ℕ, ◌+◌, ◌-◌, ◌<◌, ◌≤◌, zero, suc, Bool, true, false, cond, ltb, leb, List, [], ◌∷◌, ◌++◌, length, take, drop, Option, Some, None, Result, Ok, Err, refl, sym, ap, ◌∙◌, subst, arith, length-append, length-drop}
+use Rattle.std.proofs.lemmas.List.{take-append-le, take-append-drop, length-take-le}
 use Rattle.std.proofs.lemmas.Bool.{false≢true}
 use Rattle.std.proofs.lemmas.Bool.Decides.{nat_tests}
-use Rattle.std.specs.Option.{is_some, option_map}
-use Rattle.std.specs.declared.vec.Vec.{Vec}
-use Rattle.std.specs.declared.alloc.Global.{Global}
 use Rattle.framing.specs.Headers.{end_of}
-use Rattle.framing.specs.Reading.{Reading, Tail, size_of, size_by, start_by, start_at, start_of, content_length, reading_by, reading_within, reading_of, with_body, with_bodies}
+use Rattle.framing.specs.Reading.{Reading, size_of, size_by, start_by, start_at, start_of, content_length, reading_by, reading_within, reading_of, with_body}
 use Rattle.framing.specs.Reading.Tail.{Partial}
-use Rattle.framing.specs.Parts.{Parts, TakesFrames, bodies_of, parts_of, tail_by}
+use Rattle.framing.specs.Parts.{parts_of, tail_by}
 use Rattle.framing.specs.declared.error.FrameError.{FrameError}
 use Rattle.framing.specs.declared.error.FrameError.TheVariants.{HeaderTooLong}
 use Rattle.framing.specs.declared.start.Start.{Start}
@@ -174,66 +171,6 @@ by_some limit bytes body after (Begins size n) e h =
 pub reading_some : (limit : ℕ) (bytes body after : List ℕ) (s : Start) → s ≡ start_of limit bytes → parts_of s bytes ≡ Some (body, after)
     → OneFrame limit bytes body after
 reading_some limit bytes body after s e h = by_some limit bytes body after s e h
-
--- How far the code has come: these bodies were found, and the rest starts so.
-pub record Reached (limit : ℕ) (bytes : List ℕ) (bodies : List (List ℕ)) (start : Start) (rest : List ℕ) : Type 0 where
-  pub within : length rest ≤ length bytes
-  pub there : rest ≡ drop (length bytes - length rest) bytes
-  pub starts : start ≡ start_of limit rest
-  pub reads : with_bodies bodies (reading_of limit rest) ≡ reading_of limit bytes
-
-pub reached_start : (limit : ℕ) (bytes : List ℕ) (start : Start) → start ≡ start_of limit bytes → Reached limit bytes [] start bytes
-reached_start limit bytes start e = record {
-  within = omega arith;
-  there = let z : length bytes - length bytes ≡ 0 = omega arith in sym (ap (λ n. drop n bytes) z);
-  starts = e;
-  reads = refl;
-}
-
-pub reached_more : (limit : ℕ) (bytes : List ℕ) (bodies : List (List ℕ)) (start : Start) (rest body after : List ℕ) (next : Start)
-    → Reached limit bytes bodies start rest → parts_of start rest ≡ Some (body, after) → next ≡ start_of limit after
-    → Reached limit bytes (bodies ++ body ∷ []) next after
-reached_more limit bytes bodies start rest body after next r h e =
-    let one = reading_some limit rest body after start r.starts h in
-    let within : length rest ≤ length bytes = r.within in
-    let size_is : one.size + length after ≡ length rest = one.size_is in
-    let n : length bytes - length rest + one.size ≡ length bytes - length after = omega arith in
-    record {
-      within = omega arith;
-      there = one.after_is ∙ ap (drop one.size) r.there ∙ drop-drop one.size (length bytes - length rest) bytes ∙ ap (λ k. drop k bytes) n;
-      starts = e;
-      reads = with_more bodies body (reading_of limit after) ∙ ap (with_bodies bodies) (sym one.reads) ∙ r.reads;
-    } where
-      with_more : (bodies : List (List ℕ)) (body : List ℕ) (x : Reading)
-          → with_bodies (bodies ++ body ∷ []) x ≡ with_bodies bodies (with_body body x)
-      with_more bodies body x =
-          ap (λ (l : List (List ℕ)). let y : Reading = record { bodies = l; tail = x.tail } in y) (append_assoc bodies (body ∷ []) x.bodies)
-
-pub reached_end : (limit : ℕ) (bytes : List ℕ) (bodies : List (List ℕ)) (start : Start) (rest : List ℕ)
-    → Reached limit bytes bodies start rest → parts_of start rest ≡ None → Parts limit bytes bodies start (length rest)
-reached_end limit bytes bodies start rest r h = record {
-  within = r.within;
-  starts = r.starts ∙ ap (start_of limit) r.there;
-  reads =
-      sym r.reads ∙ ap (with_bodies bodies) (reading_none limit rest start r.starts h) ∙ with_none bodies (tail_by start rest)
-      ∙ ap (λ x. let y : Reading = record { bodies = bodies; tail = tail_by start x } in y) r.there;
-} where
-  with_none : (bodies : List (List ℕ)) (tail : Tail)
-      → with_bodies bodies (record { bodies = []; tail = tail }) ≡ record { bodies = bodies; tail = tail }
-  with_none bodies tail = ap (λ (l : List (List ℕ)). let y : Reading = record { bodies = l; tail = tail } in y) (append-nil bodies)
-
--- bytes that make no frame whole
-pub no_frames : (limit : ℕ) (bytes : List ℕ) (start : Start) (waiting : List (Vec ℕ Global)) → start ≡ start_of limit bytes
-    → parts_of start bytes ≡ None → TakesFrames limit bytes waiting waiting start (length bytes)
-no_frames limit bytes start waiting e h = record {
-  bodies = [];
-  parts = reached_end limit bytes [] start bytes (reached_start limit bytes start e) h;
-  added = sym (append-nil (bodies_of waiting));
-}
-
-pub mapped_none : {A B : Type 0} {r : Option B} (f : A → B) (o : Option A) → is_some o ≡ false → option_map f o ≡ r → r ≡ None
-mapped_none f None h e = sym e
-mapped_none f (Some x) h e = cc
 
 -- More bytes after those that say how a frame starts change nothing.
 size_of_end : (bytes : List ℕ) (size : ℕ) → end_of bytes ≡ Some size → size ≤ 4096 → size_of bytes ≡ Some size

@@ -1,10 +1,9 @@
 -- For private clauses alone: how the code holds a stream.
 --
--- It holds the bytes that came of the next frame, how that frame starts, and bodies.
-use Rattle.std.specs.Prelude.{◌≡◌, ℕ, ◌+◌, ◌-◌, ◌≤◌, Bool, true, false, nat_lt, if◌then◌else◌, List, ◌++◌, map, length}
+-- It holds bytes, and two places in them: from the first to the second stand whole frames, whose bodies wait, and from
+-- the second on what has come of the next frame. How that one starts is held too.
+use Rattle.std.specs.Prelude.{◌≡◌, ℕ, ◌+◌, ◌-◌, ◌≤◌, Bool, true, false, nat_lt, if◌then◌else◌, List, [], length}
 use Rattle.std.specs.Prelude.{take, drop, Option, Some, None}
-use Rattle.std.specs.declared.vec.Vec.{Vec}
-use Rattle.std.specs.declared.alloc.Global.{Global}
 use Rattle.framing.specs.Reading.{Tail, start_of, reading_of}
 use Rattle.framing.specs.Reading.Tail.{Partial, Faulty}
 use Rattle.framing.specs.Streams.{Before}
@@ -12,10 +11,6 @@ use Rattle.framing.specs.declared.error.FrameError.TheVariants.{NoMemory}
 use Rattle.framing.specs.declared.start.Start.{Start}
 use Rattle.framing.specs.declared.start.Start.TheVariants.{Waits, Breaks, Begins}
 use Rattle.framing.specs.declared.state.Mark.{Mark}
-
--- the bodies that a list of vectors holds
-abbrev pub bodies_of : List (Vec ℕ Global) → List (List ℕ)
-bodies_of vectors = map (λ v. v.items) vectors
 
 -- the content of a frame that starts so, and the bytes after it, if the frame is whole
 abbrev pub parts_of : Start → List ℕ → Option (List ℕ × List ℕ)
@@ -36,41 +31,57 @@ is_broken Waits = false
 is_broken (Breaks fault) = true
 is_broken (Begins size n) = false
 
--- what a mark goes back to: the first of the bodies that are held, and of the bytes a part of a frame
-abbrev pub before_by : List (List ℕ) → List ℕ → Option Mark → Option Before
-before_by bodies bytes None = None
-before_by bodies bytes (Some m) =
-    Some (record { waiting = take m.waiting bodies; tail = tail_by m.start (take m.size bytes) })
+-- the bytes from a place to a later one
+abbrev pub range : List ℕ → ℕ → ℕ → List ℕ
+range bytes from to = take (to - from) (drop from bytes)
+
+-- the bodies that wait, where these are the places of the first frame that waits and of the next frame
+abbrev pub waiting_in : ℕ → List ℕ → ℕ → ℕ → List (List ℕ)
+waiting_in limit bytes place done = (reading_of limit (range bytes place done)).bodies
+
+-- what a mark goes back to: its places in the bytes that were there
+abbrev pub before_by : ℕ → List ℕ → Option Mark → Option Before
+before_by limit bytes None = None
+before_by limit bytes (Some m) = Some (record {
+  waiting = waiting_in limit (take m.size bytes) m.place m.done;
+  tail = tail_by m.start (drop m.done (take m.size bytes));
+})
 
 -- A frame of which these bytes have come starts so, if there is one. Out of memory is no fault of a stream.
 pub record Starts (limit : ℕ) (start : Start) (rest : List ℕ) : Type 0 where
   pub so : is_broken start ≡ false → start ≡ start_of limit rest
   pub no_other : start ≡ Breaks NoMemory → ⊥
 
--- what a mark goes back to starts as the mark says, if there is one
-abbrev pub MarkStarts : ℕ → List ℕ → Option Mark → Type 0
-MarkStarts limit bytes None = Unit {0}
-MarkStarts limit bytes (Some m) = Starts limit m.start (take m.size bytes)
-
--- What is held fits together: bodies of which some were lent, bytes of which some are in whole frames, how the frame
--- after those starts, and how the one at the mark did.
-pub record Fits (limit : ℕ) (bodies : List (List ℕ)) (lent : ℕ) (bytes : List ℕ) (done : ℕ) (start : Start)
-    (mark : Option Mark) : Type 0 where
-  pub lent_within : lent ≤ length bodies
+-- Two places in the bytes: between them are whole frames, of which the first starts so, and after them what has come of
+-- the next frame, and how that starts.
+pub record Holds (limit : ℕ) (bytes : List ℕ) (place done : ℕ) (first start : Start) : Type 0 where
+  pub place_within : place ≤ done
   pub done_within : done ≤ length bytes
+  pub whole : (reading_of limit (range bytes place done)).tail ≡ Partial []
+  pub first_is : first ≡ start_of limit (range bytes place done)
   pub starts : Starts limit start (drop done bytes)
-  pub mark_starts : MarkStarts limit bytes mark
 
--- Bytes are parted into the bodies of whole frames and what is left of the next frame, which starts so.
-pub record Parts (limit : ℕ) (bytes : List ℕ) (bodies : List (List ℕ)) (start : Start) (left : ℕ) : Type 0 where
+-- what a mark goes back to is such, if there is one
+abbrev pub MarkHolds : ℕ → List ℕ → Option Mark → Type 0
+MarkHolds limit bytes None = Unit {0}
+MarkHolds limit bytes (Some m) = Holds limit (take m.size bytes) m.place m.done m.first m.start
+
+-- What is held fits together, now and as it was at the mark.
+pub record Fits (limit : ℕ) (bytes : List ℕ) (place done : ℕ) (first start : Start) (mark : Option Mark)
+    : Type 0 where
+  pub holds : Holds limit bytes place done first start
+  pub mark_holds : MarkHolds limit bytes mark
+
+-- how the first of the whole frames starts after more bytes came, where the first of those that were there starts so:
+-- as that, or, where there was none, as the bytes that came, if they make a frame whole
+abbrev pub first_by : Start → Start → Bool → Start
+first_by Waits start is_whole = if is_whole then start else Waits
+first_by (Breaks fault) start is_whole = if is_whole then start else Waits
+first_by (Begins size n) start is_whole = Begins size n
+
+-- Bytes are whole frames, and then what is left of the next frame, which is not whole and starts so.
+pub record Parts (limit : ℕ) (bytes : List ℕ) (start : Start) (left : ℕ) : Type 0 where
   pub within : left ≤ length bytes
   pub starts : start ≡ start_of limit (drop (length bytes - left) bytes)
-  pub reads : reading_of limit bytes
-      ≡ record { bodies = bodies; tail = tail_by start (drop (length bytes - left) bytes) }
-
--- The bodies of the whole frames that the bytes begin with were added.
-pub record TakesFrames (limit : ℕ) (bytes : List ℕ) (old new : List (Vec ℕ Global)) (start : Start) (left : ℕ)
-    : Type 0 where
-  pub bodies : List (List ℕ)
-  pub parts : Parts limit bytes bodies start left
-  pub added : bodies_of new ≡ bodies_of old ++ bodies
+  pub whole : (reading_of limit (take (length bytes - left) bytes)).tail ≡ Partial []
+  pub no_more : parts_of start (drop (length bytes - left) bytes) ≡ None

@@ -2,6 +2,7 @@
 //! apart into bodies, and a body is put into a frame.
 #![tactic(auto)]
 
+mod buffer;
 mod error;
 mod field;
 mod header;

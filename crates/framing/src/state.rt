@@ -1,44 +1,49 @@
 //! What is kept of a stream.
 
-ghost use Rattle.std.specs.Prelude.{◌≡◌, vec_len, ◌≤◌, ℕ, List, drop, length, Err, IfSome, IsSome};
+ghost use Rattle.std.specs.Prelude.{◌≡◌, ℕ, List, Err, IfSome, IsSome};
 ghost use Rattle.std.specs.Option.{option_copied};
 ghost use Rattle.std.specs.Borrow.{sem};
+ghost use Rattle.framing.specs.Parts.{first_by};
 ghost use Rattle.framing.specs.Streams.{Feeds, fault_of, fed, first_of, nothing_fed, retracted};
 ghost use Rattle.framing.specs.Lending.{LeavesState};
 
 use crate::FrameError;
-use crate::split::take_frames;
+use crate::buffer::{append, drop_bytes, reserve_rest};
+use crate::split::split;
 use crate::start::Start;
 use std::alloc::Global;
-use std::collections::VecDeque;
 use std::marker::Model;
 
-/// Where the last piece began.
+/// What was held before the last piece. All that stood before those places stands there still.
 #[derive(Clone, Copy)]
 pub(crate) struct Mark {
-    /// How many bodies waited.
-    pub waiting: usize,
-    /// How many bytes had come of the next frame.
+    /// Where the first frame that waited begins.
+    pub place: usize,
+    /// Where the next frame begins.
+    pub done: usize,
+    /// How many bytes were held.
     pub size: usize,
-    /// How that frame started.
+    /// How the first frame that waited starts.
+    pub first: Start,
+    /// How the next frame started.
     pub start: Start,
 }
 
-/// A limit, the bodies that wait, and what has come of the next frame. What the last piece used up is
-/// kept until the next one, so that the piece can be taken back without memory.
+/// A limit, the frames whose bodies wait, and what has come of the next frame. What was lent since the
+/// last piece is kept until the next one, so that the piece can be taken back without memory.
 #[derive(Drop)]
 pub(crate) struct State {
-    alloc: Global,
     limit: u32,
-    /// The bodies that were lent since the last piece, and after them those that wait.
-    bodies: VecDeque<Vec<u8>>,
-    /// How many of them were lent.
-    lent: usize,
-    /// The bytes of the frames that the last piece made whole, and after them what has come of the
-    /// next frame. After a fault only what had come of that frame before the last piece is kept.
+    /// Frames whose bodies were lent, then those whose bodies wait, and then what has come of the next
+    /// frame. What the last piece can be taken back with is dropped at the next one.
     bytes: Vec<u8>,
-    /// How many of them are in whole frames.
+    /// Where the first frame that waits begins.
+    place: usize,
+    /// Where the next frame begins, which is not whole.
     done: usize,
+    /// How the first frame that waits starts: a header part is read once, when it comes, and again only
+    /// where its frame waits after others.
+    first: Start,
     /// How the next frame starts.
     start: Start,
     /// Where the last piece began, unless it was taken back.
@@ -48,19 +53,18 @@ pub(crate) struct State {
 impl Model for State {
     ghost use Rattle.std.specs.Prelude.{drop};
     ghost use Rattle.framing.specs.Streams.{Unframed};
-    ghost use Rattle.framing.specs.Parts.{Fits, before_by, bodies_of, tail_by};
+    ghost use Rattle.framing.specs.Parts.{Fits, before_by, tail_by, waiting_in};
 
     ghost Value = { Unframed };
 
     ghost view = { λ s. record {
       limit = s.limit;
-      waiting = drop s.lent (bodies_of s.bodies.items);
+      waiting = waiting_in s.limit s.bytes.items s.place s.done;
       tail = tail_by s.start (drop s.done s.bytes.items);
-      before = before_by (bodies_of s.bodies.items) s.bytes.items s.mark;
+      before = before_by s.limit s.bytes.items s.mark;
     } };
 
-    ghost invariant = { λ s. Fits s.limit
-        (bodies_of s.bodies.items) s.lent s.bytes.items s.done s.start s.mark };
+    ghost invariant = { λ s. Fits s.limit s.bytes.items s.place s.done s.first s.start s.mark };
 }
 
 impl State {
@@ -69,19 +73,18 @@ impl State {
         ensures { result ≡ nothing_fed limit }
     {
         State {
-            alloc,
             limit,
-            bodies: VecDeque::new(alloc),
-            lent: 0,
             bytes: Vec::new(alloc),
+            place: 0,
             done: 0,
+            first: Start::Waits,
             start: Start::Waits,
             mark: None,
         }
     }
 
-    /// Takes the next piece of the stream. All growth comes first: where it finds no memory, what is
-    /// kept is as before.
+    /// Takes the next piece of the stream. The growth that the piece needs comes first: where it finds
+    /// no memory, what is kept is as before.
     pub(crate) fn feed(&mut self, piece: &[u8]) -> Result<(), FrameError>
         ensures kept { Feeds self.old piece.now result self.new }
         ensures faulty { IfSome (fault_of self.old.tail) (λ fault. result ≡ Err fault) }
@@ -90,52 +93,70 @@ impl State {
             self.feed_faulty();
             return Err(fault);
         }
-        let waiting = self.bodies.len() - self.lent;
-        let come = self.bytes.len();
-        if self.bytes.extend_from_slice(piece).is_err() {
-            return Err(FrameError::NoMemory);
-        }
-        let size = come - self.done;
-        let rest = &self.bytes[self.done..];
-        let start = self.start.with_more(self.limit, rest, size);
-        let Ok(next) = take_frames(self.alloc, self.limit, rest, start, &mut self.bodies) else {
-            self.bytes.truncate(come);
+        let Ok(dropped) = append(&mut self.bytes, self.place, piece) else {
             return Err(FrameError::NoMemory);
         };
-        drop_bodies(&mut self.bodies, self.lent);
-        self.lent = 0;
-        drop_bytes(&mut self.bytes, self.done);
+        let done = self.done - dropped;
+        let size = self.bytes.len() - piece.len();
+        let rest = &self.bytes[done..];
+        let start = self.start.with_more(self.limit, rest, size - done);
+        let next = split(self.limit, rest, start);
+        let first = first_start(self.first, start, next.size < rest.len());
+        self.place -= dropped;
         self.mark = Some(Mark {
-            waiting,
+            place: self.place,
+            done,
             size,
+            first: self.first,
             start: self.start,
         });
+        self.first = first;
+        self.done = self.bytes.len() - next.size;
         self.start = next.start;
         if let Start::Breaks(fault) = next.start {
-            // No more is kept of the stream than the piece can be taken back with, nor more memory.
-            self.bytes.truncate(size);
-            self.bytes.shrink_to_fit();
-            self.done = 0;
+            self.keep_needed();
             return Err(fault);
         }
-        self.done = self.bytes.len() - next.size;
+        reserve_rest(&mut self.bytes, next.start, next.size);
         Ok(())
     }
 
-    /// Takes a piece after a fault: nothing comes of it, and no byte is needed to take it back.
+    /// Takes a piece after a fault: nothing comes of it.
     fn feed_faulty(&mut self)
         requires { IsSome (fault_of self.old.tail) }
         ensures { (piece : List ℕ) → self.new ≡ fed self.old piece }
     {
-        let waiting = self.bodies.len() - self.lent;
-        drop_bodies(&mut self.bodies, self.lent);
-        self.lent = 0;
-        self.bytes = Vec::new(self.alloc);
-        self.done = 0;
         self.mark = Some(Mark {
-            waiting,
-            size: 0,
+            place: self.place,
+            done: self.done,
+            size: self.done,
+            first: self.first,
             start: self.start,
+        });
+        self.keep_needed();
+    }
+
+    /// After a fault keeps no more of the stream than the bodies that wait and what the last piece can
+    /// be taken back with, nor more memory.
+    fn keep_needed(&mut self)
+        requires { IsSome (fault_of self.old.tail) }
+        ensures { self.new ≡ self.old }
+    {
+        let Some(mark) = self.mark else {
+            return;
+        };
+        let read = mark.place.min(self.place);
+        self.bytes.truncate(mark.size.max(self.done));
+        drop_bytes(&mut self.bytes, read);
+        self.bytes.shrink_to_fit();
+        self.place -= read;
+        self.done -= read;
+        self.mark = Some(Mark {
+            place: mark.place - read,
+            done: mark.done - read,
+            size: mark.size - read,
+            first: mark.first,
+            start: mark.start,
         });
     }
 
@@ -146,10 +167,10 @@ impl State {
         let Some(mark) = self.mark else {
             return;
         };
-        self.bodies.truncate(mark.waiting);
-        self.lent = 0;
         self.bytes.truncate(mark.size);
-        self.done = 0;
+        self.place = mark.place;
+        self.done = mark.done;
+        self.first = mark.first;
         self.start = mark.start;
         self.mark = None;
     }
@@ -158,8 +179,11 @@ impl State {
     pub(crate) fn peek_body(&self) -> Option<&[u8]>
         ensures { option_copied result ≡ first_of self.now.waiting }
     {
-        let body = self.bodies.get(self.lent)?;
-        Some(body.as_slice())
+        let waiting = &self.bytes[self.place..self.done];
+        let Some((body, _)) = self.first.parts(waiting) else {
+            return None;
+        };
+        Some(body)
     }
 
     /// Lends the next body. It is kept until the next piece, which it can be taken back with.
@@ -167,30 +191,25 @@ impl State {
         ensures body { option_copied result ≡ first_of self.old.waiting }
         ensures* after { sem 𝓛 (LeavesState self.entry) }
     {
-        let next = self.lent;
-        let body = self.bodies.get(next)?;
-        self.lent = next + 1;
-        Some(body.as_slice())
+        let waiting = &self.bytes[self.place..self.done];
+        let Some((body, after)) = self.first.parts(waiting) else {
+            return None;
+        };
+        let first = Start::of(self.limit, after, 0);
+        self.place = self.done - after.len();
+        self.first = first;
+        Some(body)
     }
 }
 
-/// Drops the first bytes.
-fn drop_bytes(bytes: &mut Vec<u8>, count: usize)
-    requires { count ≤ vec_len bytes.old }
-    ensures { bytes.new.items ≡ drop count bytes.old.items }
+/// How the first of the frames that wait starts: as it did where one waited, else as what has come of
+/// the next frame, if it is whole.
+fn first_start(first: Start, start: Start, is_whole: bool) -> Start
+    ensures { result ≡ first_by first start is_whole }
 {
-    if count > 0 {
-        bytes.drain(..count);
-    }
-}
-
-/// Drops the first bodies.
-fn drop_bodies(bodies: &mut VecDeque<Vec<u8>>, count: usize)
-    requires { count ≤ length bodies.old.items }
-    ensures { bodies.new.items ≡ drop count bodies.old.items }
-{
-    // A drain of nothing costs more than the test, and most pieces of a long body need none.
-    if count > 0 {
-        bodies.drain(..count);
+    match first {
+        Start::Begins { .. } => first,
+        Start::Waits | Start::Breaks(_) if is_whole => start,
+        Start::Waits | Start::Breaks(_) => Start::Waits,
     }
 }

@@ -8,8 +8,7 @@ use Rattle.replies.specs.declared.event.Event.{Event}
 use Rattle.replies.specs.declared.event.Event.TheVariants as event
 use Rattle.replies.specs.declared.stopped.Reason.{Reason}
 use Rattle.replies.specs.declared.stopped.Reason.TheVariants as reason
-use Rattle.rv32i.specs.declared.stepped.Cause.{Cause}
-use Rattle.rv32i.specs.declared.stepped.Cause.TheVariants as cause
+use Rattle.rv32i.specs.Causes.{cause_text}
 use Rattle.stepping.specs.declared.tick.Reason.TheVariants as met
 
 -- the reason of a stop
@@ -22,18 +21,6 @@ reason_of (why.Met met.Ebreak) = reason.Breakpoint
 reason_of (why.Met met.Source) = reason.Breakpoint
 reason_of (why.Met met.Instruction) = reason.InstructionBreakpoint
 reason_of (why.Met met.Goal) = reason.Step
-
--- the name of an exception (RISC-V Privileged ISA, table of `mcause`, whose words these are; a call that there is none
--- for has its own)
-abbrev pub cause_text : Cause → List ℕ
-cause_text cause.FetchOutside = codes "instruction access fault"
-cause_text cause.Illegal = codes "illegal instruction"
-cause_text cause.JumpMisaligned = codes "instruction address misaligned"
-cause_text cause.LoadMisaligned = codes "load address misaligned"
-cause_text cause.LoadOutside = codes "load access fault"
-cause_text cause.StoreMisaligned = codes "store address misaligned"
-cause_text cause.StoreOutside = codes "store access fault"
-cause_text cause.UnknownCall = codes "unknown environment call"
 
 -- what more there is to say of a stop: of an exception, its name
 abbrev pub text_of : Why → Option (List ℕ)

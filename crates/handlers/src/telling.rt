@@ -6,7 +6,6 @@ ghost use Rattle.handlers.specs.Telling as spec;
 use debuggee::Why;
 use protocol::{Entries, Text};
 use replies::{Event, Exited, Output, Reason, Stopped};
-use rv32i::Cause;
 use std::alloc::{AllocError, Global};
 
 /// A stop, with the numbers of the breakpoints that made it.
@@ -66,23 +65,7 @@ fn text_of(why: Why) -> Option<&'static str>
 {
     match why {
         Why::Limit => Some("instruction limit"),
-        Why::Met(stepping::Reason::Exception(cause)) => Some(cause_text(cause)),
+        Why::Met(stepping::Reason::Exception(cause)) => Some(cause.text()),
         _ => None,
-    }
-}
-
-// The name of an exception.
-fn cause_text(cause: Cause) -> &'static str
-    ensures { result.now ≡ spec.cause_text cause }
-{
-    match cause {
-        Cause::FetchOutside => "instruction access fault",
-        Cause::Illegal => "illegal instruction",
-        Cause::JumpMisaligned => "instruction address misaligned",
-        Cause::LoadMisaligned => "load address misaligned",
-        Cause::LoadOutside => "load access fault",
-        Cause::StoreMisaligned => "store address misaligned",
-        Cause::StoreOutside => "store access fault",
-        Cause::UnknownCall => "unknown environment call",
     }
 }

@@ -17,7 +17,8 @@ use Rattle.debuggee.specs.declared.run.Why.TheVariants as why
 use Rattle.handlers.specs.Given.{Given}
 use Rattle.handlers.specs.Launch.{error_text, kind_name}
 use Rattle.handlers.specs.Looking.{seen_in}
-use Rattle.handlers.specs.Telling.{cause_text, output_event, stop_event, text_of}
+use Rattle.handlers.specs.Telling.{output_event, stop_event, text_of}
+use Rattle.rv32i.specs.Causes.{cause_text}
 use Rattle.handlers.specs.Views.{view_of}
 use Rattle.handlers.specs.declared.terms.Terms.{Terms}
 use Rattle.image.specs.Lines.{Label}

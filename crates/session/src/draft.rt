@@ -1,5 +1,5 @@
 //! Messages that are written before any of them is queued.
-ghost use Rattle.std.specs.Prelude.{◌≡◌, OnOk};
+ghost use Rattle.std.specs.Prelude.{◌≡◌, ◌++◌, OnOk};
 ghost use Rattle.session.specs.Kept.{draft_on, drafted};
 
 use crate::limits::Limits;
@@ -47,7 +47,7 @@ impl Draft {
     {
         if self.seq < limits.last_seq {
             let frame = framed(self.alloc, self.seq + 1, message)?;
-            self.bytes.extend_from_slice(frame.as_slice())?;
+            put(&mut self.bytes, frame)?;
             self.seq += 1;
         }
         Ok(())
@@ -66,4 +66,15 @@ impl Draft {
     {
         self.seq
     }
+}
+
+// A frame after those that are there; the first is not copied.
+fn put(bytes: &mut Vec<u8>, frame: Vec<u8>) -> Result<(), AllocError>
+    ensures { OnOk result (bytes.new.items ≡ bytes.old.items ++ frame.items) }
+{
+    if bytes.is_empty() {
+        *bytes = frame;
+        return Ok(());
+    }
+    bytes.extend_from_slice(frame.as_slice())
 }

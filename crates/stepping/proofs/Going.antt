@@ -16,7 +16,7 @@ use Rattle.stepping.specs.declared.tick.Tick.{Tick}
 -- ---- how many instructions retire
 
 -- at most one in a tick
-tick_retires : (before after : Debugged) (answer : Result Tick AllocError) → IsTick before answer after
+pub tick_retires : (before after : Debugged) (answer : Result Tick AllocError) → IsTick before answer after
     → after.retired ≤ before.retired + 1
 tick_retires before after answer h = by_due before.check_due h where
   by_stepped : (m : Moves before answer after) (s : Result Stepped AllocError) → Settles before m.instr s answer after

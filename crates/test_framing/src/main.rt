@@ -29,6 +29,10 @@ impl Player for Framing {
                 fed => name_of(alloc, fed),
             },
             ["feed_once", piece] => name_of(alloc, self.unframer.feed(&bytes_of(alloc, piece)?)),
+            ["turns", count, piece] => {
+                let piece = bytes_of(alloc, piece)?;
+                shown(alloc, turns(&mut self.unframer, parsed(count)?, &piece))
+            }
             ["retract"] => {
                 self.unframer.retract();
                 shown(alloc, "ok")
@@ -40,6 +44,17 @@ impl Player for Framing {
             _ => Err(Fault::NoCommand),
         }
     }
+}
+
+/// So many times lends a body and feeds the piece. It answers whether there was a body each time, and no
+/// error.
+fn turns(unframer: &mut Unframer, count: u32, piece: &[u8]) -> bool {
+    for _ in 0..count {
+        if unframer.next_body().is_none() || unframer.feed(piece).is_err() {
+            return false;
+        }
+    }
+    true
 }
 
 /// What `feed` answered.

@@ -3,10 +3,13 @@
 //! - `new SIZE SEQ REF RETIRED [PATH TEXT]`: a session with so many bytes of memory, these limits, and this program.
 //! - an event by its name, with its arguments: `turn FILE` is given what a file holds. `apply EVENT` does the same.
 //! - `slice_once MOVES`: a slice that is not made again where it found no memory.
-//! - a query by its name; `seen QUERY` takes a snapshot, and asks that.
+//! - a query by its name; `seen QUERY` takes a snapshot, and asks that. `state` asks all of them.
+//! - `tried EVENT`: an event that is not made again where it found no memory, as its answer says with all that is to be seen then;
+//!   `again EVENT` makes it again there, and else does nothing.
 #![tactic(auto)]
 
 mod seen;
+mod state;
 mod texts;
 
 use protocol::Text;
@@ -28,6 +31,8 @@ struct Events {
     session: Session,
     /// How many moves a slice made that found no memory and comes again.
     moved: u32,
+    /// Whether the event that was tried last found no memory.
+    found_none: bool,
 }
 
 fn main(rt: HostRuntime) -> ExitCode {
@@ -36,8 +41,16 @@ fn main(rt: HostRuntime) -> ExitCode {
         program: None,
     };
     match Session::new(rt.alloc(), config, Limits::greatest()) {
-        Ok(session) => play(&rt, &mut Events { session, moved: 0 }),
+        Ok(session) => play(&rt, &mut new_events(session)),
         Err(_) => ExitCode::from(1),
+    }
+}
+
+fn new_events(session: Session) -> Events {
+    Events {
+        session,
+        moved: 0,
+        found_none: false,
     }
 }
 
@@ -54,11 +67,11 @@ impl Player for Events {
             }
             ["greatest"] => Ok(format!(in alloc; "{:?}", Limits::greatest())?),
             ["text", kind, name] => text_of(alloc, kind, name),
-            ["apply", event @ ..] => applied(alloc, self.session.apply(&event_of(alloc, event)?)),
             ["seen", query @ ..] => seen::seen(alloc, &self.session, query),
-            [name] => self.call(alloc, name),
-            [name, argument] => self.call_with(alloc, name, argument),
-            _ => Err(Fault::NoCommand),
+            ["state"] => state::state_of(alloc, &self.session),
+            ["tried", event @ ..] => self.tried(alloc, event),
+            ["again", event @ ..] => self.again(alloc, event),
+            event => self.event(alloc, event),
         }
     }
 }
@@ -73,6 +86,37 @@ impl Events {
             Err(ConfigError::NoMemory) => Err(Fault::NoMemoryInCall),
             Err(error) => Ok(format!(in alloc; "{error:?}: {error}")?),
         }
+    }
+
+    fn event(&mut self, alloc: Global, arguments: &[&str]) -> Result<String, Fault> {
+        match arguments {
+            ["apply", event @ ..] => applied(alloc, self.session.apply(&event_of(alloc, event)?)),
+            [name] => self.call(alloc, name),
+            [name, argument] => self.call_with(alloc, name, argument),
+            _ => Err(Fault::NoCommand),
+        }
+    }
+
+    /// An event that is not made again where it found no memory: then the answer says how many moves it made, and what is to be
+    /// seen.
+    fn tried(&mut self, alloc: Global, arguments: &[&str]) -> Result<String, Fault> {
+        match self.event(alloc, arguments) {
+            Err(Fault::NoMemoryInCall) => {
+                self.found_none = true;
+                let state = state::state_of(alloc, &self.session)?;
+                Ok(format!(in alloc; "NoMemory {} {state}", self.moved)?)
+            }
+            answer => answer,
+        }
+    }
+
+    /// The event again, where it found no memory when it was tried.
+    fn again(&mut self, alloc: Global, arguments: &[&str]) -> Result<String, Fault> {
+        if !self.found_none {
+            return shown(alloc, "-");
+        }
+        self.found_none = false;
+        self.event(alloc, arguments)
     }
 
     /// A call without arguments.

@@ -1,10 +1,9 @@
 use Rattle.std.proofs.Common.{length}
-use Rattle.framing.specs.Parts.{bodies_of}
-use Rattle.framing.proofs.Readings.{Reached}
+use Rattle.framing.proofs.Passing.{Reached}
 use Rattle.framing.proofs.split.split.Given as goal
 
-abbrev pub invariant-loop-body : goal.invariant-loop-body
-invariant-loop-body l = Reached l.limit l.bytes (bodies_of l.bodies.items) l.start l.rest
+abbrev pub invariant-loop-after : goal.invariant-loop-after
+invariant-loop-after l = Reached l.limit l.bytes l.start l.rest
 
-abbrev pub decreases-loop-body : goal.decreases-loop-body
-decreases-loop-body l = length l.rest
+abbrev pub decreases-loop-after : goal.decreases-loop-after
+decreases-loop-after l = length l.rest

@@ -1,22 +1,30 @@
-use Rattle.std.proofs.Common.{◌≡◌, ◌-◌, IsSome, drop, take, length, sym, subst, rules}
-use Rattle.framing.specs.Parts.{bodies_of, before_by}
+use Rattle.std.proofs.Common.{◌∙◌, ◌≤◌, IsSome, refl, drop, take, arith, sym, subst}
+use Rattle.framing.specs.Parts.{before_by, waiting_in}
 use Rattle.framing.specs.Streams.{Unframed, fault_of}
 use Rattle.framing.proofs.Feeding.{broken_by, fault_stays}
-use Rattle.framing.proofs.Holding.{passed_is, prefix_whole, waiting_count}
+use Rattle.framing.proofs.Holding.{cut_holds, waiting-take}
 use Rattle.framing.proofs.state.State.feed_faulty.Goals as goal
+
+pub invariant_of-self : goal.invariant_of-self
+invariant_of-self c =
+    let s = c.self.inside in
+    let broken = broken_by s.start (drop s.done s.bytes.items)
+    (subst (λ (k : Unframed). IsSome (fault_of k.tail)) (sym c.self.view_is) c.requires) in
+    let all : s.done ≤ s.done = omega arith in
+    record {
+      holds = c.self.invariant.holds;
+      mark_holds = cut_holds s.limit s.bytes.items s.place s.done s.done s.first s.start c.self.invariant.holds broken all;
+    }
 
 pub returns : goal.returns
 returns c = λ piece.
     let s = c.self.inside in
-    let waiting = drop s.lent (bodies_of s.bodies.items) in
-    let now = passed_is s.lent s.bodies.items c.drop_bodies.new.bodies.items c.drop_bodies.ensures in
-    let many : c.len.result ≡ length s.bodies.items = search rules in
+    let waiting = waiting_in s.limit s.bytes.items s.place s.done in
+    let cut = take s.done s.bytes.items in
     let broken = broken_by s.start (drop s.done s.bytes.items)
     (subst (λ (k : Unframed). IsSome (fault_of k.tail)) (sym c.self.view_is) c.requires) in
-    fault_stays c.args.self.now s.limit waiting s.start (drop s.done s.bytes.items)
-    (before_by (bodies_of s.bodies.items) s.bytes.items s.mark)
-    (bodies_of c.drop_bodies.new.bodies.items) (take (c.len.result - s.lent) (bodies_of c.drop_bodies.new.bodies.items)) c.new.result.items
-    (take 0 c.new.result.items) piece
-    c.self.view_is broken now
-    (prefix_whole waiting (bodies_of c.drop_bodies.new.bodies.items) (c.len.result - s.lent) now
-    (waiting_count s.bodies.items s.lent c.len.result many))
+    let all : s.done ≤ s.done = omega arith in
+    c.keep_needed.ensures
+    ∙ fault_stays c.args.self.now s.limit waiting s.start (drop s.done s.bytes.items) (before_by s.limit s.bytes.items s.mark)
+    waiting (waiting_in s.limit cut s.place s.done) (drop s.done s.bytes.items) (drop s.done cut) piece
+    c.self.view_is broken refl (waiting-take s.limit s.bytes.items s.place s.done s.done s.first s.start c.self.invariant.holds all)

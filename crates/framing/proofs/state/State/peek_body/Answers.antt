@@ -1,13 +1,23 @@
-use Rattle.std.proofs.Common.{◌≡◌, ◌<◌, ◌∙◌, List, ℕ, Some, get_or, length, ap, rules}
+use Rattle.std.proofs.Common.{◌∙◌, List, ℕ, sym, ap}
+use Rattle.framing.specs.Parts.{range}
 use Rattle.framing.specs.Streams.{Unframed, first_of}
-use Rattle.framing.proofs.Holding.{first_at}
+use Rattle.framing.proofs.Holding.{first_waits, none_waits}
 use Rattle.framing.proofs.state.State.peek_body.Goals as goal
+
+pub returns-in_default : goal.returns-in_default
+returns-in_default c =
+    let s = c.self.inside in
+    let waiting = range c.deref.result.now s.place s.done in
+    let none = none_waits s.limit s.bytes.items waiting s.place s.done s.first s.start c.self.invariant.holds
+    (ap (λ (x : List ℕ). range x s.place s.done) c.deref.ensures.value)
+    (sym (rw c.in_default.is at c.parts.ensures.parts)) in
+    sym (ap first_of none) ∙ ap (λ (k : Unframed). first_of k.waiting) c.self.view_is
 
 pub returns : goal.returns
 returns c =
     let s = c.self.inside in
-    let body = c.in_ok-body.body.now in
-    let within : s.lent < length s.bodies.items = search rules in
-    let here : body ≡ get_or s.bodies.items s.lent body = search rules in
-    ap (λ (x : List ℕ). Some x) c.as_slice.ensures.value ∙ first_at s.bodies.items s.lent body within here
-    ∙ ap (λ (k : Unframed). first_of k.waiting) c.self.view_is
+    let waiting = range c.deref.result.now s.place s.done in
+    let first = first_waits s.limit s.bytes.items waiting c.in-Some.body.now c.in-Some.field-0-1.now s.place s.done s.first s.start
+    c.self.invariant.holds (ap (λ (x : List ℕ). range x s.place s.done) c.deref.ensures.value)
+    (sym c.in-Some.ensures.parts) in
+    first.body_is ∙ ap (λ (k : Unframed). first_of k.waiting) c.self.view_is
