@@ -1,5 +1,9 @@
--- Streams over descriptors that may be non-blocking.
+-- Streams over descriptors that may be non-blocking, and calls that are made again.
 -- which errors pass by themselves
 pub mod Passing
+-- how often a call is made again
+pub mod Retries
+-- what a writer has of bytes that were to be written
+pub mod Writing
 -- for private clauses alone: what `poll` is asked, and what its answer comes to
 pub mod Polling

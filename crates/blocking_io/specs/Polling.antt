@@ -1,6 +1,7 @@
 -- For private clauses alone: what `poll` is asked, and what its answer comes to (POSIX, `poll`).
-use Rattle.std.specs.Prelude.{zero, suc, ℤ, pos, negsuc, Bool, true, false}
-use Rattle.std.specs.IoError.{os_error_kind}
+use Rattle.std.specs.Prelude.{◌≡◌, zero, suc, ℤ, pos, negsuc, Bool, true, false, Some, Result, Ok, IsErrAnd}
+use Rattle.std.specs.declared.io.Error.{Error}
+use Rattle.std.specs.IoError.{os_error_kind, raw_os_error}
 use Rattle.blocking_io.specs.Passing.{passes}
 use Rattle.blocking_io.specs.declared.ready.Direction.{Direction}
 use Rattle.blocking_io.specs.declared.ready.Direction.TheVariants.{Read, Write}
@@ -22,3 +23,13 @@ abbrev pub is_ready : ℤ → Bool
 is_ready (pos zero) = false
 is_ready (pos (suc n)) = true
 is_ready (negsuc n) = false
+
+-- A failed one found nothing where its error passes, and else that error is told.
+abbrev pub FoundByFailed : Bool → ℤ → Result Bool Error → Type 0
+FoundByFailed true errno found = found ≡ Ok false
+FoundByFailed false errno found = IsErrAnd found (λ e. raw_os_error e ≡ Some errno)
+
+-- What a `poll` that does not wait found: whether the descriptor is ready.
+abbrev pub Found : ℤ → ℤ → Result Bool Error → Type 0
+Found (pos count) errno found = found ≡ Ok (is_ready (pos count))
+Found (negsuc n) errno found = FoundByFailed (passes (os_error_kind errno)) errno found

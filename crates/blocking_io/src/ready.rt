@@ -1,9 +1,11 @@
 //! Waiting until a descriptor is ready.
-ghost use Rattle.std.specs.Prelude.{◌≡◌, Err, ◌↔◌, IsOk, IfOk, IfErr, Some, true, false};
+ghost use Rattle.std.specs.Prelude.{◌≡◌, ◌<◌, ◌+◌, OnOk, Err, ◌↔◌, IsOk, IfOk, IfErr, Some, true, false};
 ghost use Rattle.std.specs.IoError.{error_kind, raw_os_error};
 ghost use Rattle.blocking_io.specs.Passing.{passes};
-ghost use Rattle.blocking_io.specs.Polling.{events_of, has_ended, is_ready};
+ghost use Rattle.blocking_io.specs.Retries.{most_retries};
+ghost use Rattle.blocking_io.specs.Polling.{events_of, has_ended, is_ready, Found};
 
+use crate::retries::{Lasting, Retries};
 use libc::net;
 use libc::types::pollfd;
 use std::io;
@@ -25,16 +27,24 @@ const NO_LIMIT: i32 = -1;
 // The timeout of a `poll` that does not wait.
 const AT_ONCE: i32 = 0;
 
-/// After an error that passes, waits until the call would not block, however long it takes: it may then
-/// be made again. A signal may end the wait early. Any other error stays.
-pub(crate) fn wait_after(error: io::Error, fd: RawFd, direction: Direction) -> io::Result<()>
+/// After an error that passes, waits until the call would not block, however long it takes: it is then
+/// to be made again, which is counted. A signal may end the wait early. Any other error stays.
+pub(crate) fn wait_after(
+    error: io::Error,
+    fd: RawFd,
+    direction: Direction,
+    retries: &mut Retries,
+) -> Result<(), Lasting>
+    ensures again { OnOk result
+        ((retries.old < most_retries) × (retries.new ≡ retries.old + 1)) }
     ensures stays { passes (error_kind error) ≡ false → result ≡ Err error }
     ensures err { IfErr result (λ e. passes (error_kind e) ≡ false) }
 {
-    if passes(&error) {
-        wait(fd, direction)
-    } else {
-        Err(error)
+    let passed = passes(&error);
+    retries.after(error, passed)?;
+    match wait(fd, direction) {
+        Ok(()) => Ok(()),
+        Err(error) => retries.after(error, false),
     }
 }
 
@@ -49,7 +59,15 @@ pub fn can_read<S: AsRawFd>(stream: &S) -> io::Result<bool>
         revents: 0,
     }];
     let count = net::poll(&mut asked, AT_ONCE);
-    after_poll(count, os::errno())?;
+    found(count, os::errno())
+}
+
+// What a `poll` that does not wait found, by its answer and the number of its error.
+fn found(count: i32, errno: i32) -> io::Result<bool>
+    ensures found { Found count errno result }
+    ensures err { IfErr result (λ e. passes (error_kind e) ≡ false) }
+{
+    after_poll(count, errno)?;
     Ok(is_ready(count))
 }
 

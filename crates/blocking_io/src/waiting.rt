@@ -6,13 +6,14 @@ ghost use Rattle.std.specs.IoError.{error_kind};
 ghost use Rattle.blocking_io.specs.Passing.{passes};
 
 use crate::ready::{Direction, wait_after};
+use crate::retries::{Lasting, Retries};
 use std::io;
-use std::io::{ErrorKind, Read, Write};
+use std::io::{Read, Write};
 use std::os::fd::AsRawFd;
 
 /// A stream whose calls wait, also where its descriptor is non-blocking: a read until there is something
 /// to read or the input has ended, a write until the descriptor takes bytes. A call that a signal
-/// interrupted is made again. After 2^64 - 1 calls of the stream the error is `TimedOut`; any other error
+/// interrupted is made again. Where it was made again 2^64 - 1 times the error is `TimedOut`; any other error
 /// is that of a call that failed, of the stream or of `poll`.
 #[derive(Drop)]
 pub struct Waiting<S> {
@@ -38,13 +39,10 @@ impl<S: Read + AsRawFd> Read for Waiting<S> {
             result buf.new }
         ensures waited { IfErr result (λ e. passes (error_kind e) ≡ false) }
     {
-        'waiting: for _ in 0..u64::MAX {
-            match self.stream.read(buf) {
-                Ok(count) => return Ok(count),
-                Err(error) => wait_after(error, self.stream.as_raw_fd(), Direction::Read)?,
-            }
+        match read_waiting(&mut self.stream, buf) {
+            Ok(count) => Ok(count),
+            Err(stays) => Err(stays.into_error()),
         }
-        Err(ErrorKind::TimedOut.into())
     }
 }
 
@@ -58,16 +56,47 @@ impl<S: Write + AsRawFd> Write for Waiting<S> {
             result buf.now }
         ensures waited { IfErr result (λ e. passes (error_kind e) ≡ false) }
     {
-        'waiting: for _ in 0..u64::MAX {
-            match self.stream.write(buf) {
-                Ok(count) => return Ok(count),
-                Err(error) => wait_after(error, self.stream.as_raw_fd(), Direction::Write)?,
-            }
+        match write_waiting(&mut self.stream, buf) {
+            Ok(count) => Ok(count),
+            Err(stays) => Err(stays.into_error()),
         }
-        Err(ErrorKind::TimedOut.into())
     }
 
     fn flush(&mut self) -> io::Result<()> {
         self.stream.flush()
+    }
+}
+
+// A read that waits.
+fn read_waiting<S: Read + AsRawFd>(stream: &mut S, buf: &mut [u8]) -> Result<usize, Lasting>
+    ensures bound { ReadsAtMost result buf.new }
+    ensures bytes { ReadConsumes (S.Read.remaining stream.old)
+        (S.Read.remaining stream.new)
+        result buf.new }
+    ensures waited { IfErr result (λ e. passes (error_kind e) ≡ false) }
+{
+    let mut retries = Retries::none();
+    'waiting: loop {
+        match stream.read(buf) {
+            Ok(count) => return Ok(count),
+            Err(error) => wait_after(error, stream.as_raw_fd(), Direction::Read, &mut retries)?,
+        }
+    }
+}
+
+// A write that waits.
+fn write_waiting<S: Write + AsRawFd>(stream: &mut S, buf: &[u8]) -> Result<usize, Lasting>
+    ensures bound { WritesAtMost result buf.now }
+    ensures bytes { WriteAppends (S.Write.contents stream.old)
+        (S.Write.contents stream.new)
+        result buf.now }
+    ensures waited { IfErr result (λ e. passes (error_kind e) ≡ false) }
+{
+    let mut retries = Retries::none();
+    'waiting: loop {
+        match stream.write(buf) {
+            Ok(count) => return Ok(count),
+            Err(error) => wait_after(error, stream.as_raw_fd(), Direction::Write, &mut retries)?,
+        }
     }
 }

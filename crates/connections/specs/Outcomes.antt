@@ -1,5 +1,5 @@
 -- What a look, a write and a knock come to, by what the call of the system said.
-use Rattle.std.specs.Prelude.{◌≡◌, ℕ, zero, suc, Bool, true, false, Result, Ok, Err, IsErrAnd}
+use Rattle.std.specs.Prelude.{◌≡◌, ◌≢◌, ℕ, zero, suc, Bool, true, false, Result, Ok, Err, IfErr, IsErrAnd}
 use Rattle.std.specs.declared.io.Error.{Error}
 use Rattle.std.specs.declared.io.ErrorKind.TheVariants.{WouldBlock}
 use Rattle.std.specs.IoError.{error_kind}
@@ -25,6 +25,14 @@ received (Ok (suc n)) has_room = Ok (Bytes (suc n))
 received (Ok zero) true = Ok End
 received (Ok zero) false = Ok (Bytes zero)
 received (Err e) has_room = received_failed (failed_read (error_kind e))
+
+-- What a look finds, by whether there is something to read: what a read gives that no signal interrupted, or nothing where
+-- there is nothing yet; and a reader that cannot be asked is a fault.
+abbrev pub Looked : Result Bool Error → Bool → Result Received WireFault → Type 0
+Looked (Ok true) has_room found = (read : Result ℕ Error) × IfErr read (λ e. failed_read (error_kind e) ≢ Again)
+    × (found ≡ received read has_room)
+Looked (Ok false) has_room found = found ≡ Ok Nothing
+Looked (Err error) has_room found = found ≡ Err (record {})
 
 -- A write that took nothing is a fault, unless there was nothing to take.
 abbrev pub sent : Result ℕ Error → Bool → Result ℕ WireFault

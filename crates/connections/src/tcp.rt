@@ -2,13 +2,14 @@
 ghost use Rattle.std.specs.Prelude.{◌≡◌, ◌≢◌, IfOk, IfErr, IsSome, Ok, None, true};
 ghost use Rattle.std.specs.IoError.{error_kind};
 ghost use Rattle.wires.specs.Doors.{Knocks, Admits};
-ghost use Rattle.connections.specs.Failures.{failed_accept};
+ghost use Rattle.connections.specs.Failures.{failed_accept, IsStanding};
 ghost use Rattle.connections.specs.Readers.{Begins};
 
 use crate::failure::{Failure, failed_accept};
 use crate::outcome::came;
-use crate::reading::wait_to_read;
+use crate::reading::wait_after;
 use crate::stream::StreamWire;
+use blocking_io::{Lasting, Retries};
 use std::io;
 use std::io::ErrorKind;
 use std::net::{TcpListener, TcpStream};
@@ -25,11 +26,19 @@ pub fn tcp_wire(stream: TcpStream) -> io::Result<TcpWire>
     ensures line { IfOk result (λ wire. Begins (⟦<TcpWire as Wire>⟧.line wire) None None) }
     ensures polls { IfOk result (λ wire. (⟦<TcpWire as Wire>⟧.line wire).polls ≡ true) }
 {
-    if stream.set_nodelay(true).is_err() {
-        return Err(ErrorKind::ConnectionAborted.into());
-    }
+    standing(stream.set_nodelay(true))?;
     let writer = stream.try_clone()?;
     Ok(StreamWire::with_polling(stream, writer, true))
+}
+
+// Whether a connection stands, by whether it could be set to send at once: where it could not, it broke before it was accepted.
+fn standing(set: io::Result<()>) -> io::Result<()>
+    ensures { IsStanding set result }
+{
+    match set {
+        Ok(()) => Ok(()),
+        Err(_) => Err(ErrorKind::ConnectionAborted.into()),
+    }
 }
 
 /// A door where the peers of a listener come in. It never says that nobody will come any more.
@@ -56,20 +65,19 @@ impl TcpDoor {
 }
 
 // Takes the peer that is first of those who wait, and passes over those whose connection broke.
-fn accept_once(listener: &TcpListener) -> io::Result<TcpWire>
+fn accept_once(listener: &TcpListener) -> Result<TcpWire, Lasting>
     ensures { IfErr result (λ e. failed_accept (error_kind e) ≢ Failure.Again) }
 {
-    for _ in 0..u64::MAX {
+    let mut retries = Retries::none();
+    'accepting: loop {
         match first_peer(listener) {
             Ok(wire) => return Ok(wire),
             Err(error) => {
-                if failed_accept(&error) != Failure::Again {
-                    return Err(error);
-                }
+                let again = failed_accept(&error) == Failure::Again;
+                retries.after(error, again)?;
             }
         }
     }
-    Err(ErrorKind::TimedOut.into())
 }
 
 // Takes the peer that is first of those who wait, where its connection stands.
@@ -79,21 +87,19 @@ fn first_peer(listener: &TcpListener) -> io::Result<TcpWire> {
 }
 
 // Takes the next peer, and waits for it.
-fn accept_waiting(listener: &TcpListener) -> io::Result<TcpWire>
+fn accept_waiting(listener: &TcpListener) -> Result<TcpWire, Lasting>
     ensures { IfErr result (λ e. failed_accept (error_kind e) ≢ Failure.Nothing) }
 {
-    for _ in 0..u64::MAX {
+    let mut retries = Retries::none();
+    'accepting: loop {
         match accept_once(listener) {
             Ok(wire) => return Ok(wire),
-            Err(error) => {
-                if failed_accept(&error) != Failure::Nothing {
-                    return Err(error);
-                }
-                wait_to_read(listener.as_raw_fd())?;
+            Err(stays) => {
+                let nobody = failed_accept(stays.error()) == Failure::Nothing;
+                wait_after(stays, nobody, listener.as_raw_fd(), &mut retries)?;
             }
         }
     }
-    Err(ErrorKind::TimedOut.into())
 }
 
 impl Door for TcpDoor {

@@ -29,6 +29,10 @@ impl Wired {
     pub(crate) fn answer(&mut self, alloc: Global, words: &[&str]) -> Result<String, Fault> {
         match words {
             ["wire", words @ ..] => self.over_wire(alloc, words),
+            ["fresh"] => {
+                *self = Wired::new(alloc)?;
+                shown(alloc, "ok")
+            }
             ["file", path, bytes] => {
                 self.files.path = path.to_string(alloc)?;
                 self.files.text = bytes_of(alloc, bytes)?;

@@ -1,14 +1,17 @@
 //! What waits to be written: numbered messages, framed.
-ghost use Rattle.std.specs.Prelude.{◌≡◌, ◌+◌, ◌==◌, ◌<◌, ◌≤◌, ◌++◌, ◌↔◌, [], List, ℕ, IsOk, OnOk, OnErr, IfOk, IsErrOf, IsTrue, drop, length};
+ghost use Rattle.std.specs.Prelude.{◌≡◌, ◌≢◌, ◌+◌, ◌==◌, ◌<◌, ◌≤◌, ◌++◌, ◌↔◌, [], List, ℕ, IsOk, OnOk, OnErr, IfOk, IsErrOf, IfErr, IsTrue, drop, false, length};
+ghost use Rattle.std.specs.IoError.{error_kind};
+ghost use Rattle.std.specs.declared.io.ErrorKind.TheVariants.{Interrupted};
 ghost use Rattle.std.specs.Io.KnownBytes.{Keeps, Appends};
 ghost use Rattle.transport.specs.Outbox.{queued, Sends, SendsPrefix};
 
+use blocking_io::write_some;
 use protocol::LAST_SEQ;
 use replies::Message;
 use session::{Buffer, framed};
 use std::alloc::Global;
 use std::io;
-use std::io::{ErrorKind, Write};
+use std::io::Write;
 use std::marker::Model;
 
 /// Why a message was not queued.
@@ -80,33 +83,32 @@ impl Outbox {
         Ok(())
     }
 
-    /// Writes what waits, or a prefix of it, by one call of the writer.
+    /// Writes what waits, or a prefix of it, by one write, which is made again where a signal interrupted it.
     pub(crate) fn send<W: Write>(&mut self, writer: &mut W) -> io::Result<usize>
-        ensures { Sends (W.contents writer.old) (W.contents writer.new) self.old result self.new }
+        ensures sends { Sends (W.contents writer.old) (W.contents writer.new)
+            self.old result self.new }
+        ensures again { IfErr result (λ e. error_kind e ≢ Interrupted) }
     {
-        let count = writer.write(self.buffer.as_slice())?;
+        let count = write_some(writer, self.buffer.as_slice())?;
         self.buffer.take(count);
         Ok(count)
     }
 
-    /// Writes what waits, by as many calls of the writer as it takes, and answers whether all was
-    /// written. A call that a signal interrupted is made again.
+    /// Writes what waits, by as many writes as it takes, and answers whether all was written. A write that
+    /// a signal interrupted is made again.
     pub(crate) fn send_all<W: Write>(&mut self, writer: &mut W) -> bool
         ensures prefix { SendsPrefix (W.contents writer.old)
             (W.contents writer.new) self.old self.new }
         ensures all { IsTrue result → self.new.waiting ≡ [] }
+        ensures left { result ≡ false → self.new.waiting ≢ [] }
     {
-        'sending: for _ in 0..u64::MAX {
-            if self.is_empty() {
-                return true;
-            }
+        'sending: while !self.is_empty() {
             match self.send(writer) {
                 Ok(0) => return false,
                 Ok(_) => {}
-                Err(e) if e.kind() == ErrorKind::Interrupted => {}
                 Err(_) => return false,
             }
         }
-        false
+        true
     }
 }

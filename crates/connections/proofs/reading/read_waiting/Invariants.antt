@@ -1,8 +1,12 @@
 -- Between two reads the buffer keeps its length, and nothing was consumed.
-use Rattle.std.proofs.Common.{◌≡◌, length}
+use Rattle.std.proofs.Common.{◌≡◌, ◌-◌, length}
 use Rattle.std.specs.Io.KnownBytes.{Keeps}
+use Rattle.blocking_io.specs.Retries.{most_retries}
 use Rattle.connections.proofs.reading.read_waiting.Given as goal
 
 abbrev pub invariant-reading : goal.invariant-reading
 invariant-reading g l = (length l.room ≡ length l.initial.room)
     × Keeps (g.R.Read.remaining l.initial.reader) (g.R.Read.remaining l.reader)
+
+abbrev pub decreases-reading : goal.decreases-reading
+decreases-reading g l = most_retries - l.retries

@@ -2,4 +2,4 @@ use Rattle.transport.proofs.Sending.{sends_on}
 use Rattle.transport.proofs.outbox.Outbox.send_all.Goals as goal
 
 pub sending-preserved : goal.sending-preserved
-sending-preserved g c = sends_on _ _ _ c.args.self.now c.sending.self c.send.new.self c.send.result c.sending.invariant c.send.ensures
+sending-preserved g c = sends_on _ _ _ c.args.self.now c.sending.self c.send.new.self c.send.result c.sending.invariant c.send.ensures.sends

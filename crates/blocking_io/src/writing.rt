@@ -1,0 +1,62 @@
+//! Bytes to a writer, and what it has of them where it fails.
+ghost use Rattle.std.specs.Prelude.{◌≢◌, IfErr, OnErr, OnOk};
+ghost use Rattle.std.specs.Io.{WritesAtMost};
+ghost use Rattle.std.specs.Io.KnownBytes.{Appends, WriteAppends};
+ghost use Rattle.std.specs.IoError.{error_kind};
+ghost use Rattle.std.specs.declared.io.ErrorKind.TheVariants.{Interrupted};
+ghost use Rattle.blocking_io.specs.Writing.{IsPartWritten};
+
+use crate::retries::{Lasting, Retries};
+use std::io;
+use std::io::{ErrorKind, Write};
+
+/// Writes all of these bytes, by as many writes as it takes. A write that a signal interrupted is made again.
+/// `Err`: a write failed, or took nothing where some bytes were left (`WriteZero`), or was made again
+/// 2^64 - 1 times (`TimedOut`); the writer has the first bytes, and not all.
+pub fn write_whole<W: Write>(writer: &mut W, bytes: &[u8]) -> io::Result<()>
+    ensures ok { OnOk result (Appends (W.contents writer.old) (W.contents writer.new) bytes.now) }
+    ensures err { OnErr result
+        (IsPartWritten (W.contents writer.old) (W.contents writer.new) bytes.now) }
+    ensures again { IfErr result (λ e. error_kind e ≢ Interrupted) }
+{
+    let mut written = 0;
+    while written < bytes.len() {
+        match write_some(writer, &bytes[written..]) {
+            Ok(0) => return Err(io::Error::from(ErrorKind::WriteZero)),
+            Ok(count) => written += count,
+            Err(error) => return Err(error),
+        }
+    }
+    Ok(())
+}
+
+/// One write of these bytes, or of the first of them, made again as long as signals interrupt it; the error is
+/// `TimedOut` where that was 2^64 - 1 times.
+pub fn write_some<W: Write>(writer: &mut W, bytes: &[u8]) -> io::Result<usize>
+    ensures bound { WritesAtMost result bytes.now }
+    ensures bytes { WriteAppends (W.contents writer.old) (W.contents writer.new) result bytes.now }
+    ensures again { IfErr result (λ e. error_kind e ≢ Interrupted) }
+{
+    match write_once(writer, bytes) {
+        Ok(count) => Ok(count),
+        Err(stays) => Err(stays.into_error()),
+    }
+}
+
+// One write, made again as long as signals interrupt it.
+fn write_once<W: Write>(writer: &mut W, bytes: &[u8]) -> Result<usize, Lasting>
+    ensures bound { WritesAtMost result bytes.now }
+    ensures bytes { WriteAppends (W.contents writer.old) (W.contents writer.new) result bytes.now }
+    ensures again { IfErr result (λ e. error_kind e ≢ Interrupted) }
+{
+    let mut retries = Retries::none();
+    'writing: loop {
+        match writer.write(bytes) {
+            Ok(count) => return Ok(count),
+            Err(error) => {
+                let interrupted = error.kind() == ErrorKind::Interrupted;
+                retries.after(error, interrupted)?;
+            }
+        }
+    }
+}

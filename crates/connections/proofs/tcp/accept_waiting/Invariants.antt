@@ -1,0 +1,6 @@
+use Rattle.std.proofs.Common.{◌-◌}
+use Rattle.blocking_io.specs.Retries.{most_retries}
+use Rattle.connections.proofs.tcp.accept_waiting.Given as goal
+
+abbrev pub decreases-accepting : goal.decreases-accepting
+decreases-accepting l = most_retries - l.retries
