@@ -5,5 +5,6 @@ pub mod Reading
 pub mod Writing
 mod Tables
 mod Finding
+mod Named
 pub mod Rows
 pub mod Nearest

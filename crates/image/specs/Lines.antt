@@ -8,6 +8,7 @@ use Rattle.std.specs.Prelude.{◌≡◌, ℕ, ◌+◌, ◌-◌, ◌*◌, ◌%◌
 use Rattle.std.specs.Prelude.{List, [], ◌∷◌, map, filter, find, All, AllPairs, Option, Some, None, option_map, String}
 use Rattle.std.specs.Prelude.{string_bytes, refl}
 use Rattle.std.specs.List.{list_all, list_any}
+use Rattle.std.specs.Str.{bytes_eq}
 use Rattle.image.specs.Memory.{first_address}
 
 -- a row: line, address of its first instruction, words
@@ -97,6 +98,10 @@ label_at table address = if in_image table address
     then option_map (λ label. (label.0, address - place_of label)) (first_greatest (up_to address table.labels))
     else None
 
+-- the address of the label of a name
+abbrev pub label_address : Table → List ℕ → Option ℕ
+label_address table name = option_map place_of (find (λ label. bytes_eq name label.0) table.labels)
+
 -- Line 3 has two words at 0x10000, and line 5 one at 0x1000c; "a" and "b" are the first address, "c" is 0x10008.
 example : Table
 example = record {
@@ -124,3 +129,11 @@ first_of_two_labels = refl
 no_label_at_the_end : label_at example 65556 ≡ None
 unfolding example
 no_label_at_the_end = refl
+
+address_of_a_name : label_address example (99 ∷ []) ≡ Some 65544
+unfolding example
+address_of_a_name = refl
+
+name_of_no_label : label_address example (100 ∷ []) ≡ None
+unfolding example
+name_of_no_label = refl

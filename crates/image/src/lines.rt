@@ -8,6 +8,7 @@ ghost use Rattle.std.specs.Prelude.{
   nat_le,
   nat_lt,
   find,
+  length,
   slice_get,
   slice_index,
   option_map,
@@ -23,6 +24,7 @@ ghost use Rattle.image.specs.Lines.{
   bind,
   end_of,
   first_greatest,
+  label_address,
   label_at,
   labels_of,
   line_in,
@@ -150,6 +152,33 @@ impl LineTable {
         let index = self.nearest_label(addr)?;
         let (name, address) = self.labels.get_index(index)?;
         Some((name.as_str(), addr - *address))
+    }
+
+    /// The address of the label of a name; `None`: no label has it.
+    pub fn label_address(&self, name: &str) -> Option<u32>
+        ensures { result ≡ label_address self.now name.now }
+    {
+        match self.labels.get(name) {
+            Some(address) => Some(*address),
+            None => None,
+        }
+    }
+
+    /// How many labels there are.
+    pub fn label_count(&self) -> usize
+        ensures { result ≡ length self.now.labels }
+    {
+        self.labels.len()
+    }
+
+    /// The name and the address of a label, by its place in the order of the text, counted from 0; `None`: there are no more
+    /// than that many labels.
+    pub fn label(&self, index: usize) -> Option<(&str, u32)>
+        ensures { option_map (λ label. (label.0.now, label.1)) result
+            ≡ slice_get self.now.labels index }
+    {
+        let (name, address) = self.labels.get_index(index)?;
+        Some((name.as_str(), *address))
     }
 
     /// The first row that ends after an address.

@@ -1,4 +1,4 @@
 pub mod Listed
 pub mod Unique
-pub mod Written
 pub mod Whole
+pub mod Named

@@ -4,6 +4,8 @@
 pub mod Entries
 -- what `listing` writes, and what it reports
 pub mod Listing
+-- the labels of a text
+pub mod Labels
 -- ---- what only private clauses cite
 -- how the code makes a listing
 pub mod Steps

@@ -6,16 +6,14 @@ ghost use Rattle.listing.specs.Listing.{Faults, IsListed, Lists};
 ghost use Rattle.listing.specs.Steps as steps;
 ghost use Rattle.listing.specs.Steps.{Unlisted};
 
+use crate::MEMORY_SIZE;
 use crate::entries::entries_of;
 use crate::fault::ListFault;
-use crate::writing::write_whole;
 use assembler::{AsmError, AsmErrorKind, assemble};
+use blocking_io::write_whole;
 use std::alloc::Global;
 use std::io;
 use std::io::Write;
-
-/// How many bytes the memory has that a text is assembled for.
-const MEMORY_SIZE: u32 = 1_048_576;
 
 /// Assembles a text for a memory of 1 MiB, and writes its listing: a line for each instruction, in the
 /// order of their addresses, with the address and the word in eight hexadecimal digits each and the text

@@ -8,6 +8,8 @@ pub mod Encoding
 pub mod Words
 -- what each instruction does to pc, the registers and memory; the move of a machine, and traps
 pub mod Machine
+-- the names of exceptions
+pub mod Causes
 -- the names of the registers
 pub mod Names
 -- the disassembly of an instruction, and of any word

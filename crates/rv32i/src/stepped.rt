@@ -1,5 +1,8 @@
 //! What a step answers.
 
+ghost use Rattle.std.specs.Prelude.{◌≡◌};
+ghost use Rattle.rv32i.specs.Causes.{cause_text};
+
 /// What came of one step of a hart.
 #[derive(Clone, Copy, Debug, PartialEq, Eq)]
 pub enum Stepped {
@@ -34,4 +37,22 @@ pub enum Cause {
     StoreOutside,
     /// ECALL with a number in a7 that names no call.
     UnknownCall,
+}
+
+impl Cause {
+    /// The name of the exception (RISC-V Privileged ISA, table of `mcause`), as `load access fault`.
+    pub fn text(self) -> &'static str
+        ensures { result.now ≡ cause_text self }
+    {
+        match self {
+            Cause::FetchOutside => "instruction access fault",
+            Cause::Illegal => "illegal instruction",
+            Cause::JumpMisaligned => "instruction address misaligned",
+            Cause::LoadMisaligned => "load address misaligned",
+            Cause::LoadOutside => "load access fault",
+            Cause::StoreMisaligned => "store address misaligned",
+            Cause::StoreOutside => "store access fault",
+            Cause::UnknownCall => "unknown environment call",
+        }
+    }
 }

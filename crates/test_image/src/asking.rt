@@ -12,6 +12,9 @@ use testing::{Fault, parsed, shown};
 /// - `bind LINE`: a line and an address, or `none`.
 /// - `starts ADDRESS`: `true` or `false`.
 /// - `label_at ADDRESS`: a name and a number of bytes, or `none`.
+/// - `label_address NAME`: an address, or `none`.
+/// - `label PLACE`: the name and the address of the label at this place, or `none`.
+/// - `label_count`: how many labels there are.
 pub fn ask_lines(alloc: Global, table: &LineTable, arguments: &[&str]) -> Result<String, Fault> {
     match arguments {
         ["line_of", address] => found(alloc, table.line_of(parsed(address)?)),
@@ -19,6 +22,9 @@ pub fn ask_lines(alloc: Global, table: &LineTable, arguments: &[&str]) -> Result
         ["bind", line] => pair(alloc, table.bind(parsed(line)?)),
         ["starts", address] => shown(alloc, table.starts(parsed(address)?)),
         ["label_at", address] => pair(alloc, table.label_at(parsed(address)?)),
+        ["label_address", name] => found(alloc, table.label_address(name)),
+        ["label", index] => pair(alloc, table.label(parsed(index)?)),
+        ["label_count"] => shown(alloc, table.label_count()),
         _ => Err(Fault::NoCommand),
     }
 }
