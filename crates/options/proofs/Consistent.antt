@@ -1,15 +1,16 @@
 -- What holds of options, whatever the words.
-use Rattle.std.proofs.Common.{◌≡◌, ℕ, Bool, true, false, List, [], ◌∷◌, Option, Some, None, Result, Ok, Err, refl, arith, subst, cond}
+use Rattle.std.proofs.Common.{◌≡◌, ℕ, Bool, true, false, List, [], ◌∷◌, Option, Some, None, Result, Ok, Err, refl, sym, arith, subst, cond}
 use Rattle.std.specs.Prelude.{codes}
 use Rattle.std.specs.Str.{bytes_eq}
-use Rattle.clap.specs.Words.{Kinds, Row, Text, fault_of, first_of, matches_of, subcommand_of}
+use Rattle.clap.specs.Words.{Kinds, Row, Text, all_of, fault_of, first_of, matches_of, subcommand_of}
 use Rattle.numerals.specs.Numerals.{numeral}
 use Rattle.numerals.specs.declared.NumeralError.{NumeralError}
 use Rattle.options.specs.CommandLine.{command_line}
 use Rattle.options.specs.Memory.{IsOffered, default_memory, is_offered, kib_for, offered}
-use Rattle.options.specs.Options.{IsConsistent, asked, asked_of, commanded, has_option, is_command, is_set, running, serving, unless_refused}
+use Rattle.options.specs.Limits.{limit_for}
+use Rattle.options.specs.Options.{IsConsistent, asked, asked_of, checking, commanded, executing, has_option, is_command, is_set, labelling, running, serving, unless_refused, with_file}
 use Rattle.options.specs.declared.asked.Mode.{Mode}
-use Rattle.options.specs.declared.asked.Mode.TheVariants.{Serve, Asm, Watch}
+use Rattle.options.specs.declared.asked.Mode.TheVariants.{Serve, Asm, Watch, Run, Check, Labels}
 use Rattle.options.specs.declared.asked.Options.{Options}
 use Rattle.options.proofs.Asking.{is_offered-true}
 
@@ -45,49 +46,116 @@ served None None false (Some kib) fits options e = same _ options e (record {
   program = λ none. refl;
   once = λ none. refl;
   file = refl;
+  others = λ is. refl;
   address = λ command. absurd (cc command);
-  default = λ command. absurd (cc command);
+  default = λ none. absurd (cc none);
+  limit = λ is. refl;
+  count = λ is. refl;
+  json = λ is. refl;
 })
 served (Some listen) program once (Some kib) fits options e = same _ options e (record {
   memory = fits kib refl;
   program = λ none. absurd (cc none);
   once = λ none. absurd (cc none);
   file = refl;
+  others = λ is. refl;
   address = λ command. absurd (cc command);
-  default = λ command. absurd (cc command);
+  default = λ none. absurd (cc none);
+  limit = λ is. refl;
+  count = λ is. refl;
+  json = λ is. refl;
 })
+
+-- a command with its file, and what else it asks for
+of_file : (mode : Mode) (file : Text) → is_command mode ≡ true → IsConsistent (with_file mode file)
+of_file mode file command = record {
+  memory = is_default;
+  program = λ none. refl;
+  once = λ none. refl;
+  file = sym command;
+  others = λ is. refl;
+  address = λ is. refl;
+  default = λ is. refl;
+  limit = λ is. refl;
+  count = λ is. refl;
+  json = λ is. refl;
+}
 
 run : (mode : Mode) (file : Option Text) → is_command mode ≡ true → (options : Options) → running mode file ≡ Ok options
     → IsConsistent options
 run mode None command options e = absurd (cc e)
-run Serve (Some file) command options e = absurd (cc command)
-run Asm (Some file) command options e = same _ options e (record {
-  memory = is_default;
+run mode (Some file) command options e = same _ options e (of_file mode file command)
+
+execute : (memory : Option ℕ) (limit : Option (Option ℕ)) (count : Bool) (file : Option Text) → ((kib : ℕ) → memory ≡ Some kib → IsOffered kib)
+    → (options : Options) → executing memory limit count file ≡ Ok options → IsConsistent options
+execute None limit count file fits options e = absurd (cc e)
+execute (Some memory) None count file fits options e = absurd (cc e)
+execute (Some memory) (Some limit) count None fits options e = absurd (cc e)
+execute (Some memory) (Some limit) count (Some file) fits options e = same _ options e (record {
+  memory = fits memory refl;
   program = λ none. refl;
   once = λ none. refl;
   file = refl;
+  others = λ is. refl;
   address = λ is. refl;
-  default = λ is. refl;
-})
-run Watch (Some file) command options e = same _ options e (record {
-  memory = is_default;
-  program = λ none. refl;
-  once = λ none. refl;
-  file = refl;
-  address = λ is. refl;
-  default = λ is. refl;
+  default = λ none. absurd (cc none);
+  limit = λ none. absurd (cc none);
+  count = λ none. absurd (cc none);
+  json = λ is. refl;
 })
 
-by_name : (is_asm : Bool) (file script : Option Text) (options : Options)
-    → cond is_asm (running Asm file) (running Watch script) ≡ Ok options → IsConsistent options
-by_name true file script options e = run Asm file refl options e
-by_name false file script options e = run Watch script refl options e
+check : (json : Bool) (files : Option (List Text)) (options : Options) → checking json files ≡ Ok options → IsConsistent options
+check json None options e = absurd (cc e)
+check json (Some []) options e = absurd (cc e)
+check json (Some (file ∷ others)) options e = same _ options e (record {
+  memory = is_default;
+  program = λ none. refl;
+  once = λ none. refl;
+  file = refl;
+  others = λ none. absurd (cc none);
+  address = λ is. refl;
+  default = λ is. refl;
+  limit = λ is. refl;
+  count = λ is. refl;
+  json = λ none. absurd (cc none);
+})
+
+label : (json : Bool) (file : Option Text) (options : Options) → labelling json file ≡ Ok options → IsConsistent options
+label json None options e = absurd (cc e)
+label json (Some file) options e = same _ options e (record {
+  memory = is_default;
+  program = λ none. refl;
+  once = λ none. refl;
+  file = refl;
+  others = λ is. refl;
+  address = λ is. refl;
+  default = λ is. refl;
+  limit = λ is. refl;
+  count = λ is. refl;
+  json = λ none. absurd (cc none);
+})
+
+by_name : (is_asm is_run is_check is_labels : Bool) (rows : List Row) (options : Options)
+    → cond is_asm (running Asm (first_of (codes "FILE") rows))
+    (cond is_run (executing (kib_for (first_of (codes "memory") rows)) (limit_for (first_of (codes "limit") rows))
+    (is_set (codes "count") rows) (first_of (codes "FILE") rows))
+    (cond is_check (checking (is_set (codes "json") rows) (all_of (codes "FILE") rows))
+    (cond is_labels (labelling (is_set (codes "json") rows) (first_of (codes "FILE") rows))
+    (running Watch (first_of (codes "SCRIPT") rows))))) ≡ Ok options → IsConsistent options
+by_name true is_run is_check is_labels rows options e = run Asm (first_of (codes "FILE") rows) refl options e
+by_name false true is_check is_labels rows options e = execute (kib_for (first_of (codes "memory") rows))
+    (limit_for (first_of (codes "limit") rows)) (is_set (codes "count") rows) (first_of (codes "FILE") rows)
+    (kib_for-some (first_of (codes "memory") rows)) options e
+by_name false false true is_labels rows options e = check (is_set (codes "json") rows) (all_of (codes "FILE") rows) options e
+by_name false false false true rows options e = label (is_set (codes "json") rows) (first_of (codes "FILE") rows) options e
+by_name false false false false rows options e = run Watch (first_of (codes "SCRIPT") rows) refl options e
 
 by_command : (beside : Bool) (name : Text) (rows : List Row) (options : Options) (refusal : Kinds)
     → cond beside (Err refusal) (commanded name rows) ≡ Ok options → IsConsistent options
 by_command true name rows options refusal e = absurd (cc e)
 by_command false name rows options refusal e =
-    by_name (bytes_eq name (codes "asm")) (first_of (codes "FILE") rows) (first_of (codes "SCRIPT") rows) options e
+    by_name (bytes_eq name (codes "asm")) (bytes_eq name (codes "run")) (bytes_eq name (codes "check")) (bytes_eq name (codes "labels")) rows
+    options e
 
 found : (rows : List Row) (command : Option (Text × List Row)) (options : Options) → asked_of rows command ≡ Ok options
     → IsConsistent options

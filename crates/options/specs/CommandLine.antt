@@ -4,11 +4,15 @@
 --   rvdap --listen ADDR [--program FILE] [--once] [--memory KIB]
 --   rvdap asm FILE
 --   rvdap watch SCRIPT
+--   rvdap run [--memory KIB] [--limit N] [--count] FILE
+--   rvdap check [--json] FILE..
+--   rvdap labels [--json] FILE
 --
 -- clap gets the words after the program's name. It takes each option at most once, a value after a blank or after `=`,
 -- and adds `--help` and `--version`. That options stand beside one another as above is said in `Options`.
 use Rattle.std.specs.Prelude.{◌≡◌, Some, codes, refl, true}
 use Rattle.clap.specs.Words.{App, Rule, Text, is_simple_and_free, new_app, new_rule, with_rule, with_subcommand}
+use Rattle.clap.specs.Lexer.{usize_max}
 use Rattle.clap.specs.declared.builder.action.ArgAction.TheVariants.{SetTrue}
 
 -- an option with a value, by its long name
@@ -22,6 +26,10 @@ flag name = record (new_rule name) { long = Some name; action = Some SetTrue }
 -- the file of a command, which has to be there
 abbrev pub file : Text → Rule
 file id = record (new_rule id) { required = true }
+
+-- files of a command, of which there has to be one
+abbrev pub files : Text → Rule
+files id = record (new_rule id) { required = true; range = Some (record { start_inclusive = 1; end_inclusive = usize_max }) }
 
 -- a command with a file
 abbrev pub with_file : Text → Text → App
@@ -37,9 +45,23 @@ plain = record (new_app (codes "rvdap")) {
 abbrev pub with_options : App
 with_options = with_rule (with_rule (with_rule (with_rule plain (option (codes "memory"))) (option (codes "listen"))) (option (codes "program"))) (flag (codes "once"))
 
+-- the commands
+abbrev pub run_of_a_machine : App
+run_of_a_machine = with_rule (with_rule (new_app (codes "run")) (option (codes "memory"))) (option (codes "limit"))
+
+abbrev pub run : App
+run = with_rule (with_rule run_of_a_machine (flag (codes "count"))) (file (codes "FILE"))
+
+abbrev pub check : App
+check = with_rule (with_rule (new_app (codes "check")) (flag (codes "json"))) (files (codes "FILE"))
+
+abbrev pub labels : App
+labels = with_rule (with_rule (new_app (codes "labels")) (flag (codes "json"))) (file (codes "FILE"))
+
 -- the whole
 unfoldable pub command_line : App
-command_line = with_subcommand (with_subcommand with_options (with_file (codes "asm") (codes "FILE")).top) (with_file (codes "watch") (codes "SCRIPT")).top
+command_line = with_subcommand (with_subcommand (with_subcommand (with_subcommand (with_subcommand with_options
+    (with_file (codes "asm") (codes "FILE")).top) (with_file (codes "watch") (codes "SCRIPT")).top) run.top) check.top) labels.top
 
 -- clap's definitions say exactly what it makes of words
 pub is_exact : is_simple_and_free command_line ≡ true

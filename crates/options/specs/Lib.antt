@@ -4,6 +4,8 @@
 pub mod CommandLine
 -- how much memory is asked for
 pub mod Memory
+-- how many instructions may run
+pub mod Limits
 -- what words ask for, and which are refused
 pub mod Options
 -- ---- for private clauses alone: which rule is broken

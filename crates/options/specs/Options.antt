@@ -2,19 +2,21 @@
 --
 -- clap reads the words, by its own definitions: which words it refuses, and what it finds in the others. Of what it finds
 --
--- - a command, `asm` or `watch`, stands by itself, with its file: no option stands beside it;
+-- - a command stands by itself, with its file and the options that are its own: none of the other options stands beside it;
+-- - of `run`, `--memory` has a value as in `Memory`, and `--limit` one as in `Limits`;
 -- - without a command, `--program` and `--once` stand only beside `--listen`, and `--memory` has a value as in `Memory`.
 use Rattle.std.specs.Prelude.{◌≡◌, ◌⊎◌, ◌∷◌, ◌||◌, ◌&&◌, ◌++◌, Bool, true, false, not, ℕ, List, [], Option, Some, None, Result, Ok, Err, IsErr, codes, if◌then◌else◌, is_some, refl}
 use Rattle.std.specs.Option.{option_map_or}
 use Rattle.std.specs.Str.{bytes_eq}
-use Rattle.clap.specs.Words.{Kinds, IsAmong, Row, Text, fault_of, first_of, kind_of, matches_of, subcommand_of}
+use Rattle.clap.specs.Words.{Kinds, IsAmong, Row, Text, all_of, fault_of, first_of, kind_of, matches_of, subcommand_of}
 use Rattle.clap.specs.declared.error.Error.{Error}
 use Rattle.clap.specs.declared.error.kind.ErrorKind.TheVariants as kind
 use Rattle.clap.proofs.OnLiterals.{clap_on_literals}
 use Rattle.options.specs.CommandLine.{command_line}
+use Rattle.options.specs.Limits.{limit_for}
 use Rattle.options.specs.Memory.{IsOffered, default_memory, kib_for, kib_in}
 use Rattle.options.specs.declared.asked.Mode.{Mode}
-use Rattle.options.specs.declared.asked.Mode.TheVariants.{Serve, Asm, Watch}
+use Rattle.options.specs.declared.asked.Mode.TheVariants.{Serve, Asm, Watch, Run, Check, Labels}
 use Rattle.options.specs.declared.asked.Options.{Options}
 use Rattle.options.specs.declared.usage.Usage.{Usage}
 use Rattle.options.specs.declared.usage.Usage.TheVariants as usage
@@ -41,28 +43,63 @@ serving listen program once None = Err (kind.ValueValidation ∷ [])
 serving listen program once (Some memory) = if lacks_listen listen program once then Err (kind.MissingRequiredArgument ∷ []) else Ok (record {
   mode = Serve;
   file = None;
+  others = [];
   listen = listen;
   program = program;
   once = once;
   memory = memory;
+  limit = None;
+  count = false;
+  json = false;
 })
 
 -- ---- a command
 
-abbrev pub running : Mode → Option Text → Result Options Kinds
-running mode None = Err (kind.MissingRequiredArgument ∷ [])
-running mode (Some file) = Ok (record {
+-- a command with its file, and nothing else
+abbrev pub with_file : Mode → Text → Options
+with_file mode file = record {
   mode = mode;
   file = Some file;
+  others = [];
   listen = None;
   program = None;
   once = false;
   memory = default_memory;
-})
+  limit = None;
+  count = false;
+  json = false;
+}
+
+abbrev pub running : Mode → Option Text → Result Options Kinds
+running mode None = Err (kind.MissingRequiredArgument ∷ [])
+running mode (Some file) = Ok (with_file mode file)
+
+-- a program is run: what its memory is, how many instructions may run, whether they are counted, and its file
+abbrev pub executing : Option ℕ → Option (Option ℕ) → Bool → Option Text → Result Options Kinds
+executing None limit count file = Err (kind.ValueValidation ∷ [])
+executing (Some memory) None count file = Err (kind.ValueValidation ∷ [])
+executing (Some memory) (Some limit) count None = Err (kind.MissingRequiredArgument ∷ [])
+executing (Some memory) (Some limit) count (Some file) = Ok (record (with_file Run file) { memory = memory; limit = limit; count = count })
+
+-- files are checked
+abbrev pub checking : Bool → Option (List Text) → Result Options Kinds
+checking json None = Err (kind.MissingRequiredArgument ∷ [])
+checking json (Some []) = Err (kind.MissingRequiredArgument ∷ [])
+checking json (Some (file ∷ others)) = Ok (record (with_file Check file) { others = others; json = json })
+
+-- labels are told
+abbrev pub labelling : Bool → Option Text → Result Options Kinds
+labelling json None = Err (kind.MissingRequiredArgument ∷ [])
+labelling json (Some file) = Ok (record (with_file Labels file) { json = json })
 
 -- the command of a name, with what clap found for it
 abbrev pub commanded : Text → List Row → Result Options Kinds
-commanded name rows = if bytes_eq name (codes "asm") then running Asm (first_of (codes "FILE") rows) else running Watch (first_of (codes "SCRIPT") rows)
+commanded name rows = if bytes_eq name (codes "asm") then running Asm (first_of (codes "FILE") rows)
+    else if bytes_eq name (codes "run") then executing (kib_for (first_of (codes "memory") rows)) (limit_for (first_of (codes "limit") rows))
+    (is_set (codes "count") rows) (first_of (codes "FILE") rows)
+    else if bytes_eq name (codes "check") then checking (is_set (codes "json") rows) (all_of (codes "FILE") rows)
+    else if bytes_eq name (codes "labels") then labelling (is_set (codes "json") rows) (first_of (codes "FILE") rows)
+    else running Watch (first_of (codes "SCRIPT") rows)
 
 -- ---- the whole
 
@@ -101,6 +138,45 @@ abbrev pub is_command : Mode → Bool
 is_command Serve = false
 is_command Asm = true
 is_command Watch = true
+is_command Run = true
+is_command Check = true
+is_command Labels = true
+
+-- a program is given memory in a mode
+abbrev pub has_memory : Mode → Bool
+has_memory Serve = true
+has_memory Asm = false
+has_memory Watch = false
+has_memory Run = true
+has_memory Check = false
+has_memory Labels = false
+
+-- a program runs to its end in a mode
+abbrev pub is_run : Mode → Bool
+is_run Serve = false
+is_run Asm = false
+is_run Watch = false
+is_run Run = true
+is_run Check = false
+is_run Labels = false
+
+-- several files can be named in a mode
+abbrev pub has_others : Mode → Bool
+has_others Serve = false
+has_others Asm = false
+has_others Watch = false
+has_others Run = false
+has_others Check = true
+has_others Labels = false
+
+-- JSON can be asked for in a mode
+abbrev pub has_json : Mode → Bool
+has_json Serve = false
+has_json Asm = false
+has_json Watch = false
+has_json Run = false
+has_json Check = true
+has_json Labels = true
 
 pub record IsConsistent (options : Options) : Type 0 where
   -- the memory is a number of KiB that may be asked for
@@ -110,9 +186,13 @@ pub record IsConsistent (options : Options) : Type 0 where
   pub once : options.listen ≡ None → options.once ≡ false
   -- a command has a file, and nothing else does
   pub file : is_some options.file ≡ is_command options.mode
-  -- and no option stands beside it
+  pub others : has_others options.mode ≡ false → options.others ≡ []
+  -- and no option stands beside it that is not its own
   pub address : is_command options.mode ≡ true → options.listen ≡ None
-  pub default : is_command options.mode ≡ true → options.memory ≡ default_memory
+  pub default : has_memory options.mode ≡ false → options.memory ≡ default_memory
+  pub limit : is_run options.mode ≡ false → options.limit ≡ None
+  pub count : is_run options.mode ≡ false → options.count ≡ false
+  pub json : has_json options.mode ≡ false → options.json ≡ false
 
 -- ---- examples
 
@@ -121,10 +201,14 @@ abbrev pub defaults : Options
 defaults = record {
   mode = Serve;
   file = None;
+  others = [];
   listen = None;
   program = None;
   once = false;
   memory = 1024;
+  limit = None;
+  count = false;
+  json = false;
 }
 
 nothing_said : asked [] ≡ Ok defaults
@@ -207,6 +291,40 @@ help_is_asked = refl
 version_is_asked : asked (codes "--version" ∷ []) ≡ Err (kind.DisplayVersion ∷ [])
 unfolding clap_on_literals asked command_line
 version_is_asked = refl
+
+run_said : asked (codes "run" ∷ codes "a.s" ∷ []) ≡ Ok (with_file Run (codes "a.s"))
+unfolding clap_on_literals asked command_line
+run_said = refl
+
+all_of_run : asked (codes "run" ∷ codes "--count" ∷ codes "--limit" ∷ codes "7" ∷ codes "--memory=8" ∷ codes "a.s" ∷ [])
+    ≡ Ok (record (with_file Run (codes "a.s")) { memory = 8; limit = Some 7; count = true })
+unfolding clap_on_literals asked command_line
+all_of_run = refl
+
+no_number_of_instructions : asked (codes "run" ∷ codes "--limit" ∷ codes "much" ∷ codes "a.s" ∷ []) ≡ Err (kind.ValueValidation ∷ [])
+unfolding clap_on_literals asked command_line
+no_number_of_instructions = refl
+
+memory_before_run : asked (codes "--memory" ∷ codes "8" ∷ codes "run" ∷ codes "a.s" ∷ []) ≡ Err (kind.ArgumentConflict ∷ [])
+unfolding clap_on_literals asked command_line
+memory_before_run = refl
+
+check_said : asked (codes "check" ∷ codes "a.s" ∷ codes "b.s" ∷ codes "c.s" ∷ codes "--json" ∷ [])
+    ≡ Ok (record (with_file Check (codes "a.s")) { others = codes "b.s" ∷ codes "c.s" ∷ []; json = true })
+unfolding clap_on_literals asked command_line
+check_said = refl
+
+nothing_to_check : asked (codes "check" ∷ []) ≡ Err (kind.MissingRequiredArgument ∷ [])
+unfolding clap_on_literals asked command_line
+nothing_to_check = refl
+
+labels_said : asked (codes "labels" ∷ codes "a.s" ∷ []) ≡ Ok (with_file Labels (codes "a.s"))
+unfolding clap_on_literals asked command_line
+labels_said = refl
+
+labels_of_two : asked (codes "labels" ∷ codes "a.s" ∷ codes "b.s" ∷ []) ≡ Err (kind.UnknownArgument ∷ [])
+unfolding clap_on_literals asked command_line
+labels_of_two = refl
 
 -- ---- examples with every text
 

@@ -1,5 +1,5 @@
 //! What a command line asks for.
-ghost use Rattle.std.specs.Prelude.{◌≡◌, IfOk};
+ghost use Rattle.std.specs.Prelude.{◌≡◌, [], IfOk, map};
 
 use std::alloc::{AllocError, Global};
 use std::marker::Model;
@@ -13,6 +13,12 @@ pub enum Mode {
     Asm,
     /// Play a script, and print what is watched.
     Watch,
+    /// Run the program in a file.
+    Run,
+    /// Tell the first error of each of some files.
+    Check,
+    /// Tell the labels of a file.
+    Labels,
 }
 
 /// What a command line asks for.
@@ -20,8 +26,10 @@ pub enum Mode {
 pub struct Options {
     /// What the program is to do.
     pub mode: Mode,
-    /// The file that is listed, or the script that is played.
+    /// The file of a command: the first where there may be several, and the script that is played.
     pub file: Option<Text>,
+    /// The files after the first, where there may be several.
+    pub others: Texts,
     /// The address to listen on, where editors are not served over standard streams.
     pub listen: Option<Text>,
     /// The file of the program whose machine an editor joins by `attach`.
@@ -30,6 +38,12 @@ pub struct Options {
     pub once: bool,
     /// The memory of a machine, in KiB: a multiple of 4, from 4 to 16,384.
     pub memory: u32,
+    /// How many instructions of a program may run; `None`: as many as it likes.
+    pub limit: Option<u32>,
+    /// Whether it is said how many instructions of a program retired.
+    pub count: bool,
+    /// Whether errors and labels are told as JSON.
+    pub json: bool,
 }
 
 /// A text of a command line. A contract sees it as the list of its bytes, which are UTF-8.
@@ -61,5 +75,48 @@ impl Text {
         ensures { result.now ≡ self.now }
     {
         self.string.as_str()
+    }
+}
+
+/// Texts of a command line. A contract sees them as a list.
+#[derive(Debug, Drop)]
+pub struct Texts {
+    texts: Vec<Text>,
+}
+
+impl Model for Texts {
+    ghost use Rattle.std.specs.Prelude.{List, ℕ};
+
+    ghost Value = { List (List ℕ) };
+
+    ghost view = { λ t. t.texts.items };
+}
+
+impl Texts {
+    /// None.
+    pub(crate) fn none(alloc: Global) -> Texts
+        ensures { result ≡ [] }
+    {
+        Texts {
+            texts: Vec::new(alloc),
+        }
+    }
+
+    /// Copies of some texts. It fails where no memory is left.
+    pub(crate) fn of(alloc: Global, texts: &[&str]) -> Result<Texts, AllocError>
+        ensures { IfOk result (λ copies. copies ≡ map (λ t. t.now) texts.now) }
+    {
+        let mut copies = Vec::new(alloc);
+        for text in texts {
+            copies.push(Text::of(alloc, text)?)?;
+        }
+        Ok(Texts { texts: copies })
+    }
+
+    /// The texts, lent.
+    pub fn as_slice(&self) -> &[Text]
+        ensures { result.now ≡ self.now }
+    {
+        self.texts.as_slice()
     }
 }

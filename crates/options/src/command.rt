@@ -79,6 +79,47 @@ const AFTER_HELP_OF_WATCH: &str = "\
     \n`rvdap: SCRIPT: line K`: line K is the first that is no such line. `cannot read`\
     \nin place of that: SCRIPT is not there, or is not a file.";
 
+// What help of `run` says after its options.
+const AFTER_HELP_OF_RUN: &str = "\
+    Example:\
+    \n  $ rvdap run examples/sort.s\
+    \n  10\
+    \n  20\
+    \n  ..\
+    \n\
+    \nA number that the program prints is a line on standard output. Lines are written\
+    \nafter each 100,000 instructions, and at the end.\
+    \n\
+    \nStatus: the program's exit code, modulo 256. Where it does not end by itself, a\
+    \nline on standard error begins with FILE, and the status is\
+    \n  122  at an ebreak\
+    \n  123  where an instruction trapped\
+    \n  124  where N instructions ran\
+    \n  125  where FILE does not assemble\
+    \nand 1, with a line that begins with rvdap, where FILE cannot be read, standard\
+    \noutput failed or no memory was left.";
+
+// What help of `check` says after its options.
+const AFTER_HELP_OF_CHECK: &str = "\
+    Example:\
+    \n  $ rvdap check examples/*.s\
+    \n  examples/undefined-label.s:4: error: Undefined: no line defines this label\
+    \n      call g\
+    \n\
+    \n`rvdap asm --help` says what the errors are. The memory is 1 MiB.\
+    \n\
+    \nStatus: 0 if no FILE has an error, 1 if one has, or cannot be read.";
+
+// What help of `labels` says after its options.
+const AFTER_HELP_OF_LABELS: &str = "\
+    Example:\
+    \n  $ rvdap labels examples/sort.s\
+    \n  00010000 code 3  _start\
+    \n  ..\
+    \n\
+    \nEach line is a label, in the order of the text: its address, what stands there,\
+    \nand its name. What stands there is code with its line, data, or the end of all.";
+
 /// The command line as clap is told of it.
 pub(crate) fn command<'a>(alloc: Global) -> Result<Command<'a>, AllocError>
     ensures { IfOk result (λ c. app_of c ≡ spec.command_line) }
@@ -89,7 +130,10 @@ pub(crate) fn command<'a>(alloc: Global) -> Result<Command<'a>, AllocError>
         .arg(program(alloc))?
         .arg(once(alloc))?
         .subcommand(asm(alloc)?)?
-        .subcommand(watch(alloc)?)
+        .subcommand(watch(alloc)?)?
+        .subcommand(run(alloc)?)?
+        .subcommand(check(alloc)?)?
+        .subcommand(labels(alloc)?)
 }
 
 // The command, before it is told of options.
@@ -103,6 +147,9 @@ fn plain<'a>(alloc: Global) -> Command<'a>
         .override_usage(
             "rvdap [--memory <KIB>]\n       \
              rvdap --listen <ADDR> [--program <FILE>] [--once] [--memory <KIB>]\n       \
+             rvdap run [--memory <KIB>] [--limit <N>] [--count] <FILE>\n       \
+             rvdap check [--json] <FILE>..\n       \
+             rvdap labels [--json] <FILE>\n       \
              rvdap asm <FILE>\n       \
              rvdap watch <SCRIPT>",
         )
@@ -185,6 +232,96 @@ fn watch<'a>(alloc: Global) -> Result<Command<'a>, AllocError>
             "SCRIPT",
             "Events of a session, line by line, and what is watched",
         ))
+}
+
+fn run<'a>(alloc: Global) -> Result<Command<'a>, AllocError>
+    ensures { IfOk result (λ c. (app_of c ≡ spec.run) × ((fields_of c).has_globals ≡ false)) }
+{
+    run_of_a_machine(alloc)?.arg(count(alloc))?.arg(file(
+        alloc,
+        "FILE",
+        "A text of assembly, of at most 1,048,576 bytes",
+    ))
+}
+
+// `run`, told of the options that are about the machine.
+fn run_of_a_machine<'a>(alloc: Global) -> Result<Command<'a>, AllocError>
+    ensures { IfOk result (λ c. (app_of c ≡ spec.run_of_a_machine)
+        × ((fields_of c).has_globals ≡ false)) }
+{
+    Command::new(alloc, "run")
+        .about("Runs the program in FILE")
+        .override_usage("rvdap run [--memory <KIB>] [--limit <N>] [--count] <FILE>")
+        .after_help(AFTER_HELP_OF_RUN)
+        .arg(memory(alloc))?
+        .arg(limit(alloc))
+}
+
+fn limit<'a>(alloc: Global) -> Arg<'a>
+    ensures rule { rule_of result ≡ spec.option (codes "limit") }
+    ensures local { result.global ≡ false }
+{
+    Arg::new(alloc, "limit")
+        .long("limit")
+        .value_name("N")
+        .help("Run at most N instructions, up to 4294967295")
+}
+
+fn count<'a>(alloc: Global) -> Arg<'a>
+    ensures rule { rule_of result ≡ spec.flag (codes "count") }
+    ensures local { result.global ≡ false }
+{
+    Arg::new(alloc, "count")
+        .long("count")
+        .action(ArgAction::SetTrue)
+        .help("Say on standard error how many instructions retired")
+}
+
+fn check<'a>(alloc: Global) -> Result<Command<'a>, AllocError>
+    ensures { IfOk result (λ c. (app_of c ≡ spec.check) × ((fields_of c).has_globals ≡ false)) }
+{
+    Command::new(alloc, "check")
+        .about("Tells the first error of each FILE that has one")
+        .override_usage("rvdap check [--json] <FILE>..")
+        .after_help(AFTER_HELP_OF_CHECK)
+        .arg(json(alloc))?
+        .arg(files(alloc))
+}
+
+fn labels<'a>(alloc: Global) -> Result<Command<'a>, AllocError>
+    ensures { IfOk result (λ c. (app_of c ≡ spec.labels) × ((fields_of c).has_globals ≡ false)) }
+{
+    Command::new(alloc, "labels")
+        .about("Tells the labels of FILE")
+        .override_usage("rvdap labels [--json] <FILE>")
+        .after_help(AFTER_HELP_OF_LABELS)
+        .arg(json(alloc))?
+        .arg(file(
+            alloc,
+            "FILE",
+            "A text of assembly, of at most 1,048,576 bytes",
+        ))
+}
+
+fn json<'a>(alloc: Global) -> Arg<'a>
+    ensures rule { rule_of result ≡ spec.flag (codes "json") }
+    ensures local { result.global ≡ false }
+{
+    Arg::new(alloc, "json")
+        .long("json")
+        .action(ArgAction::SetTrue)
+        .help("Write an object of JSON on each line")
+}
+
+// The files of a command, of which there has to be one.
+fn files<'a>(alloc: Global) -> Arg<'a>
+    ensures rule { rule_of result ≡ spec.files (codes "FILE") }
+    ensures local { result.global ≡ false }
+{
+    Arg::new(alloc, "FILE")
+        .required(true)
+        .num_args(1..)
+        .help("Texts of assembly, each of at most 1,048,576 bytes")
 }
 
 // The file of a command, which has to be there.

@@ -5,12 +5,13 @@ mod asked;
 mod command;
 mod fault;
 mod given;
+mod limit;
 mod memory;
 mod reading;
 mod rules;
 mod usage;
 
-pub use asked::{Mode, Options, Text};
+pub use asked::{Mode, Options, Text, Texts};
 pub use memory::DEFAULT_MEMORY;
 pub use reading::{options, try_options};
 pub use usage::Usage;

@@ -1,13 +1,11 @@
-//! `rvdap asm FILE`: the listing of a file on standard output.
+//! `rvdap asm FILE` and `rvdap labels FILE`: what is in a text of assembly, on standard output.
 
-use assembler::TEXT_LIMIT;
-use blocking_io::Waiting;
-use listing::{ListFault, listing};
-use std::fs::File;
-use std::io;
-use std::io::Read;
+use crate::text_file::{NoText, text_in};
+use assembler::{AsmError, AsmErrorKind};
+use blocking_io::{Waiting, write_whole};
+use listing::{LabelForm, ListFault, labels, listing};
 
-/// Why a file was not listed.
+/// Why nothing, or not all, was written of a file.
 pub(crate) enum AsmFault {
     /// The file can't be read, or is too long.
     Unreadable,
@@ -17,13 +15,7 @@ pub(crate) enum AsmFault {
 
 /// Assembles the text in a file for a memory of 1 MiB, and writes its listing to standard output.
 pub(crate) fn list_file(rt: &HostRuntime, file: &str) -> Result<(), AsmFault> {
-    let text = match read_some(rt, file) {
-        Ok(text) => text,
-        Err(error) => return Err(unread(&error)),
-    };
-    if text.len() > TEXT_LIMIT {
-        return Err(AsmFault::Unreadable);
-    }
+    let text = read(rt, file)?;
     let mut output = Waiting::new(rt.stdout());
     match listing(rt.alloc(), text.as_slice(), &mut output) {
         Ok(()) => Ok(()),
@@ -31,17 +23,35 @@ pub(crate) fn list_file(rt: &HostRuntime, file: &str) -> Result<(), AsmFault> {
     }
 }
 
-// A file's bytes, up to one more than a text may have.
-fn read_some(rt: &HostRuntime, file: &str) -> io::Result<Vec<u8>> {
-    let mut bytes = Vec::new(rt.alloc());
-    let mut file = File::open(rt, file)?.take(TEXT_LIMIT as u64 + 1);
-    file.read_to_end(&mut bytes)?;
-    Ok(bytes)
+/// Assembles the text in a file for a memory of 1 MiB, and writes its labels to standard output, as JSON where that is asked for.
+pub(crate) fn list_labels(rt: &HostRuntime, file: &str, as_json: bool) -> Result<(), AsmFault> {
+    let text = read(rt, file)?;
+    let form = if as_json {
+        LabelForm::Json
+    } else {
+        LabelForm::Text
+    };
+    let lines = match labels(rt.alloc(), text.as_slice(), form) {
+        Ok(lines) => lines,
+        Err(error) => return Err(AsmFault::Unlisted(fault_of(error))),
+    };
+    match write_whole(&mut Waiting::new(rt.stdout()), lines.as_bytes()) {
+        Ok(()) => Ok(()),
+        Err(_) => Err(AsmFault::Unlisted(ListFault::Write)),
+    }
 }
 
-fn unread(error: &io::Error) -> AsmFault {
-    match error.kind() {
-        io::ErrorKind::OutOfMemory => AsmFault::Unlisted(ListFault::NoMemory),
-        _ => AsmFault::Unreadable,
+fn fault_of(error: AsmError) -> ListFault {
+    match error.kind {
+        AsmErrorKind::NoMemory => ListFault::NoMemory,
+        _ => ListFault::Assembly(error),
+    }
+}
+
+fn read(rt: &HostRuntime, file: &str) -> Result<Vec<u8>, AsmFault> {
+    match text_in(rt, file) {
+        Ok(text) => Ok(text),
+        Err(NoText::Unreadable) => Err(AsmFault::Unreadable),
+        Err(NoText::NoMemory) => Err(AsmFault::Unlisted(ListFault::NoMemory)),
     }
 }

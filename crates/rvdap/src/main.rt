@@ -1,21 +1,26 @@
 //! `rvdap`, a debug adapter: editors that speak the Debug Adapter Protocol are served over standard streams or over TCP. By
-//! `rvdap asm FILE` it lists the instructions of a file, and by `rvdap watch SCRIPT` it shows what an editor knows by a script.
+//! `rvdap run FILE` a program runs without an editor, by `rvdap check FILE..` its errors are told, by `rvdap labels FILE` and `rvdap asm FILE`
+//! what is in it, and `rvdap watch SCRIPT` shows what an editor knows by a script.
 #![tactic(auto)]
 
 mod arguments;
 mod asm;
+mod checking;
 mod disk;
 mod editors;
 mod exit_reason;
 mod listening;
 mod memory;
+mod running;
 mod serving;
+mod text_file;
 mod watch;
 
 ghost use Rattle.options.specs.Memory.{IsOffered};
 
 use arguments::{Unasked, options_of};
-use asm::{AsmFault, list_file};
+use asm::{AsmFault, list_file, list_labels};
+use checking::{CheckFault, Checked, check_file};
 use connections::StreamWire;
 use disk::Disk;
 use editors::Editors;
@@ -25,6 +30,7 @@ use listing::ListFault;
 use memory::MemorySize;
 use options::{Mode, Options};
 use protocol::Text;
+use running::{RunFault, Terms, run_file};
 use serving::{NoSession, new_session, serve_one};
 use session::{Bytes, Session};
 use std::fmt::Display;
@@ -33,8 +39,9 @@ use transport::{FileFault, Files};
 use watch::{WatchFault, play_file};
 use watch_command::ScriptFault;
 
-/// Status 0 where the input ended or a `disconnect` succeeded, where a file was listed or a script was played, and where help or the
-/// version was asked; 1 with one line on standard error where serving, listing or playing failed; 2 where the arguments are not taken.
+/// Status 0 where the input ended or a `disconnect` succeeded, where a file was listed or a script was played, where no file that was checked
+/// has an error, and where help or the version was asked; 1 with one line on standard error where that failed, or where a file has an error; 2
+/// where the arguments are not taken. A program that is run says its status itself.
 fn main(rt: HostRuntime) -> ExitCode {
     match options_of(&rt) {
         Ok(options) => run(&rt, &options),
@@ -47,8 +54,14 @@ fn run(rt: &HostRuntime, options: &Options) -> ExitCode
     requires { IsOffered options.now.memory }
 {
     match (options.mode, &options.file) {
-        (Mode::Asm, Some(file)) => list(rt, file.as_str()),
+        (Mode::Asm, Some(file)) => listed(rt, file.as_str(), list_file(rt, file.as_str())),
+        (Mode::Labels, Some(file)) => {
+            let labels = list_labels(rt, file.as_str(), options.json);
+            listed(rt, file.as_str(), labels)
+        }
         (Mode::Watch, Some(script)) => show(rt, script.as_str()),
+        (Mode::Run, Some(file)) => execute(rt, file.as_str(), options),
+        (Mode::Check, Some(file)) => check(rt, file.as_str(), options),
         _ => serve(rt, options),
     }
 }
@@ -102,8 +115,59 @@ fn serve_streams(rt: &HostRuntime, session: &mut Session) -> ExitReason {
     serve_one(rt.alloc(), session, &mut wire, &mut Disk::new(rt))
 }
 
-fn list(rt: &HostRuntime, file: &str) -> ExitCode {
-    match list_file(rt, file) {
+// A program runs without an editor.
+fn execute(rt: &HostRuntime, file: &str, options: &Options) -> ExitCode
+    requires { IsOffered options.now.memory }
+{
+    let terms = Terms {
+        memory: MemorySize::of(options.memory),
+        limit: options.limit,
+        counts: options.count,
+    };
+    match run_file(rt, file, terms) {
+        Ok(status) => ExitCode::from(status),
+        Err(RunFault::Unreadable) => fail_at(rt, file, "cannot read"),
+        Err(RunFault::Write) => end(rt, ExitReason::ReadOrWriteFault),
+        Err(RunFault::NoMemory) => end(rt, ExitReason::NoMemory),
+    }
+}
+
+// Each file is checked, the first and the others; where standard output fails or memory runs out, no further one is.
+fn check(rt: &HostRuntime, first: &str, options: &Options) -> ExitCode {
+    let mut all_right = match checked(rt, first, options.json) {
+        Ok(right) => right,
+        Err(why) => return end(rt, why),
+    };
+    for file in options.others.as_slice() {
+        match checked(rt, file.as_str(), options.json) {
+            Ok(right) => all_right = all_right && right,
+            Err(why) => return end(rt, why),
+        }
+    }
+    if all_right {
+        ExitCode::SUCCESS
+    } else {
+        ExitCode::FAILURE
+    }
+}
+
+// Whether a file has no error. What is wrong with it was told.
+fn checked(rt: &HostRuntime, file: &str, as_json: bool) -> Result<bool, ExitReason> {
+    match check_file(rt, file, as_json) {
+        Ok(Checked::Right) => Ok(true),
+        Ok(Checked::Wrong) => Ok(false),
+        Ok(Checked::Unreadable) => {
+            fail_at(rt, file, "cannot read");
+            Ok(false)
+        }
+        Err(CheckFault::Write) => Err(ExitReason::ReadOrWriteFault),
+        Err(CheckFault::NoMemory) => Err(ExitReason::NoMemory),
+    }
+}
+
+// What came of a listing.
+fn listed(rt: &HostRuntime, file: &str, answer: Result<(), AsmFault>) -> ExitCode {
+    match answer {
         Ok(()) => ExitCode::SUCCESS,
         Err(AsmFault::Unreadable) => fail_at(rt, file, "cannot read"),
         Err(AsmFault::Unlisted(ListFault::Assembly(error))) => fail_at(rt, file, error),

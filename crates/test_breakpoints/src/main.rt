@@ -1,7 +1,8 @@
 //! Plays breakpoints, on a hart and a memory of 65,536 bytes.
 //!
 //! - what changes the machine, as `test_hart` says.
-//! - `source BREAKPOINT..`, `instructions BREAKPOINT..`: sets a list, as `lists` says.
+//! - `source BREAKPOINT..`, `instructions BREAKPOINT..`: sets a list, as `lists` says. `once` before it: it is not made again where it
+//!   found no memory, which is its answer then.
 //! - `check`: looks at the breakpoints at pc: whether those of source lines stop, whether those of instructions do, and the ids
 //!   of those that do.
 //! - `ids`: the ids of those that stopped at the last check; `forget`: forgets them.
@@ -28,14 +29,10 @@ struct Watched {
 impl Player for Watched {
     fn answer(&mut self, alloc: Global, arguments: &[&str]) -> Result<String, Fault> {
         match arguments {
-            ["source", list @ ..] => {
-                called(self.breaks.set_source(list_of(alloc, list)?))?;
-                shown(alloc, "ok")
-            }
-            ["instructions", list @ ..] => {
-                called(self.breaks.set_instructions(list_of(alloc, list)?))?;
-                shown(alloc, "ok")
-            }
+            ["source", list @ ..] => self.set_source(alloc, list),
+            ["instructions", list @ ..] => self.set_instructions(alloc, list),
+            ["once", "source", list @ ..] => once(alloc, self.set_source(alloc, list)),
+            ["once", "instructions", list @ ..] => once(alloc, self.set_instructions(alloc, list)),
             [name] => self.call(alloc, name),
             ["has", address] => shown(alloc, self.breaks.has(parsed(address)?)),
             change => self.machine.change(alloc, change),
@@ -44,6 +41,16 @@ impl Player for Watched {
 }
 
 impl Watched {
+    fn set_source(&mut self, alloc: Global, list: &[&str]) -> Result<String, Fault> {
+        called(self.breaks.set_source(list_of(alloc, list)?))?;
+        shown(alloc, "ok")
+    }
+
+    fn set_instructions(&mut self, alloc: Global, list: &[&str]) -> Result<String, Fault> {
+        called(self.breaks.set_instructions(list_of(alloc, list)?))?;
+        shown(alloc, "ok")
+    }
+
     /// A call without arguments.
     fn call(&mut self, alloc: Global, name: &str) -> Result<String, Fault> {
         match name {
@@ -70,6 +77,14 @@ impl Watched {
         let hit = self.breaks.check(hart.pc, hart, memory);
         let answer = format!(in alloc; "{} {}", hit.source, hit.instruction)?;
         with_ids(answer, alloc, self.breaks.ids())
+    }
+}
+
+/// The answer of a call that is not made again.
+fn once(alloc: Global, answer: Result<String, Fault>) -> Result<String, Fault> {
+    match answer {
+        Err(Fault::NoMemoryInCall) => shown(alloc, "NoMemory"),
+        answer => answer,
     }
 }
 

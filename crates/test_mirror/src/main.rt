@@ -4,6 +4,7 @@
 //! - `sent BODY`: the request that this body is.
 //! - `feed BYTES`: a piece of the stream.
 //! - a query by its name, with its arguments.
+//! - `once CALL`: a call that is not made again where it found no memory, which is its answer then.
 #![tactic(auto)]
 
 use mirror::{Mirror, MirrorError};
@@ -27,15 +28,25 @@ fn main(rt: HostRuntime) -> ExitCode {
 impl Player for Watcher {
     fn answer(&mut self, alloc: Global, arguments: &[&str]) -> Result<String, Fault> {
         match arguments {
+            ["once", call @ ..] => match self.call(alloc, call) {
+                Err(Fault::NoMemoryInCall) => shown(alloc, "NoMemory"),
+                answer => answer,
+            },
+            call => self.call(alloc, call),
+        }
+    }
+}
+
+impl Watcher {
+    fn call(&mut self, alloc: Global, arguments: &[&str]) -> Result<String, Fault> {
+        match arguments {
             ["new"] => self.begin(alloc),
             ["sent", body] => self.sent(alloc, body),
             ["feed", piece] => self.feed(alloc, piece),
             query => self.query(alloc, query),
         }
     }
-}
 
-impl Watcher {
     fn begin(&mut self, alloc: Global) -> Result<String, Fault> {
         self.mirror = Mirror::new(alloc);
         shown(alloc, "ok")

@@ -113,13 +113,28 @@ fn told(alloc: Global, options: &Options) -> Result<String, Fault> {
         Mode::Serve => "serve",
         Mode::Asm => "asm",
         Mode::Watch => "watch",
+        Mode::Run => "run",
+        Mode::Check => "check",
+        Mode::Labels => "labels",
     })?;
     add_text(&mut line, options.file.as_ref())?;
     add_text(&mut line, options.listen.as_ref())?;
     add_text(&mut line, options.program.as_ref())?;
     line.value(options.once)?;
     line.value(options.memory)?;
+    line.optional(options.limit)?;
+    line.value(options.count)?;
+    line.value(options.json)?;
+    add_others(&mut line, options.others.as_slice())?;
     Ok(line.into_string())
+}
+
+fn add_others(line: &mut Line, others: &[Text]) -> Result<(), Fault> {
+    line.value(others.len())?;
+    for other in others {
+        line.bytes(other.as_str().as_bytes())?;
+    }
+    Ok(())
 }
 
 fn add_text(line: &mut Line, text: Option<&Text>) -> Result<(), Fault> {

@@ -4,7 +4,8 @@
 //! - `registers`, `stack`: the variables of a scope, each as `NAME=VALUE`.
 //! - `register NAME VALUE`: sets the register of a name to the value that a text writes, both given as their bytes.
 //! - `last NUMBER`: no number is issued yet, and this is the last that may be; at the start it is 2,147,483,647.
-//! - `issue TARGET..`, `number TARGET`: numbers of targets, each of which is `registers`, `stack` or the index of a frame.
+//! - `issue TARGET..`, `number TARGET`: numbers of targets, each of which is `registers`, `stack` or the index of a frame. `issue_once`
+//!   is not made again where it found no memory, which is its answer then.
 //! - `find NUMBER`, `next`, `end`: what a number refers to; the next number; the stop ends.
 #![tactic(auto)]
 
@@ -32,6 +33,10 @@ impl Player for Inspected {
             ["register", name, value] => self.register(alloc, name, value),
             ["last", last] => self.last(alloc, parsed(last)?),
             ["issue", targets @ ..] => self.issue(alloc, targets),
+            ["issue_once", targets @ ..] => match self.issue(alloc, targets) {
+                Err(Fault::NoMemoryInCall) => shown(alloc, "NoMemory"),
+                answer => answer,
+            },
             ["number", target] => self.number(alloc, target),
             ["find", number] => self.find(alloc, parsed(number)?),
             [name] => self.call(alloc, name),

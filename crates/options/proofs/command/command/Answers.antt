@@ -13,6 +13,12 @@ returns c =
     let once_is = c.in_ok-arg-4.ensures.shape c.once.ensures.local ∙ ap₂ with_rule program_is c.once.ensures.rule in
     let asm_is = c.in_ok-subcommand.ensures.shape c.in_ok-asm.ensures.1
     ∙ ap₂ with_subcommand once_is (ap (λ (a : App). a.top) c.in_ok-asm.ensures.0) in
-    IfOk-weaker c.subcommand-2.result _ _
-    (λ r added. added.shape c.in_ok-watch.ensures.1 ∙ ap₂ with_subcommand asm_is (ap (λ (a : App). a.top) c.in_ok-watch.ensures.0))
-    c.subcommand-2.ensures
+    let watch_is = c.in_ok-subcommand-2.ensures.shape c.in_ok-watch.ensures.1
+    ∙ ap₂ with_subcommand asm_is (ap (λ (a : App). a.top) c.in_ok-watch.ensures.0) in
+    let run_is = c.in_ok-subcommand-3.ensures.shape c.in_ok-run.ensures.1
+    ∙ ap₂ with_subcommand watch_is (ap (λ (a : App). a.top) c.in_ok-run.ensures.0) in
+    let check_is = c.in_ok-subcommand-4.ensures.shape c.in_ok-check.ensures.1
+    ∙ ap₂ with_subcommand run_is (ap (λ (a : App). a.top) c.in_ok-check.ensures.0) in
+    IfOk-weaker c.subcommand-5.result _ _
+    (λ r added. added.shape c.in_ok-labels.ensures.1 ∙ ap₂ with_subcommand check_is (ap (λ (a : App). a.top) c.in_ok-labels.ensures.0))
+    c.subcommand-5.ensures

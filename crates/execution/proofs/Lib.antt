@@ -1,0 +1,4 @@
+pub mod Joining
+pub mod Writing
+pub mod Ending
+pub mod Starting

@@ -1,0 +1,6 @@
+use Rattle.execution.proofs.Starting.{can_be_loaded}
+use Rattle.execution.proofs.loading.load.Goals as goal
+
+pub start-requires : goal.start-requires
+start-requires c =
+    can_be_loaded c.args.text.now c.in-Ok.image c.args.size c.requires.whole c.requires.some c.requires.few c.in-Ok.ensures.answers

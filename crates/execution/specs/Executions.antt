@@ -1,0 +1,80 @@
+-- The execution of a program without a debugger.
+--
+-- A machine goes on, tick by tick, for as long as each tick goes on, and for no more ticks than are allowed. What it
+-- prints is a line for each number that an instruction prints: the number in decimal, with a `-` where it is negative,
+-- and a line feed. These lines are written, in the order in which they were printed.
+--
+-- It ends with the first tick that ends the program or stops the machine. In a program that was just loaded, without
+-- breakpoints and without a goal, that is the first instruction that traps, the first call that ends the program, or
+-- the first EBREAK, and each instruction before it has retired.
+use Rattle.std.specs.Prelude.{◌≡◌, ℕ, ℤ, zero, suc, ◌<◌, ◌≤◌, ◌⊎◌, List, [], ◌++◌, length, take, codes, ⊤, Option, Some, None, Ok}
+use Rattle.std.specs.Fmt.{signed_decimal}
+use Rattle.std.specs.Io.KnownBytes.{Appends}
+use Rattle.stepping.specs.Ticks.{Debugged, IsTick}
+use Rattle.stepping.specs.declared.tick.Outcome.{Outcome}
+use Rattle.stepping.specs.declared.tick.Outcome.TheVariants as outcome
+use Rattle.execution.specs.declared.end.ExecutionEnd.{ExecutionEnd}
+use Rattle.execution.specs.declared.end.ExecutionEnd.TheVariants.{Ended, Stopped, Limit}
+use Rattle.execution.specs.declared.end.ExecutionFault.{ExecutionFault}
+use Rattle.execution.specs.declared.end.ExecutionFault.TheVariants.{Write, NoMemory}
+
+-- the line of a number that was printed, if one was
+abbrev pub line_of : Option ℤ → List ℕ
+line_of None = []
+line_of (Some number) = signed_decimal number ++ codes "\n"
+
+-- one tick with this outcome, and the line that it printed
+abbrev pub Does : Outcome → Debugged → List ℕ → Debugged → Type 0
+Does out before line after = (number : Option ℤ)
+    × IsTick before (Ok (record { printed = number; outcome = out })) after × (line ≡ line_of number)
+
+-- So many ticks, each of which went on, and the lines that they printed.
+abbrev pub Goes : ℕ → Debugged → List ℕ → Debugged → Type 0
+Goes zero start lines after = (lines ≡ []) × (after ≡ start)
+Goes (suc ticks) start lines after = (before : Debugged) × (earlier : List ℕ) × (line : List ℕ)
+    × Goes ticks start earlier before × Does outcome.Went before line after × (lines ≡ earlier ++ line)
+
+-- So many ticks that went on, and one more with this outcome.
+pub record Meets (out : Outcome) (ticks : ℕ) (start : Debugged) (lines : List ℕ) (after : Debugged) : Type 0 where
+  pub before : Debugged
+  pub earlier : List ℕ
+  pub line : List ℕ
+  pub goes : Goes ticks start earlier before
+  pub last : Does out before line after
+  pub all : lines ≡ earlier ++ line
+
+-- An execution ended so, before so many ticks were made.
+abbrev pub EndsBefore : ℕ → ExecutionEnd → Debugged → List ℕ → Debugged → Type 0
+EndsBefore most (Ended code) start lines after = (ticks : ℕ) × (ticks < most) × Meets (outcome.Ended code) ticks start lines after
+EndsBefore most (Stopped reason) start lines after = (ticks : ℕ) × (ticks < most) × Meets (outcome.Stopped reason) ticks start lines after
+EndsBefore most Limit start lines after = ⊥
+
+-- How an execution ends for which so many ticks are allowed.
+abbrev pub Ends : ℕ → ExecutionEnd → Debugged → List ℕ → Debugged → Type 0
+Ends limit (Ended code) start lines after = EndsBefore limit (Ended code) start lines after
+Ends limit (Stopped reason) start lines after = EndsBefore limit (Stopped reason) start lines after
+Ends limit Limit start lines after = Goes limit start lines after
+
+-- An execution ended so, and its lines were written.
+pub record Executes (limit : ℕ) (end : ExecutionEnd) (start after : Debugged) (before now : Option (List ℕ)) : Type 0 where
+  pub lines : List ℕ
+  pub ends : Ends limit end start lines after
+  pub written : Appends before now lines
+
+-- some ticks of an execution for which so many are allowed: so many that went on, or up to its end
+abbrev pub Made : ℕ → Debugged → List ℕ → Debugged → Type 0
+Made limit start lines after = ((ticks : ℕ) × (ticks ≤ limit) × Goes ticks start lines after)
+    ⊎ ((end : ExecutionEnd) × EndsBefore limit end start lines after)
+
+-- how much of the lines is written where it is given up: where the writer failed, not all
+abbrev pub IsShort : ExecutionFault → ℕ → List ℕ → Type 0
+IsShort Write count lines = count < length lines
+IsShort NoMemory count lines = ⊤
+
+-- It was given up: the machine has made some of its ticks, and a first part of their lines was written.
+pub record IsGivenUp (limit : ℕ) (fault : ExecutionFault) (start after : Debugged) (before now : Option (List ℕ)) : Type 0 where
+  pub lines : List ℕ
+  pub made : Made limit start lines after
+  pub count : ℕ
+  pub short : IsShort fault count lines
+  pub written : Appends before now (take count lines)

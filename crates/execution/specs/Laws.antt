@@ -1,0 +1,20 @@
+-- What holds of every execution: each of these statements is the contract of a function of the module `laws`.
+use Rattle.std.specs.Prelude.{◌≡◌, ℕ, zero, suc, ◌<◌, List}
+use Rattle.stepping.specs.RunLaws.{Says, number_after}
+use Rattle.stepping.specs.Ticks.{Debugged}
+use Rattle.stepping.specs.declared.tick.Outcome.TheVariants as outcome
+use Rattle.execution.specs.Executions.{Ends}
+use Rattle.execution.specs.declared.end.ExecutionEnd.{ExecutionEnd}
+use Rattle.execution.specs.declared.end.ExecutionEnd.TheVariants.{Ended, Stopped, Limit}
+
+-- where an execution that ended so stopped, and what it left; where the limit ended it, no reason had applied until then
+abbrev pub StopsThere : ℕ → ExecutionEnd → Debugged → Debugged → Type 0
+StopsThere limit (Ended code) start after = (ticks : ℕ) × (ticks < limit) × Says (number_after ticks start) (outcome.Ended code) start after
+StopsThere limit (Stopped reason) start after = (ticks : ℕ) × (ticks < limit) × Says (number_after ticks start) (outcome.Stopped reason) start after
+StopsThere zero Limit start after = after ≡ start
+StopsThere (suc ticks) Limit start after = Says (number_after ticks start) outcome.Went start after
+
+-- An execution ends where a run stops.
+abbrev pub EndsWhereARunStops : Type 0
+EndsWhereARunStops = (limit : ℕ) (end : ExecutionEnd) (start after : Debugged) (lines : List ℕ) → Ends limit end start lines after →
+    StopsThere limit end start after

@@ -1,0 +1,39 @@
+-- For private clauses alone: how the code goes, in slices, and what it writes of each.
+use Rattle.std.specs.Prelude.{◌≡◌, ℕ, ◌≤◌, List, ◌++◌, take, Option, Some, None}
+use Rattle.std.specs.Io.KnownBytes.{Appends}
+use Rattle.stepping.specs.Ticks.{Debugged}
+use Rattle.stepping.specs.declared.tick.Outcome.{Outcome}
+use Rattle.stepping.specs.declared.tick.Outcome.TheVariants as outcome
+use Rattle.execution.specs.Executions.{EndsBefore, Goes, Made}
+use Rattle.execution.specs.declared.end.ExecutionEnd.{ExecutionEnd}
+use Rattle.execution.specs.declared.end.ExecutionEnd.TheVariants.{Ended, Stopped}
+
+-- how an execution ends by the outcome of a tick, if it does
+abbrev pub end_by : Outcome → Option ExecutionEnd
+end_by outcome.Went = None
+end_by (outcome.Stopped reason) = Some (Stopped reason)
+end_by (outcome.Ended code) = Some (Ended code)
+
+-- What a slice of so many ticks at most came to: one and more that went on, or the end of the execution.
+abbrev pub Comes : ℕ → ℕ → Option ExecutionEnd → Debugged → List ℕ → Debugged → Type 0
+Comes most made None start lines after = (1 ≤ made) × (made ≤ most) × Goes made start lines after
+Comes most made (Some end) start lines after = EndsBefore most end start lines after
+
+-- its lines stand after a text that was there before
+pub record IsSlice (most made : ℕ) (end : Option ExecutionEnd) (start after : Debugged) (text text' : List ℕ) : Type 0 where
+  pub lines : List ℕ
+  pub comes : Comes most made end start lines after
+  pub text_is : text' ≡ text ++ lines
+
+-- where no memory was left, a first part of its lines does
+pub record BreaksOff (most : ℕ) (start after : Debugged) (text text' : List ℕ) : Type 0 where
+  pub lines : List ℕ
+  pub made : Made most start lines after
+  pub count : ℕ
+  pub text_is : text' ≡ text ++ take count lines
+
+-- its lines were written
+pub record Writes (most made : ℕ) (end : Option ExecutionEnd) (start after : Debugged) (before now : Option (List ℕ)) : Type 0 where
+  pub lines : List ℕ
+  pub comes : Comes most made end start lines after
+  pub written : Appends before now lines

@@ -1,0 +1,113 @@
+//! Instructions in a row, and the lines that they print.
+
+ghost use Rattle.std.specs.Prelude.{◌≡◌, ◌+◌, ◌^◌, ◌≤◌, ◌++◌, None, IfOk, OnErr, OnOk, string_bytes};
+ghost use Rattle.execution.specs.Executions.{line_of};
+ghost use Rattle.execution.specs.Slices.{BreaksOff, IsSlice, end_by};
+
+use crate::end::ExecutionEnd;
+use std::alloc::{AllocError, Global};
+use stepping::{Outcome, RunEnd, Runner};
+
+/// What came of some instructions in a row.
+#[derive(Clone, Copy)]
+pub(crate) struct Slice {
+    /// How many went.
+    pub made: u32,
+    /// How the execution ended with one more; `None`: it goes on.
+    pub end: Option<ExecutionEnd>,
+}
+
+/// So many instructions, or fewer where the execution ends before. Their lines are put after those that are there. `Err`: no memory was
+/// left for one of these, or for a page of the machine's memory.
+pub(crate) fn run_slice(
+    alloc: Global,
+    runner: &mut Runner,
+    most: u32,
+    lines: &mut String,
+) -> Result<Slice, AllocError>
+    requires some { 1 ≤ most }
+    requires few { runner.old.retired + most ≤ 2 ^ 62 }
+    ensures ok { IfOk result (λ slice. IsSlice most slice.made slice.end runner.old runner.new
+        (string_bytes lines.old) (string_bytes lines.new)) }
+    ensures err { OnErr result (BreaksOff most runner.old runner.new
+        (string_bytes lines.old) (string_bytes lines.new)) }
+{
+    let mut made = 0;
+    while made < most {
+        let part = stretch(alloc, runner, most - made, lines)?;
+        match part.end {
+            Some(end) => {
+                return Ok(Slice {
+                    made,
+                    end: Some(end),
+                });
+            }
+            None => made += part.made,
+        }
+    }
+    Ok(Slice { made, end: None })
+}
+
+// So many instructions at most, up to the first of which there is something to report.
+fn stretch(
+    alloc: Global,
+    runner: &mut Runner,
+    most: u32,
+    lines: &mut String,
+) -> Result<Slice, AllocError>
+    requires some { 1 ≤ most }
+    requires few { runner.old.retired + most ≤ 2 ^ 62 }
+    ensures ok { IfOk result (λ slice. IsSlice most slice.made slice.end runner.old runner.new
+        (string_bytes lines.old) (string_bytes lines.new)) }
+    ensures err { OnErr result (BreaksOff most runner.old runner.new
+        (string_bytes lines.old) (string_bytes lines.new)) }
+{
+    let ran = runner.run(most);
+    match ran.ending {
+        RunEnd::Spent => Ok(Slice {
+            made: most,
+            end: None,
+        }),
+        RunEnd::Ticked(tick) => {
+            push_line(alloc, lines, tick.printed)?;
+            Ok(slice_to(ran.went, tick.outcome))
+        }
+        RunEnd::NoMemory => Err(AllocError),
+    }
+}
+
+// So many went, and then one more with this outcome.
+fn slice_to(went: u32, outcome: Outcome) -> Slice
+    requires { went + 1 ≤ 4294967295 }
+    ensures end { result.end ≡ end_by outcome }
+    ensures made { end_by outcome ≡ None → result.made ≡ went + 1 }
+{
+    match outcome {
+        Outcome::Went => Slice {
+            made: went + 1,
+            end: None,
+        },
+        Outcome::Stopped(reason) => Slice {
+            made: went,
+            end: Some(ExecutionEnd::Stopped(reason)),
+        },
+        Outcome::Ended(code) => Slice {
+            made: went,
+            end: Some(ExecutionEnd::Ended(code)),
+        },
+    }
+}
+
+// The line of a number that was printed, if one was, after others.
+fn push_line(alloc: Global, lines: &mut String, printed: Option<i32>) -> Result<(), AllocError>
+    ensures ok { OnOk result (string_bytes lines.new ≡ string_bytes lines.old ++ line_of printed) }
+    ensures err { OnErr result (string_bytes lines.new ≡ string_bytes lines.old) }
+{
+    match printed {
+        None => Ok(()),
+        Some(number) => {
+            let line = format!(in alloc; "{number}\n")?;
+            lines.push_str(line.as_str())
+        }
+    }
+}
