@@ -9,7 +9,7 @@ wants = @command -v $(1) > /dev/null || { echo "make: $(1) is absent: $(2)" >&2;
 # What gives the program: the proofs, or, where there is no rt, that it was built before.
 PROGRAM_BY = $(if $(shell command -v rt 2> /dev/null),build,built)
 
-.PHONY: run build test bench install dist clean built toolchain compiler python
+.PHONY: run build test bench soak install dist clean built toolchain compiler python
 
 # Debugs an example: plays a session into the program as an editor would, and prints what each request gives.
 run: python $(PROGRAM_BY)
@@ -29,6 +29,10 @@ test: toolchain compiler python
 # Measures the program beside bench/floor.c in the same run.
 bench: compiler python build
 	bench/run
+
+# Load and sessions at random for the program, for some minutes: a table for bench/README.md.
+soak: python $(PROGRAM_BY)
+	tests/soak
 
 # The program, its man page, and completions for bash, zsh and fish.
 install: $(PROGRAM_BY)

@@ -1,7 +1,6 @@
 """The files of editors/ and the configurations of docs/EDITORS.md: they take the lines that the built program prints of an error, they are
 in their languages, and each word that they give to rvdap is one that its help lists. Emacs, Vim and Neovim load them where they are at
 hand."""
-import ast
 import glob
 import json
 import os
@@ -33,14 +32,14 @@ def text_of(*path):
 
 
 def said(path):
-    """What `rvdap asm` says of a file on standard error."""
-    ran = subprocess.run([PROGRAM, "asm", path], stdin=subprocess.DEVNULL, capture_output=True, timeout=SECONDS)
+    """What `rvdap check` says of a file."""
+    ran = subprocess.run([PROGRAM, "check", path], stdin=subprocess.DEVNULL, capture_output=True, timeout=SECONDS)
     expect(ran.returncode, 1, "the status of a text with an error")
-    return ran.stderr.decode()
+    return (ran.stdout + ran.stderr).decode()
 
 
 def each_error():
-    """Of each error: the path of a text that has it, its line, its name, and what `rvdap asm` says of it."""
+    """Of each error: the path of a text that has it, its line, its name, and what `rvdap check` says of it."""
     for text, line, name in ERRORS:
         with file_of(text) as path:
             yield path, line, name, said(path)
@@ -48,34 +47,21 @@ def each_error():
 
 # ---- Emacs
 
-def of_emacs(pattern):
-    """A regular expression of Emacs, as one of Python: there a bracket groups where a backslash is before it. These files use no more."""
-    expect(re.sub(r"\\[()]|\[[^]]*\]|[\w^$.+* :]", "", pattern), "", "what a pattern of Emacs has beside what is read here")
-    return re.sub(r"\\?[()]", lambda found: found[0][1:] or "\\" + found[0], pattern)
-
-
-def pattern_of(name):
-    """The regular expression in a file for Emacs, and the groups of the file and of the line."""
-    found = re.search(r"""'\(rvdap ("(?:[^"\\]|\\.)*") (\d) (\d)\)""", text_of("editors", "emacs", name))
-    return of_emacs(ast.literal_eval(found[1])), int(found[2]), int(found[3])
+# The form of an error that Emacs calls `gnu', as compile.el of Emacs 28 to 30 has it, without what may follow the number of a line: an optional
+# program, the file, which does not begin with a blank and is not all digits, and the line.
+GNU = re.compile(r"^(?:[A-Za-z][-A-Za-z0-9.]+: ?)?(?P<file>(?:[^0-9\n\t ]|[0-9]+[^0-9\n])(?:[^\n :]| [^-/\n]|:[^ \n])*?): ?(?P<line>[0-9]+):", re.M)
 
 
 def emacs_takes_each_error():
+    for path, line, error, words in each_error():
+        found = [it.group("file", "line") for it in GNU.finditer(words)]
+        expect(found, [(path, str(line))], "where the error %s is, and nothing else" % error)
+    expect(GNU.findall(said("/nowhere.s")), [], "a file that cannot be read has no line")
+
+
+def both_files_for_emacs_run_one_command():
     for name in LISP:
-        pattern, file, line_of = pattern_of(name)
-        for path, line, error, words in each_error():
-            found = re.search(pattern, words, re.M)
-            expect(found and (found[file], found[line_of]), (path, str(line)), "%s: where the error %s is" % (name, error))
-        expect(re.search(pattern, said("/nowhere.s"), re.M), None, "%s: a file that cannot be read has no line" % name)
-        expect(re.search(pattern, listing(), re.M), None, "%s: a listing has no error" % name)
-
-
-def listing():
-    return subprocess.run([PROGRAM, "asm", "examples/sort.s"], cwd=TOP, capture_output=True, timeout=SECONDS, check=True).stdout.decode()
-
-
-def both_files_for_emacs_have_one_pattern():
-    expect(pattern_of(LISP[0]), pattern_of(LISP[1]), "the patterns of the two files")
+        expect(re.findall(r'concat "(.*?)"', text_of("editors", "emacs", name)), ["rvdap check "], "what %s runs before it launches" % name)
 
 
 # ---- Vim
@@ -107,11 +93,12 @@ def taken(line):
 
 def vim_takes_each_error():
     for path, line, error, words in each_error():
-        expect(taken(words.rstrip("\n")), (None, {"file": path, "line": str(line), "text": error}), "the error %s" % error)
+        first, *rest = words.splitlines()
+        prefix, found = taken(first)
+        expect((prefix, found["file"], found["line"], found["text"].split(":")[0]), (None, path, str(line), error), "the error %s" % error)
+        expect([taken(it)[0] for it in rest], ["%-G"] * len(rest), "the line itself is left out")
     prefix, found = taken(said("/nowhere.s").rstrip("\n"))
     expect((prefix, found), ("%+G", {"text": "/nowhere.s: cannot read"}), "a file that cannot be read is shown without a line")
-    for line in listing().splitlines():
-        expect(taken(line)[0], "%-G", "a line of a listing is left out")
 
 
 # ---- the editors themselves, where they are
@@ -159,7 +146,7 @@ def emacs_loads_its_files():
             words += ["-l", os.path.join(TOP, "editors", "emacs", name)]
         ran = subprocess.run(words + ["--eval", "(progn %s)" % PRINTS], env=environment(LINE=said(path), BAD=path, GOOD=good),
                              capture_output=True, timeout=SECONDS)
-    wanted = [r'((rvdap rvdap-tcp rvdap-attach) "rvdap asm /a\\ b.s > /dev/null")', '(:program "%s" :dap-server-path ("rvdap"))' % good,
+    wanted = [r'((rvdap rvdap-tcp rvdap-attach) "rvdap check /a\\ b.s")', '(:program "%s" :dap-server-path ("rvdap"))' % good,
               "user-error", '(2 "%s")' % path]
     expect(ran.stdout.decode().splitlines(), wanted, "what Emacs has after it loaded its files: %s" % ran.stderr.decode())
 
@@ -173,7 +160,7 @@ def found_by_vim(words, folder):
                          "-c", shows, "-c", "qall!", path]
         subprocess.run(words, env=environment(), stdin=subprocess.DEVNULL, capture_output=True, timeout=SECONDS)
         with open(kept, encoding="utf-8") as file:
-            expect(json.load(file), [[path, 2, "Undefined"]], "the quickfix list of %s" % words[0])
+            expect(json.load(file), [[path, 2, "Undefined: no line defines this label"]], "the quickfix list of %s" % words[0])
 
 
 def can_make(editor):
@@ -281,14 +268,14 @@ def each_word_is_one_of_the_help():
     commands = re.findall(r"^  (\w+)  ", re.search(r"^Commands:\n(.*?)\n\n", ran, re.M | re.S)[1], re.M)
     known = set(commands) | set(re.findall(r"--\w+", re.search(r"^Options:\n(.*?)\n\n", ran, re.M | re.S)[1]))
     found = list(words_of_files()) + list(words_of_the_document())
-    for word in ("--listen", "--once", "--program", "asm"):
+    for word in ("--listen", "--once", "--program", "check"):
         expect(word in {given for _, given in found}, True, "some configuration has the word %s" % word)
     for name, word in found:
         expect(word in known, True, "%s: rvdap --help lists %s" % (name, word))
 
 
 def checks():
-    found = (emacs_takes_each_error, both_files_for_emacs_have_one_pattern, vim_takes_each_error, emacs_loads_its_files,
+    found = (emacs_takes_each_error, both_files_for_emacs_run_one_command, vim_takes_each_error, emacs_loads_its_files,
              vim_and_neovim_load_their_file, neovim_loads_its_configurations, json_is_json, toml_is_toml,
              what_the_document_quotes_is_in_its_file, each_file_of_an_editor_is_in_the_document, each_word_is_one_of_the_help)
     return [(check.__name__.replace("_", " "), check) for check in found]

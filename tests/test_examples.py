@@ -82,15 +82,14 @@ def assembled(text):
 
 
 def run_of(text):
-    """A run of a text by examples/run."""
+    """A run of a text by `rvdap run`."""
     with file_of(text) as path:
-        command = [os.path.join(TOP, "examples", "run"), "--rvdap", PROGRAM, path]
-        return subprocess.run(command, capture_output=True, text=True, timeout=60)
+        return subprocess.run([PROGRAM, "run", path], capture_output=True, text=True, timeout=60)
 
 
 def stop_of(text):
     """Why a run of a text stops; nothing where it ends by itself."""
-    return run_of(text).stderr.strip().rpartition(": ")[2]
+    return run_of(text).stderr.strip().rpartition(": ")[2].partition(" at 0x")[0]
 
 
 def printed_by(text):

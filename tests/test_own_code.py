@@ -15,9 +15,10 @@ import struct
 import subprocess
 import tempfile
 
+from support.elf import elf_of, image_of
 from support.files import file_of
 from support.machine import BASE
-from support.program import PROGRAM, TOP, expect
+from support.program import PROGRAM, expect
 from support.simulator import Hart, signed
 
 BATCHES = int(os.environ.get("BATCHES", 1))
@@ -134,28 +135,18 @@ def text_of(seed, prints):
     return START % {"registers": HASHES, "prints": prints} + programs + "\nj done\n"
 
 
-def image_of(path):
-    """The bytes of a text that has no data, as the program lists them."""
-    listed = subprocess.run([PROGRAM, "asm", path], stdout=subprocess.PIPE, check=True, timeout=SECONDS).stdout.decode()
-    return b"".join(int(line.split()[1], 16).to_bytes(4, "little") for line in listed.splitlines())
-
-
 def printed_by_rvdap(path):
-    command = [os.path.join(TOP, "examples", "run"), "--rvdap", PROGRAM, "--seconds", str(SECONDS), path]
-    ran = subprocess.run(command, capture_output=True, timeout=2 * SECONDS)
+    ran = subprocess.run([PROGRAM, "run", path], capture_output=True, timeout=SECONDS)
     expect((ran.stderr, ran.returncode), (b"", 0), "the end of the programs")
     return [int(line) for line in ran.stdout.split()]
 
 
 def printed_by_qemu(image):
     """The numbers that the same programs write under Linux."""
-    # An ELF file of one segment, which may be read, written and executed; its header is not loaded.
-    header = struct.pack("<7s9xHHIIIIIHHHHHH", b"\x7fELF\1\1\1", 2, 243, 1, BASE, 52, 0, 0, 52, 32, 1, 0, 0, 0)
-    segment = struct.pack("<8I", 1, 4096, BASE, BASE, len(image), len(image), 7, 4096)
     with tempfile.TemporaryDirectory() as folder:
         path = os.path.join(folder, "programs")
         with open(path, "wb") as file:
-            file.write((header + segment).ljust(4096, b"\0") + image)
+            file.write(elf_of(image))
         os.chmod(path, 0o700)
         ran = subprocess.run(["qemu-riscv32", path], env={**os.environ, **ANEW}, capture_output=True, timeout=SECONDS)
     expect((ran.stderr, ran.returncode), (b"", 0), "the end of the programs in qemu")

@@ -19,6 +19,7 @@ import test_prove
 from support.program import PROGRAM, SECONDS, TOP, expect
 
 EPOCH = 1700000000
+COMMANDS = ("run", "check", "labels", "asm", "watch")
 COMPLETIONS = {"bash": "rvdap.bash", "zsh": "_rvdap", "fish": "rvdap.fish"}
 # What `make run` and the packages need of the repository.
 PARTS = ("Makefile", "README.md", "CHANGELOG.md", "docs", "editors", "examples", "packaging", "tools")
@@ -333,6 +334,11 @@ def words_of_help(*words):
     return {*commands, *options}
 
 
+def words_of_commands():
+    """The options of all commands."""
+    return set().union(*(words_of_help(command) for command in COMMANDS))
+
+
 def manual_page():
     return text_of("packaging", "rvdap.1").replace("\\-", "-")
 
@@ -346,17 +352,24 @@ def titles_of(section):
 def the_manual_page_has_the_words_of_help():
     options = {word for title in titles_of("OPTIONS") for word in re.findall(r"--?\w+", title)}
     commands = {title.split()[0] for title in titles_of("COMMANDS")}
-    expect(options | commands, words_of_help(), "options and commands")
+    expect(options | {it for it in commands if it[0] != "-"}, words_of_help(), "options and commands")
+    expect({it for it in commands if it[0] == "-"}, words_of_commands() - words_of_help(), "options of commands alone")
     used = set(re.findall(r"(?<![\w-])--\w+", manual_page()))
-    expect(used - words_of_help(), set(), "options that are named anywhere")
+    expect(used - words_of_help() - words_of_commands(), set(), "options that are named anywhere")
     errors = set(re.findall(r"^  ([A-Z]\w+)  ", said_by(PROGRAM, "asm", "--help").partition("Errors")[2], re.M))
     expect(set(titles_of("ERRORS")), errors, "errors of the assembler")
     events = said_by(PROGRAM, "watch", "--help").partition("the last says what is watched:\n")[2].partition("\n\n")[0]
     expect({title.split()[0] for title in titles_of("SCRIPTS")}, set(re.findall(r"^  (\w+)", events, re.M)), "events of a script")
     expect(re.search(r'^\.TH RVDAP 1 \S+ "(.*?)"', manual_page())[1], "rvdap " + version(), "the version")
     usage = said_by(PROGRAM, "--help").partition("Usage: ")[2].partition("\n\n")[0]
-    ways = [line.split()[1] for line in usage.splitlines()]
-    expect(ways, ["[--memory", "--listen", "asm", "watch"], "the ways to use it, as the page has them")
+    synopsis = re.search(r"^\.SH SYNOPSIS\n(.*?)^\.SH", manual_page(), re.M | re.S)[1]
+    ways = [word or "[" + option for word, option in re.findall(r"^\.B rvdap(?: (\S+))?\n(?:\.RB \[ (\S+))?", synopsis, re.M)]
+    expect(ways, [line.split()[1] for line in usage.splitlines()], "the ways to use it")
+    for command in COMMANDS:
+        usage = said_by(PROGRAM, command, "--help").partition("Usage: ")[2].partition("\n")[0]
+        [way] = re.findall(r"^\.B rvdap %s\n(.*?)(?=^\.br|\Z)" % command, synopsis, re.M | re.S)
+        way = re.sub(r"^\.\w+ ", "", way, flags=re.M)
+        expect(re.findall(r"[\w.-]*\w", way), re.findall(r"[\w.-]*\w", usage.removeprefix("rvdap %s " % command)), "the way to use " + command)
 
 
 def the_manual_page_is_one():
@@ -385,10 +398,14 @@ def bash_completes_the_words_of_help():
     expect(completed_by_bash(""), words_of_help(), "the first word")
     expect(completed_by_bash("--l"), {"--listen"}, "a word that has begun")
     expect(completed_by_bash("--listen", "127.0.0.1:1", ""), {"--memory", "--listen", "--program", "--once"}, "after an option")
-    for command in ("asm", "watch"):
+    for command in COMMANDS:
         expect(completed_by_bash(command, "-"), words_of_help(command), "options after " + command)
-    for words, files in {"asm": "a.s c", "--program": "a.s c", "watch": "a.s b.txt c", "asm a.s": ""}.items():
+        expect(completed_by_bash(command), {command}, "the command " + command)
+    for words, files in {"asm": "a.s c", "--program": "a.s c", "watch": "a.s b.txt c", "asm a.s": "", "run": "a.s c", "run --count": "a.s c", "run a.s": "",
+                         "run --limit 7": "a.s c", "run --memory 8 a.s": "", "labels --json": "a.s c", "labels a.s": "", "check": "a.s c", "check a.s": "a.s c",
+                         "check --json a.s b.s": "a.s c"}.items():
         expect(completed_by_bash(*words.split(), ""), set(files.split()), "files after " + words)
+    expect(completed_by_bash("run", "a.s", "--m"), {"--memory"}, "an option after a file")
     expect(completed_by_bash("--listen", ""), {"127.0.0.1:4711"}, "an address")
     sizes = sorted(map(int, completed_by_bash("--memory", "")))
     expect([size for size in sizes if size % 4 or not 4 <= size <= 16384], [], "sizes of memory that are none")
@@ -396,11 +413,17 @@ def bash_completes_the_words_of_help():
 
 def zsh_and_fish_have_the_words_of_help():
     zsh, fish = text_of("packaging", "completions", "_rvdap"), text_of("packaging", "completions", "rvdap.fish")
-    options = re.findall(r"^ +'(--\w+)\[", zsh, re.M) + re.findall(r"\{(-\w),(--\w+)\}", zsh) + re.findall(r"(\w+)\\:\"", zsh)
-    found = {word for it in options for word in ([it] if isinstance(it, str) else it)}
-    expect(found, words_of_help(), "zsh")
+    top, rest = zsh.split("case $words[1] in\n")
+    expect(options_for_zsh(top) | set(re.findall(r"(\w+)\\:\"", top)), words_of_help(), "zsh")
+    for command, lines in re.findall(r"^  (\w+)\) (.*?);;", rest, re.M | re.S):
+        expect(options_for_zsh(lines), words_of_help(command), "zsh, after " + command)
+    expect(re.findall(r"^  (\w+)\) ", rest, re.M), list(COMMANDS), "commands that zsh completes after")
     found = {"--" + word for word in re.findall(r" -l (\w+)", fish)} | {"-" + word for word in re.findall(r" -s (\w)", fish)}
-    expect(found | set(re.findall(r" -a (\w+) ", fish)), words_of_help(), "fish")
+    expect(found | set(re.findall(r" -a (\w+) ", fish)), words_of_help() | words_of_commands(), "fish")
+
+
+def options_for_zsh(lines):
+    return {*re.findall(r"^ +'(--\w+)\[", lines, re.M), *(word for pair in re.findall(r"\{(-\w),(--\w+)\}", lines) for word in pair)}
 
 
 def fish_completes_the_words_of_help():
@@ -409,11 +432,12 @@ def fish_completes_the_words_of_help():
         return
     file = os.path.join(TOP, "packaging", "completions", "rvdap.fish")
     script, offered = "source $argv[1]; complete -C $argv[2]", {}
-    for line in ("rvdap ", "rvdap -", "rvdap asm -"):
+    for line in ("rvdap ", "rvdap -", *("rvdap %s -" % command for command in COMMANDS)):
         said = said_by("fish", "--no-config", "-c", script, file, line)
         offered[line] = {it.split("\t")[0] for it in said.splitlines()}
     expect(offered["rvdap "] | offered["rvdap -"], words_of_help(), "the first word")
-    expect(offered["rvdap asm -"], words_of_help("asm"), "options after asm")
+    for command in COMMANDS:
+        expect(offered["rvdap %s -" % command], words_of_help(command), "options after " + command)
 
 
 def each_shell_reads_its_completions():

@@ -25,5 +25,6 @@ def checks():
             found.append(("%s: %s" % (table, row.name), partial(is_played, module.PLAYER, row)))
             if row.refused:
                 which = "each allocation" if row.refused == 1 else "one allocation of %d" % row.refused
-                found.append(("%s: %s, %s refused" % (table, row.name, which), partial(is_played_without_memory, module.PLAYER, row)))
+                takes_none = tuple(getattr(module, "TAKES_NONE", {}).values())
+                found.append(("%s: %s, %s refused" % (table, row.name, which), partial(is_played_without_memory, module.PLAYER, row, takes_none)))
     return found

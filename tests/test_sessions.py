@@ -357,7 +357,9 @@ def help_and_version_are_printed():
 def help_says_what_to_do_without_a_command():
     out = run(b"", words=["--help"])[0]
     for words in (b"Usage: rvdap [--memory <KIB>]", b"rvdap --listen <ADDR> [--program <FILE>] [--once]", b"rvdap asm <FILE>", b"rvdap watch <SCRIPT>",
-                  b"  --memory <KIB>    Memory of a program", b"  --listen <ADDR> ", b"  --program <FILE> ", b"  --once ", b"  asm    Assembles FILE", b"  watch  Plays SCRIPT",
+                  b"rvdap run [--memory <KIB>] [--limit <N>] [--count] <FILE>", b"rvdap check [--json] <FILE>..", b"rvdap labels [--json] <FILE>",
+                  b"  --memory <KIB>    Memory of a program", b"  --listen <ADDR> ", b"  --program <FILE> ", b"  --once ", b"  asm     Assembles FILE", b"  watch   Plays SCRIPT",
+                  b"  run     Runs the program", b"  check   Tells the first error", b"  labels  Tells the labels",
                   b"Without a command", b"Debug Adapter Protocol (DAP)", b"docs/PROTOCOL.md", b"Status: 0", b"--version"):
         expect(words in out, True, "help has %r" % words)
     expect(b"standard input and output" in b" ".join(out.split()), True, "help says where it speaks")

@@ -6,7 +6,11 @@ import tempfile
 import threading
 import time
 
-from support.program import PROGRAM, SECONDS, expect, frame
+from support.files import file_of
+from support.interruptions import is_told_whatever_is_interrupted
+from support.launches import EXITED, TERMINATED, frames, started
+from support.program import PROGRAM, SECONDS, answered, expect, frame, run
+from support.programs import INCREMENT, INCREMENT_LISTING, LONG
 from support.streams import FAULT, KINDS, Streams, pipes
 from support.texts import ANSWERS, DISCONNECTED, FIRST, FIRST_ANSWER, SESSION, THREADS, request
 
@@ -152,6 +156,32 @@ def a_listing_is_whole_where_an_output_that_does_not_block_is_read_slowly():
             expect(streams.end()[:2], (0, b""), "the end")
 
 
+# ---- signals
+
+def a_signal_at_any_call_leaves_a_session_over_pipes_as_it_is():
+    """A program runs meanwhile, so that there are looks for input as well as waits."""
+    with file_of(LONG) as path:
+        sent, told = started(path)
+        told += frames(EXITED % (0, 5), TERMINATED % 6)
+        is_told_whatever_is_interrupted(lambda environment: answered(sent, told, environment=environment), (told, b"", 0), 6)
+
+
+def a_signal_at_any_call_leaves_a_session_over_streams_that_do_not_block_as_it_is():
+    def play(kind, environment):
+        with Streams(kind, environment=environment) as streams:
+            streams.write(FIRST)
+            told = streams.read(len(FIRST_ANSWER))
+            streams.write(SESSION[len(FIRST):])
+            return told + streams.read(len(ANSWERS) - len(told)), *streams.end()[:2]
+
+    for kind in KINDS:
+        is_told_whatever_is_interrupted(lambda environment: play(kind, environment), (ANSWERS, 0, b""), 6)
+
+
+def a_signal_at_any_call_leaves_a_listing_as_it_is():
+    is_told_whatever_is_interrupted(lambda environment: run(None, ("asm", INCREMENT), environment=environment), (INCREMENT_LISTING, b"", 0), 2)
+
+
 def checks():
     """Each check with its name."""
     return [(check.__name__.replace("_", " "), check) for check in (
@@ -166,4 +196,7 @@ def checks():
         the_null_device_is_an_input_that_has_ended_and_takes_all,
         a_stream_that_is_closed_is_a_fault_where_it_is_used,
         a_listing_is_whole_where_an_output_that_does_not_block_is_read_slowly,
+        a_signal_at_any_call_leaves_a_session_over_pipes_as_it_is,
+        a_signal_at_any_call_leaves_a_session_over_streams_that_do_not_block_as_it_is,
+        a_signal_at_any_call_leaves_a_listing_as_it_is,
     )]

@@ -1,142 +1,24 @@
 """The built program over TCP: `--listen`, editors one after the other, and peers that behave badly."""
 import os
-import re
-import select
 import signal
 import socket
 import struct
 import subprocess
+import tempfile
 import time
 
 from support.files import file_of
+from support.interruptions import is_told_whatever_is_interrupted
+from support.launches import EXITED, TERMINATED, frames, started
+from support.listening import JOINED, STARTED, Server, attaches, free_port, launches, leaves
+from support.preloading import preload
 from support.program import PROGRAM, SECONDS, expect, frame
-from support.programs import CALLS, CIRCLES, COUNTS
+from support.programs import CALLS, CIRCLES, COUNTS, LONG
 from support.texts import ANSWERS, FIRST, FIRST_ANSWER, SESSION, request
 
 FAULT = b"rvdap: read or write fault\n"
 BAD = b"rvdap: bad message\n"
 THREAD = {"threadId": 1}
-
-
-def free_port(host="127.0.0.1"):
-    """A port on which nothing listens."""
-    with socket.socket(socket.AF_INET6 if ":" in host else socket.AF_INET) as probe:
-        probe.bind((host, 0))
-        return probe.getsockname()[1]
-
-
-def signals_as_at_a_terminal():
-    """What runs in the background may have been told to ignore them, and a program inherits that."""
-    for which in (signal.SIGTERM, signal.SIGINT):
-        signal.signal(which, signal.SIG_DFL)
-
-
-class Server:
-    """The program that listens."""
-
-    def __init__(self, *words, host="127.0.0.1"):
-        self.host, self.port = host, free_port(host)
-        shown = "[%s]" % host if ":" in host else host
-        self.address = "%s:%d" % (shown, self.port)
-        self.process = subprocess.Popen([PROGRAM, "--listen", self.address, *words], stdin=subprocess.DEVNULL, stdout=subprocess.PIPE, stderr=subprocess.PIPE,
-                                        bufsize=0, preexec_fn=signals_as_at_a_terminal)
-        said = self.process.stderr.readline()
-        expect(said, b"listening on %s\n" % self.address.encode(), "the first line on standard error")
-
-    def __enter__(self):
-        return self
-
-    def __exit__(self, *_):
-        self.process.kill()
-        self.process.wait()
-        for stream in (self.process.stdout, self.process.stderr):
-            stream.close()
-
-    def editor(self):
-        return Editor(self)
-
-    def is_up(self):
-        return self.process.poll() is None
-
-    def end(self):
-        """The status, and what else came on standard output and error."""
-        status = self.process.wait(SECONDS)
-        return status, self.process.stdout.read(), self.process.stderr.read()
-
-    def memory(self):
-        """How much memory it holds, in KiB."""
-        with open("/proc/%d/status" % self.process.pid, encoding="ascii") as file:
-            return int(re.search(r"VmRSS:\s+(\d+)", file.read())[1])
-
-    def processor_seconds(self):
-        with open("/proc/%d/stat" % self.process.pid, encoding="ascii") as file:
-            fields = file.read().rsplit(")", 1)[1].split()
-        return (int(fields[11]) + int(fields[12])) / os.sysconf("SC_CLK_TCK")
-
-
-class Editor:
-    """One connection to the program."""
-
-    def __init__(self, server):
-        self.socket = socket.create_connection((server.host, server.port), timeout=SECONDS)
-        self.socket.setsockopt(socket.IPPROTO_TCP, socket.TCP_NODELAY, 1)
-        self.so_far = b""
-
-    def __enter__(self):
-        return self
-
-    def __exit__(self, *_):
-        self.socket.close()
-
-    def sends(self, data):
-        self.socket.sendall(data)
-        return self
-
-    def reads(self, count):
-        while len(self.so_far) < count:
-            piece = self.socket.recv(1 << 16)
-            if not piece:
-                raise AssertionError("the connection ended after %r" % self.so_far[-200:])
-            self.so_far += piece
-        answer, self.so_far = self.so_far[:count], self.so_far[count:]
-        return answer
-
-    def message(self):
-        """The text of the next message."""
-        header = b""
-        while not header.endswith(b"\r\n\r\n"):
-            header += self.reads(1)
-        return self.reads(int(re.match(rb"Content-Length: (\d+)\r\n\r\n$", header)[1])).decode()
-
-    def expects(self, *parts):
-        """The next messages, each of which has this part."""
-        for part in parts:
-            message = self.message()
-            expect(part in message, True, "%s in %s" % (part, message))
-        return self
-
-    def is_silent(self, seconds):
-        return not self.so_far and not select.select([self.socket], [], [], seconds)[0]
-
-    def is_ended(self):
-        """Whether nothing more comes."""
-        return not self.so_far and self.socket.recv(1) == b""
-
-
-def launches(path, stops=False):
-    return FIRST + request(2, "launch", program=path, stopOnEntry=stops) + request(3, "configurationDone")
-
-
-def attaches():
-    return FIRST + request(2, "attach") + request(3, "configurationDone")
-
-
-STARTED = ('"initialize"', '"launch"', '"initialized"', '"configurationDone"')
-JOINED = ('"initialize"', '"attach"', '"initialized"', '"configurationDone"')
-
-
-def leaves(editor, seq):
-    editor.sends(request(seq, "disconnect")).expects('"disconnect"')
 
 
 # ---- one editor, and others after it
@@ -242,6 +124,49 @@ def a_peer_that_vanishes_leaves_the_program_running():
                 with server.editor() as editor:
                     editor.sends(attaches()).expects(*JOINED, '"continued"')
                     editor.sends(request(4, "pause", **THREAD)).expects('"pause"', '"stopped"')
+
+
+def resets(editor):
+    """The peer is gone at once, and what was sent with it (RFC 9293, section 3.5.3: a reset)."""
+    editor.socket.setsockopt(socket.SOL_SOCKET, socket.SO_LINGER, struct.pack("ii", 1, 0))
+    editor.socket.close()
+
+
+def peers_that_reset_before_they_are_accepted_are_passed_over():
+    with Server() as server, server.editor() as first:
+        first.sends(FIRST).reads(len(FIRST_ANSWER))
+        for said in (b"", FIRST, FIRST[:10]):
+            resets(server.editor().sends(said))
+        with server.editor() as last:
+            last.sends(FIRST)
+            leaves(first, 2)
+            expect(last.reads(len(FIRST_ANSWER)), FIRST_ANSWER, "the answer of one that came after them")
+            expect(last.is_silent(0.1), True, "nothing else")
+
+
+def connections_that_break_before_they_are_accepted_are_passed_over():
+    """The system says that they were aborted, or that they cannot be set to send at once."""
+    with tempfile.TemporaryDirectory() as folder:
+        library = preload(folder, "abort")
+        for aborted, unset in ((1, 0), (3, 0), (0, 1), (0, 3), (2, 2)):
+            with Server(environment=dict(os.environ, LD_PRELOAD=library, ABORT_ACCEPTS=str(aborted), ABORT_SETS=str(unset))) as server:
+                for _ in range(unset):
+                    with server.editor() as editor:
+                        expect(editor.is_ended(), True, "one that cannot be set is closed")
+                with server.editor() as editor:
+                    expect(editor.sends(FIRST).reads(len(FIRST_ANSWER)), FIRST_ANSWER, "the next one's answer")
+
+
+def two_at_once_are_served_in_the_order_in_which_they_came():
+    with Server() as server:
+        server.process.send_signal(signal.SIGSTOP)
+        with server.editor() as first, server.editor() as second:
+            second.sends(FIRST)
+            server.process.send_signal(signal.SIGCONT)
+            expect(second.is_silent(0.2), True, "the second one waits")
+            expect(first.sends(FIRST).reads(len(FIRST_ANSWER)), FIRST_ANSWER, "the first one's answer")
+            leaves(first, 2)
+            expect(second.reads(len(FIRST_ANSWER)), FIRST_ANSWER, "the second one's answer")
 
 
 def a_peer_that_closes_its_side_is_answered_first():
@@ -374,11 +299,29 @@ def a_signal_ends_it_as_the_system_does():
             expect(server.end(), (-which, b"", b""), which.name)
 
 
+def a_signal_at_any_call_leaves_a_session_as_it_is():
+    """A program runs meanwhile, so that there are looks for input as well as waits."""
+    with file_of(LONG) as path:
+        sent, told = started(path)
+        told += frames(EXITED % (0, 5), TERMINATED % 6)
+
+        def play(environment):
+            with Server("--once", environment=environment) as server, server.editor() as editor:
+                said = editor.sends(sent).reads(len(told))
+                editor.socket.shutdown(socket.SHUT_WR)
+                return (said, editor.is_ended(), *server.end())
+
+        is_told_whatever_is_interrupted(play, (told, True, 0, b"", b""), 6)
+
+
 def checks():
     found = (the_first_session_over_tcp, two_editors_one_after_the_other, a_third_waits_while_one_is_served, once_serves_once, once_says_what_a_bad_message_is,
              a_bad_message_ends_its_connection_alone, a_given_program_is_joined, without_a_program_there_is_none_to_join,
-             a_given_program_that_is_not_right_is_said, a_peer_that_vanishes_leaves_the_program_running, a_peer_that_closes_its_side_is_answered_first,
+             a_given_program_that_is_not_right_is_said, a_peer_that_vanishes_leaves_the_program_running,
+             peers_that_reset_before_they_are_accepted_are_passed_over, connections_that_break_before_they_are_accepted_are_passed_over,
+             two_at_once_are_served_in_the_order_in_which_they_came, a_peer_that_closes_its_side_is_answered_first,
              one_byte_at_a_time, a_peer_that_never_reads_costs_nothing, many_connections_at_constant_memory,
              a_pause_of_an_endless_program_is_answered_at_once, nothing_spins_while_nothing_runs, other_addresses, a_port_of_0_is_printed_as_given,
-             an_address_that_cannot_be_listened_on_is_said, other_words_are_a_fault_of_usage, a_signal_ends_it_as_the_system_does)
+             an_address_that_cannot_be_listened_on_is_said, other_words_are_a_fault_of_usage, a_signal_ends_it_as_the_system_does,
+             a_signal_at_any_call_leaves_a_session_as_it_is)
     return [("over TCP: " + check.__name__.replace("_", " "), check) for check in found]

@@ -107,12 +107,12 @@ def stop_of(text):
     return with_editor(text, act)
 
 
-def an_error_has_its_line_in_the_format_and_in_asm():
+def an_error_has_its_line_in_the_format_and_in_check():
     def act(editor, path):
         answer = editor.ask("launch", program=path)
         expect((answer["message"], answer["body"]["error"]["format"]), ("assemblyFailed", "line 2: Undefined"), "the refusal")
-        ran = subprocess.run([PROGRAM, "asm", path], capture_output=True, timeout=60)
-        expect((ran.stderr.decode(), ran.returncode), ("rvdap: %s: line 2: Undefined\n" % path, 1), "rvdap asm")
+        ran = subprocess.run([PROGRAM, "check", path], capture_output=True, timeout=60)
+        expect((ran.stdout.decode(), ran.returncode), ("%s:2: error: Undefined: no line defines this label\ncall g\n" % path, 1), "rvdap check")
     with_editor(b"nop\ncall g\n", act)
 
 
@@ -225,7 +225,7 @@ def the_page_has_each_word():
 def checks():
     """Each check with its name."""
     return [(check.__name__.replace("_", " "), check) for check in (
-        an_error_has_its_line_in_the_format_and_in_asm,
+        an_error_has_its_line_in_the_format_and_in_check,
         breakpoints_that_are_not_set_say_why,
         restart_runs_the_text_as_it_was_at_launch,
         a_file_that_cannot_be_read_is_refused,

@@ -137,16 +137,16 @@ def the_problem_matcher_finds_the_line():
     [task] = tasks
     expect(task["problemMatcher"], "$" + matcher["name"], "the matcher of the task in README.md")
     with tempfile.TemporaryDirectory() as folder:
-        path = os.path.join(folder, "é 1: line 2.s")
+        path = os.path.join(folder, "é:1: error: 2.s")
         shutil.copy(UNDEFINED, path)
         words = [PROGRAM, *(word.replace("${file}", path) for word in task["args"])]
         ran = subprocess.run(words, capture_output=True, text=True, check=False)
         pattern = matcher["pattern"]
         found = [re.search(pattern["regexp"], line) for line in (ran.stdout + ran.stderr).splitlines()]
         expect((ran.returncode, [[it[pattern[word]] for word in ("file", "line", "message")] for it in found if it]),
-               (1, [[path, "4", "Undefined"]]), "what is matched")
-    ran = subprocess.run([PROGRAM, "asm", SORT], capture_output=True, text=True, check=True)
-    expect([line for line in ran.stdout.splitlines() if re.search(pattern["regexp"], line)], [], "what is matched of a listing")
+               (1, [[path, "4", "Undefined: no line defines this label"]]), "what is matched")
+    ran = subprocess.run([PROGRAM, "check", "/nowhere.s"], capture_output=True, text=True, check=False)
+    expect((ran.stderr, re.search(pattern["regexp"], ran.stderr)), ("rvdap: /nowhere.s: cannot read\n", None), "a file that cannot be read has no line")
 
 
 def configurations_of_the_readme_fit():

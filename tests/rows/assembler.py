@@ -5,6 +5,10 @@ from support.players import Row
 
 PLAYER = "test_assembler"
 IMAGE = LineTable("image")
+TAKES_NONE = {"LineTable::line_of": "image line_of", "LineTable::address_of": "image address_of", "LineTable::bind": "image bind",
+              "LineTable::starts": "image starts", "LineTable::label_at": "image label_at"}
+# The line table is made by the call that assembles.
+ALSO_MADE = {"LineTable::new": "assemble"}
 BASE = 0x10000
 
 ASSEMBLER = "GNU as and ld 2.40, riscv64-unknown-elf-as -march=rv32i -mabi=ilp32 -mno-relax, \
@@ -349,7 +353,11 @@ ROWS = [
         fails(b".space 16777216\nnop", 2, "TooLarge", size=16777216),
     ], PROFILE),
     Row("an address has 32 bits whatever the size", [fails(b".space 16777216\n" * 256, 256, "TooLarge", size=4294967295)], PROFILE),
-    Row("assemble of a call", [assemble(text_of(ADDS_ONE)), entry(0x10000), has_bytes(bytes_of(ADDS_ONE))], ASSEMBLER, refused=True),
+    Row("assemble of a call", [
+        assemble(text_of(ADDS_ONE)), entry(0x10000), has_bytes(bytes_of(ADDS_ONE)), IMAGE.line_of(0x10010, 4), IMAGE.line_of(0x1001c, "none"),
+        IMAGE.address_of(5, 0x10014), IMAGE.address_of(7, "none"), IMAGE.bind(0, 1, 0x10000), IMAGE.label_at(0x10018, "f", 4),
+        IMAGE.asks("starts %d" % 0x10014, "true"), IMAGE.asks("starts %d" % 0x10008, "false"),
+    ], ASSEMBLER, refused=True),
     Row("assemble of calls within calls", [assemble(text_of(COUNTS_DOWN)), entry(0x10000), has_bytes(bytes_of(COUNTS_DOWN))], ASSEMBLER,
         refused=True),
     Row("assemble of wrong texts", [

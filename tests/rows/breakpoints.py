@@ -1,7 +1,9 @@
 """Breakpoints: which are hit, which stop, and which ids a check answers."""
-from support.players import Row
+from support.players import NO_MEMORY, Row, alike, tried
 
 PLAYER = "test_breakpoints"
+TAKES_NONE = {"Breaks::check": "check", "Breaks::ids": "ids", "Breaks::clear": "clear", "Breaks::reset_hits": "reset", "Breaks::has": "has",
+              "Breaks::forget_ids": "forget"}
 BASE = 0x10000
 # Addresses so far apart have one mark.
 APART = 4 * 65536
@@ -52,6 +54,12 @@ def has(address, wanted):
 
 def done(name):
     return name, "ok"
+
+
+def once(step):
+    """A list that is not set again where it found no memory."""
+    command, answer = step
+    return "once " + command, answer, NO_MEMORY
 
 
 ROWS = [
@@ -138,4 +146,11 @@ ROWS = [
         instructions(a(3), a(4, BASE + 4), a(5)), ids(), check([1, 2], [3, 5]),
         source(a(6)), ids(), check([6], [3, 5]),
     ], PROFILE, refused=True),
+    tried("a list that found no memory leaves the list that was there, with its hits and its ids", PROFILE,
+          alike(go(BASE), source(a(1), a(2, hit=2)), instructions(a(3)), check([1], [3])),
+          [once(source(a(6), a(7, condition="a0 == 0"))), ("ids", "ids", "ids 1 3"), (*check([6, 7], [3]), check([1, 2], [3])[1]),
+           *alike(source(a(6), a(7, condition="a0 == 0")), check([6, 7], [3]))],
+          [once(instructions(a(8), a(9, BASE + 4), a(10, hit=2))), ("ids", "ids", "ids 6 7 3"), (*check([6, 7], [8]), check([6, 7], [3])[1]),
+           *alike(instructions(a(8), a(9, BASE + 4), a(10, hit=2)), check([6, 7], [8]), has(BASE + 4, True), done("reset"), check([6, 7], [8]),
+                  check([6, 7], [8, 10]), done("forget"), ids(), done("clear"), check(), has(BASE, False))]),
 ]

@@ -8,6 +8,8 @@ from support.players import Row
 from support.program import TOP
 
 PLAYER = "test_expressions"
+# An expression is read, which may find no memory, and has its value, which does not take any.
+ALSO_MADE = {"Expr::value": "value"}
 
 PROFILE = GUIDE % "Expressions"
 BY_HAND = "worked by hand from docs/MACHINE.md, \"Expressions\""

@@ -1,7 +1,8 @@
 """Streams of the base protocol, and what they are read as; frames of bodies; the texts of errors."""
-from support.players import Row
+from support.players import NO_MEMORY, Row, alike, tried
 
 PLAYER = "test_framing"
+TAKES_NONE = {"Unframer::new": "new", "Unframer::next_body": "next", "Unframer::peek_body": "peek", "Unframer::retract": "retract"}
 LIMIT = 1048576
 
 PROTOCOL = "the base protocol, \"Header Part\" and \"Content Part\""
@@ -39,6 +40,11 @@ def frame(body, wanted):
     return "frame " + body.hex(), wanted.hex()
 
 
+def turns(count, piece):
+    """So many times a body is lent and the piece is fed."""
+    return "turns %d %s" % (count, piece.hex()), "true"
+
+
 def text(error, wanted):
     return "text " + error, wanted
 
@@ -70,6 +76,19 @@ NUMBERED_STREAM = b"".join(map(framed, NUMBERED))
 def numbered_in_pieces_of(size):
     """Ten thousand frames in pieces of a size, read in order."""
     return [new()] + list(map(feed, pieces_of(NUMBERED_STREAM, size))) + list(map(lends, NUMBERED)) + [NONE_WAITS]
+
+
+def numbered_as_they_come(size):
+    """Ten thousand frames in pieces of a size, each read as soon as it is whole."""
+    steps, came, whole, waiting = [new()], 0, 0, list(NUMBERED)
+    for piece in pieces_of(NUMBERED_STREAM, size):
+        steps.append(feed(piece))
+        came += len(piece)
+        while waiting and whole + len(framed(waiting[0])) <= came:
+            whole += len(framed(waiting[0]))
+            steps.append(lends(waiting.pop(0)))
+        steps.append(NONE_WAITS)
+    return steps
 
 
 # Each piece differs from those beside it, since 251 does not divide its size.
@@ -145,6 +164,12 @@ ROWS = [
     Row("ten thousand frames are read in order however cut, byte by byte", numbered_in_pieces_of(1), PROTOCOL),
     Row("ten thousand frames are read in order however cut, by seven bytes", numbered_in_pieces_of(7), PROTOCOL),
     Row("ten thousand frames are read in order however cut, by 4,096 bytes", numbered_in_pieces_of(4096), PROTOCOL),
+    Row("ten thousand frames that come by seven bytes are read as they come", numbered_as_they_come(7), PROTOCOL),
+    Row("a frame that is read makes room for the next", [
+        new(),
+        feed(framed(b"{}")), turns(1000, framed(b"[]")), lends(b"[]"), NONE_WAITS,
+        feed(framed(b"1") + framed(b"2")), turns(1, framed(b"3")), lends(b"2"), lends(b"3"), NONE_WAITS,
+    ], BY_HAND),
     Row("ten thousand frames that were taken back are read again", [
         new(),
         feed(NUMBERED_STREAM), *map(lends, NUMBERED), NONE_WAITS,
@@ -210,6 +235,20 @@ ROWS = [
         RETRACT,
         lends(b"{}"), NONE_WAITS,
     ], BY_HAND, refused=True, otherwise=[["ok", "ok", "NoMemory", "ok", "none", "none"]]),
+    Row("a piece for which there is room is taken though no memory is left for the rest of its frame", [
+        new(),
+        feed(framed(b"x" * 40)), lends(b"x" * 40),
+        feed_once(b"Content-Length: 1000\r\n\r\n"),
+        feed(b"y" * 1000), lends(b"y" * 1000), NONE_WAITS,
+    ], BY_HAND, refused=True),
+    tried("what an unframer lends is not changed by a piece that found no memory", BY_HAND,
+          alike(new(), feed(framed(b"{}"))),
+          [(*feed_once(framed(b"[1]")), NO_MEMORY), *alike(peeks(b"{}"), lends(b"{}")), (*lends(b"[1]"), "none"), *alike(
+              feed(framed(b"[1]")), lends(b"[1]"), NONE_WAITS)]),
+    tried("a frame that began is whole where its end is fed again after it found no memory", BY_HAND,
+          alike(new(), feed(framed(b"{}")[:-1])),
+          [(*feed_once(b"}" + framed(b"[1]")), NO_MEMORY), (*peeks(b"{}"), "none"), ("feed " + (b"}" + framed(b"[1]")).hex(), "NoLength", "ok"),
+           *alike(lends(b"{}"), lends(b"[1]"), NONE_WAITS)]),
     Row("a frame that found no memory can be made again", [frame(b"{}", b"Content-Length: 2\r\n\r\n{}")], PROTOCOL, refused=True),
     Row("a body of 1 MiB is framed", [frame(LONGEST, b"Content-Length: 1048576\r\n\r\n" + LONGEST)], PROTOCOL, refused=True),
     Row("a body of 1 MiB comes back in pieces of 65,536 bytes", [

@@ -3,6 +3,7 @@ from support.machine import REGISTERS
 from support.players import Row
 
 PLAYER = "test_machine"
+TAKES_NONE = {"decode": "word decode", "encode": "word encode", "reg_name": "register name", "reg_of": "register of"}
 
 ASSEMBLER = "GNU as 2.40, riscv64-unknown-elf-as -march=rv32i -mabi=ilp32"
 MANUAL = "the tables of RISC-V Unprivileged ISA 20191213, chapter 24, by hand"
@@ -193,5 +194,6 @@ ROWS = [
         text(0x00000073, 0, "ecall"),
         word_text(0, 0, ".word 0x00000000"),
         digits("aaaaaaaaaaaaaaaa", 0x89abcdef, "aaaaaaaaaaaaaaaa89abcdef"),
+        *each_others(0x00351513, "Slli", rd=10, rs1=10, shamt=3), encoded(0x02351513, "none"), name(10, "a0"), register("fp", 8), register("x32", "none"),
     ], ASSEMBLER, refused=True),
 ]

@@ -91,6 +91,12 @@ ROWS = [
         (0x1001f, "high", 0x17),
         (0x10020, "none"),
     ), PROFILE),
+    Row("labels are found by name, and by their place in the text", table(labels=(("high", 0x10008), ("low", 0x10004), ("early", 0x8000))) + [
+        LINES.label_count(3),
+        LINES.label(0, "high", 0x10008), LINES.label(1, "low", 0x10004), LINES.label(2, "early", 0x8000), LINES.label(3, "none"),
+        LINES.label_address("high", 0x10008), LINES.label_address("low", 0x10004), LINES.label_address("early", 0x8000),
+        LINES.label_address("lo", "none"), LINES.label_address("lower", "none"), LINES.label_address("Low", "none"),
+    ], PROFILE),
     Row("an empty table knows no line", table(rows=(), labels=(("late", 0x10002),), end=0x10004) + [
         LINES.line_of(0x10000, "none"),
         LINES.address_of(0, "none"), LINES.bind(0, "none"),
@@ -98,6 +104,7 @@ ROWS = [
         LINES.label_at(0x10001, "none"),
         LINES.label_at(0x10003, "late", 1),
     ], PROFILE),
+    Row("a table without labels finds none", table() + [LINES.label_count(0), LINES.label(0, "none"), LINES.label_address("a", "none")], PROFILE),
     Row("an image gives its parts back", table(rows=(), end=0x10004) + [
         ("lines image %d 13000000" % 0x10000, "ok"),
         ("lines bytes", "13000000"),

@@ -2,6 +2,7 @@
 from support.players import NO_MEMORY, Row
 
 PLAYER = "test_machine"
+TAKES_NONE = {"Memory::byte": "memory byte", "Memory::word": "memory word", "Memory::read": "memory read", "Memory::half": "memory half"}
 BASE = 0x10000
 SIZES = (4096, 8192, 1048576, 16777216)
 

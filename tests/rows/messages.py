@@ -7,6 +7,8 @@ from support.texts import CANCELLED, CAPABILITIES, DISCONNECTED, REFUSED, THREAD
 from support.texts import INITIALIZE as FIRST
 
 PLAYER = "test_messages"
+# The name is shown of what was read.
+ALSO_MADE = {"Command::name": "request"}
 LIMIT = 1048576
 GREATEST = 2147483647
 

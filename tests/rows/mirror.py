@@ -6,11 +6,13 @@ from base64 import b64encode
 from json import dumps
 
 from rows.events import stop, text_of as event
-from support.players import Row
+from support.players import NO_MEMORY, Row, alike, tried
 from support.program import frame
 from support.texts import CAPABILITIES
 
 PLAYER = "test_mirror"
+TAKES_NONE = {"Mirror::new": "new", "Mirror::run": "run", "Mirror::source_break": "source_break", "Mirror::instruction_break": "instruction_break",
+              "Mirror::frame": "frame", "Mirror::register": "register", "Mirror::byte": "byte"}
 RULES = "docs/HEADLINE.md and docs/PROTOCOL.md, worked by hand"
 NONE = "none"
 PATH = "/w/p.s"
@@ -366,6 +368,16 @@ FAULTS = [
 
 # ---- without memory
 
+
+def once(step):
+    """A call that is not made again, and its answer where it found no memory."""
+    command, answer = step
+    return "once " + command, answer, NO_MEMORY
+
+
+TWO_FRAMES = success(7, "stackTrace", frames((2, 0x10000, "_start"), (3, 0x10004, "g")))
+BREAKS_ANEW = success(8, "setBreakpoints", breakpoints(verified(3, 0x1000c, 3), verified(4, 0x10010, 4)))
+
 REFUSED = [
     Row("a request that found no memory can be told again", [
         sent(1, "setBreakpoints", source={"path": PATH}, lines=[3]), sent(2, "setVariable", variablesReference=2, name="a0", value="1"),
@@ -381,6 +393,17 @@ REFUSED = [
         piece(frame(CONTINUED)[:20]), *KNOWN, piece(frame(CONTINUED)[20:] + frame(STOPPED)[:30]), run("Running"), *UNSEEN,
         piece(frame(STOPPED)[30:] + HEADER, "Frame(Header): bad frame"), run("Stopped"),
     ], RULES, refused=True),
+    tried("what found no memory changed nothing that is known", RULES,
+          alike(("new", "ok")),
+          [once(sent(7, "stackTrace", threadId=1, startFrame=1)), *alike(feed(TWO_FRAMES)), (*is_frame(2, "3 65540 g"), NONE),
+           *alike(sent(7, "stackTrace", threadId=1, startFrame=1), feed(TWO_FRAMES), is_frame(2, "3 65540 g"))],
+          alike(("new", "ok"), *ALL_TOLD, run("Stopped"), *KNOWN, sent(8, "setBreakpoints", source={"path": PATH}, lines=[3, 4])),
+          [once(feed(BREAKS_ANEW)), (*source_break(0, "3 65548"), "1 65544"), (*source_break(1, "4 65552"), NONE), *alike(instruction_break(0, "2 65548"), *SEEN),
+           *alike(feed(BREAKS_ANEW), source_break(0, "3 65548"), source_break(1, "4 65552"))],
+          [once(feed(CONTINUED, STOPPED, CONTINUED)), (*run("Running"), "Stopped"), *((command, NONE, answer) for command, answer in SEEN),
+           *alike(feed(CONTINUED, STOPPED, CONTINUED), run("Running"), *UNSEEN)],
+          [once(piece(frame(STOPPED) + HEADER, "Frame(Header): bad frame")), (*run("Stopped"), "Running"),
+           *alike(piece(frame(STOPPED) + HEADER, "Frame(Header): bad frame"), run("Stopped"))]),
 ]
 
 ROWS = EVENTS + RESUMES + BREAKPOINTS + SEEN_ROWS + WHICH + FAULTS + REFUSED

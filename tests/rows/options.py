@@ -19,9 +19,11 @@ def text_of(value):
     return "none" if value is None else value.encode().hex()
 
 
-def asks(*words, mode="serve", file=None, listen=None, program=None, once=False, memory=1024):
+def asks(*words, mode="serve", file=None, listen=None, program=None, once=False, memory=1024, limit=None, count=False, json=False, others=()):
     """The words ask for these options."""
-    options = " ".join([mode, text_of(file), text_of(listen), text_of(program), str(once).lower(), str(memory)])
+    flag = lambda value: str(value).lower()
+    options = " ".join([mode, text_of(file), text_of(listen), text_of(program), flag(once), str(memory), "none" if limit is None else str(limit), flag(count),
+                        flag(json), str(len(others)), *map(text_of, others)])
     return [(line("options", *words), options), (line("tried", *words), options)]
 
 
@@ -57,6 +59,20 @@ def memory(text, kib):
 def no_memory(text):
     return refused("--memory", text) + refused("--memory=" + text)
 
+
+def limit(text, number):
+    """What stands after --limit, in both of its forms."""
+    return asks("run", "--limit", text, "a.s", mode="run", file="a.s", limit=number) + asks("run", "--limit=" + text, "a.s", mode="run", file="a.s", limit=number)
+
+
+def no_limit(text):
+    return refused("run", "--limit", text, "a.s") + refused("run", "--limit=" + text, "a.s")
+
+
+RUN = dict(mode="run", file="a.s")
+CHECK = dict(mode="check", file="a.s")
+LABELS = dict(mode="labels", file="a.s")
+COMMANDS = ("asm", "watch", "run", "check", "labels")
 
 ROWS = [
     Row("without words an editor is served over standard streams", asks(), MANUAL, refused=True),
@@ -108,5 +124,58 @@ ROWS = [
         "-o", "-p", "-x", "--asm", "--watch", "--file", "/help", "4711") for step in refused(word)]
         + refused("help", "asm") + refused("serve", ADDRESS) + refused(*LISTEN, "a.s") + refused("a.s", *LISTEN), PROFILE),
     Row("the message on an unknown word has it", [names("bogus", "bogus"), names("--memories", "--memories"), names("-x", "-x")], PROFILE),
+    Row("the ways to run a program", asks("run", "a.s", **RUN) + asks("run", "--memory", "8", "a.s", memory=8, **RUN) + asks("run", "--limit", "7", "a.s", limit=7, **RUN)
+        + asks("run", "--count", "a.s", count=True, **RUN) + asks("run", "--memory", "8", "--limit", "7", "--count", "a.s", memory=8, limit=7, count=True, **RUN)
+        + asks("run", "a.s", "--count", "--limit=7", "--memory=8", memory=8, limit=7, count=True, **RUN)
+        + asks("run", "--limit", "0", "a.s", "--count", limit=0, count=True, **RUN), MANUAL, refused=True),
+    Row("the ways to check files", asks("check", "a.s", **CHECK) + asks("check", "--json", "a.s", json=True, **CHECK) + asks("check", "a.s", "--json", json=True, **CHECK)
+        + asks("check", "a.s", "b.s", others=["b.s"], **CHECK) + asks("check", "a.s", "b.s", "c.s", "--json", others=["b.s", "c.s"], json=True, **CHECK)
+        + asks("check", "--json", "a.s", "b.s", "a.s", others=["b.s", "a.s"], json=True, **CHECK), MANUAL, refused=True),
+    Row("the ways to ask for labels", asks("labels", "a.s", **LABELS) + asks("labels", "--json", "a.s", json=True, **LABELS)
+        + asks("labels", "a.s", "--json", json=True, **LABELS), MANUAL, refused=True),
+    Row("as many files are checked as are named", asks("check", "a.s", *["%d.s" % number for number in range(40)], others=["%d.s" % number for number in range(40)], **CHECK)
+        + asks("check", "a.s", *["a.s"] * 3, others=["a.s"] * 3, **CHECK), PROFILE),
+    Row("the limit is decimal digits from 0 to 4,294,967,295", limit("0", 0) + limit("1", 1) + limit("1000000", 1000000) + limit("4294967295", 4294967295) + limit("0007", 7)
+        + limit("0" * 40 + "4294967295", 4294967295) + [step for text in ("4294967296", "4294967297", "4611686018427387904", "18446744073709551616", "9" * 40, "+1", " 1", "1 ", "0x1",
+            "1.0", "1e3", "1_000", "1,000", "1k", "x", "much", "１") for step in no_limit(text)] + refused("run", "--limit=-1", "a.s") + refused("run", "--limit=", "a.s"), PROFILE),
+    Row("a limit of -1 or of no digits is none in either form", refused("run", "--limit", "-1", "a.s") + refused("run", "--limit", "", "a.s"), PROFILE),
+    Row("the memory of a run is that of a program", [step for text, kib in (("4", 4), ("1024", 1024), ("16384", 16384), ("0008", 8))
+        for step in asks("run", "--memory", text, "a.s", memory=kib, **RUN) + asks("run", "--memory=" + text, "a.s", memory=kib, **RUN)]
+        + [step for text in ("0", "3", "5", "16388", "4294967296", "+8", "x", "") for step in refused("run", "--memory", text, "a.s")], PROFILE),
+    Row("the messages on a run have its values", [names("'x'", "run", "--limit", "x", "a.s"), names("--limit", "run", "--limit", "x", "a.s"),
+        names("4294967295", "run", "--limit", "4294967296", "a.s"), names("'5'", "run", "--memory", "5", "a.s"), names("--memory", "run", "--memory", "5", "a.s"),
+        names("''", "run", "--limit=", "a.s")], PROFILE),
+    Row("the memory of a run is looked at before its limit", [names("'5'", "run", "--limit", "x", "--memory", "5", "a.s"),
+        is_silent_on("'x'", "run", "--limit", "x", "--memory", "5", "a.s")] + refused("run", "--limit", "x", "--memory", "5", "a.s"), PROFILE),
+    Row("a run has one file", refused("run") + refused("run", "a.s", "b.s") + refused("run", "--count") + refused("run", "--limit", "7") + refused("run", "--memory", "8")
+        + refused("run", "a.s", "--", "b.s") + refused("run", "--") + [names("FILE", "run"), names("b.s", "run", "a.s", "b.s")], PROFILE),
+    Row("a check has one file or more, and labels are those of one", refused("check") + refused("check", "--json") + refused("check", "--") + refused("labels")
+        + refused("labels", "--json") + refused("labels", "a.s", "b.s") + refused("labels", "--") + [names("FILE", "check"), names("FILE", "labels"), names("b.s", "labels", "a.s", "b.s")],
+        PROFILE),
+    Row("an option of a run has a value, and none stands twice", refused("run", "--limit") + refused("run", "a.s", "--limit") + refused("run", "a.s", "--memory")
+        + refused("run", "--limit", "--count", "a.s") + refused("run", "--limit", "7", "--limit", "7", "a.s") + refused("run", "--memory", "8", "--memory", "8", "a.s")
+        + refused("run", "--count", "--count", "a.s") + refused("run", "--count=true", "a.s"), PROFILE),
+    Row("JSON is asked for once, without a value", refused("check", "--json", "--json", "a.s") + refused("labels", "--json", "--json", "a.s") + refused("check", "--json=true", "a.s")
+        + refused("labels", "--json=false", "a.s"), PROFILE),
+    Row("no option stands before a command", [step for command in COMMANDS for before in (("--memory", "8"), LISTEN, ("--once",), ("--program", "a.s"))
+        for step in refused(*before, command, "a.s")] + refused("--limit", "7", "run", "a.s") + refused("--count", "run", "a.s") + refused("--json", "check", "a.s")
+        + refused("--json", "labels", "a.s") + [names("beside a command", "--memory", "8", command, "a.s") for command in COMMANDS], PROFILE),
+    Row("a command has no option of another", [step for words in (("run", "--json"), ("run", "--once"), ("run", *LISTEN), ("run", "--program", "b.s"), ("check", "--memory", "8"),
+        ("check", "--limit", "7"), ("check", "--count"), ("check", "--once"), ("labels", "--memory", "8"), ("labels", "--limit", "7"), ("labels", "--count"), ("asm", "--json"),
+        ("asm", "--count"), ("watch", "--json"), ("watch", "--limit", "7")) for step in refused(*words, "a.s") + refused(words[0], "a.s", *words[1:])], PROFILE),
+    Row("the options of commands are none without one", refused("--limit", "7") + refused("--count") + refused("--json"), PROFILE),
+    Row("files may look like options after --", asks("run", "--", "--count", mode="run", file="--count") + asks("run", "--count", "--", "-", mode="run", file="-", count=True)
+        + asks("labels", "--", "--json", mode="labels", file="--json") + asks("check", "--", "--json", mode="check", file="--json")
+        + asks("check", "--json", "--", "-x", "--", "--help", mode="check", file="-x", others=["--", "--help"], json=True)
+        + asks("check", "a.s", "--", "--json", others=["--json"], **CHECK), PROFILE),
+    Row("files of the commands may have any text", asks("run", "a b.s", mode="run", file="a b.s") + asks("run", "-", mode="run", file="-") + asks("run", "", mode="run", file="")
+        + asks("run", "run", mode="run", file="run") + asks("check", "naïve.s", "a b.s", "", "-", mode="check", file="naïve.s", others=["a b.s", "", "-"])
+        + asks("check", "check", "labels", mode="check", file="check", others=["labels"]) + asks("labels", "ä b.s", mode="labels", file="ä b.s"), PROFILE),
+    Row("help of the commands is printed", [step for command in ("run", "check", "labels") for step in printed(command, "--help") + printed(command, "-h")
+        + [names(command, "--help"), names("FILE", command, "--help")]] + [names(word, "run", "--help") for word in ("--memory", "--limit", "--count", "122", "123", "124", "125")]
+        + [names("--json", "check", "--help"), names("--json", "labels", "-h")] + printed("run", "--limit", "x", "--help") + refused("run", "--version") + refused("check", "-V")
+        + refused("labels", "--version"), PROFILE, refused=37),
+    Row("a command's name is whole and in small letters", [step for word in ("ru", "runn", "RUN", "chec", "checks", "Check", "label", "labelss", "--run", "--check", "--labels", "-r")
+        for step in refused(word, "a.s")] + refused("asm", "run", "a.s") + refused("help", "run"), PROFILE),
     Row("texts of errors", [("text Words", "usage"), ("text NoMemory", "no memory")], "the doc comments of the errors"),
 ]

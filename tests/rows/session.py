@@ -5,6 +5,7 @@ from support.program import frame
 from support.texts import ANSWERS, CANCELLED, CAPABILITIES, DISCONNECTED, FIRST, FIRST_ANSWER, SESSION, THREADS, refused, request
 
 PLAYER = "test_session"
+TAKES_NONE = {"Session::connect": "connect", "Session::sent": "sent", "Session::link_fault": "link_fault", "Session::finished": "finished"}
 PROFILE = "docs/PROTOCOL.md, worked by hand"
 SUCCESSES = {"initialize": CAPABILITIES, "threads": THREADS, "cancel": CANCELLED, "disconnect": DISCONNECTED}
 
@@ -268,8 +269,8 @@ ROWS = [Row(name, conversation(*pieces), PROFILE) for name, pieces in CONVERSATI
         ("greatest", "Limits { last_seq: %d, last_ref: %d, last_retired: %d }" % (GREATEST, GREATEST, GREATEST_RETIRED)),
     ], PROFILE),
     Row("the last number closes the connection", [
-        limits(2, 1, 1), CONNECT, recv(TWO_NUMBERS), ANSWERED, recv(b""), ANSWERED, pends(0), recv(b"", "Closing"),
-        waits(FIRST_ANSWER + frame(THREADS % (2, 2))), NO_FAULT,
+        limits(2, 1, 1), CONNECT, recv(TWO_NUMBERS), ANSWERED, recv(b""), ANSWERED, pends(0), recv(b"", "Closing"), UNFINISHED,
+        *takes(FIRST_ANSWER + frame(THREADS % (2, 2))), NO_FAULT, FINISHED, NOTHING,
     ], PROFILE),
     Row("without a connection nothing happens", unconnected(1) + unconnected(2) + unconnected(3), PROFILE),
     Row("what a connection left is not on the next", [
@@ -278,6 +279,11 @@ ROWS = [Row(name, conversation(*pieces), PROFILE) for name, pieces in CONVERSATI
     ], PROFILE),
     Row("with 256 requests that wait no piece is taken", [
         CONNECT, recv(threads(1, 256)), pends(255), recv(threads(256, 257)), recv(b"C", "Busy"), pends(256),
+    ], PROFILE),
+    Row("with 257 requests that wait, as they came in one piece, none is lost", [
+        CONNECT, recv(threads(1, 256)), recv(threads(256, 258)), pends(257), recv(b"", "Busy"), ANSWERED, pends(256), recv(b"", "Busy"), ANSWERED, pends(255),
+        recv(threads(258, 259)), *[ANSWERED] * 256, NOTHING,
+        *takes(b"".join(refused("wrongPhase", 3, "threads", seq, seq) for seq in range(1, 259))),
     ], PROFILE),
     Row("a piece has at most 65,536 bytes", [
         CONNECT, recv(b" " * 65537, "PieceTooLong"), NO_FAULT, recv(b" " * 65536), faulty("Frame(HeaderTooLong)"),
@@ -299,7 +305,7 @@ ROWS = [Row(name, conversation(*pieces), PROFILE) for name, pieces in CONVERSATI
         CONNECT,
         recv(SESSION[:150]), pends(1), waits(b""), ANSWERED, waits(FIRST_ANSWER), pends(0), NOTHING,
         recv(SESSION[150:]), pends(2), waits(FIRST_ANSWER), ANSWERED, waits(FIRST_ANSWER + frame(THREADS % (2, 2))), pends(1), ANSWERED,
-    ] + takes(ANSWERS) + [NOTHING, FINISHED], PROFILE, refused=True),
+    ] + takes(ANSWERS) + [NOTHING, NO_FAULT, FINISHED], PROFILE, refused=True),
     Row("texts of errors", [
         text("NotConnected", "not connected"), text("AlreadyConnected", "already connected"), text("Busy", "busy"),
         text("SentTooMuch", "more sent than waits"), text("PieceTooLong", "piece too long"), text("Closing", "connection is closing"),

@@ -132,10 +132,10 @@ def a_repeat_in_a_stop():
 def after_many_stops():
     """Every number of an earlier stop is stale, and the next is unknown."""
     script = at_entry(CIRCLES)
-    for number in range(1, 201):
+    for number in range(1, 1001):
         script.trace([frame_at(number, BASE, "e", 1)]).asks("next").slices(9, 1, "Stopped", STEP)
-    each_with(each_with(script, STALE, 1, 2, 100, 199, 200), UNKNOWN_REFERENCE, 201, 0)
-    return script.trace([frame_at(201, BASE, "e", 1)]).scopes(201, 202, 203)
+    each_with(each_with(script, STALE, 1, 2, 100, 999, 1000), UNKNOWN_REFERENCE, 1001, 0)
+    return script.trace([frame_at(1001, BASE, "e", 1)]).scopes(1001, 1002, 1003)
 
 
 def after_stops_without_looks():
@@ -334,7 +334,7 @@ ROWS = [
     *(Row("numbers end with %s, %d moves" % (command, moves), ended_by(command, moves, stop).steps, PROFILE) for command, moves, stop in RESUMES),
     Row("a look in one piece with a step", in_one_piece().steps, PROFILE, refused=True),
     Row("a repeat in a stop, and cancels", a_repeat_in_a_stop().steps, PROFILE),
-    Row("numbers after 200 stops", after_many_stops().steps, PROFILE),
+    Row("numbers after 1,000 stops", after_many_stops().steps, PROFILE),
     Row("numbers after stops in which nobody looked", after_stops_without_looks().steps, PROFILE),
     Row("numbers of a program that has ended", when_the_program_ends().steps, PROFILE),
     Row("numbers go with the connection", gone_with_a_drop().steps, PROFILE),

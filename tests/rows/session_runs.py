@@ -5,6 +5,9 @@ from support.players import Row
 from support.programs import CALLS, CIRCLES, COUNTS, PRINTS, RECURS, WRITES_ITSELF
 
 PLAYER = "test_session"
+TAKES_NONE = {"Session::connect": "connect", "Session::hold": "hold", "Session::sent": "sent", "Session::drop_connection": "drop",
+              "Session::waiting": "waiting", "Session::runnable": "runnable", "Session::pending": "pending", "Session::wants_file": "wants_file",
+              "Session::finished": "finished"}
 PROFILE = "docs/PROTOCOL.md and docs/MACHINE.md, worked by hand"
 
 MIB = 1 << 20

@@ -3,6 +3,10 @@ from support.players import Row
 from support.programs import CALLS, COUNTS, PRINTS, RECURS, WRITES_ITSELF
 
 PLAYER = "test_stepping"
+TAKES_NONE = {"Calls::depth": "depth", "Calls::kept": "kept", "Calls::entry": "entry", "Runner::begin": "begin", "Runner::hart": "pc",
+              "Runner::retired": "retired", "Runner::breaks": "ids", "Runner::memory": "word", "Breaks::clear": "clear"}
+# The hart is made by the call that loads a program.
+ALSO_MADE = {"Hart::new": "load", "Calls::note": "tick"}
 BASE = 0x10000
 
 BY_HAND = "worked by hand from docs/MACHINE.md, \"Running and stepping\""

@@ -4,6 +4,8 @@ from support.program import frame
 from support.texts import ANSWERS, FIRST, FIRST_ANSWER, SESSION, THREADS, refused, request
 
 PLAYER = "test_transport"
+# A server is made for the calls of it.
+ALSO_MADE = {"Server::new": "stream server"}
 PROFILE = "docs/PROTOCOL.md, worked by hand"
 EVERY = (1 << 64) - 1
 TURNS = 1 << 60
@@ -170,6 +172,8 @@ LAUNCHED_LATER = UNREADABLE + bare("launch", 3, 3) + frame('{"event":"initialize
 
 LAST = 2147483647
 MOST_READS = 2097152
+# So many events have more bytes than a server reads at once byte by byte.
+EVENTS = MOST_READS // len(EVENT) + 2
 INITIALIZED = '{"event":"initialized","seq":%d,"type":"event"}'
 
 POLLED = ("poll", "2:threads")
@@ -242,12 +246,19 @@ ROWS = [
         given(HARTS), reads(interruptions=MOST_READS),
         server(("poll", "TooManyReads"), read_so_often(MOST_READS), ("threads=2", "ok"), POLLED, read_so_often(1),
                ("poll", "TooManyReads"), read_so_often(MOST_READS), NO_MORE, read_so_often(1)), written(FIRST_HARTS_ANSWER)], PROFILE),
+    Row("a server that reads events byte by byte gives up after 2,097,152 reads, and goes on in the next poll", [
+        given(EVENT * EVENTS + HARTS), reads(1),
+        server(("poll", "TooManyReads"), read_so_often(MOST_READS), POLLED, read_so_often(len(EVENT) * EVENTS + len(HARTS) - MOST_READS), ("threads=2", "ok"), NO_MORE),
+        written(FIRST_HARTS_ANSWER)], PROFILE),
     Row("texts of errors", [
         text("Frame", "not a frame"), text("Message", "not a message"), text("Read", "read fault"), text("Write", "write fault"),
         text("TooManyReads", "too many reads"), text("NoMemory", "no memory"), text("SeqSpent", "no sequence number is left"),
     ], "the doc comments of the errors"),
     Row("a program is launched, stops at its entry and runs to its end", [
         file(P), wire()] + pieces(FIRST + launch(stopOnEntry=True), GO_ON) + [
+            CONNECT, drives("Closed"), taken(STOPPED_AT_ENTRY + RAN), NO_FAULT] + counts() + ENDED, PROFILE),
+    Row("a program runs to its end over a wire that takes one byte at a time", [
+        file(P), wire(most=1)] + pieces(FIRST + launch(stopOnEntry=True), GO_ON) + [
             CONNECT, drives("Closed"), taken(STOPPED_AT_ENTRY + RAN), NO_FAULT] + counts() + ENDED, PROFILE),
     Row("over a wire that polls the editor is heard while a program runs", [
         file(FOREVER), wire(polls=True)] + pieces(FIRST + launch(), b"", PAUSE, b"") + [

@@ -1,8 +1,10 @@
 """What an editor sees of a stopped machine: registers, words of the stack, values that it sets, and numbers of frames and scopes."""
 from support.machine import BASE, REGISTERS, go, sets, write
-from support.players import Row
+from support.players import NO_MEMORY, Row, alike, tried
 
 PLAYER = "test_variables"
+TAKES_NONE = {"Handles::new": "last", "Handles::find": "find", "Handles::end_stop": "end", "Handles::number": "number", "Handles::next": "next",
+              "set_register": "register"}
 END = BASE + 65536
 GREATEST = 2147483647
 
@@ -38,6 +40,11 @@ def issue(targets, numbers):
     """Numbers that are issued for targets, or the error."""
     answer = numbers if isinstance(numbers, str) else " ".join(["issued"] + [str(number) for number in numbers])
     return " ".join(["issue"] + [str(target) for target in targets]), answer
+
+
+def issue_once(targets, numbers):
+    command, answer = issue(targets, numbers)
+    return command.replace("issue", "issue_once", 1), answer, NO_MEMORY
 
 
 def find(number, wanted):
@@ -122,6 +129,13 @@ ROWS = [
         find(4, "Unknown"), last(0), issue([0], "Exhausted"), following(1), issue([], []),
         last(GREATEST), issue([0], [1]),
     ], BY_HAND),
+    tried("no number is issued where there is no memory", DAP,
+          alike(last(5), register("a0", "17", 17), register("zero", "1", "NotWritable"), register("q", "1", "UnknownName")),
+          [issue_once([0, "registers"], [1, 2]), ("next", "3", "1"), ("find 2", "Registers", "Unknown"), ("number 0", "1", "none"),
+           *alike(issue([0, "registers"], [1, 2]), following(3), find(2, "Registers"))],
+          [issue_once([0, "stack"], [1, 3]), ("next", "4", "3"), ("find 3", "Stack", "Unknown"), *alike(number(0, 1), issue([0, "stack"], [1, 3]), following(4))],
+          [(*issue(["stack"] * 40 + [1, 2], [3] * 40 + [4, 5]), *issue(["stack"] * 40 + [1, 2], [3] * 40 + [4, 5])[1:])],
+          alike(END_STOP, find(3, "Stale"), issue([0], "Exhausted"), find(6, "Unknown"))),
     Row("numbers of 1,000 frames", [
         issue(range(1000), range(1, 1001)), issue(range(999, -1, -1), range(1000, 0, -1)), find(1000, "Frame(999)"), following(1001),
     ], BY_HAND, refused=True),

@@ -1,29 +1,19 @@
 """Each allocation refused in turn."""
 import os
-import shutil
-import subprocess
 import tempfile
 from concurrent.futures import ThreadPoolExecutor
 
-from support.program import TOP, expect
+from support.preloading import preload
+from support.program import expect
 
 MOST = 100000
-
-
-def preload(folder):
-    """Builds tests/support/refuse.c, which refuses one allocation of the process that it is preloaded into."""
-    if shutil.which("cc") is None:
-        raise AssertionError("there is no C compiler: install the Debian package gcc")
-    library = os.path.join(folder, "refuse.so")
-    subprocess.run(["cc", "-O2", "-Wall", "-Werror", "-shared", "-fPIC", "-o", library, os.path.join(TOP, "tests", "support", "refuse.c"), "-ldl"], check=True)
-    return library
 
 
 def each_refusal(once, step=1):
     """What once(environment) gives with the first allocation refused, with the one so many after it, .., until a run asks for fewer. As many
     runs as there are processors go side by side."""
     with tempfile.TemporaryDirectory() as folder, ThreadPoolExecutor(os.cpu_count()) as pool:
-        library = preload(folder)
+        library = preload(folder, "refuse")
 
         def refused(n):
             report = os.path.join(folder, "refused-%d" % n)
@@ -37,6 +27,15 @@ def each_refusal(once, step=1):
                     return given
                 given.append(gave)
     raise AssertionError("the process asks for memory without end")
+
+
+def how_many(once):
+    """How many allocations a run of once(environment) asks for, and what it gave."""
+    with tempfile.TemporaryDirectory() as folder:
+        count = os.path.join(folder, "count")
+        gave = once(dict(os.environ, LD_PRELOAD=preload(folder, "refuse"), REFUSE_COUNT=count))
+        with open(count) as file:
+            return int(file.read()), gave
 
 
 def ends_well_without_memory(tell, told):

@@ -21,3 +21,12 @@ class LineTable:
 
     def label_at(self, address, *wanted):
         return self.asks("label_at %d" % address, *wanted)
+
+    def label_address(self, name, wanted):
+        return self.asks("label_address %s" % name, wanted)
+
+    def label(self, place, *wanted):
+        return self.asks("label %d" % place, *wanted)
+
+    def label_count(self, wanted):
+        return self.asks("label_count", wanted)

@@ -63,19 +63,41 @@ def is_played(player, row):
     expect(bool(row.steps), True, "%s: there are steps" % row.name)
 
 
+def tried(name, source, *groups):
+    """A row of groups of calls, in each of which one that is not made again may find no memory: commands with the answer that comes where it finds
+    some, and the one that comes where it finds none."""
+    steps = [(command, answer) for group in groups for command, answer, _ in group]
+    without = [[none if group is other else answer for group in groups for _, answer, none in group]
+               for other in groups if any(none == NO_MEMORY for _, _, none in other)]
+    return Row(name, steps, source, refused=True, otherwise=without)
+
+
+def alike(*steps):
+    """Commands of which the answers are the same either way."""
+    return [(command, answer, answer) for command, answer in steps]
+
+
 def without_the_line(lines):
     """The lines without the first that tells that a call found no memory and was made again."""
     at = lines.index(NO_MEMORY) if NO_MEMORY in lines else len(lines)
     return lines[:at] + lines[at + 1:]
 
 
-def is_played_without_memory(player, row):
+def is_a(command, words):
+    """Whether a command begins with these words."""
+    return (command + " ").startswith(words + " ")
+
+
+def is_played_without_memory(player, row, takes_none=()):
     """Allocations refused in turn: the answers are the same, with a line where a call found no memory. Where the player itself found
-    none, it ends with status 3, and the answers so far are the first ones."""
+    none, it ends with status 3, and the answers so far are the first ones. takes_none: the words with which calls begin that take no memory."""
     def once(environment):
         lines, status = play(player, [command for command, _ in row.steps], environment)
         which = "%s, allocation %s refused" % (row.name, environment["REFUSE_ALLOC"])
         expect(status in (0, 3), True, "%s: the status %d is right" % (which, status))
+        if NO_MEMORY in lines and lines.index(NO_MEMORY) < len(row.steps):
+            command = row.steps[lines.index(NO_MEMORY)][0]
+            expect([words for words in takes_none if is_a(command, words)], [], "%s: %s takes no memory, and found none" % (which, shown(command)))
         others = [other for other in row.otherwise if lines == first_of(other, lines, status)]
         if not others:
             rest = without_the_line(lines)

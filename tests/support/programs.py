@@ -14,6 +14,8 @@ RECURS = (b"_start: li a0, 2\ncall g\nli a7, 93\necall\ng: beqz a0, d\naddi a0, 
 COUNTS = b"_start: call f\nj _start\nf: addi a0, a0, 1\nret\n"
 # The store at p becomes an instruction that adds 1, which is run until a0 is 3: 15 instructions with the ebreak.
 WRITES_ITSELF = b"_start: la t0, n\nlw t1, 0(t0)\nla t2, p\nli t3, 3\np: sw t1, 0(t2)\nblt a0, t3, p\nebreak\nn: addi a0, a0, 1\n"
+# Exits with 0 after 300,004 instructions, more than three slices.
+LONG = b"_start: li t0, 150000\nl: addi t0, t0, -1\nbnez t0, l\nli a7, 93\necall\n"
 # Runs for ever.
 CIRCLES = b"e: j e\n"
 

@@ -1,10 +1,11 @@
 /* Refuses one allocation of the process that it is preloaded into: the REFUSE_ALLOC-th call of malloc or
    realloc gives no memory. Where that call came, the file REFUSE_REPORT is made, so that a script knows
-   when there was no such call any more. */
+   when there was no such call any more. At the end the number of calls is written to the file REFUSE_COUNT. */
 #define _GNU_SOURCE
 #include <dlfcn.h>
 #include <errno.h>
 #include <fcntl.h>
+#include <stdio.h>
 #include <stdlib.h>
 #include <unistd.h>
 
@@ -25,13 +26,24 @@ __attribute__((constructor)) static void start(void)
 
 static int is_refused(void)
 {
-    if (refused == 0 || ++calls != refused)
+    if (++calls != refused)
         return 0;
     int fd = report ? open(report, O_WRONLY | O_CREAT | O_TRUNC, 0600) : -1;
     if (fd >= 0)
         close(fd);
     errno = ENOMEM;
     return 1;
+}
+
+__attribute__((destructor)) static void end(void)
+{
+    unsigned long called = calls;
+    const char *count = getenv("REFUSE_COUNT");
+    FILE *file = count ? fopen(count, "w") : NULL;
+    if (file != NULL) {
+        fprintf(file, "%lu\n", called);
+        fclose(file);
+    }
 }
 
 void *malloc(size_t size)

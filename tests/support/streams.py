@@ -36,11 +36,11 @@ KINDS = (pipes, one_socket, one_terminal)
 class Streams:
     """The program over an input and an output that do not block, which a kind gives."""
 
-    def __init__(self, kind, words=()):
+    def __init__(self, kind, words=(), environment=None):
         its_input, its_output, self.to_it, self.from_it = kind()
         for descriptor in (its_input, its_output):
             os.set_blocking(descriptor, False)
-        self.process = subprocess.Popen([PROGRAM, *words], stdin=its_input, stdout=its_output, stderr=subprocess.PIPE)
+        self.process = subprocess.Popen([PROGRAM, *words], stdin=its_input, stdout=its_output, stderr=subprocess.PIPE, env=environment)
         # A program that waits for what never comes ends so, and its test with it.
         self.limit = threading.Timer(SECONDS, self.process.kill)
         self.limit.start()
