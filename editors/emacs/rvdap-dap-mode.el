@@ -12,22 +12,17 @@
 ;;   rvdap-attach RET      TCP: joins the program of an rvdap that runs, as
 ;;                         rvdap --listen 127.0.0.1:4711 --program FILE.s, with the absolute path of FILE.s
 ;;
-;; The first runs `rvdap asm FILE.s' before. If the program has an error, *compilation* shows it with its line, C-x ` goes there, and
+;; The first runs `rvdap check FILE.s' before. If the program has an error, *compilation* shows it with its line, C-x ` goes there, and
 ;; nothing is launched.
 
 (require 'compile)
 (require 'dap-mode)
 (require 'dap-ui)
 
-;; The form of an error in a program: `rvdap: FILE: line 4: Undefined'.
-(add-to-list 'compilation-error-regexp-alist-alist
-             '(rvdap "^rvdap: \\(.+\\): line \\([0-9]+\\): \\(.*\\)$" 1 2))
-(add-to-list 'compilation-error-regexp-alist 'rvdap)
-
 (defun rvdap-check (program)
-  "Assemble PROGRAM. If it has an error, show it in *compilation*, and launch nothing."
-  (unless (eq 0 (call-process "rvdap" nil nil nil "asm" program))
-    (compile (concat "rvdap asm " (shell-quote-argument program) " > /dev/null"))
+  "Check PROGRAM. If it has an error, show it in *compilation*, which knows its form, and launch nothing."
+  (unless (eq 0 (call-process "rvdap" nil nil nil "check" program))
+    (compile (concat "rvdap check " (shell-quote-argument program)))
     (user-error "Not launched: *compilation* shows why")))
 
 (dap-register-debug-provider

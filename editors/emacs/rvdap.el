@@ -13,24 +13,19 @@
 ;;   rvdap-attach RET      TCP: joins the program of an rvdap that runs, as
 ;;                         rvdap --listen 127.0.0.1:4711 --program FILE.s, with the absolute path of FILE.s
 ;;
-;; The first two run `rvdap asm FILE.s' before. If the program has an error, *compilation* shows it with its line, C-x ` goes there, and
+;; The first two run `rvdap check FILE.s' before. If the program has an error, *compilation* shows it with its line, C-x ` goes there, and
 ;; nothing is launched.
 
 (require 'compile)
 (require 'dape)
 
-;; The form of an error in a program: `rvdap: FILE: line 4: Undefined'.
-(add-to-list 'compilation-error-regexp-alist-alist
-             '(rvdap "^rvdap: \\(.+\\): line \\([0-9]+\\): \\(.*\\)$" 1 2))
-(add-to-list 'compilation-error-regexp-alist 'rvdap)
-
 (defun rvdap-check-command ()
-  "The command that assembles the program in this buffer, and prints its error if it has one."
-  (concat "rvdap asm " (shell-quote-argument (buffer-file-name)) " > /dev/null"))
+  "The command that checks the program in this buffer. Compilation mode knows the form in which it prints an error."
+  (concat "rvdap check " (shell-quote-argument (buffer-file-name))))
 
 (defun rvdap-close-check (buffer)
-  "Close the window of BUFFER, where a program was assembled without an error."
-  (when (string-prefix-p "rvdap asm " (car (buffer-local-value 'compilation-arguments buffer)))
+  "Close the window of BUFFER, where a program was checked, and has no error."
+  (when (string-prefix-p "rvdap check " (car (buffer-local-value 'compilation-arguments buffer)))
     (quit-windows-on buffer t)))
 (add-hook 'dape-compile-hook #'rvdap-close-check)
 

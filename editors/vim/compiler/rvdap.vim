@@ -1,7 +1,7 @@
 " The error of an assembly program in the quickfix list of Vim or Neovim.
 "
 " Copy this file to ~/.vim/compiler/rvdap.vim, or for Neovim to ~/.config/nvim/compiler/rvdap.vim. Then open a program (FILE.s), and type
-" :compiler rvdap (once for each file), and :make after each change that was saved: it assembles the file, and goes to the line of its
+" :compiler rvdap (once for each file), and :make after each change that was saved: it checks the file, and goes to the line of its
 " error.
 
 if exists("current_compiler")
@@ -9,5 +9,5 @@ if exists("current_compiler")
 endif
 let current_compiler = "rvdap"
 
-CompilerSet makeprg=rvdap\ asm\ %:p:S
-CompilerSet errorformat=rvdap:\ %f:\ line\ %l:\ %m,%+Grvdap:\ %m,%-G%.%#
+CompilerSet makeprg=rvdap\ check\ %:p:S
+CompilerSet errorformat=%f:%l:\ error:\ %m,%+Grvdap:\ %m,%-G%.%#
