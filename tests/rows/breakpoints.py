@@ -2,8 +2,8 @@
 from support.players import NO_MEMORY, Row, alike, tried
 
 PLAYER = "test_breakpoints"
-TAKES_NONE = {"Breaks::check": "check", "Breaks::ids": "ids", "Breaks::clear": "clear", "Breaks::reset_hits": "reset", "Breaks::has": "has",
-              "Breaks::forget_ids": "forget"}
+TAKES_NONE = {"Breaks::check": "check", "Breaks::ids": "ids", "Breaks::logs": "logs", "Breaks::log_text": "text", "Breaks::clear": "clear",
+              "Breaks::reset_hits": "reset", "Breaks::has": "has", "Breaks::forget_ids": "forget"}
 BASE = 0x10000
 # Addresses so far apart have one mark.
 APART = 4 * 65536
@@ -13,9 +13,12 @@ PROFILE = "docs/MACHINE.md, \"Breakpoints\""
 BY_HAND = "worked by hand from docs/MACHINE.md, \"Breakpoints\""
 
 
-def a(number, address=BASE, hit=1, condition=None):
+def a(number, address=BASE, hit=1, condition=None, log=None):
     """A breakpoint as the player reads it."""
-    return "%d:%d:%d" % (number, address, hit) + (":" + condition.encode().hex() if condition else "")
+    parts = ["%d:%d:%d" % (number, address, hit)]
+    if condition or log:
+        parts.append((condition or "").encode().hex())
+    return ":".join(parts + ([log.encode().hex()] if log else []))
 
 
 def source(*breakpoints):
@@ -24,6 +27,10 @@ def source(*breakpoints):
 
 def instructions(*breakpoints):
     return " ".join(("instructions",) + breakpoints), "ok"
+
+
+def functions(*breakpoints):
+    return " ".join(("functions",) + breakpoints), "ok"
 
 
 def go(address):
@@ -38,14 +45,23 @@ def write(address, block):
     return "write %d %s" % (address, block.hex()), "ok"
 
 
-def check(lines=(), of_instructions=()):
-    """A check at which the breakpoints of lines and those of instructions with these ids stop."""
-    stops = "%s %s" % (str(bool(lines)).lower(), str(bool(of_instructions)).lower())
-    return "check", " ".join([stops] + [str(number) for number in (*lines, *of_instructions)])
+def check(lines=(), of_instructions=(), of_functions=()):
+    """A check at which the breakpoints of lines, those of instructions and those of functions with these ids stop."""
+    stops = [str(bool(each)).lower() for each in (lines, of_instructions, of_functions)]
+    return "check", " ".join(stops + [str(number) for number in (*lines, *of_instructions, *of_functions)])
 
 
 def ids(*numbers):
     return "ids", " ".join(["ids"] + [str(number) for number in numbers])
+
+
+def logs(*places):
+    """The places of the logpoints that had something to say at the last check."""
+    return "logs", " ".join(["logs"] + [str(place) for place in places])
+
+
+def text(place, wanted="none"):
+    return "text %d" % place, wanted
 
 
 def has(address, wanted):
@@ -141,11 +157,47 @@ ROWS = [
         go(BASE), source(*(a(i, hit=1 + i % 2) for i in range(MOST))), instructions(*(a(3 * i, condition="a0 == %d" % i) for i in range(MOST))),
         sets(10, 700), check(range(0, MOST, 2), [2100]), check(range(MOST), [2100]), sets(10, MOST), check(range(MOST)),
     ], BY_HAND),
+    Row("breakpoints of three lists at one address", [
+        go(BASE), functions(a(7), a(3)), instructions(a(4)), source(a(9)),
+        check([9], [4], [7, 3]), ids(9, 4, 7, 3), functions(a(8, hit=2), a(5, BASE + 4)),
+        check([9], [4]), check([9], [4], [8]), source(), check([], [4], [8]), instructions(), check([], [], [8]),
+        has(BASE, True), has(BASE + 4, True), go(BASE + 4), check([], [], [5]), functions(), ids(), check(), has(BASE, False), has(BASE + 4, False),
+    ], PROFILE),
+    Row("a list of functions leaves the hits of the others, and they leave its own", [
+        go(BASE), source(a(1, hit=3)), instructions(a(2, hit=3)), functions(a(3, hit=3)),
+        check(), functions(a(4, hit=2)), check(), check([1], [2], [4]), source(a(5, hit=2)), check([], [2], [4]),
+        instructions(a(6, hit=2)), check([5], [], [4]), done("reset"), check(), check([5], [6], [4]),
+    ], PROFILE),
+    Row("a logpoint counts its hits and does not stop", [
+        go(BASE), source(a(1, hit=3, log="third"), a(2, hit=2), a(3, condition="a0 == 5", log="five"), a(4, BASE + 4, log="next"), a(5, log="each")),
+        logs(), check(), logs(4), check([2]), logs(4), sets(10, 5), check([2]), logs(0, 2, 4), check([2]), logs(0, 2, 4),
+        text(0, "third"), text(1), text(2, "five"), text(3, "next"), text(4, "each"), text(5), text(4294967295),
+        go(BASE + 4), check(), logs(3), done("forget"), logs(), go(BASE + 8), check(), logs(),
+    ], PROFILE),
+    Row("a list that is set, and one that is taken away, leaves no logs", [
+        go(BASE), source(a(1, log="a")), check(), logs(0), source(a(2, log="b")), logs(), check(), logs(0), text(0, "b"),
+        instructions(a(3)), logs(), check([], [3]), logs(0), functions(a(4)), logs(), check([], [3], [4]), logs(0), done("reset"), logs(0),
+        done("clear"), logs(), ids(), text(0), check(), logs(),
+    ], BY_HAND),
+    Row("1,024 logpoints", [
+        go(BASE), source(*(a(i, hit=1 + i % 2, log="x") for i in range(MOST))), functions(*(a(i) for i in range(MOST))),
+        check([], [], range(MOST)), logs(*range(0, MOST, 2)), check([], [], range(MOST)), logs(*range(MOST)), text(MOST - 1, "x"), text(MOST),
+    ], BY_HAND),
+    Row("lists of functions and logpoints that found no memory are set when they are set again", [
+        go(BASE), source(a(1, hit=2, condition="a0 == 0", log="one"), a(2)), functions(a(3), a(4, condition="[0]")), logs(), check([2], [], [3, 4]), logs(),
+        check([2], [], [3, 4]), logs(0), text(0, "one"), functions(), logs(), check([2]), logs(0), done("forget"), logs(),
+    ], PROFILE, refused=True),
     Row("lists that found no memory are set when they are set again", [
         go(BASE), source(a(1, hit=2), a(2, condition="a0 == 0 || [0]")), check([2]),
         instructions(a(3), a(4, BASE + 4), a(5)), ids(), check([1, 2], [3, 5]),
         source(a(6)), ids(), check([6], [3, 5]),
     ], PROFILE, refused=True),
+    tried("a list of functions or of logpoints that found no memory leaves what was there, with its ids and its logs", PROFILE,
+          alike(go(BASE), source(a(1, log="a"), a(2)), functions(a(3)), check([2], [], [3]), logs(0)),
+          [once(functions(a(6), a(7, BASE + 4))), ("ids", "ids", "ids 2 3"), ("logs", "logs", "logs 0"), (*check([2], [], [6]), check([2], [], [3])[1]),
+           *alike(functions(a(6)), check([2], [], [6]), logs(0))],
+          [once(source(a(8, log="b"), a(9))), ("text 0", "b", "a"), ("logs", "logs", "logs 0"), (*check([9], [], [6]), check([2], [], [6])[1]),
+           *alike(source(a(8, log="b"), a(9)), check([9], [], [6]), text(0, "b"))]),
     tried("a list that found no memory leaves the list that was there, with its hits and its ids", PROFILE,
           alike(go(BASE), source(a(1), a(2, hit=2)), instructions(a(3)), check([1], [3])),
           [once(source(a(6), a(7, condition="a0 == 0"))), ("ids", "ids", "ids 1 3"), (*check([6, 7], [3]), check([1, 2], [3])[1]),

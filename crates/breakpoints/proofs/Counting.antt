@@ -1,8 +1,9 @@
 -- Hits, counted over many checks.
 use Rattle.std.proofs.Common.{◌≡◌, ℕ, ◌+◌, ◌≤◌, Bool, true, false, cond, ◌&&◌, leb, min, List, [], ◌∷◌, refl, ap, ◌∙◌, arith}
 use Rattle.std.proofs.lemmas.Bool.{le-leb, leb-false, leb-true, lt-leb}
-use Rattle.breakpoints.specs.Laws.{Check, StopsFromItsHit, after_checks, hits_among}
-use Rattle.breakpoints.specs.Stops.{counted, fresh, is_hit, Placed, stops, with_hit}
+use Rattle.std.specs.Prelude.{Option, is_some, not}
+use Rattle.breakpoints.specs.Laws.{Check, LogsFromItsHit, ResetCountsAnew, after_checks, hits_among, is_reached_at}
+use Rattle.breakpoints.specs.Stops.{counted, fresh, is_hit, is_reached, Placed, reset, with_hit}
 
 abbrev with_hits : ℕ → Placed → Placed
 with_hits n b = record b { hits = n }
@@ -38,17 +39,40 @@ counts (c ∷ checks) b h =
     ∙ ap (λ k. with_hits k b)
     (let e : min (n + hits_among checks b) 4294967295 ≡ min (b.hits + (one + hits_among checks b)) 4294967295 = omega arith in e)
 
-pub stops_so : StopsFromItsHit
-stops_so spec checks last h =
-    let b = fresh spec in
-    let n = hits_among checks b in
-    let start : b.hits ≤ 4294967295 = omega arith in
-    let after : after_checks checks b ≡ with_hits (min n 4294967295) b = counts checks b start
-    ∙ ap (λ k. with_hits (min k 4294967295) b) (let e : 0 + n ≡ n = omega arith in e) in
-    ap (stops last.pc last.hart last.memory) after ∙ ap (λ t. is_hit last.pc last.hart last.memory b && t) (reached spec.hit n h)
+-- after some checks from where it was not hit yet, it is reached as the law says
+after_them : (b : Placed) (checks : List Check)
+    → after_checks checks (reset b) ≡ with_hits (min (hits_among checks (reset b)) 4294967295) (reset b)
+after_them b checks =
+    let n = hits_among checks (reset b) in
+    let start : (reset b).hits ≤ 4294967295 = omega arith in
+    counts checks (reset b) start
+    ∙ ap (λ k. with_hits (min k 4294967295) (reset b)) (let e : 0 + n ≡ n = omega arith in e)
+
+reached_so : (b : Placed) (checks : List Check) (last : Check) → b.hit ≤ 4294967295
+    → is_reached last.pc last.hart last.memory (after_checks checks (reset b)) ≡ is_reached_at (reset b) checks last
+reached_so b checks last h =
+    let n = hits_among checks (reset b) in
+    ap (is_reached last.pc last.hart last.memory) (after_them b checks)
+    ∙ ap (λ t. is_hit last.pc last.hart last.memory b && t) (reached b.hit n h)
   where
     reached : (hit n : ℕ) → hit ≤ 4294967295 → leb hit (min (min n 4294967295 + 1) 4294967295) ≡ leb hit (n + 1)
     reached hit n h = go (leb hit (n + 1)) refl where
       go : (t : Bool) → leb hit (n + 1) ≡ t → leb hit (min (min n 4294967295 + 1) 4294967295) ≡ t
       go true t = let e = leb-true hit (n + 1) t in le-leb hit _ (omega (arith, e, h))
       go false t = let e = leb-false hit (n + 1) t in lt-leb hit _ (omega (arith, e, h))
+
+-- checks do not change the text
+same_log : (b : Placed) (checks : List Check) → (after_checks checks (reset b)).log ≡ b.log
+same_log b checks = ap (λ (b : Placed). b.log) (after_them b checks)
+
+pub stops_so : ResetCountsAnew
+stops_so b checks last h =
+    ap (λ (log : Option (List ℕ)). is_reached last.pc last.hart last.memory (after_checks checks (reset b)) && not (is_some log))
+    (same_log b checks)
+    ∙ ap (λ (t : Bool). t && not (is_some b.log)) (reached_so b checks last h)
+
+pub logs_so : LogsFromItsHit
+logs_so spec checks last h =
+    let b = fresh spec in
+    ap (λ (log : Option (List ℕ)). is_reached last.pc last.hart last.memory (after_checks checks b) && is_some log) (same_log b checks)
+    ∙ ap (λ (t : Bool). t && is_some spec.log) (reached_so b checks last h)

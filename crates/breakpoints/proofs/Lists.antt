@@ -6,8 +6,8 @@ use Rattle.std.proofs.lemmas.List.{map-append}
 use Rattle.std.proofs.lemmas.List.Elements.{filter_more}
 use Rattle.rv32i.specs.declared.hart.Hart.{Hart}
 use Rattle.std.proofs.lemmas.List.Folds.{list_any-append}
-use Rattle.breakpoints.specs.Places.{Covers, IsKept, SamePlaces, has_place, is_at}
-use Rattle.breakpoints.specs.Stops.{checked, counted, hit_in, is_hit, Lists, Placed, reset, stopping_ids, stops, with_hit}
+use Rattle.breakpoints.specs.Places.{Covers, IsKept, SamePlaces, has_place, is_among, is_at}
+use Rattle.breakpoints.specs.Stops.{checked, counted, hit_in, is_hit, Lists, logging_from, logs, Placed, reset, stopping_ids, stops, with_hit}
 
 -- ---- the addresses stay
 
@@ -17,20 +17,26 @@ same_places f same address [] = refl
 same_places f same address (b ∷ list) = rw (same b) (rw (same_places f same address list) refl)
 
 pub still_covers : (places : List ℕ) (f : Placed → Placed) → ((b : Placed) → (f b).address ≡ b.address)
-    → (source instructions : List Placed) → Covers places source instructions → Covers places (map f source) (map f instructions)
-still_covers places f same source instructions h address =
-    rw (same_places f same address source) (rw (same_places f same address instructions) (h address))
+    → (source instructions functions : List Placed) → Covers places source instructions functions
+    → Covers places (map f source) (map f instructions) (map f functions)
+still_covers places f same source instructions functions h address =
+    rw (same_places f same address source)
+    (rw (same_places f same address instructions) (rw (same_places f same address functions) (h address)))
 
 pub same_length : (f : Placed → Placed) (list : List Placed) → length (map f list) ≡ length list
 same_length f [] = refl
 same_length f (b ∷ list) = ap suc (same_length f list)
 
 pub still_kept : (places : List ℕ) (f : Placed → Placed) → ((b : Placed) → (f b).address ≡ b.address)
-    → (source instructions : List Placed) (room more : ℕ) → room ≤ more → IsKept places source instructions room
-    → IsKept places (map f source) (map f instructions) more
-still_kept places f same source instructions room more e h = record {
-  covers = still_covers places f same source instructions h.covers;
-  fits = rw (same_length f source) (rw (same_length f instructions) (omega (arith, h.fits, e)));
+    → (source instructions functions : List Placed) (room more logging other : ℕ) → room ≤ more → logging ≤ other
+    → IsKept places source instructions functions room logging
+    → IsKept places (map f source) (map f instructions) (map f functions) more other
+still_kept places f same source instructions functions room more logging other e g h = record {
+  covers = still_covers places f same source instructions functions h.covers;
+  fits = rw (same_length f source)
+      (rw (same_length f instructions) (rw (same_length f functions) (omega (arith, h.fits, e))));
+  logs_fit = rw (same_length f source) (omega (arith, h.logs_fit, g));
+  few = rw (same_length f source) h.few;
 }
 
 pub reset_address : (b : Placed) → (reset b).address ≡ b.address
@@ -49,6 +55,16 @@ none_counted pc hart memory b h = rw h refl
 
 none_stops : (pc : ℕ) (hart : Hart) (memory : List ℕ) (b : Placed) → is_at pc b ≡ false → stops pc hart memory b ≡ false
 none_stops pc hart memory b h = rw h refl
+
+none_logs : (pc : ℕ) (hart : Hart) (memory : List ℕ) (b : Placed) → is_at pc b ≡ false → logs pc hart memory b ≡ false
+none_logs pc hart memory b h = rw h refl
+
+pub no_logs : (pc : ℕ) (hart : Hart) (memory : List ℕ) (place : ℕ) (list : List Placed) → list_any (is_at pc) list ≡ false
+    → logging_from pc hart memory place list ≡ []
+no_logs pc hart memory place [] h = refl
+no_logs pc hart memory place (b ∷ list) h =
+    let parts = or_parts (is_at pc b) (list_any (is_at pc) list) h in
+    rw (none_logs pc hart memory b parts.0) (no_logs pc hart memory (place + 1) list parts.1)
 
 pub unchanged : (pc : ℕ) (hart : Hart) (memory : List ℕ) (list : List Placed) → list_any (is_at pc) list ≡ false
     → map (counted pc hart memory) list ≡ list
@@ -85,17 +101,20 @@ ids_more pc hart memory list i b h =
     go true = refl
     go false = refl
 
--- ---- the places of both lists
+-- ---- the places of all lists
 
-pub places_cover : (source instructions : List Placed) (addresses places : List ℕ) → SamePlaces addresses places
-    → addresses ≡ map (λ (b : Placed). b.address) source ++ map (λ (b : Placed). b.address) instructions → Covers places source instructions
-places_cover source instructions addresses places same e address =
+abbrev addresses_of : List Placed → List ℕ
+addresses_of list = map (λ (b : Placed). b.address) list
+
+pub places_cover : (source instructions functions : List Placed) (addresses places : List ℕ) → SamePlaces addresses places
+    → addresses ≡ addresses_of source ++ addresses_of instructions ++ addresses_of functions → Covers places source instructions functions
+places_cover source instructions functions addresses places same e address =
     same address ∙ ap (has_place address) e
-    ∙ list_any-append (λ place. place == address) (map (λ (b : Placed). b.address) source) (map (λ (b : Placed). b.address) instructions)
-    ∙ both (any_address source) (any_address instructions)
+    ∙ list_any-append (λ place. place == address) (addresses_of source ++ addresses_of instructions) (addresses_of functions)
+    ∙ both (list_any-append (λ place. place == address) (addresses_of source) (addresses_of instructions)
+    ∙ both (any_address source) (any_address instructions)) (any_address functions)
   where
-    any_address : (list : List Placed)
-        → list_any (λ place. place == address) (map (λ (b : Placed). b.address) list) ≡ list_any (is_at address) list
+    any_address : (list : List Placed) → list_any (λ place. place == address) (addresses_of list) ≡ list_any (is_at address) list
     any_address [] = refl
     any_address (b ∷ list) = ap (λ t. is_at address b || t) (any_address list)
 
@@ -119,21 +138,43 @@ not_yet f xs ys i d h e = ap (λ zs. get_or zs i d) e ∙ go f xs i d h where
   go f (x ∷ xs) zero d h = refl
   go f (x ∷ xs) (suc i) d h = go f xs i d (omega (arith, h))
 
-pub no_check : (pc : ℕ) (hart : Hart) (memory : List ℕ) (lists : Lists)
-    → (list_any (is_at pc) lists.source || list_any (is_at pc) lists.instructions) ≡ false
-    → checked pc hart memory lists ≡ record lists { ids = [] }
-no_check pc hart memory lists h =
-    let parts = or_parts (list_any (is_at pc) lists.source) (list_any (is_at pc) lists.instructions) h in
-    rw (unchanged pc hart memory lists.source parts.0)
-    (rw (unchanged pc hart memory lists.instructions parts.1)
-    (rw (no_ids pc hart memory lists.source parts.0) (rw (no_ids pc hart memory lists.instructions parts.1) refl)))
+-- none of the lists has one at pc
+pub record NoneAt (pc : ℕ) (lists : Lists) : Type 0 where
+  pub source : list_any (is_at pc) lists.source ≡ false
+  pub instructions : list_any (is_at pc) lists.instructions ≡ false
+  pub functions : list_any (is_at pc) lists.functions ≡ false
 
-pub no_hit : (pc : ℕ) (hart : Hart) (memory : List ℕ) (lists : Lists)
-    → (list_any (is_at pc) lists.source || list_any (is_at pc) lists.instructions) ≡ false
-    → hit_in pc hart memory lists ≡ record { source = false; instruction = false }
+pub none_at : (pc : ℕ) (lists : Lists) → is_among pc lists.source lists.instructions lists.functions ≡ false → NoneAt pc lists
+none_at pc lists h =
+    let outer = or_parts (list_any (is_at pc) lists.source || list_any (is_at pc) lists.instructions)
+    (list_any (is_at pc) lists.functions) h in
+    let inner = or_parts (list_any (is_at pc) lists.source) (list_any (is_at pc) lists.instructions) outer.0 in
+    record { source = inner.0; instructions = inner.1; functions = outer.1 }
+
+pub no_check : (pc : ℕ) (hart : Hart) (memory : List ℕ) (lists : Lists)
+    → is_among pc lists.source lists.instructions lists.functions ≡ false
+    → checked pc hart memory lists ≡ record lists { ids = []; logs = [] }
+no_check pc hart memory lists h =
+    let n = none_at pc lists h in
+    λ j. record {
+      source = unchanged pc hart memory lists.source n.source j;
+      instructions = unchanged pc hart memory lists.instructions n.instructions j;
+      functions = unchanged pc hart memory lists.functions n.functions j;
+      ids =
+          (no_ids pc hart memory lists.source n.source j) ++ (no_ids pc hart memory lists.instructions n.instructions j) ++
+          (no_ids pc hart memory lists.functions n.functions j);
+      logs = no_logs pc hart memory 0 lists.source n.source j;
+    }
+
+pub no_hit : (pc : ℕ) (hart : Hart) (memory : List ℕ) (lists : Lists) → is_among pc lists.source lists.instructions lists.functions ≡ false
+    → hit_in pc hart memory lists ≡ record { source = false; instruction = false; function = false }
 no_hit pc hart memory lists h =
-    let parts = or_parts (list_any (is_at pc) lists.source) (list_any (is_at pc) lists.instructions) h in
-    rw (no_stop pc hart memory lists.source parts.0) (rw (no_stop pc hart memory lists.instructions parts.1) refl)
+    let n = none_at pc lists h in
+    λ j. record {
+      source = no_stop pc hart memory lists.source n.source j;
+      instruction = no_stop pc hart memory lists.instructions n.instructions j;
+      function = no_stop pc hart memory lists.functions n.functions j;
+    }
 
 pub or_true : (t : Bool) → (t || true) ≡ true
 or_true true = refl

@@ -1,12 +1,13 @@
 -- Which breakpoints are hit, and which stop (Debug Adapter Protocol, `SourceBreakpoint`, `InstructionBreakpoint`:
 -- `condition`, `hitCondition`).
 --
--- There are two lists: breakpoints of source lines, and breakpoints of instructions. After an instruction has
+-- There are three lists: breakpoints of source lines, of instructions, and of functions. After an instruction has
 -- retired, each breakpoint at the new pc is looked at. It is hit where it has no condition, or its condition is not 0
--- or has no value: then its count goes up by one, and stays at 4,294,967,295. It stops where it is hit and its count,
--- this hit among it, has reached the number that it was set with.
-use Rattle.std.specs.Prelude.{ℕ, ◌+◌, ◌≤◌, Bool, true, ◌==◌, nat_le, ◌&&◌, if◌then◌else◌, min, List, ◌++◌, length}
-use Rattle.std.specs.Prelude.{map, filter, All, Option, Some, None, Ok, Err, option_map}
+-- or has no value: then its count goes up by one, and stays at 4,294,967,295. Where it is hit and its count, this hit
+-- among it, has reached the number that it was set with, it stops; but a logpoint (`logMessage`) never stops, and says
+-- its text there. A logpoint is a breakpoint of the source list: only there is a text looked for.
+use Rattle.std.specs.Prelude.{ℕ, ◌+◌, ◌≤◌, Bool, true, ◌==◌, nat_le, ◌&&◌, not, if◌then◌else◌, min, List, [], ◌∷◌, ◌++◌, length}
+use Rattle.std.specs.Prelude.{map, filter, All, Option, Some, None, Ok, Err, option_map, is_some, slice_get}
 use Rattle.std.specs.List.{list_any}
 use Rattle.rv32i.specs.declared.hart.Hart.{Hart}
 use Rattle.expressions.specs.Nodes.{tree_of}
@@ -15,17 +16,24 @@ use Rattle.expressions.specs.Values.{Valued, is_true, value_of}
 use Rattle.breakpoints.specs.declared.breakpoint.BreakSpec.{BreakSpec}
 use Rattle.breakpoints.specs.declared.breakpoint.Hit.{Hit}
 
--- a breakpoint to be set: its number and address, the condition under which it is hit, and from which hit on it stops
+-- a breakpoint to be set: its number and address, the condition under which it is hit, from which hit on it stops, and
+-- the text of a logpoint
 pub record Wanted : Type 0 where
   pub id : ℕ
   pub address : ℕ
   pub condition : Option Tree
   pub hit : ℕ
+  pub log : Option (List ℕ)
 
 -- the code's, whose condition keeps where its parts lie
 abbrev pub wanted_by : BreakSpec → Wanted
-wanted_by spec =
-    record { id = spec.id; address = spec.address; condition = option_map tree_of spec.condition; hit = spec.hit }
+wanted_by spec = record {
+  id = spec.id;
+  address = spec.address;
+  condition = option_map tree_of spec.condition;
+  hit = spec.hit;
+  log = spec.log;
+}
 
 -- one that is set, and how often it was hit
 pub record Placed : Type 0 where
@@ -33,18 +41,28 @@ pub record Placed : Type 0 where
   pub address : ℕ
   pub condition : Option Tree
   pub hit : ℕ
+  pub log : Option (List ℕ)
   pub hits : ℕ
 
--- the two lists, and the ids of those that stopped at the last check, the source list's first
+-- the three lists; the ids of those that stopped at the last check, the source list's first and those of functions
+-- last; and the places in the source list of the logpoints that had something to say there
 pub record Lists : Type 0 where
   pub source : List Placed
   pub instructions : List Placed
+  pub functions : List Placed
   pub ids : List ℕ
+  pub logs : List ℕ
 
 -- a breakpoint as it is set: it was not hit yet
 abbrev pub fresh : Wanted → Placed
-fresh wanted =
-    record { id = wanted.id; address = wanted.address; condition = wanted.condition; hit = wanted.hit; hits = 0 }
+fresh wanted = record {
+  id = wanted.id;
+  address = wanted.address;
+  condition = wanted.condition;
+  hit = wanted.hit;
+  log = wanted.log;
+  hits = 0;
+}
 
 abbrev pub is_no_zero : Valued → Bool
 is_no_zero (Ok v) = is_true v
@@ -66,27 +84,54 @@ with_hit b = record b { hits = min (b.hits + 1) 4294967295 }
 abbrev pub counted : ℕ → Hart → List ℕ → Placed → Placed
 counted pc hart memory b = if is_hit pc hart memory b then with_hit b else b
 
--- it stops
+-- it is hit, and its count, this hit among it, has reached its number
+abbrev pub is_reached : ℕ → Hart → List ℕ → Placed → Bool
+is_reached pc hart memory b = is_hit pc hart memory b && nat_le b.hit (with_hit b).hits
+
+-- it stops; a logpoint never does
 abbrev pub stops : ℕ → Hart → List ℕ → Placed → Bool
-stops pc hart memory b = is_hit pc hart memory b && nat_le b.hit (with_hit b).hits
+stops pc hart memory b = is_reached pc hart memory b && not (is_some b.log)
+
+-- a logpoint says its text, where another would stop
+abbrev pub logs : ℕ → Hart → List ℕ → Placed → Bool
+logs pc hart memory b = is_reached pc hart memory b && is_some b.log
 
 -- the ids of those that stop, in order
 abbrev pub stopping_ids : ℕ → Hart → List ℕ → List Placed → List ℕ
 stopping_ids pc hart memory list = map (λ b. b.id) (filter (stops pc hart memory) list)
+
+-- the places of the logpoints that say their text, counted on from this one
+abbrev pub logging_from : ℕ → Hart → List ℕ → ℕ → List Placed → List ℕ
+logging_from pc hart memory place [] = []
+logging_from pc hart memory place (b ∷ list) =
+    (if logs pc hart memory b then place ∷ [] else []) ++ logging_from pc hart memory (place + 1) list
 
 -- the lists after a check, and what it answers
 abbrev pub checked : ℕ → Hart → List ℕ → Lists → Lists
 checked pc hart memory lists = record {
   source = map (counted pc hart memory) lists.source;
   instructions = map (counted pc hart memory) lists.instructions;
-  ids = stopping_ids pc hart memory lists.source ++ stopping_ids pc hart memory lists.instructions;
+  functions = map (counted pc hart memory) lists.functions;
+  ids = stopping_ids pc hart memory lists.source
+      ++ stopping_ids pc hart memory lists.instructions
+      ++ stopping_ids pc hart memory lists.functions;
+  logs = logging_from pc hart memory 0 lists.source;
 }
 
 abbrev pub hit_in : ℕ → Hart → List ℕ → Lists → Hit
 hit_in pc hart memory lists = record {
   source = list_any (stops pc hart memory) lists.source;
   instruction = list_any (stops pc hart memory) lists.instructions;
+  function = list_any (stops pc hart memory) lists.functions;
 }
+
+-- the text of the logpoint at a place of the source list, if there is one
+abbrev pub log_of : Option Placed → Option (List ℕ)
+log_of None = None
+log_of (Some b) = b.log
+
+abbrev pub log_at : Lists → ℕ → Option (List ℕ)
+log_at lists place = log_of (slice_get lists.source place)
 
 -- a list that can be set: at most 1,024 breakpoints, each of which stops at its first hit or a later one
 pub record CanBeSet (specs : List BreakSpec) : Type 0 where

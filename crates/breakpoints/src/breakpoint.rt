@@ -1,8 +1,9 @@
 //! A breakpoint.
 
 ghost use Rattle.std.specs.Prelude.{◌≡◌};
-ghost use Rattle.breakpoints.specs.Stops.{counted, fresh, holds, reset, stops, wanted_by};
+ghost use Rattle.breakpoints.specs.Stops.{counted, fresh, holds, logs, reset, stops, wanted_by};
 
+use crate::log_text::LogText;
 use expressions::Expr;
 use image::Memory;
 use rv32i::Hart;
@@ -19,6 +20,10 @@ pub struct BreakSpec {
     pub condition: Option<Expr>,
     /// It stops from this hit on, counted from 1.
     pub hit: u32,
+    /// The text of a logpoint, which says it where another breakpoint would stop, and never stops; `None`: it stops. Only breakpoints of
+    /// source lines are logpoints: one with a text in another list stops nowhere and says nothing. `setBreakpoints` allows at most 1,024
+    /// bytes; here a text can be of any length.
+    pub log: Option<LogText>,
 }
 
 /// A breakpoint that is set, with its count. A contract sees its condition as a tree.
@@ -32,6 +37,8 @@ pub struct Breakpoint {
     pub condition: Option<Expr>,
     /// It stops from this hit on, counted from 1.
     pub hit: u32,
+    /// The text of a logpoint, which says it where another breakpoint would stop, and never stops; `None`: it stops.
+    pub log: Option<LogText>,
     /// How often it was hit; the count stays at 4,294,967,295.
     pub hits: u32,
 }
@@ -52,6 +59,7 @@ impl Model for Breakpoint {
       address = b.address;
       condition = option_map tree_of b.condition;
       hit = b.hit;
+      log = b.log;
       hits = b.hits;
     } };
 }
@@ -63,6 +71,8 @@ pub struct Hit {
     pub source: bool,
     /// A breakpoint of an instruction does.
     pub instruction: bool,
+    /// A breakpoint of a function does.
+    pub function: bool,
 }
 
 impl Breakpoint {
@@ -75,6 +85,7 @@ impl Breakpoint {
             address: spec.address,
             condition: spec.condition,
             hit: spec.hit,
+            log: spec.log,
             hits: 0,
         }
     }
@@ -88,7 +99,17 @@ impl Breakpoint {
             return false;
         }
         self.hits = self.hits.saturating_add(1);
-        self.hits >= self.hit
+        self.hits >= self.hit && self.log.is_none()
+    }
+
+    /// Whether a check, which counts this hit, is one at which a logpoint says its text.
+    pub(crate) fn logs(&self, pc: u32, hart: &Hart, memory: &Memory) -> bool
+        ensures { result ≡ logs pc hart.now memory.now self.now }
+    {
+        if self.address != pc || !self.holds(hart, memory) {
+            return false;
+        }
+        self.hits.saturating_add(1) >= self.hit && self.log.is_some()
     }
 
     /// It was not hit yet.

@@ -1,10 +1,10 @@
-//! The two lists of breakpoints.
+//! The three lists of breakpoints.
 
-ghost use Rattle.std.specs.Prelude.{◌≡◌, ◌+◌, ◌<◌, ◌≤◌, ◌^◌, ◌++◌, ◌∷◌, ◌||◌, [], IfOk, OnErr, OnOk, false, length, map, nat_lt, vec_capacity, vec_len};
+ghost use Rattle.std.specs.Prelude.{◌≡◌, ◌+◌, ◌<◌, ◌≤◌, ◌^◌, ◌++◌, ◌∷◌, ◌||◌, [], IfOk, OnErr, OnOk, false, length, map, nat_lt, option_map, vec_capacity, vec_len};
 ghost use Rattle.std.specs.Bool.{OnFalse};
 ghost use Rattle.std.specs.List.{list_any};
-ghost use Rattle.breakpoints.specs.Places.{is_at, Covers};
-ghost use Rattle.breakpoints.specs.Stops.{CanBeSet, checked, counted, fresh, hit_in, reset, stopping_ids, stops, wanted_by};
+ghost use Rattle.breakpoints.specs.Places.{is_among, Covers};
+ghost use Rattle.breakpoints.specs.Stops.{CanBeSet, checked, counted, fresh, hit_in, log_at, logging_from, reset, stopping_ids, stops, wanted_by};
 
 use crate::breakpoint::{BreakSpec, Breakpoint, Hit};
 use crate::places::Places;
@@ -13,14 +13,17 @@ use rv32i::Hart;
 use std::alloc::{AllocError, Global};
 use std::marker::Model;
 
-/// The breakpoints of source lines and those of instructions, and which of them stopped at the last check. A contract sees the
-/// two lists and the ids of those that stopped, the source list's first.
+/// The breakpoints of source lines, of instructions and of functions, which of them stopped at the last check, and which logpoints had
+/// something to say there. A contract sees the three lists, the ids of those that stopped, the source list's first and those of functions
+/// last, and the places in the source list of the logpoints.
 #[derive(Drop)]
 pub struct Breaks {
     alloc: Global,
     source: Vec<Breakpoint>,
     instructions: Vec<Breakpoint>,
+    functions: Vec<Breakpoint>,
     ids: Vec<u32>,
+    logs: Vec<u32>,
     places: Places,
 }
 
@@ -38,125 +41,168 @@ impl Model for Breaks {
     ghost view = { λ b. record {
       source = b.source.items;
       instructions = b.instructions.items;
+      functions = b.functions.items;
       ids = b.ids.items;
+      logs = b.logs.items;
     } };
 
     ghost invariant = { λ b. IsKept b.places b.source.items b.instructions.items
-        (vec_capacity b.ids) };
+        b.functions.items (vec_capacity b.ids) (vec_capacity b.logs) };
 }
 
 impl Breaks {
     /// No breakpoints. It takes no memory.
     pub fn new(alloc: Global) -> Breaks
-        ensures { result ≡ record { source = []; instructions = []; ids = [] } }
+        ensures { result ≡ record
+            { source = []; instructions = []; functions = []; ids = []; logs = [] } }
     {
         Breaks {
             alloc,
             source: Vec::new(alloc),
             instructions: Vec::new(alloc),
+            functions: Vec::new(alloc),
             ids: Vec::new(alloc),
+            logs: Vec::new(alloc),
             places: Places::new(alloc),
         }
     }
 
-    /// Replaces the breakpoints of source lines, at most 1,024, by these, none of which was hit yet; no ids are lent until the next
-    /// check. Where no memory is left, nothing changes.
+    /// Replaces the breakpoints of source lines, at most 1,024, by these, none of which was hit yet; no ids and no places of logpoints
+    /// are lent until the next check. Where no memory is left, nothing changes.
     pub fn set_source(&mut self, specs: Vec<BreakSpec>) -> Result<(), AllocError>
         requires { CanBeSet specs.items }
         ensures ok { OnOk result
             (self.new ≡ record self.old
-            { source = map fresh (map wanted_by specs.items); ids = [] }) }
+            { source = map fresh (map wanted_by specs.items); ids = []; logs = [] }) }
         ensures err { OnErr result (self.new ≡ self.old) }
     {
         let source = fresh_list(self.alloc, specs)?;
-        let ids = Vec::with_capacity(self.alloc, source.len() + self.instructions.len())?;
-        let places = places_of(self.alloc, &source, &self.instructions)?;
+        let room = source.len() + self.instructions.len() + self.functions.len();
+        let ids = Vec::with_capacity(self.alloc, room)?;
+        let logs = Vec::with_capacity(self.alloc, source.len())?;
+        let places = places_of(self.alloc, &source, &self.instructions, &self.functions)?;
         self.source = source;
         self.ids = ids;
+        self.logs = logs;
         self.places = places;
         Ok(())
     }
 
-    /// Replaces the breakpoints of instructions, at most 1,024, by these, none of which was hit yet; no ids are lent until the next
-    /// check. Where no memory is left, nothing changes.
+    /// Replaces the breakpoints of instructions, at most 1,024, by these, none of which was hit yet; no ids and no places of logpoints
+    /// are lent until the next check. Where no memory is left, nothing changes.
     pub fn set_instructions(&mut self, specs: Vec<BreakSpec>) -> Result<(), AllocError>
         requires { CanBeSet specs.items }
         ensures ok { OnOk result
             (self.new ≡ record self.old
-            { instructions = map fresh (map wanted_by specs.items); ids = [] }) }
+            { instructions = map fresh (map wanted_by specs.items); ids = []; logs = [] }) }
         ensures err { OnErr result (self.new ≡ self.old) }
     {
         let instructions = fresh_list(self.alloc, specs)?;
-        let ids = Vec::with_capacity(self.alloc, self.source.len() + instructions.len())?;
-        let places = places_of(self.alloc, &self.source, &instructions)?;
+        let room = self.source.len() + instructions.len() + self.functions.len();
+        let ids = Vec::with_capacity(self.alloc, room)?;
+        let places = places_of(self.alloc, &self.source, &instructions, &self.functions)?;
         self.instructions = instructions;
         self.ids = ids;
+        self.logs.clear();
+        self.places = places;
+        Ok(())
+    }
+
+    /// Replaces the breakpoints of functions, at most 1,024, by these, none of which was hit yet; no ids and no places of logpoints are
+    /// lent until the next check. Where no memory is left, nothing changes.
+    pub fn set_functions(&mut self, specs: Vec<BreakSpec>) -> Result<(), AllocError>
+        requires { CanBeSet specs.items }
+        ensures ok { OnOk result
+            (self.new ≡ record self.old
+            { functions = map fresh (map wanted_by specs.items); ids = []; logs = [] }) }
+        ensures err { OnErr result (self.new ≡ self.old) }
+    {
+        let functions = fresh_list(self.alloc, specs)?;
+        let room = self.source.len() + self.instructions.len() + functions.len();
+        let ids = Vec::with_capacity(self.alloc, room)?;
+        let places = places_of(self.alloc, &self.source, &self.instructions, &functions)?;
+        self.functions = functions;
+        self.ids = ids;
+        self.logs.clear();
         self.places = places;
         Ok(())
     }
 
     /// Takes all breakpoints away.
     pub fn clear(&mut self)
-        ensures { self.new ≡ record { source = []; instructions = []; ids = [] } }
+        ensures { self.new ≡ record
+            { source = []; instructions = []; functions = []; ids = []; logs = [] } }
     {
         self.source = Vec::new(self.alloc);
         self.instructions = Vec::new(self.alloc);
+        self.functions = Vec::new(self.alloc);
         self.ids.clear();
+        self.logs.clear();
         self.places = Places::new(self.alloc);
     }
 
     /// Each breakpoint was not hit yet.
     pub fn reset_hits(&mut self)
-        ensures { self.new ≡ record self.old
-            { source = map reset self.old.source; instructions = map reset self.old.instructions } }
+        ensures { self.new ≡ record self.old {
+          source = map reset self.old.source;
+          instructions = map reset self.old.instructions;
+          functions = map reset self.old.functions;
+        } }
     {
         reset_list(&mut self.source);
         reset_list(&mut self.instructions);
+        reset_list(&mut self.functions);
     }
 
     /// Whether there are any.
     #[inline]
     pub fn has_any(&self) -> bool
         ensures { result ≡ (nat_lt 0 (length self.now.source)
-            || nat_lt 0 (length self.now.instructions)) }
+            || nat_lt 0 (length self.now.instructions)
+            || nat_lt 0 (length self.now.functions)) }
     {
-        !self.source.is_empty() || !self.instructions.is_empty()
+        !self.source.is_empty() || !self.instructions.is_empty() || !self.functions.is_empty()
     }
 
-    /// Whether a breakpoint of either list is at an address: where none is, a check there counts nothing and stops nothing.
+    /// Whether a breakpoint of one of the lists is at an address: where none is, a check there counts nothing, stops nothing and logs
+    /// nothing.
     #[inline]
     pub fn has(&self, address: u32) -> bool
-        ensures { result ≡ (list_any (is_at address) self.now.source
-            || list_any (is_at address) self.now.instructions) }
+        ensures { result ≡ is_among address self.now.source self.now.instructions
+            self.now.functions }
     {
         self.places.has(address)
     }
 
-    /// Looks at the breakpoints at pc: counts the hits, and says which kinds of them stop. It takes no memory.
+    /// Looks at the breakpoints at pc: counts the hits, and says which kinds of them stop. A logpoint counts its hits and never stops. It
+    /// takes no memory.
     pub fn check(&mut self, pc: u32, hart: &Hart, memory: &Memory) -> Hit
         ensures lists { self.new ≡ checked pc hart.now memory.now self.old }
         ensures hit { result ≡ hit_in pc hart.now memory.now self.old }
     {
         self.ids.clear();
+        self.logs.clear();
         if !self.has(pc) {
-            return Hit {
-                source: false,
-                instruction: false,
-            };
+            return NO_HIT;
         }
+        push_logging(&mut self.logs, &self.source, pc, hart, memory);
         let source = check_list(&mut self.source, &mut self.ids, pc, hart, memory);
         let instruction = check_list(&mut self.instructions, &mut self.ids, pc, hart, memory);
+        let function = check_list(&mut self.functions, &mut self.ids, pc, hart, memory);
         Hit {
             source,
             instruction,
+            function,
         }
     }
 
-    /// Forgets which breakpoints stopped at the last check: no ids are lent until the next one.
+    /// Forgets which breakpoints stopped at the last check, and which logpoints had something to say there: no ids and no places are lent
+    /// until the next one.
     pub fn forget_ids(&mut self)
-        ensures { self.new ≡ record self.old { ids = [] } }
+        ensures { self.new ≡ record self.old { ids = []; logs = [] } }
     {
         self.ids.clear();
+        self.logs.clear();
     }
 
     /// The breakpoints of source lines, in the order in which they were set.
@@ -173,13 +219,47 @@ impl Breaks {
         &self.instructions
     }
 
-    /// The ids of the breakpoints that stopped at the last check, those of the source list first.
+    /// The breakpoints of functions, in the order in which they were set.
+    pub fn functions(&self) -> &[Breakpoint]
+        ensures { result.now ≡ self.now.functions }
+    {
+        &self.functions
+    }
+
+    /// The ids of the breakpoints that stopped at the last check, those of the source list first and those of functions last.
     pub fn ids(&self) -> &[u32]
         ensures { result.now ≡ self.now.ids }
     {
         &self.ids
     }
+
+    /// The places in the source list of the logpoints that had something to say at the last check, in the list's order.
+    pub fn logs(&self) -> &[u32]
+        ensures { result.now ≡ self.now.logs }
+    {
+        &self.logs
+    }
+
+    /// The text of the logpoint at a place of the source list, lent; `None`: a breakpoint without a text is there, or none.
+    pub fn log_text(&self, place: u32) -> Option<&str>
+        ensures { option_map (λ text. text.now) result ≡ log_at self.now place }
+    {
+        match self.source.get(place as usize) {
+            None => None,
+            Some(breakpoint) => match &breakpoint.log {
+                None => None,
+                Some(text) => Some(text.as_str()),
+            },
+        }
+    }
 }
+
+// None stops.
+const NO_HIT: Hit = Hit {
+    source: false,
+    instruction: false,
+    function: false,
+};
 
 // The breakpoints of specs, none of which was hit yet.
 fn fresh_list(alloc: Global, specs: Vec<BreakSpec>) -> Result<Vec<Breakpoint>, AllocError>
@@ -193,17 +273,20 @@ fn fresh_list(alloc: Global, specs: Vec<BreakSpec>) -> Result<Vec<Breakpoint>, A
     Ok(list)
 }
 
-// Where the breakpoints of both lists are.
+// Where the breakpoints of all lists are.
 fn places_of(
     alloc: Global,
     source: &[Breakpoint],
     instructions: &[Breakpoint],
+    functions: &[Breakpoint],
 ) -> Result<Places, AllocError>
-    ensures { IfOk result (λ places. Covers places source.now instructions.now) }
+    ensures { IfOk result (λ places. Covers places source.now instructions.now
+        functions.now) }
 {
     let mut addresses = Vec::new(alloc);
     push_addresses(&mut addresses, source)?;
     push_addresses(&mut addresses, instructions)?;
+    push_addresses(&mut addresses, functions)?;
     Places::of(alloc, addresses)
 }
 
@@ -252,7 +335,24 @@ fn check_list(
     any
 }
 
-// Appends an id where there is room for it.
+// Appends the places of the logpoints of the source list that say their text.
+fn push_logging(logs: &mut Vec<u32>, list: &[Breakpoint], pc: u32, hart: &Hart, memory: &Memory)
+    requires room { vec_len logs.old + length list.now ≤ vec_capacity logs.old }
+    requires few { length list.now ≤ 1024 }
+    ensures logs { logs.new.items
+        ≡ logs.old.items ++ logging_from pc hart.now memory.now 0 list.now }
+    ensures room { vec_capacity logs.old ≤ vec_capacity logs.new }
+{
+    let mut place = 0;
+    for breakpoint in list {
+        if breakpoint.logs(pc, hart, memory) {
+            push_within(logs, place);
+        }
+        place += 1;
+    }
+}
+
+// Appends an id, or a place, where there is room for it.
 fn push_within(ids: &mut Vec<u32>, id: u32)
     requires { vec_len ids.old < vec_capacity ids.old }
     ensures ids { ids.new.items ≡ ids.old.items ++ id ∷ [] }

@@ -1,11 +1,12 @@
 //! Plays breakpoints, on a hart and a memory of 65,536 bytes.
 //!
 //! - what changes the machine, as `test_hart` says.
-//! - `source BREAKPOINT..`, `instructions BREAKPOINT..`: sets a list, as `lists` says. `once` before it: it is not made again where it
-//!   found no memory, which is its answer then.
-//! - `check`: looks at the breakpoints at pc: whether those of source lines stop, whether those of instructions do, and the ids
-//!   of those that do.
-//! - `ids`: the ids of those that stopped at the last check; `forget`: forgets them.
+//! - `source BREAKPOINT..`, `instructions BREAKPOINT..`, `functions BREAKPOINT..`: sets a list, as `lists` says. `once` before it: it is not
+//!   made again where it found no memory, which is its answer then.
+//! - `check`: looks at the breakpoints at pc: whether those of source lines stop, whether those of instructions do, whether those of
+//!   functions do, and the ids of those that do.
+//! - `ids`: the ids of those that stopped at the last check; `logs`: the places of the logpoints that had something to say; `forget`:
+//!   forgets both. `text PLACE`: the text of the logpoint there, or `none`.
 //! - `has ADDRESS`: whether a breakpoint is there.
 //! - `clear`, `reset`: takes all breakpoints away; takes their hits away.
 #![tactic(auto)]
@@ -31,9 +32,17 @@ impl Player for Watched {
         match arguments {
             ["source", list @ ..] => self.set_source(alloc, list),
             ["instructions", list @ ..] => self.set_instructions(alloc, list),
+            ["functions", list @ ..] => self.set_functions(alloc, list),
             ["once", "source", list @ ..] => once(alloc, self.set_source(alloc, list)),
             ["once", "instructions", list @ ..] => once(alloc, self.set_instructions(alloc, list)),
+            ["once", "functions", list @ ..] => once(alloc, self.set_functions(alloc, list)),
             [name] => self.call(alloc, name),
+            ["text", place] => {
+                shown(
+                    alloc,
+                    self.breaks.log_text(parsed(place)?).unwrap_or("none"),
+                )
+            }
             ["has", address] => shown(alloc, self.breaks.has(parsed(address)?)),
             change => self.machine.change(alloc, change),
         }
@@ -51,11 +60,17 @@ impl Watched {
         shown(alloc, "ok")
     }
 
+    fn set_functions(&mut self, alloc: Global, list: &[&str]) -> Result<String, Fault> {
+        called(self.breaks.set_functions(list_of(alloc, list)?))?;
+        shown(alloc, "ok")
+    }
+
     /// A call without arguments.
     fn call(&mut self, alloc: Global, name: &str) -> Result<String, Fault> {
         match name {
             "check" => self.check(alloc),
-            "ids" => with_ids(shown(alloc, "ids")?, alloc, self.breaks.ids()),
+            "ids" => with_numbers(shown(alloc, "ids")?, alloc, self.breaks.ids()),
+            "logs" => with_numbers(shown(alloc, "logs")?, alloc, self.breaks.logs()),
             "forget" => {
                 self.breaks.forget_ids();
                 shown(alloc, "ok")
@@ -75,8 +90,8 @@ impl Watched {
     fn check(&mut self, alloc: Global) -> Result<String, Fault> {
         let Machine { hart, memory } = &self.machine;
         let hit = self.breaks.check(hart.pc, hart, memory);
-        let answer = format!(in alloc; "{} {}", hit.source, hit.instruction)?;
-        with_ids(answer, alloc, self.breaks.ids())
+        let answer = format!(in alloc; "{} {} {}", hit.source, hit.instruction, hit.function)?;
+        with_numbers(answer, alloc, self.breaks.ids())
     }
 }
 
@@ -88,12 +103,12 @@ fn once(alloc: Global, answer: Result<String, Fault>) -> Result<String, Fault> {
     }
 }
 
-/// An answer with ids after it.
-fn with_ids(answer: String, alloc: Global, ids: &[u32]) -> Result<String, Fault> {
+/// An answer with numbers after it.
+fn with_numbers(answer: String, alloc: Global, numbers: &[u32]) -> Result<String, Fault> {
     let mut answer = answer;
-    for id in ids {
+    for number in numbers {
         answer.push(' ')?;
-        answer.push_str(shown(alloc, *id)?.as_str())?;
+        answer.push_str(shown(alloc, *number)?.as_str())?;
     }
     Ok(answer)
 }
