@@ -76,6 +76,16 @@ BREAKPOINTS = [
                    '{"message":"bad address","verified":false}]}',
                    "SetInstructionBreakpoints set 1 65556 unset " + spelled("bad address")),
     ], PROFILE),
+    Row("what became of breakpoints at functions", [
+        *both_ways("setFunctionBreakpoints", '{"breakpoints":[]}', "SetFunctionBreakpoints"),
+        *both_ways("setFunctionBreakpoints", '{"breakpoints":[{"id":1,"instructionReference":"0x0001000c","verified":true},'
+                   '{"message":"unknown function","verified":false}]}',
+                   "SetFunctionBreakpoints set 1 65548 unset " + spelled("unknown function")),
+    ], PROFILE),
+    Row("no bodies of setFunctionBreakpoints", none_of("setFunctionBreakpoints", (
+        SET, UNSET, "{}", '{"breakpoints":{}}', '{"breakpoints":[{"id":1,"verified":true}]}', '{"breakpoints":[{"verified":false}]}',
+        '{"breakpoints":[{"id":1,"instructionReference":"0x0001000c","name":"f","verified":true}]}',
+    )), PROFILE),
     Row("no bodies of setInstructionBreakpoints", none_of("setInstructionBreakpoints", (
         SET, UNSET, "{}", '{"breakpoints":[{"id":1,"verified":true}]}', '{"breakpoints":[{"verified":false}]}',
         *odd('{"breakpoints":[{"id":%(id)s,"instructionReference":%(address)s,"verified":%(verified)s}]}',

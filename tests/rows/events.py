@@ -10,6 +10,7 @@ PROFILE = "docs/PROTOCOL.md, with the types of the published schema"
 # The variant of each reason, and its name.
 REASONS = (
     ("Entry", "entry"), ("Step", "step"), ("Breakpoint", "breakpoint"), ("InstructionBreakpoint", "instruction breakpoint"),
+    ("FunctionBreakpoint", "function breakpoint"),
     ("Exception", "exception"), ("Pause", "pause"),
 )
 
@@ -44,7 +45,7 @@ STOP = '{"allThreadsStopped":%(all)s,"hitBreakpointIds":%(ids)s,"reason":%(reaso
 STOP_KINDS = {
     "all": ("true", (*NO_TRUTHS, "false")),
     "ids": ("[1]", ("[]", "null", "1", "{}", "true", '"1"', *("[%s]" % number for number in NO_NUMBERS), "[1,null]", "[[1]]")),
-    "reason": ('"step"', (*NO_TEXTS, '""', '"Step"', '"goto"', '"data breakpoint"', '"function breakpoint"', '"instructionbreakpoint"')),
+    "reason": ('"step"', (*NO_TEXTS, '""', '"Step"', '"goto"', '"data breakpoint"', '"functionbreakpoint"', '"instructionbreakpoint"')),
     "text": ('"x"', NO_TEXTS),
     "thread": ("1", ("0", "2", "-1", "1.0", "4294967297", '"1"', "null")),
 }
@@ -108,10 +109,15 @@ OTHERS = [
     )), PROFILE),
     Row("what the program printed", [
         step for text, json in (("7\n", "7\\n"), ("-2147483648\n", "-2147483648\\n"), ("", ""), ('"\\\x01\u20ac', '\\"\\\\\\u0001\u20ac'))
-        for step in both_ways("Output " + spelled(text), "output", '{"category":"stdout","output":"%s"}' % json)
+        for step in both_ways("Output Stdout " + spelled(text), "output", '{"category":"stdout","output":"%s"}' % json)
+    ], PROFILE),
+    Row("what a logpoint writes", [
+        step for text, json in (("back {a0}\n", "back {a0}\\n"), ("\n", "\\n"), ("", ""), ("a\nb\u20ac", "a\\nb\u20ac"))
+        for step in both_ways("Output Console " + spelled(text), "output", '{"category":"console","output":"%s"}' % json)
     ], PROFILE),
     Row("no bodies of output", none_of("output", (
-        None, "{}", "null", '{"output":"7\\n"}', '{"category":"stdout"}', '{"category":"console","output":"7\\n"}',
+        None, "{}", "null", '{"output":"7\\n"}', '{"category":"stdout"}', '{"category":"Console","output":"7\\n"}',
+        '{"category":"stdout ","output":"7\\n"}', '{"category":"important","output":"7\\n"}',
         '{"category":"stderr","output":"7\\n"}', '{"category":null,"output":"7\\n"}', '{"category":"stdout","line":1,"output":"7\\n"}',
         *odd('{"category":"stdout","output":%(output)s}', output=("", NO_TEXTS)),
     )), PROFILE),
@@ -131,19 +137,19 @@ OTHERS = [
 REFUSED = [
     Row("an event that found no memory can be made, read and written again", [
         *both_ways(stopped("Breakpoint", "x", 1, 2), "stopped", stop("breakpoint", '"hitBreakpointIds":[1,2],', '"text":"x",')),
-        *both_ways("Output " + spelled("7\n"), "output", '{"category":"stdout","output":"7\\n"}'),
+        *both_ways("Output Stdout " + spelled("7\n"), "output", '{"category":"stdout","output":"7\\n"}'),
         *both_ways("Exited -1", "exited", '{"exitCode":-1}'),
         *both_ways("Terminated", "terminated"),
     ], PROFILE, refused=True),
 ]
 
-# As many breakpoints as two requests can set, and the longest text.
+# As many breakpoints as two of the lists can have, and the longest text.
 IDS = range(4294965248, 4294967296)
 GREATEST_SIZES = [
     Row("a stop with 2,048 breakpoints", both_ways(
         stopped("Breakpoint", None, *IDS), "stopped", stop("breakpoint", '"hitBreakpointIds":[%s],' % ",".join(map(str, IDS)))), PROFILE),
     Row("output of 1,000,000 bytes", both_ways(
-        "Output " + spelled("y" * 1000000), "output", '{"category":"stdout","output":"%s"}' % ("y" * 1000000)), PROFILE),
+        "Output Stdout " + spelled("y" * 1000000), "output", '{"category":"stdout","output":"%s"}' % ("y" * 1000000)), PROFILE),
 ]
 
 ROWS = BARE + STOPS + OTHERS + REFUSED + GREATEST_SIZES

@@ -62,6 +62,7 @@ ADDRESS = ("memoryReference", NO_TEXT, '"0x00010000"', spelled("0x00010000"), No
 OFFSET = ("offset", NO_INTEGER, "-4", "-4", "0")
 CONDITION = ("condition", NO_TEXT, '"a0 == 1"', spelled("a0 == 1"), "none")
 HITS = ("hitCondition", NO_TEXT, '" 3"', spelled(" 3"), "none")
+LOG = ("logMessage", NO_TEXT, '" {a0}\\n"', spelled(" {a0}\n"), "none")
 
 ARGUMENTS = {
     "initialize": [("linesStartAt1", NO_FLAG, "false", "false", "true"), ("columnsStartAt1", NO_FLAG, "false", "false", "true")],
@@ -90,7 +91,8 @@ ARGUMENTS = {
     "writeMemory": [ADDRESS, OFFSET, ("data", NO_BASE64, '"Zm9vYg=="', spelled("foob"), None), ("allowPartial", NO_FLAG, "true", "true", "false")],
 }
 # those of a breakpoint in a list of them
-BREAKPOINT = [("line", NO_NATURAL, "7", "7", None), CONDITION, HITS]
+BREAKPOINT = [("line", NO_NATURAL, "7", "7", None), CONDITION, HITS, LOG]
+FUNCTION_BREAKPOINT = [("name", NO_TEXT, '" sort "', spelled(" sort "), None), CONDITION, HITS]
 INSTRUCTION_BREAKPOINT = [("instructionReference", NO_TEXT, '"0x00010000"', spelled("0x00010000"), None), OFFSET, CONDITION, HITS]
 
 
@@ -100,6 +102,7 @@ def in_list(members):
 
 FORMS = [(name, members, str, ()) for name, members in ARGUMENTS.items()] + [
     ("setBreakpoints", BREAKPOINT, in_list, ("none",)),
+    ("setFunctionBreakpoints", FUNCTION_BREAKPOINT, in_list, ()),
     ("setInstructionBreakpoints", INSTRUCTION_BREAKPOINT, in_list, ()),
 ]
 
@@ -178,7 +181,7 @@ EACH = [
     Row("numbers at their bounds", [one for form in FORMS for one in extremes(form)], SCHEMA),
     Row("other names are unknown, whatever the arguments are", [
         refused(name, arguments, "UnknownCommand")
-        for name in (*(name[0].upper() + name[1:] for name in NAMES), "launch ", "goto", "source", "setFunctionBreakpoints", "setDataBreakpoints",
+        for name in (*(name[0].upper() + name[1:] for name in NAMES), "launch ", "goto", "source", "setDataBreakpoints",
                      "stepBack", "reverseContinue", "runInTerminal", "logMessage")
         for arguments in (None, "[]", '{"threadId":1}')], SCHEMA),
     Row("the granularities and filters", [
@@ -191,7 +194,7 @@ EACH = [
 
 def breakpoints(*lines):
     """The entries of breakpoints at these lines, as they are shown."""
-    return tuple("%s none none" % line for line in lines)
+    return tuple("%s none none none" % line for line in lines)
 
 
 SOURCE_BREAKPOINTS = [
@@ -219,7 +222,8 @@ SOURCE_BREAKPOINTS = [
         read(name, '{"breakpoints":[]}', *first),
         read(name, '{"breakpoints":[%s,%s]}' % (entry, entry), *first, shown, shown),
     ], SCHEMA) for name, entry, first, shown in (
-        ("setBreakpoints", '{"line":1,"column":"x","logMessage":1}', ("none",), "1 none none"),
+        ("setBreakpoints", '{"line":1,"column":"x","mode":1}', ("none",), "1 none none none"),
+        ("setFunctionBreakpoints", '{"name":"","mode":1}', (), " none none"),
         ("setInstructionBreakpoints", '{"instructionReference":"","mode":1}', (), " 0 none none"))),
 ]
 
@@ -269,7 +273,7 @@ DEEP = '{"seq":7,"type":"request","command":"scopes","arguments":{"frameId":5,"x
 
 GREATEST = [
     Row("1,024 breakpoints", [
-        read("setBreakpoints", many(1024, '{"line":1,"condition":"a0"}'), "none", *["1 6130 none"] * 1024),
+        read("setBreakpoints", many(1024, '{"line":1,"condition":"a0"}'), "none", *["1 6130 none none"] * 1024),
         refused("setBreakpoints", many(1023, '{"line":1}')[:-2] + ',{"line":-1}]}'),
         read("setInstructionBreakpoints", many(1024, '{"instructionReference":"0","offset":4,"hitCondition":"1"}'), *["30 4 none 31"] * 1024),
         refused("setInstructionBreakpoints", many(1023, '{"instructionReference":"0"}')[:-2] + ',{}]}'),
@@ -286,7 +290,7 @@ GREATEST = [
     ], SCHEMA, refused=True),
     Row("a request that found no memory for its arguments can be read again", [
         is_read(whole(form)) for form in FORMS] + [
-        read("setBreakpoints", '{"source":{"path":"a.s"},"breakpoints":[{"line":1,"condition":"x"},{"line":2}]}', "612e73 1 78 none 2 none none"),
+        read("setBreakpoints", '{"source":{"path":"a.s"},"breakpoints":[{"line":1,"condition":"x"},{"line":2}]}', "612e73 1 78 none none 2 none none none"),
         read("setBreakpoints", '{"lines":[1,2]}', "none", *breakpoints(1, 2)),
         refused("setBreakpoints", '{"source":{"path":"a.s"},"breakpoints":[{"line":1,"condition":"x"},{}]}'),
         bytes_are("Zm9vYmFy", b"foobar"),

@@ -18,7 +18,7 @@ use Rattle.protocol.specs.Laws.{AsksLinesWithin, IsOfType, IgnoresWhatIsNoReques
 use Rattle.protocol.specs.declared.command.Command.{Command}
 use Rattle.protocol.specs.declared.command.Command.TheVariants.{SetBreakpoints}
 use Rattle.protocol.specs.declared.set_breakpoints.SourceBreakpoint.{SourceBreakpoint}
-use Rattle.protocol.specs.declared.set_breakpoints.TheConstants.{SOURCE, LINES, LINE}
+use Rattle.protocol.specs.declared.set_breakpoints.TheConstants.{SOURCE, LINES, LINE, LOG_MESSAGE}
 use Rattle.protocol.specs.declared.refusal.Refusal.{Refusal}
 use Rattle.protocol.specs.declared.refusal.Refusal.TheVariants.{UnknownCommand, BadArguments}
 use Rattle.protocol.specs.declared.request.Incoming.{Incoming}
@@ -110,7 +110,8 @@ breakpoint_holds value =
     then_holds (λ n. n ≤ 2147483647) IsLineWithin (required natural (property LINE.now members)) _ (line_holds (property LINE.now members))
     (λ line h.
     then_any IsLineWithin (optional as_str (property CONDITION.now members)) _ (λ condition.
-    then_any IsLineWithin (optional as_str (property HIT_CONDITION.now members)) _ (λ hits. h))))
+    then_any IsLineWithin (optional as_str (property HIT_CONDITION.now members)) _ (λ hits.
+    then_any IsLineWithin (optional as_str (property LOG_MESSAGE.now members)) _ (λ log. h)))))
 
 lines_hold : (lines : Option (List ℕ)) → IfSome lines (All (λ n. n ≤ 2147483647)) → All IsLineWithin (map at_line (unwrap_or lines []))
 lines_hold None h = All-nil IsLineWithin

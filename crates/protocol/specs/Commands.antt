@@ -14,6 +14,7 @@ use Rattle.protocol.specs.Launch.{launch_request}
 use Rattle.protocol.specs.Cancel.{cancel_request}
 use Rattle.protocol.specs.Disconnect.{disconnect_request}
 use Rattle.protocol.specs.SetBreakpoints.{set_breakpoints_request}
+use Rattle.protocol.specs.SetFunctionBreakpoints.{set_function_breakpoints_request}
 use Rattle.protocol.specs.SetInstructionBreakpoints.{set_instruction_breakpoints_request}
 use Rattle.protocol.specs.Continue.{continue_request}
 use Rattle.protocol.specs.Next.{next_request}
@@ -57,6 +58,7 @@ session_requests = initialize_request
 -- where the program stops, and how it goes on
 unfoldable pub execution_requests : List Row
 execution_requests = set_breakpoints_request
+    ∷ set_function_breakpoints_request
     ∷ set_instruction_breakpoints_request
     ∷ bare SET_EXCEPTION_BREAKPOINTS.now command.SetExceptionBreakpoints
     ∷ continue_request
@@ -85,10 +87,10 @@ requests = session_requests ++ (execution_requests ++ inspection_requests)
 their_names : map (λ r. r.name) requests
     ≡ codes "initialize" ∷ codes "launch" ∷ codes "attach" ∷ codes "configurationDone" ∷ codes "threads"
     ∷ codes "cancel" ∷ codes "restart" ∷ codes "terminate" ∷ codes "disconnect" ∷ codes "setBreakpoints"
-    ∷ codes "setInstructionBreakpoints" ∷ codes "setExceptionBreakpoints" ∷ codes "continue" ∷ codes "next"
-    ∷ codes "stepIn" ∷ codes "stepOut" ∷ codes "pause" ∷ codes "stackTrace" ∷ codes "scopes"
-    ∷ codes "variables" ∷ codes "setVariable" ∷ codes "evaluate" ∷ codes "disassemble" ∷ codes "readMemory"
-    ∷ codes "writeMemory" ∷ []
+    ∷ codes "setFunctionBreakpoints" ∷ codes "setInstructionBreakpoints" ∷ codes "setExceptionBreakpoints"
+    ∷ codes "continue" ∷ codes "next" ∷ codes "stepIn" ∷ codes "stepOut" ∷ codes "pause" ∷ codes "stackTrace"
+    ∷ codes "scopes" ∷ codes "variables" ∷ codes "setVariable" ∷ codes "evaluate" ∷ codes "disassemble"
+    ∷ codes "readMemory" ∷ codes "writeMemory" ∷ []
 unfolding execution_requests inspection_requests
 their_names = refl
 
@@ -142,6 +144,7 @@ name_of command.Restart = RESTART.now
 name_of command.Terminate = TERMINATE.now
 name_of (command.Disconnect arguments) = disconnect_request.name
 name_of (command.SetBreakpoints arguments) = set_breakpoints_request.name
+name_of (command.SetFunctionBreakpoints arguments) = set_function_breakpoints_request.name
 name_of (command.SetInstructionBreakpoints arguments) = set_instruction_breakpoints_request.name
 name_of command.SetExceptionBreakpoints = SET_EXCEPTION_BREAKPOINTS.now
 name_of (command.Continue arguments) = continue_request.name

@@ -20,6 +20,7 @@ pub mod Launch
 pub mod Cancel
 pub mod Disconnect
 pub mod SetBreakpoints
+pub mod SetFunctionBreakpoints
 pub mod SetInstructionBreakpoints
 pub mod Continue
 pub mod Next

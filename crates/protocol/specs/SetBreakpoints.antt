@@ -1,7 +1,7 @@
 -- The request `setBreakpoints` (`SetBreakpointsRequest`): what its arguments mean.
 --
--- The editor says where the source is, and which breakpoints it is to have: their lines, and two texts
--- for each, which are read later. Where it gives no list of breakpoints, it may give their lines alone,
+-- The editor says where the source is, and which breakpoints it is to have: their lines, and three texts
+-- for each: two conditions, which are read later, and what a logpoint writes. Where it gives no list of breakpoints, it may give their lines alone,
 -- as older editors do. Where both are there, `lines` is not looked at, and where neither is, the source
 -- has no breakpoints. A line is not negative.
 use Rattle.std.specs.Prelude.{◌≡◌, ℕ, List, [], ◌∷◌, Option, Some, None, map, unwrap_or, codes, refl}
@@ -13,7 +13,7 @@ use Rattle.protocol.specs.Arguments.{required, optional, list}
 use Rattle.protocol.specs.declared.set_breakpoints.Source.{Source}
 use Rattle.protocol.specs.declared.set_breakpoints.SourceBreakpoint.{SourceBreakpoint}
 use Rattle.protocol.specs.declared.set_breakpoints.SetBreakpointsArguments.{SetBreakpointsArguments}
-use Rattle.protocol.specs.declared.set_breakpoints.TheConstants.{NAME, SOURCE, PATH, LINES, LINE}
+use Rattle.protocol.specs.declared.set_breakpoints.TheConstants.{NAME, SOURCE, PATH, LINES, LINE, LOG_MESSAGE}
 use Rattle.protocol.specs.declared.members.TheConstants.{BREAKPOINTS, CONDITION, HIT_CONDITION}
 use Rattle.protocol.specs.declared.command.Command.TheVariants as command
 use Rattle.protocol.specs.Rows.{Row, row}
@@ -32,11 +32,12 @@ source_breakpoint value = do
   line ← required natural (property LINE.now members)
   condition ← optional as_str (property CONDITION.now members)
   hits ← optional as_str (property HIT_CONDITION.now members)
-  Some (record { line = line; condition = condition; hit_condition = hits })
+  log ← optional as_str (property LOG_MESSAGE.now members)
+  Some (record { line = line; condition = condition; hit_condition = hits; log_message = log })
 
--- a breakpoint without conditions
+-- a breakpoint without conditions and log message
 abbrev pub at_line : ℕ → SourceBreakpoint
-at_line line = record { line = line; condition = None; hit_condition = None }
+at_line line = record { line = line; condition = None; hit_condition = None; log_message = None }
 
 -- the breakpoints by their lines, where there is no list of breakpoints
 abbrev pub by_lines : Members → Option (List SourceBreakpoint)
@@ -90,8 +91,19 @@ with_conditions : source_breakpoint
     (object (member (codes "condition") (string (codes "a0"))
     (member (codes "hitCondition") (string (codes "3"))
     (member (codes "line") (number (unsigned 7)) no_members))))
-    ≡ Some (record { line = 7; condition = Some (codes "a0"); hit_condition = Some (codes "3") })
+    ≡ Some (record {
+      line = 7;
+      condition = Some (codes "a0");
+      hit_condition = Some (codes "3");
+      log_message = None;
+    })
 with_conditions = refl
+
+with_a_log_message : source_breakpoint
+    (object (member (codes "line") (number (unsigned 7))
+    (member (codes "logMessage") (string (codes "here")) no_members)))
+    ≡ Some (record { line = 7; condition = None; hit_condition = None; log_message = Some (codes "here") })
+with_a_log_message = refl
 
 at_its_path : set_breakpoints_arguments
     (member (codes "source") (object (member (codes "path") (string (codes "a.s")) no_members)) no_members)

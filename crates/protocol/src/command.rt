@@ -9,8 +9,8 @@ use crate::unread::Unread;
 use crate::{
     attach, cancel, configuration_done, continue_, disassemble, disconnect, evaluate, initialize,
     launch, next, pause, read_memory, restart, scopes, set_breakpoints, set_exception_breakpoints,
-    set_instruction_breakpoints, set_variable, stack_trace, step_in, step_out, terminate, threads,
-    variables, write_memory,
+    set_function_breakpoints, set_instruction_breakpoints, set_variable, stack_trace, step_in,
+    step_out, terminate, threads, variables, write_memory,
 };
 use serde_json::{Map, Value};
 use std::alloc::Global;
@@ -38,6 +38,8 @@ pub enum Command {
     Disconnect(disconnect::DisconnectArguments),
     /// The breakpoints at the lines of a source (`SetBreakpointsRequest`).
     SetBreakpoints(set_breakpoints::SetBreakpointsArguments),
+    /// The breakpoints at functions (`SetFunctionBreakpointsRequest`).
+    SetFunctionBreakpoints(set_function_breakpoints::SetFunctionBreakpointsArguments),
     /// The breakpoints at addresses (`SetInstructionBreakpointsRequest`).
     SetInstructionBreakpoints(set_instruction_breakpoints::SetInstructionBreakpointsArguments),
     /// The exceptions to stop at (`SetExceptionBreakpointsRequest`).
@@ -86,6 +88,7 @@ impl Command {
             Command::Terminate => terminate::NAME,
             Command::Disconnect(_) => disconnect::NAME,
             Command::SetBreakpoints(_) => set_breakpoints::NAME,
+            Command::SetFunctionBreakpoints(_) => set_function_breakpoints::NAME,
             Command::SetInstructionBreakpoints(_) => set_instruction_breakpoints::NAME,
             Command::SetExceptionBreakpoints => set_exception_breakpoints::NAME,
             Command::Continue(_) => continue_::NAME,
@@ -170,6 +173,9 @@ fn execution_command(alloc: Global, name: &str, members: Members) -> Result<Opti
         set_breakpoints::NAME => Ok(Some(Command::SetBreakpoints(set_breakpoints::arguments(
             alloc, members?,
         )?))),
+        set_function_breakpoints::NAME => Ok(Some(Command::SetFunctionBreakpoints(
+            set_function_breakpoints::arguments(alloc, members?)?,
+        ))),
         set_instruction_breakpoints::NAME => Ok(Some(Command::SetInstructionBreakpoints(
             set_instruction_breakpoints::arguments(alloc, members?)?,
         ))),

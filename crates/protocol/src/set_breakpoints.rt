@@ -22,6 +22,8 @@ pub const PATH: &str = "path";
 pub const LINES: &str = "lines";
 /// A breakpoint's line (`SourceBreakpoint.line`).
 pub const LINE: &str = "line";
+/// What a logpoint writes (`SourceBreakpoint.logMessage`).
+pub const LOG_MESSAGE: &str = "logMessage";
 
 /// All breakpoints of a source (`SetBreakpointsArguments`).
 #[derive(Drop)]
@@ -29,7 +31,7 @@ pub struct SetBreakpointsArguments {
     /// The source. Absent: one without a path.
     pub source: Source,
     /// The breakpoints, in the editor's order. Where the editor gives `lines` alone, one without
-    /// conditions at each of these. Both absent: none.
+    /// conditions and log message at each of these. Both absent: none.
     pub breakpoints: Entries<SourceBreakpoint>,
 }
 
@@ -49,6 +51,8 @@ pub struct SourceBreakpoint {
     pub condition: Option<Text>,
     /// Which of its hits stops.
     pub hit_condition: Option<Text>,
+    /// What it writes instead of stopping, which makes it a logpoint.
+    pub log_message: Option<Text>,
 }
 
 impl Argument for Source {
@@ -81,13 +85,14 @@ impl Argument for SourceBreakpoint {
             line: required(alloc, members, LINE)?,
             condition: optional(alloc, members, CONDITION)?,
             hit_condition: optional(alloc, members, HIT_CONDITION)?,
+            log_message: optional(alloc, members, LOG_MESSAGE)?,
         })
     }
 }
 
 /// The arguments; `Bad` where `source` is no object or its path no text; where `breakpoints` is no
-/// list of objects, each with a line, or a condition in it is no text; or where `breakpoints` is
-/// absent and `lines` is no list of lines. A line is a whole number from 0 to 2,147,483,647.
+/// list of objects, each with a line, or a condition or `logMessage` in it is no text; or where
+/// `breakpoints` is absent and `lines` is no list of lines. A line is a whole number from 0 to 2,147,483,647.
 pub(crate) fn arguments(
     alloc: Global,
     members: &Map<String, Value>,
@@ -117,7 +122,7 @@ fn breakpoints_asked(
     }
 }
 
-/// A breakpoint without conditions at each line.
+/// A breakpoint without conditions and log message at each line.
 fn at_lines(alloc: Global, lines: &[u32]) -> Result<Entries<SourceBreakpoint>, AllocError>
     ensures { IfOk result (λ b. b ≡ map at_line lines.now) }
 {
@@ -127,6 +132,7 @@ fn at_lines(alloc: Global, lines: &[u32]) -> Result<Entries<SourceBreakpoint>, A
             line: *line,
             condition: None,
             hit_condition: None,
+            log_message: None,
         })?;
     }
     Ok(Entries::from_vec(breakpoints))

@@ -11,6 +11,7 @@ use Rattle.replies.specs.Threads.{threads_body}
 use Rattle.replies.specs.Continue.{continue_body}
 use Rattle.replies.proofs.HasForm.{HasForm, IsAlways}
 use Rattle.replies.proofs.LawfulSetBreakpoints.{set_breakpoints_is}
+use Rattle.replies.proofs.LawfulSetFunctionBreakpoints.{set_function_breakpoints_is}
 use Rattle.replies.proofs.LawfulSetInstructionBreakpoints.{set_instruction_breakpoints_is}
 use Rattle.replies.proofs.LawfulStackTrace.{stack_trace_is}
 use Rattle.replies.proofs.LawfulScopes.{scopes_is}
@@ -42,6 +43,7 @@ by_body Q h kind.Initialize = h.always kind.Initialize initialize_is
 by_body Q h kind.Threads = h.always kind.Threads threads_is
 by_body Q h kind.Continue = h.always kind.Continue continue_is
 by_body Q h (kind.SetBreakpoints b) = h.in_form set_breakpoints_is b
+by_body Q h (kind.SetFunctionBreakpoints b) = h.in_form set_function_breakpoints_is b
 by_body Q h (kind.SetInstructionBreakpoints b) = h.in_form set_instruction_breakpoints_is b
 by_body Q h (kind.StackTrace b) = h.in_form stack_trace_is b
 by_body Q h (kind.Scopes b) = h.in_form scopes_is b
@@ -68,6 +70,7 @@ by_taken P h =
     (both (h.always threads_is)
     (both (h.always continue_is)
     (both (h.in_form set_breakpoints_is)
+    (both (h.in_form set_function_breakpoints_is)
     (both (h.in_form set_instruction_breakpoints_is)
     (both (h.in_form stack_trace_is)
     (both (h.in_form scopes_is)
@@ -77,4 +80,4 @@ by_taken P h =
     (both (h.in_form disassemble_is)
     (both (h.in_form read_memory_is)
     (both (h.in_form write_memory_is)
-    tt))))))))))))
+    tt)))))))))))))

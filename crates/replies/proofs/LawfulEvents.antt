@@ -1,14 +1,16 @@
 -- The forms of the events' bodies are lawful.
 use Rattle.std.proofs.Common.{◌≡◌, ℕ, List, Option, true, codes, refl, arith}
 use Rattle.std.specs.Prelude.{Some}
-use Rattle.json.proofs.Printed.Utf8.{are_ascii, IsUtf8-are_ascii}
+use Rattle.json.proofs.Printed.Utf8.{are_ascii}
 use Rattle.serde_json.specs.Data.{number, unsigned}
 use Rattle.replies.specs.Forms.{Fields, field, fixed, first_named, none, optional, text, unless_empty, whole}
 use Rattle.replies.specs.Stopped.{reason, reason_name, reasons, stopped}
-use Rattle.replies.specs.Output.{output}
+use Rattle.replies.specs.Output.{categories, category, category_name, output}
+use Rattle.replies.specs.declared.output.Category.{Category}
+use Rattle.replies.specs.declared.output.Category.TheVariants.{Console, Stdout}
 use Rattle.replies.specs.Exited.{exited}
 use Rattle.replies.specs.declared.stopped.Reason.{Reason}
-use Rattle.replies.specs.declared.stopped.Reason.TheVariants.{Entry, Step, Breakpoint, InstructionBreakpoint, Exception, Pause}
+use Rattle.replies.specs.declared.stopped.Reason.TheVariants.{Entry, Step, Breakpoint, InstructionBreakpoint, FunctionBreakpoint, Exception, Pause}
 use Rattle.replies.proofs.Lawful.{Lawful, LawfulFields, lawful_whole, lawful_signed, lawful_text, lawful_one_of, lawful_list, lawful_none, lawful_field, lawful_fixed, lawful_optional, lawful_unless_empty, lawful_object, lawful_made_of}
 
 -- the reason of a reason's name is that reason
@@ -17,6 +19,7 @@ again Entry = refl
 again Step = refl
 again Breakpoint = refl
 again InstructionBreakpoint = refl
+again FunctionBreakpoint = refl
 again Exception = refl
 again Pause = refl
 
@@ -25,6 +28,7 @@ ascii Entry = refl
 ascii Step = refl
 ascii Breakpoint = refl
 ascii InstructionBreakpoint = refl
+ascii FunctionBreakpoint = refl
 ascii Exception = refl
 ascii Pause = refl
 
@@ -47,11 +51,22 @@ pub lawful_stopped : Lawful 2 stopped
 lawful_stopped =
     lawful_made_of _ _ (λ x. refl) (λ y h. h) (lawful_object (lawful_fixed refl refl (omega arith) refl refl tt lawful_list_and_others))
 
-pub lawful_output : Lawful 1 output
+-- the category of a category's name is that category
+same_category : (c : Category) → first_named category_name categories (category_name c) ≡ Some c
+same_category Console = refl
+same_category Stdout = refl
+
+ascii_category : (c : Category) → are_ascii (category_name c) ≡ true
+ascii_category Console = refl
+ascii_category Stdout = refl
+
+lawful_category : Lawful 1 category
+lawful_category = lawful_one_of category_name categories same_category ascii_category
+
+pub lawful_output : Lawful 2 output
 lawful_output =
     lawful_made_of _ _ (λ x. refl) (λ y h. h)
-    (lawful_object (lawful_fixed refl refl (omega arith) refl refl (IsUtf8-are_ascii _ refl)
-    (lawful_field refl refl lawful_text lawful_none)))
+    (lawful_object (lawful_field refl refl lawful_category (lawful_field refl refl lawful_text lawful_none)))
 
 pub lawful_exited : Lawful 1 exited
 lawful_exited = lawful_made_of _ _ (λ x. refl) (λ y h. h) (lawful_object (lawful_field refl refl lawful_signed lawful_none))

@@ -11,7 +11,7 @@ use Rattle.replies.proofs.Lawful.{Lawful, LawfulFields, lawful_whole, lawful_tex
 use Rattle.replies.specs.declared.response.ResponseBody.TheVariants as body
 use Rattle.replies.proofs.HasForm.{HasForm}
 
-lawful_instruction_breakpoint : Lawful 1 instruction.instruction_breakpoint
+pub lawful_instruction_breakpoint : Lawful 1 instruction.instruction_breakpoint
 lawful_instruction_breakpoint =
     lawful_made_of instruction.parts instruction.made again stays (lawful_either is_verified (λ x. refl) (λ x. refl) set unset) where
       set : LawfulFields 0 instruction.verified

@@ -14,6 +14,7 @@ pub mod InstructionBytes
 pub mod EncodedBytes
 pub mod HasForm
 pub mod LawfulSetBreakpoints
+pub mod LawfulSetFunctionBreakpoints
 pub mod LawfulSetInstructionBreakpoints
 pub mod LawfulStackTrace
 pub mod LawfulScopes

@@ -13,6 +13,7 @@ use Rattle.replies.specs.Initialize.{initialize_body}
 use Rattle.replies.specs.Threads.{threads_body}
 use Rattle.replies.specs.Continue.{continue_body}
 use Rattle.replies.specs.SetBreakpoints.{set_breakpoints}
+use Rattle.replies.specs.SetFunctionBreakpoints.{set_function_breakpoints}
 use Rattle.replies.specs.SetInstructionBreakpoints.{set_instruction_breakpoints}
 use Rattle.replies.specs.StackTrace.{stack_trace}
 use Rattle.replies.specs.Scopes.{scopes}
@@ -59,6 +60,7 @@ row kind.Initialize = always (codes "initialize") initialize_body
 row kind.Threads = always (codes "threads") threads_body
 row kind.Continue = always (codes "continue") continue_body
 row (kind.SetBreakpoints b) = in_form (codes "setBreakpoints") set_breakpoints b
+row (kind.SetFunctionBreakpoints b) = in_form (codes "setFunctionBreakpoints") set_function_breakpoints b
 row (kind.SetInstructionBreakpoints b) = in_form (codes "setInstructionBreakpoints") set_instruction_breakpoints b
 row (kind.StackTrace b) = in_form (codes "stackTrace") stack_trace b
 row (kind.Scopes b) = in_form (codes "scopes") scopes b
@@ -108,6 +110,7 @@ all_taken =
     ∷ surely kind.Threads (codes "threads")
     ∷ surely kind.Continue (codes "continue")
     ∷ formed (codes "setBreakpoints") set_breakpoints (λ b. kind.SetBreakpoints b)
+    ∷ formed (codes "setFunctionBreakpoints") set_function_breakpoints (λ b. kind.SetFunctionBreakpoints b)
     ∷ formed (codes "setInstructionBreakpoints") set_instruction_breakpoints (λ b. kind.SetInstructionBreakpoints b)
     ∷ formed (codes "stackTrace") stack_trace (λ b. kind.StackTrace b)
     ∷ formed (codes "scopes") scopes (λ b. kind.Scopes b)

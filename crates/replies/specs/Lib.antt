@@ -14,6 +14,7 @@ pub mod Initialize
 pub mod Threads
 pub mod Continue
 pub mod SetBreakpoints
+pub mod SetFunctionBreakpoints
 pub mod SetInstructionBreakpoints
 pub mod StackTrace
 pub mod Scopes

@@ -16,6 +16,7 @@ use Rattle.replies.specs.declared.response.ResponseBody.TheVariants.{Threads, Em
 use Rattle.replies.specs.declared.message.Message.{Message}
 use Rattle.replies.specs.declared.message.Message.TheVariants.{Response, Event}
 use Rattle.replies.specs.declared.event.Event.TheVariants.{Stopped, Output, Exited, Terminated}
+use Rattle.replies.specs.declared.output.Category.TheVariants.{Console, Stdout}
 use Rattle.replies.specs.declared.stopped.Reason.TheVariants.{InstructionBreakpoint, Exception}
 use Rattle.replies.specs.Responses.{response_data, IsProperResponse}
 use Rattle.replies.specs.Events.{event_data, IsProperEvent}
@@ -73,10 +74,16 @@ unfolding json_on_literals
 example-terminated = refl
 
 -- what the program printed
-example-output : text_of 5 (Event (Output (record { output = codes "7\n" })))
+example-output : text_of 5 (Event (Output (record { category = Stdout; output = codes "7\n" })))
     ≡ codes "{\"body\":{\"category\":\"stdout\",\"output\":\"7\\n\"},\"event\":\"output\",\"seq\":5,\"type\":\"event\"}"
 unfolding json_on_literals
 example-output = refl
+
+-- what a logpoint writes
+example-log : text_of 7 (Event (Output (record { category = Console; output = codes "here\n" })))
+    ≡ codes "{\"body\":{\"category\":\"console\",\"output\":\"here\\n\"},\"event\":\"output\",\"seq\":7,\"type\":\"event\"}"
+unfolding json_on_literals
+example-log = refl
 
 -- a stop at the first breakpoint
 example-breakpoint :

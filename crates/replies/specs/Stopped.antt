@@ -8,12 +8,12 @@ use Rattle.replies.specs.Forms.{Form, object_of, none, field, fixed, optional, u
 use Rattle.replies.specs.Forms.{text}
 use Rattle.replies.specs.declared.stopped.Reason.{Reason}
 use Rattle.replies.specs.declared.stopped.Reason.TheVariants.{Entry, Step, Breakpoint, InstructionBreakpoint}
-use Rattle.replies.specs.declared.stopped.Reason.TheVariants.{Exception, Pause}
+use Rattle.replies.specs.declared.stopped.Reason.TheVariants.{FunctionBreakpoint, Exception, Pause}
 use Rattle.replies.specs.declared.stopped.Stopped.{Stopped}
 
 -- the reasons
 abbrev pub reasons : List Reason
-reasons = Entry ∷ Step ∷ Breakpoint ∷ InstructionBreakpoint ∷ Exception ∷ Pause ∷ []
+reasons = Entry ∷ Step ∷ Breakpoint ∷ InstructionBreakpoint ∷ FunctionBreakpoint ∷ Exception ∷ Pause ∷ []
 
 -- the name of a reason
 abbrev pub reason_name : Reason → List ℕ
@@ -21,6 +21,7 @@ reason_name Entry = codes "entry"
 reason_name Step = codes "step"
 reason_name Breakpoint = codes "breakpoint"
 reason_name InstructionBreakpoint = codes "instruction breakpoint"
+reason_name FunctionBreakpoint = codes "function breakpoint"
 reason_name Exception = codes "exception"
 reason_name Pause = codes "pause"
 

@@ -25,7 +25,7 @@ pub enum Event {
     Stopped(Stopped),
     /// The machine goes on (`ContinuedEvent`).
     Continued,
-    /// The program printed something (`OutputEvent`).
+    /// The program printed something, or the adapter has something to say (`OutputEvent`).
     Output(Output),
     /// The program exited (`ExitedEvent`).
     Exited(Exited),
@@ -39,7 +39,7 @@ const INITIALIZED: &str = "initialized";
 const STOPPED: &str = "stopped";
 /// The name of the event that the machine goes on.
 const CONTINUED: &str = "continued";
-/// The name of the event that the program printed something.
+/// The name of the event that there is a text to show.
 const OUTPUT: &str = "output";
 /// The name of the event that the program exited.
 const EXITED: &str = "exited";

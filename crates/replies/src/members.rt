@@ -71,7 +71,7 @@ pub const REASON: &str = "reason";
 pub const TEXT: &str = "text";
 /// Whose output it is (`OutputEvent.body.category`).
 pub const CATEGORY: &str = "category";
-/// What was printed (`OutputEvent.body.output`).
+/// The text to show (`OutputEvent.body.output`).
 pub const OUTPUT: &str = "output";
 /// The program's exit code (`ExitedEvent.body.exitCode`).
 pub const EXIT_CODE: &str = "exitCode";

@@ -19,8 +19,8 @@ use crate::{Message, Outcome, Response, ResponseBody, event, find, read_memory, 
 use protocol::{
     Refusal, Text, Unread, attach, cancel, configuration_done, continue_, disassemble, disconnect,
     evaluate, initialize, launch, next, pause, restart, scopes, set_breakpoints,
-    set_exception_breakpoints, set_instruction_breakpoints, set_variable, stack_trace, step_in,
-    step_out, terminate, threads, variables, write_memory,
+    set_exception_breakpoints, set_function_breakpoints, set_instruction_breakpoints, set_variable,
+    stack_trace, step_in, step_out, terminate, threads, variables, write_memory,
 };
 use serde_json::Value;
 use std::alloc::{AllocError, Global};
@@ -74,6 +74,9 @@ fn body_in(alloc: Global, command: &str, value: &Value) -> Result<ResponseBody, 
         threads::NAME => Ok(ResponseBody::Threads),
         continue_::NAME => Ok(ResponseBody::Continue),
         set_breakpoints::NAME => Ok(ResponseBody::SetBreakpoints(find::part(alloc, value, BODY)?)),
+        set_function_breakpoints::NAME => Ok(ResponseBody::SetFunctionBreakpoints(find::part(
+            alloc, value, BODY,
+        )?)),
         set_instruction_breakpoints::NAME => Ok(ResponseBody::SetInstructionBreakpoints(find::part(
             alloc, value, BODY,
         )?)),

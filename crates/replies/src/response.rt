@@ -4,8 +4,8 @@ ghost use Rattle.protocol.specs.Commands.{name_of};
 ghost use Rattle.replies.specs.declared.response.Response as declared;
 
 use crate::{
-    Disassemble, Evaluate, ReadMemory, Scopes, SetBreakpoints, SetInstructionBreakpoints,
-    SetVariable, StackTrace, Variables, WriteMemory,
+    Disassemble, Evaluate, ReadMemory, Scopes, SetBreakpoints, SetFunctionBreakpoints,
+    SetInstructionBreakpoints, SetVariable, StackTrace, Variables, WriteMemory,
 };
 use protocol::{Refusal, Request, Text};
 use std::alloc::{AllocError, Global};
@@ -22,6 +22,8 @@ pub enum ResponseBody {
     Continue,
     /// What became of the breakpoints of a source (`SetBreakpointsResponse`).
     SetBreakpoints(SetBreakpoints),
+    /// What became of the breakpoints at functions (`SetFunctionBreakpointsResponse`).
+    SetFunctionBreakpoints(SetFunctionBreakpoints),
     /// What became of the breakpoints at instructions (`SetInstructionBreakpointsResponse`).
     SetInstructionBreakpoints(SetInstructionBreakpoints),
     /// The frames of a stopped program (`StackTraceResponse`).

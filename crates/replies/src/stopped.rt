@@ -34,6 +34,8 @@ pub enum Reason {
     Breakpoint,
     /// A breakpoint at an instruction.
     InstructionBreakpoint,
+    /// A breakpoint at a function.
+    FunctionBreakpoint,
     /// An instruction failed, or a limit is reached.
     Exception,
     /// It was told to.
@@ -47,6 +49,8 @@ const STEP: &str = "step";
 const BREAKPOINT: &str = "breakpoint";
 
 const INSTRUCTION_BREAKPOINT: &str = "instruction breakpoint";
+
+const FUNCTION_BREAKPOINT: &str = "function breakpoint";
 
 const EXCEPTION: &str = "exception";
 
@@ -62,6 +66,7 @@ impl Reason {
             Reason::Step => STEP,
             Reason::Breakpoint => BREAKPOINT,
             Reason::InstructionBreakpoint => INSTRUCTION_BREAKPOINT,
+            Reason::FunctionBreakpoint => FUNCTION_BREAKPOINT,
             Reason::Exception => EXCEPTION,
             Reason::Pause => PAUSE,
         }
@@ -77,6 +82,7 @@ fn named(name: &str) -> Result<Reason, Unread>
         STEP => Ok(Reason::Step),
         BREAKPOINT => Ok(Reason::Breakpoint),
         INSTRUCTION_BREAKPOINT => Ok(Reason::InstructionBreakpoint),
+        FUNCTION_BREAKPOINT => Ok(Reason::FunctionBreakpoint),
         EXCEPTION => Ok(Reason::Exception),
         PAUSE => Ok(Reason::Pause),
         _ => Err(Unread::Bad),

@@ -136,6 +136,7 @@ fn write_body(alloc: Global, out: &mut Writer, body: &ResponseBody) -> Result<()
             continue_::body(out)
         }
         ResponseBody::SetBreakpoints(body) => member::part(out, BODY, body),
+        ResponseBody::SetFunctionBreakpoints(body) => member::part(out, BODY, body),
         ResponseBody::SetInstructionBreakpoints(body) => member::part(out, BODY, body),
         ResponseBody::StackTrace(body) => member::part(out, BODY, body),
         ResponseBody::Scopes(body) => member::part(out, BODY, body),

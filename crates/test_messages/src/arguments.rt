@@ -1,10 +1,11 @@
 //! The arguments of requests as they are shown.
 
 use protocol::{
-    CancelArguments, DisassembleArguments, DisconnectArguments, EvaluateArguments, Granularity,
-    InitializeArguments, InstructionBreakpoint, LaunchArguments, ReadMemoryArguments,
-    SetBreakpointsArguments, SetInstructionBreakpointsArguments, SetVariableArguments,
-    SourceBreakpoint, StackTraceArguments, Text, VariablesArguments, WriteMemoryArguments,
+    CancelArguments, DisassembleArguments, DisconnectArguments, EvaluateArguments,
+    FunctionBreakpoint, Granularity, InitializeArguments, InstructionBreakpoint, LaunchArguments,
+    ReadMemoryArguments, SetBreakpointsArguments, SetFunctionBreakpointsArguments,
+    SetInstructionBreakpointsArguments, SetVariableArguments, SourceBreakpoint,
+    StackTraceArguments, Text, VariablesArguments, WriteMemoryArguments,
 };
 use std::fmt::Debug;
 use testing::{Fault, Line};
@@ -41,6 +42,23 @@ pub(crate) fn set_breakpoints(
 
 fn source_breakpoint(line: &mut Line, given: &SourceBreakpoint) -> Result<(), Fault> {
     line.value(given.line)?;
+    optional_text(line, &given.condition)?;
+    optional_text(line, &given.hit_condition)?;
+    optional_text(line, &given.log_message)
+}
+
+pub(crate) fn set_function_breakpoints(
+    line: &mut Line,
+    given: &SetFunctionBreakpointsArguments,
+) -> Result<(), Fault> {
+    for breakpoint in given.breakpoints.as_slice() {
+        function_breakpoint(line, breakpoint)?;
+    }
+    Ok(())
+}
+
+fn function_breakpoint(line: &mut Line, given: &FunctionBreakpoint) -> Result<(), Fault> {
+    text(line, &given.name)?;
     optional_text(line, &given.condition)?;
     optional_text(line, &given.hit_condition)
 }

@@ -3,8 +3,7 @@
 use protocol::Text;
 use replies::{
     Disassemble, Instruction, InstructionBreakpoint, ReadMemory, ResponseBody, Scope, Scopes,
-    SetBreakpoints, SetInstructionBreakpoints, Source, SourceBreakpoint, StackFrame, StackTrace,
-    Variables,
+    SetBreakpoints, Source, SourceBreakpoint, StackFrame, StackTrace, Variables,
 };
 use testing::{Fault, Line};
 
@@ -16,7 +15,14 @@ pub(crate) fn show_body(line: &mut Line, body: &ResponseBody) -> Result<(), Faul
         ResponseBody::Continue => line.word("Continue"),
         ResponseBody::Empty => line.word("Empty"),
         ResponseBody::SetBreakpoints(body) => source_breakpoints(line, body),
-        ResponseBody::SetInstructionBreakpoints(body) => instruction_breakpoints(line, body),
+        ResponseBody::SetFunctionBreakpoints(body) => {
+            line.word("SetFunctionBreakpoints")?;
+            instruction_breakpoints(line, body.breakpoints.as_slice())
+        }
+        ResponseBody::SetInstructionBreakpoints(body) => {
+            line.word("SetInstructionBreakpoints")?;
+            instruction_breakpoints(line, body.breakpoints.as_slice())
+        }
         ResponseBody::StackTrace(body) => stack_trace(line, body),
         ResponseBody::Scopes(body) => scopes(line, body),
         ResponseBody::Variables(body) => variables(line, body),
@@ -60,9 +66,11 @@ fn source_breakpoint(line: &mut Line, breakpoint: &SourceBreakpoint) -> Result<(
     }
 }
 
-fn instruction_breakpoints(line: &mut Line, body: &SetInstructionBreakpoints) -> Result<(), Fault> {
-    line.word("SetInstructionBreakpoints")?;
-    for breakpoint in body.breakpoints.as_slice() {
+fn instruction_breakpoints(
+    line: &mut Line,
+    breakpoints: &[InstructionBreakpoint],
+) -> Result<(), Fault> {
+    for breakpoint in breakpoints {
         instruction_breakpoint(line, breakpoint)?;
     }
     Ok(())

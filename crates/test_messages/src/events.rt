@@ -2,7 +2,7 @@
 
 use crate::responses::{optional_text_of, text_of};
 use protocol::Entries;
-use replies::{Event, Exited, Output, Reason, Stopped};
+use replies::{Category, Event, Exited, Output, Reason, Stopped};
 use std::alloc::{AllocError, Global};
 use testing::{Fault, Line, parsed};
 
@@ -12,7 +12,7 @@ pub(crate) fn event_of(alloc: Global, words: &[&str]) -> Result<Event, Fault> {
         ["Initialized"] => Ok(Event::Initialized),
         ["Stopped", reason, text, ids @ ..] => stopped(alloc, reason, text, ids),
         ["Continued"] => Ok(Event::Continued),
-        ["Output", text] => output(alloc, text),
+        ["Output", category, text] => output(alloc, category, text),
         ["Exited", code] => exited(code),
         ["Terminated"] => Ok(Event::Terminated),
         _ => Err(Fault::NoCommand),
@@ -28,9 +28,18 @@ fn stopped(alloc: Global, reason: &str, text: &str, ids: &[&str]) -> Result<Even
     }))
 }
 
-fn output(alloc: Global, text: &str) -> Result<Event, Fault> {
+fn output(alloc: Global, category: &str, text: &str) -> Result<Event, Fault> {
+    let category = category_named(category)?;
     let output = text_of(alloc, text)?;
-    Ok(Event::Output(Output { output }))
+    Ok(Event::Output(Output { category, output }))
+}
+
+fn category_named(name: &str) -> Result<Category, Fault> {
+    match name {
+        "Console" => Ok(Category::Console),
+        "Stdout" => Ok(Category::Stdout),
+        _ => Err(Fault::NoCommand),
+    }
 }
 
 fn exited(code: &str) -> Result<Event, Fault> {
@@ -52,6 +61,7 @@ fn reason_named(name: &str) -> Result<Reason, Fault> {
         "Step" => Ok(Reason::Step),
         "Breakpoint" => Ok(Reason::Breakpoint),
         "InstructionBreakpoint" => Ok(Reason::InstructionBreakpoint),
+        "FunctionBreakpoint" => Ok(Reason::FunctionBreakpoint),
         "Exception" => Ok(Reason::Exception),
         "Pause" => Ok(Reason::Pause),
         _ => Err(Fault::NoCommand),
@@ -86,6 +96,7 @@ fn show_stop(line: &mut Line, body: &Stopped) -> Result<(), Fault> {
 
 fn show_output(line: &mut Line, body: &Output) -> Result<(), Fault> {
     line.word("Output")?;
+    line.name(body.category)?;
     line.bytes(body.output.as_str().as_bytes())
 }
 

@@ -36,6 +36,7 @@ fn show_arguments(line: &mut Line, command: &Command) -> Result<(), Fault> {
         Command::Cancel(arguments) => of::cancel(line, arguments),
         Command::Disconnect(arguments) => of::disconnect(line, arguments),
         Command::SetBreakpoints(arguments) => of::set_breakpoints(line, arguments),
+        Command::SetFunctionBreakpoints(arguments) => of::set_function_breakpoints(line, arguments),
         Command::SetInstructionBreakpoints(arguments) => {
             of::set_instruction_breakpoints(line, arguments)
         }

@@ -17,11 +17,12 @@ use Rattle.replies.specs.Events.{IsProperEvent, event_body, event_members, event
 use Rattle.replies.specs.Exited.{exited}
 use Rattle.replies.specs.Forms.{Form, is_in_if, is_word, member_if, whole}
 use Rattle.replies.specs.Messages.{IsNumber, IsProper, message_data}
-use Rattle.replies.specs.Output.{output}
+use Rattle.replies.specs.Output.{categories, category_name, output}
 use Rattle.replies.specs.ReadMemory.{or_0, read_memory, unless_0}
 use Rattle.replies.specs.Responses.{IsOutcomeOf, format_of, outcome_data, shared_members}
 use Rattle.replies.specs.Scopes as scope
 use Rattle.replies.specs.SetBreakpoints as of_source
+use Rattle.replies.specs.SetFunctionBreakpoints.{set_function_breakpoints}
 use Rattle.replies.specs.SetInstructionBreakpoints as at_instruction
 use Rattle.replies.specs.SetVariable.{set_variable}
 use Rattle.replies.specs.StackTrace.{source, stack_frame, stack_trace}
@@ -35,6 +36,8 @@ use Rattle.replies.specs.declared.event.Event.{Event}
 use Rattle.replies.specs.declared.event.Event.TheVariants as event
 use Rattle.replies.specs.declared.message.Message.{Message}
 use Rattle.replies.specs.declared.message.Message.TheVariants as message
+use Rattle.replies.specs.declared.output.Category.{Category}
+use Rattle.replies.specs.declared.output.Category.TheVariants.{Console, Stdout}
 use Rattle.replies.specs.declared.read_memory.ReadMemory.{ReadMemory}
 use Rattle.replies.specs.declared.response.Outcome.{Outcome}
 use Rattle.replies.specs.declared.response.Outcome.TheVariants.{Done, Refused}
@@ -166,6 +169,15 @@ instruction_breakpoint_within (instruction_breakpoint.Unverified message) = omeg
 fits_set_instruction_breakpoints : Fits at_instruction.set_instruction_breakpoints
     (λ b. 1000 + sum_by most_of_instruction_breakpoint b.breakpoints)
 fits_set_instruction_breakpoints =
+    fits_weaker (λ b. 1000 + sum_by most_of_instruction_breakpoint b.breakpoints)
+    (fits_made_of (λ b. (b.breakpoints, tt)) (λ p. Some (record { breakpoints = p.0 }))
+    (fits_object (fits_field (codes "breakpoints")
+    (fits_list most_of_instruction_breakpoint fits_instruction_breakpoint (λ b. omega (arith, instruction_breakpoint_within b)))
+    fits_none)))
+    (λ b. omega arith)
+
+fits_set_function_breakpoints : Fits set_function_breakpoints (λ b. 1000 + sum_by most_of_instruction_breakpoint b.breakpoints)
+fits_set_function_breakpoints =
     fits_weaker (λ b. 1000 + sum_by most_of_instruction_breakpoint b.breakpoints)
     (fits_made_of (λ b. (b.breakpoints, tt)) (λ p. Some (record { breakpoints = p.0 }))
     (fits_object (fits_field (codes "breakpoints")
@@ -308,6 +320,7 @@ body_fits kind.Initialize h = omega arith
 body_fits kind.Threads h = omega arith
 body_fits kind.Continue h = omega arith
 body_fits (kind.SetBreakpoints b) h = fits_set_breakpoints.fits b
+body_fits (kind.SetFunctionBreakpoints b) h = fits_set_function_breakpoints.fits b
 body_fits (kind.SetInstructionBreakpoints b) h = fits_set_instruction_breakpoints.fits b
 body_fits (kind.StackTrace b) h = fits_stack_trace.fits b
 body_fits (kind.Scopes b) h = fits_scopes.fits b
@@ -363,6 +376,7 @@ reason_short why.Entry = omega arith
 reason_short why.Step = omega arith
 reason_short why.Breakpoint = omega arith
 reason_short why.InstructionBreakpoint = omega arith
+reason_short why.FunctionBreakpoint = omega arith
 reason_short why.Exception = omega arith
 reason_short why.Pause = omega arith
 
@@ -382,11 +396,15 @@ fits_stopped =
     (fits_fixed (codes "threadId") (number (unsigned 1)) 20 (omega arith) fits_none)))))))
     (λ s. omega (arith, text_if s.text))
 
+category_short : (c : Category) → length (category_name c) ≤ 7
+category_short Console = omega arith
+category_short Stdout = omega arith
+
 fits_output : Fits output (λ o. 1000 + written_length o.output)
 fits_output =
     fits_weaker (λ o. 1000 + written_length o.output)
-    (fits_made_of (λ o. (o.output, tt)) (λ p. Some (record { output = p.0 }))
-    (fits_object (fits_fixed (codes "category") (string (codes "stdout")) 38 (texts_are_escaped (codes "stdout"))
+    (fits_made_of (λ o. (o.category, (o.output, tt))) (λ p. Some (record { category = p.0; output = p.1.0 }))
+    (fits_object (fits_field (codes "category") (fits_one_of category_name categories 7 category_short)
     (fits_field (codes "output") fits_text fits_none))))
     (λ o. omega arith)
 

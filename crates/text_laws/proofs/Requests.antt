@@ -1,7 +1,8 @@
 -- The texts of a request are in its body.
-use Rattle.std.proofs.Common.{◌≡◌, ℕ, suc, ◌≤◌, Bool, true, false, cond, List, [], length, map, Option, Some, None, option_and_then, option_map, Result, Ok, Err, refl, sym, ap, subst, arith}
+use Rattle.std.proofs.Common.{◌≡◌, ℕ, suc, ◌≤◌, Bool, true, false, cond, List, [], ◌∷◌, length, map, Option, Some, None, option_and_then, option_map, Result, Ok, Err, refl, sym, ap, subst, arith}
 use Rattle.std.proofs.lemmas.List.{length-map}
-use Rattle.std.specs.Prelude.{IfSome, bytes_eq, ok_or, unwrap_or, ◌||◌}
+use Rattle.std.proofs.lemmas.List.Elements.{All-cons, All-nil}
+use Rattle.std.specs.Prelude.{All, IfSome, bytes_eq, ok_or, unwrap_or, ◌||◌}
 use Rattle.serde_json.specs.Data.{Data, Items, Members, item, no_items}
 use Rattle.serde_json.specs.Find.{as_array, as_bool, as_object, as_str}
 use Rattle.protocol.specs.Arguments.{arguments_members, each, list, optional, required}
@@ -11,11 +12,12 @@ use Rattle.protocol.specs.Launch.{launch_arguments}
 use Rattle.protocol.specs.Properties.{natural, property, sequence_number, text}
 use Rattle.protocol.specs.Reading.{◌>>=◌, incoming_of, message_of, received, request_of, typed_message_of}
 use Rattle.protocol.specs.SetBreakpoints.{asked, at_line, by_lines, or_by_lines, set_breakpoints_arguments, source_breakpoint, source_of}
+use Rattle.protocol.specs.SetFunctionBreakpoints.{function_breakpoint, set_function_breakpoints_arguments}
 use Rattle.protocol.specs.SetInstructionBreakpoints.{instruction_breakpoint, set_instruction_breakpoints_arguments}
 use Rattle.protocol.specs.declared.command.Command.{Command}
-use Rattle.protocol.specs.declared.command.Command.TheVariants.{Launch, SetBreakpoints, SetInstructionBreakpoints}
+use Rattle.protocol.specs.declared.command.Command.TheVariants.{Launch, SetBreakpoints, SetFunctionBreakpoints, SetInstructionBreakpoints}
 use Rattle.protocol.specs.declared.launch.TheConstants.{PROGRAM, STOP_ON_ENTRY}
-use Rattle.protocol.specs.declared.members.TheConstants.{ARGUMENTS, BREAKPOINTS, COMMAND, EVENT, REQUEST, RESPONSE, SEQ, TYPE}
+use Rattle.protocol.specs.declared.members.TheConstants.{ARGUMENTS, BREAKPOINTS, COMMAND, CONDITION, EVENT, HIT_CONDITION, REQUEST, RESPONSE, SEQ, TYPE}
 use Rattle.protocol.specs.declared.refusal.Refusal.{Refusal}
 use Rattle.protocol.specs.declared.refusal.Refusal.TheVariants.{BadArguments}
 use Rattle.protocol.specs.declared.request.Incoming.{Incoming}
@@ -23,11 +25,11 @@ use Rattle.protocol.specs.declared.request.Incoming.TheVariants.{Ignored}
 use Rattle.protocol.specs.declared.request.MessageError.{MessageError}
 use Rattle.protocol.specs.declared.request.MessageError.TheVariants.{BadSeq, NotAMessage, NotJson}
 use Rattle.protocol.specs.declared.set_breakpoints.SourceBreakpoint.{SourceBreakpoint}
-use Rattle.protocol.specs.declared.set_breakpoints.TheConstants.{LINES, SOURCE}
+use Rattle.protocol.specs.declared.set_breakpoints.TheConstants.{LINE, LINES, LOG_MESSAGE, SOURCE}
 use Rattle.protocol.proofs.Requests.{read_by_its_name}
-use Rattle.text_laws.specs.Requests.{AsksWithin, MeansWithin, RequestsHaveTexts}
+use Rattle.text_laws.specs.Requests.{AsksWithin, MeansWithin, RequestsHaveTexts, WritesWithin}
 use Rattle.text_laws.specs.Texts.{IsTextWithin}
-use Rattle.text_laws.proofs.Values.{AreMembersWithin, IsWithin, as_array_within, as_object_within, as_str_within, count, json_within, map_holds, property_within, then_any, then_holds}
+use Rattle.text_laws.proofs.Values.{AreItemsWithin, AreMembersWithin, IsWithin, as_array_within, as_object_within, as_str_within, count, json_within, map_holds, property_within, then_any, then_holds}
 
 -- ---- arguments
 
@@ -62,9 +64,30 @@ implied P Q (Some a) on h = on a h
 list_within : {A : Type 0} (most : ℕ) (meaning : Data → Option A) (d : Data) → IsWithin most d
     → IfSome (list meaning d) (λ found. length found ≤ most)
 list_within most meaning d h =
-    then_holds (λ ds. count ds ≤ most) (λ found. length found ≤ most) (as_array d) (each meaning) (as_array_within most d h)
-    (λ ds few. implied (λ found. length found ≡ count ds) (λ found. length found ≤ most) (each meaning ds)
-    (λ found same. subst (λ n. n ≤ most) (sym same) few) (each_entry meaning ds))
+    then_holds (λ ds. (count ds ≤ most) × AreItemsWithin most ds) (λ found. length found ≤ most) (as_array d) (each meaning)
+    (as_array_within most d h)
+    (λ ds held. implied (λ found. length found ≡ count ds) (λ found. length found ≤ most) (each meaning ds)
+    (λ found same. subst (λ n. n ≤ most) (sym same) held.0) (each_entry meaning ds))
+
+-- and what holds of what each item means holds of each entry
+each_within : {A : Type 0} (most : ℕ) (P : A → Type 0) (meaning : Data → Option A)
+    → ((d : Data) → IsWithin most d → IfSome (meaning d) P) → (ds : Items) → AreItemsWithin most ds → IfSome (each meaning ds) (All P)
+each_within most P meaning on no_items h = All-nil P
+each_within most P meaning on (item d ds) h =
+    then_holds P (All P) (meaning d) _ (on d h.0) (λ first p.
+    then_holds (All P) (All P) (each meaning ds) _ (each_within most P meaning on ds h.1) (λ others q. All-cons P first others p q))
+
+both_hold : {A : Type 0} (P Q : A → Type 0) (found : Option A) → IfSome found P → IfSome found Q → IfSome found (λ a. P a × Q a)
+both_hold P Q None p q = tt
+both_hold P Q (Some a) p q = (p, q)
+
+entries_within : {A : Type 0} (most : ℕ) (P : A → Type 0) (meaning : Data → Option A)
+    → ((d : Data) → IsWithin most d → IfSome (meaning d) P) → (d : Data) → IsWithin most d
+    → IfSome (list meaning d) (λ found. (length found ≤ most) × All P found)
+entries_within most P meaning on d h =
+    both_hold (λ found. length found ≤ most) (All P) (list meaning d) (list_within most meaning d h)
+    (then_holds (λ ds. (count ds ≤ most) × AreItemsWithin most ds) (All P) (as_array d) (each meaning) (as_array_within most d h)
+    (λ ds held. each_within most P meaning on ds held.1))
 
 -- ---- requests
 
@@ -75,37 +98,63 @@ launch_within most members h =
     (required_within most (IsTextWithin most) as_str PROGRAM.now members (as_str_within most) h) (λ program within.
     then_any (λ a. IsTextWithin most a.program) (optional as_bool (property STOP_ON_ENTRY.now members)) _ (λ stop. within))
 
-by_lines_within : (most : ℕ) (members : Members) → AreMembersWithin most members
-    → IfSome (by_lines members) (λ breakpoints. length breakpoints ≤ most)
+-- what a breakpoint of a source writes is a text
+source_breakpoint_within : (most : ℕ) (d : Data) → IsWithin most d → IfSome (source_breakpoint d) (WritesWithin most)
+source_breakpoint_within most d h =
+    then_holds (AreMembersWithin most) (WritesWithin most) (as_object d) _ (as_object_within most d h) (λ members within.
+    then_any (WritesWithin most) (required natural (property LINE.now members)) _ (λ line.
+    then_any (WritesWithin most) (optional as_str (property CONDITION.now members)) _ (λ condition.
+    then_any (WritesWithin most) (optional as_str (property HIT_CONDITION.now members)) _ (λ hits.
+    then_holds (λ found. IfSome found (IsTextWithin most)) (WritesWithin most)
+    (optional as_str (property LOG_MESSAGE.now members)) _
+    (optional_within most (IsTextWithin most) as_str LOG_MESSAGE.now members (as_str_within most) within) (λ log held. held)))))
+
+-- so many breakpoints of a source, each of which writes such a text
+abbrev AreSourceWithin : ℕ → List SourceBreakpoint → Type 0
+AreSourceWithin most breakpoints = (length breakpoints ≤ most) × All (WritesWithin most) breakpoints
+
+write_nothing : (most : ℕ) (lines : List ℕ) → All (WritesWithin most) (map at_line lines)
+write_nothing most [] = All-nil (WritesWithin most)
+write_nothing most (line ∷ lines) = All-cons (WritesWithin most) (at_line line) (map at_line lines) tt (write_nothing most lines)
+
+by_lines_within : (most : ℕ) (members : Members) → AreMembersWithin most members → IfSome (by_lines members) (AreSourceWithin most)
 by_lines_within most members h =
-    then_holds (λ found. IfSome found (λ lines. length lines ≤ most)) (λ breakpoints. length breakpoints ≤ most)
+    then_holds (λ found. IfSome found (λ lines. length lines ≤ most)) (AreSourceWithin most)
     (optional (list natural) (property LINES.now members)) _
     (optional_within most (λ lines. length lines ≤ most) (list natural) LINES.now members (list_within most natural) h) by
   where
-    by : (lines : Option (List ℕ)) → IfSome lines (λ found. length found ≤ most) → length (map at_line (unwrap_or lines [])) ≤ most
-    by None few = omega arith
-    by (Some lines) few = omega (arith, length-map lines at_line)
+    by : (lines : Option (List ℕ)) → IfSome lines (λ found. length found ≤ most) → AreSourceWithin most (map at_line (unwrap_or lines []))
+    by None few = (omega arith, write_nothing most [])
+    by (Some lines) few = (omega (arith, length-map lines at_line), write_nothing most lines)
 
-asked_within : (most : ℕ) (members : Members) → AreMembersWithin most members
-    → IfSome (asked members) (λ breakpoints. length breakpoints ≤ most)
+asked_within : (most : ℕ) (members : Members) → AreMembersWithin most members → IfSome (asked members) (AreSourceWithin most)
 asked_within most members h =
-    then_holds (λ found. IfSome found (λ breakpoints. length breakpoints ≤ most)) (λ breakpoints. length breakpoints ≤ most)
+    then_holds (λ found. IfSome found (AreSourceWithin most)) (AreSourceWithin most)
     (optional (list source_breakpoint) (property BREAKPOINTS.now members)) _
-    (optional_within most (λ breakpoints. length breakpoints ≤ most) (list source_breakpoint) BREAKPOINTS.now members
-    (list_within most source_breakpoint) h)
+    (optional_within most (AreSourceWithin most) (list source_breakpoint) BREAKPOINTS.now members
+    (entries_within most (WritesWithin most) source_breakpoint (source_breakpoint_within most)) h)
     by
   where
-    by : (found : Option (List SourceBreakpoint)) → IfSome found (λ breakpoints. length breakpoints ≤ most)
-        → IfSome (or_by_lines found members) (λ breakpoints. length breakpoints ≤ most)
-    by None few = by_lines_within most members h
-    by (Some breakpoints) few = few
+    by : (found : Option (List SourceBreakpoint)) → IfSome found (AreSourceWithin most)
+        → IfSome (or_by_lines found members) (AreSourceWithin most)
+    by None held = by_lines_within most members h
+    by (Some breakpoints) held = held
 
 set_breakpoints_within : (most : ℕ) (members : Members) → AreMembersWithin most members
-    → IfSome (set_breakpoints_arguments members) (λ a. length a.breakpoints ≤ most)
+    → IfSome (set_breakpoints_arguments members) (λ a. AreSourceWithin most a.breakpoints)
 set_breakpoints_within most members h =
-    then_any (λ a. length a.breakpoints ≤ most) (optional source_of (property SOURCE.now members)) _ (λ source.
-    then_holds (λ breakpoints. length breakpoints ≤ most) (λ a. length a.breakpoints ≤ most) (asked members) _
-    (asked_within most members h) (λ breakpoints few. few))
+    then_any (λ a. AreSourceWithin most a.breakpoints) (optional source_of (property SOURCE.now members)) _ (λ source.
+    then_holds (AreSourceWithin most) (λ a. AreSourceWithin most a.breakpoints) (asked members) _
+    (asked_within most members h) (λ breakpoints held. held))
+
+function_breakpoints_within : (most : ℕ) (members : Members) → AreMembersWithin most members
+    → IfSome (set_function_breakpoints_arguments members) (λ a. length a.breakpoints ≤ most)
+function_breakpoints_within most members h =
+    then_holds (λ breakpoints. length breakpoints ≤ most) (λ a. length a.breakpoints ≤ most)
+    (required (list function_breakpoint) (property BREAKPOINTS.now members)) _
+    (required_within most (λ breakpoints. length breakpoints ≤ most) (list function_breakpoint) BREAKPOINTS.now members
+    (list_within most function_breakpoint) h)
+    (λ breakpoints few. few)
 
 instruction_breakpoints_within : (most : ℕ) (members : Members) → AreMembersWithin most members
     → IfSome (set_instruction_breakpoints_arguments members) (λ a. length a.breakpoints ≤ most)
@@ -142,9 +191,14 @@ command_within most name arguments (Launch a) h e =
     (arguments_members arguments) (Launch a) (arguments_within most arguments h) (launch_within most) (λ b held. held)
     (read_by_its_name name arguments (Launch a) e)
 command_within most name arguments (SetBreakpoints a) h e =
-    of_members_within most (λ b. length b.breakpoints ≤ most) (AsksWithin most) (λ b. SetBreakpoints b) set_breakpoints_arguments
+    of_members_within most (λ b. AreSourceWithin most b.breakpoints) (AsksWithin most) (λ b. SetBreakpoints b) set_breakpoints_arguments
     (arguments_members arguments) (SetBreakpoints a) (arguments_within most arguments h) (set_breakpoints_within most) (λ b held. held)
     (read_by_its_name name arguments (SetBreakpoints a) e)
+command_within most name arguments (SetFunctionBreakpoints a) h e =
+    of_members_within most (λ b. length b.breakpoints ≤ most) (AsksWithin most) (λ b. SetFunctionBreakpoints b)
+    set_function_breakpoints_arguments (arguments_members arguments) (SetFunctionBreakpoints a)
+    (arguments_within most arguments h) (function_breakpoints_within most) (λ b held. held)
+    (read_by_its_name name arguments (SetFunctionBreakpoints a) e)
 command_within most name arguments (SetInstructionBreakpoints a) h e =
     of_members_within most (λ b. length b.breakpoints ≤ most) (AsksWithin most) (λ b. SetInstructionBreakpoints b)
     set_instruction_breakpoints_arguments (arguments_members arguments) (SetInstructionBreakpoints a)

@@ -164,10 +164,11 @@ as_object_within most (array ds) h = tt
 as_object_within most (object ms) h = h
 
 -- a list
-pub as_array_within : (most : ℕ) (d : Data) → IsWithin most d → IfSome (as_array d) (λ ds. count ds ≤ most)
+pub as_array_within : (most : ℕ) (d : Data) → IsWithin most d
+    → IfSome (as_array d) (λ ds. (count ds ≤ most) × AreItemsWithin most ds)
 as_array_within most null h = tt
 as_array_within most (boolean b) h = tt
 as_array_within most (number n) h = tt
 as_array_within most (string s) h = tt
-as_array_within most (array ds) h = h.0
+as_array_within most (array ds) h = h
 as_array_within most (object ms) h = tt

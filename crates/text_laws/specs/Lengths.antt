@@ -52,7 +52,7 @@ abbrev pub most_of_source_breakpoint : SourceBreakpoint → ℕ
 most_of_source_breakpoint (of_source.Verified id address line) = 1000
 most_of_source_breakpoint (of_source.Unverified line message) = 1000 + written_length message
 
--- what became of a breakpoint at an instruction
+-- what became of a breakpoint at an instruction or a function
 abbrev pub most_of_instruction_breakpoint : InstructionBreakpoint → ℕ
 most_of_instruction_breakpoint (at_instruction.Verified id address) = 1000
 most_of_instruction_breakpoint (at_instruction.Unverified message) = 1000 + written_length message
@@ -83,6 +83,7 @@ most_of_body kind.Initialize = 1000
 most_of_body kind.Threads = 1000
 most_of_body kind.Continue = 1000
 most_of_body (kind.SetBreakpoints body) = 1000 + sum_by most_of_source_breakpoint body.breakpoints
+most_of_body (kind.SetFunctionBreakpoints body) = 1000 + sum_by most_of_instruction_breakpoint body.breakpoints
 most_of_body (kind.SetInstructionBreakpoints body) = 1000 + sum_by most_of_instruction_breakpoint body.breakpoints
 most_of_body (kind.StackTrace body) = 1000 + sum_by most_of_frame body.stack_frames
 most_of_body (kind.Scopes body) = 1000 + 1000 * length body.scopes

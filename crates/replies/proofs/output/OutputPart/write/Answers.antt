@@ -3,5 +3,5 @@ use Rattle.replies.proofs.output.OutputPart.write.Goals as goal
 
 pub returns : goal.returns
 returns c =
-    let text = rw c.as_str.ensures at c.in_ok-text-2.ensures in
-    object_written c.end_object.result c.in_ok-begin_object.ensures (and_then c.in_ok-text.ensures text) c.end_object.ensures
+    let text = rw c.as_str.ensures at c.in_ok-text.ensures in
+    object_written c.end_object.result c.in_ok-begin_object.ensures (and_then c.in_ok-part.ensures text) c.end_object.ensures
