@@ -56,6 +56,7 @@ WENT = "Went"
 GOAL = "Stopped(Goal)"
 SOURCE = "Stopped(Source)"
 INSTRUCTION = "Stopped(Instruction)"
+FUNCTION = "Stopped(Function)"
 EBREAK = "Stopped(Ebreak)"
 ILLEGAL = "Stopped(Exception(Illegal))"
 
@@ -120,6 +121,23 @@ ROWS = [
         + [does("source 1 %d 1" % (BASE + 8)), does("begin in instruction")] + ticks(SOURCE) + [does("ids", "[1]")], BY_HAND),
     Row("EBREAK comes before a breakpoint, whose id is listed",
         [load(PRINTS), does("source 9 %d 1" % (BASE + 0x10)), runs(9, "2 7 Went"), runs(9, "0 " + EBREAK), does("ids", "[9]")], BY_HAND),
+    Row("a breakpoint of a function stops each call",
+        [load(COUNTS), does("functions 5 %d 1" % (BASE + 0xC)), does("first go"), runs(99, "2 " + FUNCTION), does("ids", "[5]"), runs(99, "4 " + FUNCTION)]
+        + at(BASE + 0xC, 1, 7), BY_HAND),
+    Row("a breakpoint of a function comes after the others, and before the goal",
+        [load(CALLS), does("functions 1 %d 1" % BASE), does("instructions 2 %d 1" % BASE), does("first go")] + ticks(INSTRUCTION)
+        + [does("ids", "[2, 1]"), does("functions 3 %d 1" % (BASE + 4)), does("instructions"), does("begin in instruction")] + ticks(FUNCTION)
+        + [does("functions"), does("begin in instruction")] + ticks(GOAL), BY_HAND),
+    Row("a logpoint ends a run, which goes on",
+        [load(COUNTS), does("source 1 %d 1 log here" % (BASE + 8)), does("first go"), runs(99, "4 Went"), does("logs", "[0]"), does("ids", "[]")]
+        + at(BASE + 8, 0, 4) + [runs(5, "4 Went"), does("logs", "[0]")] + ticks(WENT) + [does("logs", "[]"), runs(4, "3 Went"), runs(4, "4 Spent")], BY_HAND),
+    Row("a logpoint at the entry, where a number is printed, and at an EBREAK",
+        [load(PRINTS), does("source 1 %d 1 log begins" % BASE), does("first go")] + ticks(WENT) + [does("logs", "[0]"), does("source 2 %d 1 log told" % (BASE + 0xC))]
+        + [does("logs", "[]"), runs(9, "2 7 Went"), does("logs", "[0]"), does("source 3 %d 1 log after" % (BASE + 0x10)), runs(9, "0 " + EBREAK), does("logs", "[0]")],
+        BY_HAND),
+    Row("a step stops where a logpoint speaks, and a trap has no logs",
+        [load(FAULTS), does("source 1 %d 1 log here" % BASE), does("first go")] + ticks(WENT, "Stopped(Exception(LoadMisaligned))") + [does("logs", "[]")]
+        + [load(CALLS), does("source 1 %d 1 log here" % (BASE + 4)), does("begin in instruction")] + ticks(GOAL) + [does("logs", "[0]")], BY_HAND),
     Row("a trap stops with no ids, and is met again",
         [load(FAULTS), does("source 1 %d 1" % BASE), does("first go")] + ticks(SOURCE, "Stopped(Exception(LoadMisaligned))")
         + [does("ids", "[]")] + ticks("Stopped(Exception(LoadMisaligned))") + at(BASE, 0, 0), BY_HAND),

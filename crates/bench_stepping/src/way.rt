@@ -71,6 +71,7 @@ fn far(alloc: Global, count: u32) -> Result<Vec<BreakSpec>, AllocError>
             address: FAR + 4 * id,
             condition: None,
             hit: 1,
+            log: None,
         })?;
     }
     Ok(specs)
@@ -86,6 +87,7 @@ fn conditional(alloc: Global, address: u32, condition: Expr) -> Result<Vec<Break
         address,
         condition: Some(condition),
         hit: u32::MAX,
+        log: None,
     })?;
     Ok(specs)
 }

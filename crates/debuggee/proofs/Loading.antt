@@ -1,5 +1,5 @@
 -- A program that was just loaded, or is loaded anew.
-use Rattle.std.proofs.Common.{◌≡◌, ℕ, zero, suc, Bool, true, false, Option, Result, Ok, Err, OnOk, MatchBool, ap, sym, ◌∙◌, subst}
+use Rattle.std.proofs.Common.{◌≡◌, ℕ, zero, suc, Option, Result, Ok, Err, OnOk, ap, sym, ◌∙◌, subst}
 use Rattle.image.specs.declared.Image.{Image}
 use Rattle.stepping.specs.Loading.{CanBeLoaded, IsLoaded, loaded, no_breakpoints, not_hit, reloaded}
 use Rattle.std.specs.declared.alloc.AllocError.{AllocError}
@@ -8,11 +8,12 @@ use Rattle.rv32i.specs.declared.stepped.Stepped.{Stepped}
 use Rattle.rv32i.specs.declared.stepped.Stepped.TheVariants.{Retired, Printed, Break, Exit, Trap}
 use Rattle.stepping.specs.Plain.{plain_tick}
 use Rattle.stepping.specs.Runs.{EndsRun, Goes, IsRun}
-use Rattle.stepping.specs.Ticks.{Debugged, IsTick, Moves, Settles, entry_checked, entry_tick, moved_as, settled}
+use Rattle.stepping.specs.Ticks.{Debugged, IsTick, Settles, moved_as, settled}
 use Rattle.stepping.specs.declared.tick.RunEnd.{RunEnd}
 use Rattle.stepping.specs.declared.tick.RunEnd.TheVariants.{Spent, Ticked, NoMemory}
 use Rattle.stepping.specs.declared.tick.Ran.{Ran}
 use Rattle.stepping.specs.declared.tick.Tick.{Tick}
+use Rattle.stepping.proofs.Cases.{by_tick}
 use Rattle.stepping.proofs.Loading.{one_is_loaded, one_is_reloaded}
 
 pub just_is : (image : Image) (size : ℕ) (d : Debugged) → IsLoaded image size no_breakpoints d → d ≡ loaded image size no_breakpoints
@@ -33,19 +34,16 @@ settled_size before after (Exit code) instr pc h = ap (λ (d : Debugged). d.size
 settled_size before after (Trap cause) instr pc h = ap (λ (d : Debugged). d.size) h
 
 tick_size : (before after : Debugged) (answer : Result Tick AllocError) → IsTick before answer after → after.size ≡ before.size
-tick_size before after answer h = by_due before.check_due h where
-  by_move : (instr : Option Instr) (s : Result Stepped AllocError) → Settles before instr s answer after → after.size ≡ before.size
-  by_move instr (Ok s) e = settled_size before after s instr before.hart.pc e.1
-  by_move instr (Err error) e = ap (λ (d : Debugged). d.size) e.1
-
-  by_due : (due : Bool) → MatchBool due ((answer ≡ Ok (entry_tick before)) × (after ≡ entry_checked before)) (Moves before answer after)
-      → after.size ≡ before.size
-  by_due true e = ap (λ (d : Debugged). d.size) e.1
-  by_due false m = by_move m.instr m.stepped m.settles
+tick_size before after answer h =
+    by_tick before after answer h (λ due a e. ap (λ (d : Debugged). d.size) e) (λ due m. by_move m.instr m.stepped m.settles)
+  where
+    by_move : (instr : Option Instr) (s : Result Stepped AllocError) → Settles before instr s answer after → after.size ≡ before.size
+    by_move instr (Ok s) e = settled_size before after s instr before.hart.pc e.1
+    by_move instr (Err error) e = ap (λ (d : Debugged). d.size) e.1
 
 goes_size : (n : ℕ) (before after : Debugged) → Goes n before after → after.size ≡ before.size
 goes_size zero before after g = ap (λ (d : Debugged). d.size) g
-goes_size (suc n) before after g = tick_size g.0 after (Ok plain_tick) g.1.1 ∙ goes_size n before g.0 g.1.0
+goes_size (suc n) before after g = tick_size g.0 after (Ok plain_tick) g.1.1.0 ∙ goes_size n before g.0 g.1.0
 
 pub run_size : (most : ℕ) (before : Debugged) (ran : Ran) (after : Debugged) → IsRun most before ran after → after.size ≡ before.size
 run_size most before ran after h = by ran.ending h.ends ∙ goes_size ran.went before h.middle h.goes where

@@ -5,9 +5,9 @@
 -- are those of a debugged machine, and so are the reasons for which one of them ends a run; beside these, a program
 -- stands still where it was marked, and where as many instructions have retired as may.
 --
--- What a move comes to is to be told to whoever debugs the program: a number that it printed, and why it stops. It is
--- owed from the move on until it is told, and the program still runs while it is owed. A trap and the end of the
--- program retire nothing: their instruction stays, to be met again, and nothing is owed of it.
+-- What a move comes to is to be told to whoever debugs the program: a number that it printed, what logpoints say, and
+-- why it stops. It is owed from the move on until it is told, and the program still runs while it is owed. A trap and
+-- the end of the program retire nothing: their instruction stays, to be met again, and nothing is owed of it.
 --
 -- A machine has one tick: it has one, and no second (the laws `each_machine_ticks` and `tick_is_deterministic` of
 -- `stepping`). `the_tick` is that one, with what it answers and what it leaves.
@@ -27,9 +27,8 @@ use Rattle.stepping.specs.declared.goal.Goal.TheVariants.{Go}
 use Rattle.stepping.specs.declared.tick.Outcome.{Outcome}
 use Rattle.stepping.specs.declared.tick.Outcome.TheVariants.{Went, Stopped as HasStopped, Ended as HasEnded}
 use Rattle.stepping.specs.declared.tick.Reason.{Reason}
-use Rattle.stepping.specs.declared.tick.Reason.TheVariants.{Exception, Ebreak, Source, Instruction, Goal as GoalMet}
+use Rattle.stepping.specs.declared.tick.Reason.TheVariants.{Exception, Ebreak, Source, Instruction, Function, Goal as GoalMet}
 use Rattle.stepping.specs.declared.tick.Tick.{Tick}
-use Rattle.stepping.specs.Plain.{plain_tick}
 use Rattle.stepping.proofs.Existing.{the_tick}
 use Rattle.debuggee.specs.declared.program.Advanced.{Advanced}
 use Rattle.debuggee.specs.declared.program.Advanced.TheVariants.{Spent, Owes, Meets, Lacks}
@@ -131,24 +130,26 @@ marked mark p = marked_by p.run mark p
 
 -- ---- what a move leaves
 
--- what there is to tell of a tick: nothing where the machine goes on and nothing was printed
-abbrev pub owing_by : Option ℤ → Outcome → Option Tick
-owing_by None Went = None
-owing_by printed outcome = Some (record { printed = printed; outcome = outcome })
+-- what there is to tell of a tick, by the logpoints that have something to say after it: nothing where the machine goes
+-- on, nothing was printed, and there are no such logpoints
+abbrev pub owing_by : Option ℤ → Outcome → List ℕ → Option Tick
+owing_by None Went [] = None
+owing_by printed outcome logs = Some (record { printed = printed; outcome = outcome })
 
-abbrev pub owing : Tick → Option Tick
-owing tick = owing_by tick.printed tick.outcome
+-- what there is to tell of a tick that left this machine
+abbrev pub owing : Tick → Debugged → Option Tick
+owing tick after = owing_by tick.printed tick.outcome after.lists.logs
 
 -- the check at the entry is made; what it came to is owed
 abbrev pub entered : Program → Program
-entered p = record p { machine = entry_checked p.machine; owed = owing (entry_tick p.machine) }
+entered p = let after = entry_checked p.machine in record p { machine = after; owed = owing (entry_tick p.machine) after }
 
--- what its next move comes to, and what that leaves: where it is no plain one, it is owed
+-- what its next move comes to, and what that leaves: where there is something to tell of it, it is owed
 abbrev pub next_tick : Program → Tick
 next_tick p = (the_tick p.machine).tick
 
 abbrev pub moved : Program → Program
-moved p = record p { machine = (the_tick p.machine).after; owed = owing (next_tick p) }
+moved p = let after = (the_tick p.machine).after in record p { machine = after; owed = owing (next_tick p) after }
 
 -- the run after a tick that was told, or that nobody will be told of
 abbrev pub run_after : Outcome → Run → Run
@@ -156,22 +157,33 @@ run_after Went run = run
 run_after (HasStopped reason) run = Stopped (why.Met reason)
 run_after (HasEnded code) run = Ended (Some code)
 
--- What it owes was told: the breakpoints that stopped it are named no more. Its run is as it was.
+-- What it owes was told: the breakpoints that stopped it are named no more, nor are the logpoints that had something to
+-- say. Its run is as it was.
 abbrev pub told : Program → Program
-told p = record p { machine = record p.machine { lists = record p.machine.lists { ids = [] } }; owed = None }
+told p = record p { machine = record p.machine { lists = record p.machine.lists { ids = []; logs = [] } }; owed = None }
+
+-- No breakpoint is named that stopped it, and no logpoint that has something to say.
+abbrev pub NamesNone : Debugged → Type 0
+NamesNone d = (d.lists.ids ≡ []) × (d.lists.logs ≡ [])
 
 -- ---- its breakpoints are replaced
 
--- Those of source lines are now these, none of which was hit yet, or those of instructions are. The others stay, with
--- their hits. A stop that is owed still is, and names no breakpoint: what stopped it may be set no more.
+-- Those of source lines are now these, none of which was hit yet, or those of instructions or of functions are. The
+-- others stay, with their hits. A stop that is owed still is, and names no breakpoint: what stopped it may be set no
+-- more. Nor does a logpoint say what it had to say.
 abbrev pub with_source : List Wanted → Program → Program
 with_source wanted p = record p {
-  machine = record p.machine { lists = record p.machine.lists { source = map fresh wanted; ids = [] } };
+  machine = record p.machine { lists = record p.machine.lists { source = map fresh wanted; ids = []; logs = [] } };
 }
 
 abbrev pub with_instructions : List Wanted → Program → Program
 with_instructions wanted p = record p {
-  machine = record p.machine { lists = record p.machine.lists { instructions = map fresh wanted; ids = [] } };
+  machine = record p.machine { lists = record p.machine.lists { instructions = map fresh wanted; ids = []; logs = [] } };
+}
+
+abbrev pub with_functions : List Wanted → Program → Program
+with_functions wanted p = record p {
+  machine = record p.machine { lists = record p.machine.lists { functions = map fresh wanted; ids = []; logs = [] } };
 }
 
 -- ---- its machine is changed from outside
@@ -236,6 +248,7 @@ is_exception (Exception cause) = true
 is_exception Ebreak = false
 is_exception Source = false
 is_exception Instruction = false
+is_exception Function = false
 is_exception GoalMet = false
 
 -- Whether an instruction stays that comes to this: one that traps or ends the program does not retire.
@@ -248,14 +261,14 @@ stays (HasEnded code) = true
 abbrev pub GoesQuietly : ℕ → Program → Program → Type 0
 GoesQuietly zero p q = q ≡ p
 GoesQuietly (suc n) p q = (middle : Program)
-    × (GoesQuietly n p middle × ((next_tick middle ≡ plain_tick) × (q ≡ moved middle)))
+    × (GoesQuietly n p middle × (((moved middle).owed ≡ None) × (q ≡ moved middle)))
 
 -- What comes of moves, so many at most: all of them, with nothing to tell; or so many, the last of which is to be told;
 -- or so many, before an instruction that stays; or so many, before one that needs a page for which no memory was left.
 abbrev pub Advances : ℕ → Program → Advanced → Program → Type 0
 Advances most p Spent q = GoesQuietly most p q
 Advances most p (Owes n) q = (middle : Program) × (k : ℕ) × ((n ≡ suc k) × ((k < most) × (GoesQuietly k p middle
-    × ((stays (next_tick middle).outcome ≡ false) × ((next_tick middle ≢ plain_tick) × (q ≡ moved middle))))))
+    × ((stays (next_tick middle).outcome ≡ false) × (((moved middle).owed ≢ None) × (q ≡ moved middle))))))
 Advances most p (Meets n tick) q =
     (n < most) × (GoesQuietly n p q × ((next_tick q ≡ tick) × (stays tick.outcome ≡ true)))
 Advances most p (Lacks n) q = (n < most) × (GoesQuietly n p q × TickNeedsPage q.machine)

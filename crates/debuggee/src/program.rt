@@ -27,10 +27,10 @@ pub struct Program {
 }
 
 impl Model for Program {
-    ghost use Rattle.std.specs.Prelude.{◌≡◌, [], None};
+    ghost use Rattle.std.specs.Prelude.{◌≡◌, None};
     ghost use Rattle.std.specs.Coded.{codes};
     ghost use Rattle.breakpoints.specs.Codes.{coded_tree};
-    ghost use Rattle.debuggee.specs.Programs.{Program};
+    ghost use Rattle.debuggee.specs.Programs.{NamesNone, Program};
     ghost use Rattle.stepping.specs.Loading.{CanBeLoaded};
 
     ghost Value = { Program };
@@ -47,9 +47,9 @@ impl Model for Program {
       owed = p.owed;
     } };
 
-    // The machine has the ids of the breakpoints that stopped it as long as the stop is owed, and no longer; and the image can be
-    // loaded anew.
-    ghost invariant = { λ p. (p.owed ≡ None → p.runner.lists.ids ≡ [])
+    // The machine names the breakpoints that stopped it, and the logpoints that have something to say, as long as that is owed, and no
+    // longer; and the image can be loaded anew.
+    ghost invariant = { λ p. (p.owed ≡ None → NamesNone p.runner)
         × CanBeLoaded p.image p.runner.size };
 }
 
@@ -150,7 +150,7 @@ impl Program {
     }
 
     /// Makes the check at the entry, which is due, and none is due then: the breakpoints at pc are looked at, and nothing moves. It
-    /// owed nothing, and owes the stop, if one of them stops it.
+    /// owed nothing, and owes what they come to: the stop, if one of them stops it, and what logpoints say.
     #[tactic(auto, using(crate::proofs::Advancing::entry_names_none))]
     pub fn check_entry(&mut self)
         requires due { self.old.machine.check_due ≡ true }
@@ -158,7 +158,7 @@ impl Program {
         ensures { self.new ≡ spec.entered self.old }
     {
         let tick = self.runner.check();
-        self.owed = owing(tick);
+        self.owed = owing(tick, &self.runner);
     }
 
     /// Makes `most` moves, or fewer: up to the first of which there is something to tell, which it then owes, and none that traps or
@@ -185,8 +185,8 @@ impl Program {
         }
     }
 
-    /// What it owes was told: it owes nothing, and names no breakpoint that stopped it. It runs or not as before: `stop` and `end`
-    /// make the stop that was told.
+    /// What it owes was told: it owes nothing, and names no breakpoint that stopped it and no logpoint that had something to say. It
+    /// runs or not as before: `stop` and `end` make the stop that was told.
     pub fn tell(&mut self)
         ensures { self.new ≡ spec.told self.old }
     {
@@ -195,8 +195,9 @@ impl Program {
     }
 
     /// Replaces the breakpoints of source lines, at most 1,024, by these, none of which was hit yet (`SetBreakpointsRequest`); those
-    /// of instructions stay, with their hits. What it owes it still owes, but a stop that is owed names no breakpoint then: to name
-    /// it, tell it first. `Err`: no memory was left, and nothing has changed.
+    /// of instructions and of functions stay, with their hits. What it owes it still owes, but a stop that is owed names no breakpoint
+    /// then, and logpoints do not say what they had to say: for that, tell it first. `Err`: no memory was left, and nothing has
+    /// changed.
     pub fn set_source(&mut self, specs: Vec<BreakSpec>) -> Result<(), AllocError>
         requires { CanBeSet specs.items }
         ensures ok { OnOk result
@@ -207,8 +208,9 @@ impl Program {
     }
 
     /// Replaces the breakpoints of instructions, at most 1,024, by these, none of which was hit yet
-    /// (`SetInstructionBreakpointsRequest`); those of source lines stay, with their hits. What it owes it still owes, but a stop that
-    /// is owed names no breakpoint then: to name it, tell it first. `Err`: no memory was left, and nothing has changed.
+    /// (`SetInstructionBreakpointsRequest`); those of source lines and of functions stay, with their hits. What it owes it still owes,
+    /// but a stop that is owed names no breakpoint then, and logpoints do not say what they had to say: for that, tell it first.
+    /// `Err`: no memory was left, and nothing has changed.
     pub fn set_instructions(&mut self, specs: Vec<BreakSpec>) -> Result<(), AllocError>
         requires { CanBeSet specs.items }
         ensures ok { OnOk result
@@ -216,6 +218,19 @@ impl Program {
         ensures err { OnErr result (self.new ≡ self.old) }
     {
         self.runner.breaks_mut().set_instructions(specs)
+    }
+
+    /// Replaces the breakpoints of functions, at most 1,024, by these, none of which was hit yet (`SetFunctionBreakpointsRequest`);
+    /// those of source lines and of instructions stay, with their hits. What it owes it still owes, but a stop that is owed names no
+    /// breakpoint then, and logpoints do not say what they had to say: for that, tell it first. `Err`: no memory was left, and nothing
+    /// has changed.
+    pub fn set_functions(&mut self, specs: Vec<BreakSpec>) -> Result<(), AllocError>
+        requires { CanBeSet specs.items }
+        ensures ok { OnOk result
+            (self.new ≡ spec.with_functions (map wanted_by specs.items) self.old) }
+        ensures err { OnErr result (self.new ≡ self.old) }
+    {
+        self.runner.breaks_mut().set_functions(specs)
     }
 
     /// Gives its hart other registers and another pc (`SetVariableRequest`).
@@ -318,15 +333,13 @@ fn stays(outcome: Outcome) -> bool
     )
 }
 
-// What there is to tell of a tick.
-fn owing(tick: Tick) -> Option<Tick>
-    ensures { result ≡ spec.owing tick }
+// What there is to tell of a tick that left this machine.
+fn owing(tick: Tick, runner: &Runner) -> Option<Tick>
+    ensures { result ≡ spec.owing tick runner.now }
 {
-    match tick {
-        Tick {
-            printed: None,
-            outcome: Outcome::Went,
-        } => None,
-        _ => Some(tick),
+    if tick.is_plain() && runner.breaks().logs().is_empty() {
+        None
+    } else {
+        Some(tick)
     }
 }

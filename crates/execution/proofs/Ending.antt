@@ -1,13 +1,12 @@
 -- An execution ends where a run stops.
-use Rattle.std.proofs.Common.{◌≡◌, ℕ, zero, suc, ◌<◌, List, refl}
+use Rattle.std.proofs.Common.{ℕ, zero, suc, List, refl}
 use Rattle.stepping.proofs.Ticking.{ticks_say_where}
 use Rattle.stepping.specs.RunLaws.{GoOn, Says, number_after}
 use Rattle.stepping.specs.Ticks.{Debugged}
 use Rattle.stepping.specs.declared.tick.Outcome.{Outcome}
 use Rattle.stepping.specs.declared.tick.Outcome.TheVariants as outcome
-use Rattle.execution.specs.Executions.{Does, Ends, Goes, Meets}
-use Rattle.execution.specs.Laws.{EndsWhereARunStops, StopsThere}
-use Rattle.execution.specs.declared.end.ExecutionEnd.{ExecutionEnd}
+use Rattle.execution.specs.Executions.{Does, Goes}
+use Rattle.execution.specs.Laws.{EndsWhereARunStops}
 use Rattle.execution.specs.declared.end.ExecutionEnd.TheVariants.{Ended, Stopped, Limit}
 
 go_on : (n : ℕ) (start after : Debugged) (lines : List ℕ) → Goes n start lines after → GoOn n start after

@@ -1,9 +1,9 @@
 -- Ticks, and further ticks after them.
 use Rattle.std.proofs.Common.{◌≡◌, ℕ, zero, suc, ◌+◌, ◌<◌, ◌≤◌, inl, inr, ℤ, ◌-◌, List, [], ◌∷◌, ◌++◌, length, take, Option, Some, None, Result, Ok, Err, ◌^◌, refl, sym, ap, subst, ◌∙◌, arith, append_assoc}
-use Rattle.std.specs.Prelude.{◌≢◌, OnErr}
+use Rattle.std.specs.Prelude.{OnErr}
 use Rattle.std.proofs.lemmas.List.{append-nil}
-use Rattle.stepping.proofs.Going.{goes_retire as plain_retire, tick_retires}
-use Rattle.stepping.specs.Plain.{plain_tick}
+use Rattle.stepping.proofs.Going.{tick_retires}
+use Rattle.stepping.specs.Plain.{IsPlain}
 use Rattle.stepping.specs.Runs.{EndsRun, Goes as GoesPlain, IsRun, TickNeedsPage}
 use Rattle.stepping.specs.Ticks.{Debugged, IsTick}
 use Rattle.stepping.specs.declared.tick.Outcome.{Outcome}
@@ -11,7 +11,7 @@ use Rattle.stepping.specs.declared.tick.Outcome.TheVariants as outcome
 use Rattle.stepping.specs.declared.tick.Ran.{Ran}
 use Rattle.stepping.specs.declared.tick.RunEnd.TheVariants as run_end
 use Rattle.stepping.specs.declared.tick.Tick.{Tick}
-use Rattle.execution.specs.Executions.{Does, Ends, EndsBefore, Goes, Made, Meets, line_of}
+use Rattle.execution.specs.Executions.{Ends, EndsBefore, Goes, Made, Meets, line_of}
 use Rattle.execution.specs.Slices.{BreaksOff, Comes, IsSlice, end_by}
 use Rattle.execution.specs.declared.end.ExecutionEnd.{ExecutionEnd}
 use Rattle.execution.specs.declared.end.ExecutionEnd.TheVariants.{Ended, Stopped, Limit}
@@ -79,7 +79,7 @@ goes_retire (suc n) start after lines (before, earlier, line, g, (number, tick, 
 
 pub plain_goes : (n : ℕ) (start after : Debugged) → GoesPlain n start after → Goes n start [] after
 plain_goes zero start after g = (refl, g)
-plain_goes (suc n) start after (before, (g, tick)) = (before, [], [], plain_goes n start before g, (None, tick, refl), refl)
+plain_goes (suc n) start after (before, (g, (tick, quiet))) = (before, [], [], plain_goes n start before g, (None, tick, refl), refl)
 
 -- what a slice made
 pub made_of : (most made : ℕ) (end : Option ExecutionEnd) (start after : Debugged) (lines : List ℕ) → Comes most made end start lines after
@@ -95,21 +95,44 @@ one_more n most outcome.Went number start middle after below g tick made e =
     let is : made ≡ suc n = omega (arith, e refl) in (
       omega (arith, is),
       omega (arith, is, below),
-      subst (λ k. Goes k start (line_of number) after) (sym is) (middle, [], line_of number, plain_goes n start middle g, (number, tick, refl), refl),
+      subst (λ k. Goes k start (line_of number) after) (sym is)
+          (middle, [], line_of number, plain_goes n start middle g, (number, tick, refl), refl),
     )
-one_more n most (outcome.Stopped reason) number start middle after below g tick made e =
-    (n, below, record { before = middle; earlier = []; line = line_of number; goes = plain_goes n start middle g; last = (number, tick, refl); all = refl })
-one_more n most (outcome.Ended code) number start middle after below g tick made e =
-    (n, below, record { before = middle; earlier = []; line = line_of number; goes = plain_goes n start middle g; last = (number, tick, refl); all = refl })
+one_more n most (outcome.Stopped reason) number start middle after below g tick made e = (
+  n,
+  below,
+  record {
+    before = middle;
+    earlier = [];
+    line = line_of number;
+    goes = plain_goes n start middle g;
+    last = (number, tick, refl);
+    all = refl;
+  },
+)
+one_more n most (outcome.Ended code) number start middle after below g tick made e = (
+  n,
+  below,
+  record {
+    before = middle;
+    earlier = [];
+    line = line_of number;
+    goes = plain_goes n start middle g;
+    last = (number, tick, refl);
+    all = refl;
+  },
+)
 
 -- ---- what a run comes to
 
 -- where as many went as were asked for
-pub spent : (most : ℕ) (start after : Debugged) (ran : Ran) (text : List ℕ) → 1 ≤ most → IsRun most start ran after → ran.ending ≡ run_end.Spent
+pub spent : (most : ℕ) (start after : Debugged) (ran : Ran) (text : List ℕ) → 1 ≤ most → IsRun most start ran after
+    → ran.ending ≡ run_end.Spent
     → IsSlice most most None start after text text
 spent most start after ran text some r is =
     let e : (ran.went ≡ most) × (after ≡ r.middle) = subst (λ x. EndsRun most ran.went x r.middle after) is r.ends in
-    let goes : GoesPlain most start after = subst (λ d. GoesPlain most start d) (sym e.1) (subst (λ k. GoesPlain k start r.middle) e.0 r.goes) in
+    let goes : GoesPlain most start after = subst (λ d. GoesPlain most start d) (sym e.1)
+    (subst (λ k. GoesPlain k start r.middle) e.0 r.goes) in
     record {
       lines = [];
       comes = (some, omega arith, plain_goes most start after goes);
@@ -122,7 +145,7 @@ pub ticked : (most : ℕ) (start after : Debugged) (ran : Ran) (tick : Tick) (te
     → (end_by tick.outcome ≡ None → made ≡ ran.went + 1) → text' ≡ text ++ line_of tick.printed
     → IsSlice most made end start after text text'
 ticked most start after ran tick text text' made end r is ends counts line =
-    let e : (ran.went < most) × ((tick ≢ plain_tick) × IsTick r.middle (Ok tick) after) =
+    let e : (ran.went < most) × ((IsPlain tick after → ⊥) × IsTick r.middle (Ok tick) after) =
     subst (λ x. EndsRun most ran.went x r.middle after) is r.ends in
     record {
       lines = line_of tick.printed;
@@ -135,7 +158,7 @@ ticked most start after ran tick text text' made end r is ends counts line =
 pub unsaid : (most : ℕ) (start after : Debugged) (ran : Ran) (tick : Tick) (text text' : List ℕ)
     → IsRun most start ran after → ran.ending ≡ run_end.Ticked tick → text' ≡ text → BreaksOff most start after text text'
 unsaid most start after ran tick text text' r is same =
-    let e : (ran.went < most) × ((tick ≢ plain_tick) × IsTick r.middle (Ok tick) after) =
+    let e : (ran.went < most) × ((IsPlain tick after → ⊥) × IsTick r.middle (Ok tick) after) =
     subst (λ x. EndsRun most ran.went x r.middle after) is r.ends in
     let comes = one_more ran.went most tick.outcome tick.printed start r.middle after e.0 r.goes e.1.1 (ran.went + 1) (λ h. refl) in
     record {
@@ -149,7 +172,8 @@ unsaid most start after ran tick text text' r is same =
 pub lacked : (most : ℕ) (start after : Debugged) (ran : Ran) (text : List ℕ)
     → IsRun most start ran after → ran.ending ≡ run_end.NoMemory → BreaksOff most start after text text
 lacked most start after ran text r is =
-    let e : (ran.went < most) × ((after ≡ r.middle) × TickNeedsPage r.middle) = subst (λ x. EndsRun most ran.went x r.middle after) is r.ends in
+    let e : (ran.went < most) × ((after ≡ r.middle) × TickNeedsPage r.middle) = subst
+    (λ x. EndsRun most ran.went x r.middle after) is r.ends in
     let goes : GoesPlain ran.went start after = subst (λ d. GoesPlain ran.went start d) (sym e.1.0) r.goes in
     record {
       lines = [];

@@ -8,8 +8,8 @@ use Rattle.std.proofs.lemmas.List.{append-nil}
 use Rattle.blocking_io.specs.Writing.{IsPartWritten}
 use Rattle.stepping.specs.Ticks.{Debugged}
 use Rattle.execution.proofs.Joining.{ends_join, ends_within, goes_join, goes_retire, made_join, made_of, take_later}
-use Rattle.execution.specs.Executions.{Ends, Executes, Goes, IsGivenUp, IsShort, Made}
-use Rattle.execution.specs.Slices.{BreaksOff, Comes, IsSlice, Writes}
+use Rattle.execution.specs.Executions.{Executes, Goes, IsGivenUp, IsShort}
+use Rattle.execution.specs.Slices.{BreaksOff, IsSlice, Writes}
 use Rattle.execution.specs.declared.end.ExecutionEnd.{ExecutionEnd}
 use Rattle.execution.specs.declared.end.ExecutionEnd.TheVariants.{Limit}
 use Rattle.execution.specs.declared.end.ExecutionFault.{ExecutionFault}

@@ -2,7 +2,7 @@
 --
 -- A machine goes on, tick by tick, for as long as each tick goes on, and for no more ticks than are allowed. What it
 -- prints is a line for each number that an instruction prints: the number in decimal, with a `-` where it is negative,
--- and a line feed. These lines are written, in the order in which they were printed.
+-- and a line feed. These lines are written, in the order in which they were printed; what logpoints would say is not.
 --
 -- It ends with the first tick that ends the program or stops the machine. In a program that was just loaded, without
 -- breakpoints and without a goal, that is the first instruction that traps, the first call that ends the program, or

@@ -5,7 +5,7 @@
 --
 -- The line is the one whose code stands at the address, and is left out where none does. The label is the one that the
 -- address goes by; `+BYTES` is left out at the label itself, and all in brackets where there is no label.
-use Rattle.std.specs.Prelude.{◌≡◌, ℕ, zero, suc, List, [], ◌++◌, Option, Some, None, codes, refl}
+use Rattle.std.specs.Prelude.{ℕ, zero, suc, List, [], ◌++◌, Option, Some, None, codes}
 use Rattle.std.specs.Fmt.{decimal}
 use Rattle.image.specs.Lines.{Table, label_at, line_of}
 use Rattle.rv32i.specs.Texts.{address_text}

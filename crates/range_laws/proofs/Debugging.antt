@@ -1,5 +1,5 @@
 -- What a debugger does to a machine leaves it in range.
-use Rattle.std.proofs.Common.{◌≡◌, ℕ, ◌+◌, Bool, true, false, cond, eqb, List, [], ◌∷◌, length, Option, Some, None, Result, Ok, Err, MatchBool, sym, subst, lit<, arith}
+use Rattle.std.proofs.Common.{◌≡◌, ℕ, ◌+◌, Bool, true, false, cond, eqb, List, [], ◌∷◌, length, Option, Some, None, Result, Ok, Err, sym, subst, lit<, arith}
 use Rattle.std.specs.Prelude.{drop, replicate, take}
 use Rattle.std.specs.declared.alloc.AllocError.{AllocError}
 use Rattle.std.proofs.lemmas.List.{length-drop, length-take}
@@ -16,7 +16,8 @@ use Rattle.stepping.specs.Loading.{not_hit}
 use Rattle.course.specs.Marks.{Mark, is_link, jalr_marks, marks_at}
 use Rattle.course.specs.Marks.Mark.{Push, Pop}
 use Rattle.course.specs.Positions.{noted_if}
-use Rattle.stepping.specs.Ticks.{Debugged, Moves, Settles, entry_checked, entry_tick, moved_as, settled}
+use Rattle.stepping.proofs.Cases.{by_tick}
+use Rattle.stepping.specs.Ticks.{Debugged, Moves, Settles, moved_as, settled}
 use Rattle.stepping.specs.declared.tick.Tick.{Tick}
 use Rattle.range_laws.specs.Debugging.{CallsInRange, DebuggedInRange, HartInRange, HartsStayInRange, LoadedIsInRange, ReloadedIsInRange, TicksStayInRange, WritesStayInRange}
 use Rattle.range_laws.specs.Machines.{AreBytes, InRange, IsByte, IsWord}
@@ -92,14 +93,15 @@ answer_in (Ok s) before after instr answer e m h =
 answer_in (Err error) before after instr answer e m h = subst DebuggedInRange (sym e.1) h
 
 pub ticks_stay_in_range : TicksStayInRange
-ticks_stay_in_range before after answer t h = go before.check_due t where
-  go : (due : Bool) → MatchBool due ((answer ≡ Ok (entry_tick before)) × (after ≡ entry_checked before)) (Moves before answer after)
-      → DebuggedInRange after
-  go true e = subst DebuggedInRange (sym e.1) (record { machine = h.machine; calls = h.calls; end = h.end })
-  go false m =
-      answer_in m.stepped before after m.instr answer m.settles
-      (moves_stay_in_range (machine_of before.hart before.memory)
-      (record { answer = m.stepped; machine = machine_of after.hart after.memory }) m.moved h.machine) h
+ticks_stay_in_range before after answer t h =
+    by_tick before after answer t
+    (λ due a e. subst DebuggedInRange (sym e) (record { machine = h.machine; calls = h.calls; end = h.end })) moved
+  where
+    moved : before.check_due ≡ false → Moves before answer after → DebuggedInRange after
+    moved due m =
+        answer_in m.stepped before after m.instr answer m.settles
+        (moves_stay_in_range (machine_of before.hart before.memory)
+        (record { answer = m.stepped; machine = machine_of after.hart after.memory }) m.moved h.machine) h
 
 -- ---- loading
 

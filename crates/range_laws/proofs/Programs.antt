@@ -1,7 +1,7 @@
 -- What is done to a program leaves it in range.
 use Rattle.std.proofs.Common.{ℕ, ℤ, zero, suc, Bool, List, Option, sym, subst}
 use Rattle.breakpoints.specs.Stops.{Lists, Wanted}
-use Rattle.debuggee.specs.Programs.{Advances, GoesQuietly, Program, ended, entered, first_run, left, marked, marked_by, moved, restarted, resumed, stopped, told, with_hart, with_instructions, with_source, written}
+use Rattle.debuggee.specs.Programs.{Advances, GoesQuietly, Program, ended, entered, first_run, left, marked, marked_by, moved, restarted, resumed, stopped, told, with_functions, with_hart, with_instructions, with_source, written}
 use Rattle.debuggee.specs.declared.program.Advanced.{Advanced}
 use Rattle.debuggee.specs.declared.program.Advanced.TheVariants.{Spent, Owes, Meets, Lacks}
 use Rattle.debuggee.specs.declared.run.Mark.{Mark}
@@ -106,6 +106,9 @@ with_source_in_range wanted p h = record { image = h.image; machine = lists_in_r
 pub with_instructions_in_range : (wanted : List Wanted) → KeepsInRange (with_instructions wanted)
 with_instructions_in_range wanted p h = record { image = h.image; machine = lists_in_range _ p.machine h.machine }
 
+pub with_functions_in_range : (wanted : List Wanted) → KeepsInRange (with_functions wanted)
+with_functions_in_range wanted p h = record { image = h.image; machine = lists_in_range _ p.machine h.machine }
+
 pub left_in_range : KeepsInRange left
 left_in_range p h = record { image = h.image; machine = lists_in_range _ p.machine h.machine }
 
@@ -120,6 +123,7 @@ requests_stay_in_range = record {
   told = told_in_range;
   with_source = with_source_in_range;
   with_instructions = with_instructions_in_range;
+  with_functions = with_functions_in_range;
   left = left_in_range;
   written = written_in_range;
   hart = with_hart_in_range;

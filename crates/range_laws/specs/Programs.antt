@@ -6,8 +6,8 @@
 use Rattle.std.specs.Prelude.{ℕ, ℤ, ◌+◌, Bool, List, Option}
 use Rattle.breakpoints.specs.Stops.{Wanted}
 use Rattle.debuggee.specs.Programs.{Advances, GoesQuietly, Program, ended, entered, first_run, just_loaded, left}
-use Rattle.debuggee.specs.Programs.{marked, moved, restarted, resumed, stopped, told, with_hart, with_instructions, with_source}
-use Rattle.debuggee.specs.Programs.{written}
+use Rattle.debuggee.specs.Programs.{marked, moved, restarted, resumed, stopped, told, with_functions, with_hart, with_instructions}
+use Rattle.debuggee.specs.Programs.{with_source, written}
 use Rattle.debuggee.specs.declared.program.Advanced.{Advanced}
 use Rattle.debuggee.specs.declared.run.Mark.{Mark}
 use Rattle.debuggee.specs.declared.run.Why.{Why}
@@ -55,6 +55,7 @@ pub record RequestsStayInRange : Type 0 where
   pub told : KeepsInRange told
   pub with_source : (wanted : List Wanted) → KeepsInRange (with_source wanted)
   pub with_instructions : (wanted : List Wanted) → KeepsInRange (with_instructions wanted)
+  pub with_functions : (wanted : List Wanted) → KeepsInRange (with_functions wanted)
   pub left : KeepsInRange left
   pub written : (address : ℕ) (bytes : List ℕ) → AreBytes bytes → KeepsInRange (written address bytes)
   pub hart : (hart : Hart) → HartInRange hart → KeepsInRange (with_hart hart)

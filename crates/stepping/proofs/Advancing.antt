@@ -1,5 +1,5 @@
 -- Moves at which an instruction retires, and ticks: they are the same, and a machine has one.
-use Rattle.std.proofs.Common.{◌≡◌, ℕ, zero, suc, ◌%◌, ◌<◌, Bool, true, false, List, Option, None, Some, Result, Ok, Err, IsOk, IsTrue, is_ok, if◌then◌else◌, nat_eq, not, eqb, Decides, bytes_eq, MatchBool, MatchResult, refl, sym, ap, subst, ◌∙◌, arith}
+use Rattle.std.proofs.Common.{◌≡◌, ℕ, zero, suc, ◌%◌, ◌<◌, Bool, true, false, List, Option, None, Some, Result, Ok, Err, IsOk, IsTrue, is_ok, if◌then◌else◌, nat_eq, not, eqb, Decides, bytes_eq, MatchResult, refl, sym, ap, subst, ◌∙◌, arith}
 use Rattle.std.proofs.lemmas.Bool.Decides.{Decides-eqb, not_from_Decides}
 use Rattle.std.proofs.lemmas.Slice.Eq.{bytes_eq-Decides}
 use Rattle.std.specs.declared.alloc.AllocError.{AllocError}
@@ -17,8 +17,8 @@ use Rattle.rv32i.proofs.OneMove.{one_move}
 use Rattle.stepping.specs.RunLaws.{EachTickAnswers}
 use Rattle.stepping.specs.Stopping.{Advances, After, Answers, entered, has_retired}
 use Rattle.course.specs.Positions.{IsFetched}
-use Rattle.stepping.specs.Ticks.{Debugged, IsTick, Moves, entry_checked, entry_tick, Settles, gone_on, moved_as, settled, stayed, tick_of}
-use Rattle.stepping.specs.declared.tick.Tick.{Tick}
+use Rattle.stepping.specs.Ticks.{Debugged, Moves, Settles, gone_on, moved_as, settled, stayed, tick_of}
+use Rattle.stepping.proofs.Cases.{by_tick}
 use Rattle.stepping.proofs.Determined.{harts_equal, one_settled}
 use Rattle.stepping.proofs.Moving.{decoded_is_fetched}
 use Rattle.stepping.proofs.Remembering.{GoesOn, none_retires}
@@ -62,15 +62,13 @@ move_answers m e i = go (word_at m.memory m.pc) refl i where
       absurd (no_fetch_lacks_memory (nat_eq (m.pc % 4) 0) (has_bytes m.memory m.pc 4) (little_endian (bytes_at m.memory m.pc 4)) w)
 
 pub each_tick_answers : EachTickAnswers
-each_tick_answers before after answer t = go before.check_due t where
+each_tick_answers before after answer t = by_tick before after answer t (λ due a b. ap is_ok a) answers where
   moved : (s : Result Stepped AllocError) (instr : Option Instr) → is_ok s ≡ true → Settles before instr s answer after → IsOk answer
   moved (Ok s) instr o h = ap is_ok h.0
   moved (Err error) instr o h = let never : false ≡ true = o in cc
 
-  go : (due : Bool) → MatchBool due ((answer ≡ Ok (entry_tick before)) × (after ≡ entry_checked before)) (Moves before answer after)
-      → IsOk answer
-  go true h = ap is_ok h.0
-  go false h =
+  answers : before.check_due ≡ false → Moves before answer after → IsOk answer
+  answers due h =
       moved h.stepped h.instr
       (move_answers (machine_of before.hart before.memory)
       (record { answer = h.stepped; machine = machine_of after.hart after.memory }) h.moved) h.settles
@@ -227,14 +225,3 @@ after_lower (suc n) k start after l a = go (eqb k n) (Decides-eqb k n) (λ less.
   go : (same : Bool) → Decides same (k ≡ n) → (k < n → Made k start) → Made k start
   go true d lower = (a.0, (after, (subst (λ j. After j start a.0) (sym (d.0 refl)) a.1.0, a.1.1)))
   go false d lower = let differs : (k ≡ n → ⊥) = not_from_Decides false d refl in lower (omega (arith, l, differs))
-
--- ---- a tick after the entry
-
-pub ticks_by_moves : (before after : Debugged) (answer : Result Tick AllocError) → before.check_due ≡ false → IsTick before answer after
-    → Moves before answer after
-ticks_by_moves before after answer e t = go before.check_due e t where
-  go : (due : Bool) → due ≡ false
-      → MatchBool due ((answer ≡ Ok (entry_tick before)) × (after ≡ entry_checked before)) (Moves before answer after)
-      → Moves before answer after
-  go true e h = cc
-  go false e h = h

@@ -1,30 +1,26 @@
 -- Instructions in a row are ticks of which there is nothing to report.
-use Rattle.std.proofs.Common.{◌≡◌, ◌≢◌, ℕ, zero, suc, ◌+◌, ◌<◌, ◌≤◌, ◌^◌, Bool, true, false, ◌||◌, cond, List, [], ◌∷◌, Option, Some, None, Result, Ok, Err, MatchBool, refl, sym, ap, subst, ◌∙◌, arith, add-one}
+use Rattle.std.proofs.Common.{◌≡◌, ℕ, zero, suc, ◌+◌, ◌<◌, ◌≤◌, ◌^◌, Bool, true, false, cond, List, [], ◌∷◌, Some, None, Result, Ok, refl, sym, ap, subst, ◌∙◌, arith, add-one}
 use Rattle.std.specs.declared.alloc.AllocError.{AllocError}
 use Rattle.breakpoints.specs.Stops.{Lists}
-use Rattle.breakpoints.proofs.Lists.{no_check, no_hit}
-use Rattle.breakpoints.specs.declared.breakpoint.Hit.{Hit}
-use Rattle.rv32i.specs.Machine.{IsMove, machine_of}
 use Rattle.rv32i.specs.declared.performing.Halt.{Halt}
 use Rattle.rv32i.specs.declared.instr.Instr.{Instr}
 use Rattle.rv32i.specs.declared.instr.Instr.TheVariants.{Jal, Jalr}
-use Rattle.rv32i.specs.declared.stepped.Stepped.{Stepped}
 use Rattle.rv32i.specs.declared.stepped.Stepped.TheVariants.{Retired}
 use Rattle.course.specs.Calls.{Kept, noted, with_marks}
-use Rattle.course.specs.Marks.{Mark, is_link, jalr_marks}
+use Rattle.course.specs.Marks.{is_link, jalr_marks}
 use Rattle.course.specs.Marks.Mark.{Push}
 use Rattle.course.specs.Positions.{Halts, Position, Retires, machine_at}
 use Rattle.stepping.specs.Bursts.{Bursts, Ends, EndsBurst, IsFar, Retire, moved_by}
-use Rattle.stepping.specs.Goals.{is_met}
 use Rattle.stepping.specs.Plain.{plain_tick}
 use Rattle.stepping.specs.Running.{IsOutOfReach}
 use Rattle.stepping.specs.Runs.{Goes, HasMoved}
-use Rattle.stepping.specs.Ticks.{Debugged, IsTick, Moves, entry_checked, entry_tick, outcome_of, position_of, seen, stayed, with_check}
+use Rattle.stepping.specs.Ticks.{Debugged, IsTick, position_of, seen, with_check}
 use Rattle.stepping.specs.declared.burst.Burst.{Burst}
 use Rattle.stepping.specs.declared.burst.BurstEnd.{BurstEnd}
 use Rattle.stepping.specs.declared.burst.BurstEnd.TheVariants.{Spent, Near, Halted}
 use Rattle.stepping.specs.declared.tick.Tick.{Tick}
 use Rattle.stepping.specs.declared.tick.Outcome.{Outcome}
+use Rattle.stepping.proofs.Cases.{tick_of_move}
 use Rattle.stepping.proofs.Moving.{decoded_is_fetched}
 use Rattle.stepping.proofs.Quiet.{quiet}
 
@@ -69,13 +65,8 @@ midway n pc p d = record d {
   memory = p.memory;
   calls = p.calls;
   retired = d.retired + n;
-  lists = record d.lists { ids = ids_after n d.lists.ids };
+  lists = record d.lists { ids = ids_after n d.lists.ids; logs = ids_after n d.lists.logs };
 }
-
-pub is_move : (d : Debugged) (answer : Result Tick AllocError) (after : Debugged) → d.check_due ≡ false → Moves d answer after
-    → IsTick d answer after
-is_move d answer after due m =
-    subst (λ (t : Bool). MatchBool t ((answer ≡ Ok (entry_tick d)) × (after ≡ entry_checked d)) (Moves d answer after)) (sym due) m
 
 abbrev looked : Debugged → Result Tick AllocError
 looked d = Ok (record { printed = None; outcome = seen d })
@@ -87,7 +78,7 @@ retired_ticks n at next p q d due r =
     let m : Debugged = midway (suc n) next q d in
     let kept : Kept = noted p.calls r.instr at in
     let count : d.retired + suc n ≡ d.retired + n + 1 = omega arith in
-    is_move (midway n at p d) (looked m) (with_check m) due (record {
+    tick_of_move (midway n at p d) (with_check m) (looked m) due (record {
       instr = Some r.instr;
       stepped = Ok Retired;
       fetched = decoded_is_fetched (machine_at at p) (Some r.instr) r.decoded;
@@ -130,7 +121,7 @@ retire_goes (suc n) reach next q d due unmet few h =
       midway n pc middle d,
       (
         retire_goes n reach pc middle d due unmet less h.2.0,
-        far_ticks n pc next reach middle q d due h.2.1 h.2.2 unmet within,
+        (far_ticks n pc next reach middle q d due h.2.1 h.2.2 unmet within, refl),
       ),
     )
 
@@ -192,22 +183,26 @@ abbrev pub arrived : ℕ → Position → Lists → Debugged → Debugged
 arrived n p lists d = record d { hart = p.hart; memory = p.memory; calls = p.calls; retired = d.retired + n; lists = lists }
 
 arrived_by : (n pc : ℕ) (p there : Position) (lists : Lists) (d : Debugged) → there ≡ record p { hart = record p.hart { pc = pc } }
-    → lists ≡ record d.lists { ids = ids_after n d.lists.ids } → arrived n there lists d ≡ midway n pc p d
+    → lists ≡ record d.lists { ids = ids_after n d.lists.ids; logs = ids_after n d.lists.logs } → arrived n there lists d ≡ midway n pc p d
 arrived_by n pc p there lists d e f =
     ap (λ (x : Position). arrived n x lists d) e
     ∙ ap (λ (l : Lists). arrived n (record p { hart = record p.hart { pc = pc } }) l d) f
 
--- no ids are lent where some have retired, and else those of before
+-- no ids and no logs are lent where some have retired, and else those of before
 pub arrives_some : (n pc : ℕ) (p there : Position) (lists : Lists) (d : Debugged) → 0 < n
-    → there ≡ record p { hart = record p.hart { pc = pc } } → lists ≡ record d.lists { ids = [] }
+    → there ≡ record p { hart = record p.hart { pc = pc } } → lists ≡ record d.lists { ids = []; logs = [] }
     → arrived n there lists d ≡ midway n pc p d
 arrives_some n pc p there lists d some e f =
-    arrived_by n pc p there lists d e (f ∙ ap (λ (ids : List ℕ). record d.lists { ids = ids }) (sym (ids_some n d.lists.ids some)))
+    arrived_by n pc p there lists d e
+    (f ∙ ap (λ (ids : List ℕ). record d.lists { ids = ids; logs = [] }) (sym (ids_some n d.lists.ids some))
+    ∙ ap (λ (logs : List ℕ). record d.lists { ids = ids_after n d.lists.ids; logs = logs }) (sym (ids_some n d.lists.logs some)))
 
 pub arrives_none : (n pc : ℕ) (p there : Position) (d : Debugged) → n ≤ 0 → there ≡ record p { hart = record p.hart { pc = pc } }
     → arrived n there d.lists d ≡ midway n pc p d
 arrives_none n pc p there d none e =
-    arrived_by n pc p there d.lists d e (ap (λ (ids : List ℕ). record d.lists { ids = ids }) (sym (ids_none n d.lists.ids none)))
+    arrived_by n pc p there d.lists d e
+    (ap (λ (ids : List ℕ). record d.lists { ids = ids }) (sym (ids_none n d.lists.ids none))
+    ∙ ap (λ (logs : List ℕ). record d.lists { ids = ids_after n d.lists.ids; logs = logs }) (sym (ids_none n d.lists.logs none)))
 
 deeper_by : (most went : ℕ) (lists : Lists) (reach at pc next : ℕ) (ending : BurstEnd) (p middle after : Position)
     → Retire went lists reach at p pc middle → EndsBurst most went ending pc middle next after

@@ -1,6 +1,6 @@
 -- A machine has one tick. Its move is the only one, so the hart after it is known by pc and registers, and all else that
 -- a tick answers and leaves follows.
-use Rattle.std.proofs.Common.{◌≡◌, ℕ, Bool, true, false, List, Option, None, Some, Result, Ok, Err, MatchBool, refl, sym, ap, subst, ◌∙◌}
+use Rattle.std.proofs.Common.{◌≡◌, ℕ, List, Option, None, Some, Result, Ok, Err, refl, sym, ap, subst, ◌∙◌}
 use Rattle.std.proofs.Math.Nat.{ℕ_set}
 use Rattle.std.specs.Prelude.{slice_index}
 use Rattle.std.specs.Result.{MatchResult}
@@ -15,9 +15,10 @@ use Rattle.rv32i.specs.declared.stepped.Stepped.{Stepped}
 use Rattle.rv32i.proofs.OneMove.{one_move}
 use Rattle.rv32i.proofs.Unique.{one_instruction}
 use Rattle.course.specs.Positions.{IsFetched}
-use Rattle.stepping.specs.Ticks.{Debugged, Moves, Settles, entry_checked, entry_tick, moved_as, settled, tick_of}
+use Rattle.stepping.specs.Ticks.{Debugged, Moves, Settles, moved_as, settled, tick_of}
 use Rattle.stepping.specs.RunLaws.{TickIsDeterministic}
 use Rattle.stepping.specs.declared.tick.Tick.{Tick}
+use Rattle.stepping.proofs.Cases.{by_tick, entry_of, move_of}
 
 -- ---- harts with the same pc and registers are equal: that x0 is 0 is a fact
 
@@ -86,9 +87,7 @@ one_settled before after other answer another a b =
     settle_equal before after other b.instr b.stepped answer another moved settles b.settles
 
 pub tick_is_deterministic : TickIsDeterministic
-tick_is_deterministic before after other answer another a b = go before.check_due a b where
-  go : (due : Bool) → MatchBool due ((answer ≡ Ok (entry_tick before)) × (after ≡ entry_checked before)) (Moves before answer after)
-      → MatchBool due ((another ≡ Ok (entry_tick before)) × (other ≡ entry_checked before)) (Moves before another other)
-      → (answer ≡ another) × (after ≡ other)
-  go true x y = (x.0 ∙ sym y.0, x.1 ∙ sym y.1)
-  go false x y = one_settled before after other answer another x y
+tick_is_deterministic before after other answer another a b =
+    by_tick before after answer a
+    (λ due x y. (let also = entry_of before other another due b in (x ∙ sym also.0, y ∙ sym also.1)))
+    (λ due x. one_settled before after other answer another x (move_of before other another due b))

@@ -1,5 +1,5 @@
 -- Each machine has a tick.
-use Rattle.std.proofs.Common.{◌≡◌, ℕ, Bool, true, false, Option, None, Result, Ok, Err, MatchBool, refl, sym, ap, ◌∙◌, subst}
+use Rattle.std.proofs.Common.{◌≡◌, ℕ, Bool, true, false, Option, None, Result, Ok, Err, refl, sym, ap, ◌∙◌, subst}
 use Rattle.std.specs.Prelude.{is_ok}
 use Rattle.std.specs.declared.alloc.AllocError.{AllocError}
 use Rattle.image.specs.Memory.{word_at}
@@ -13,9 +13,9 @@ use Rattle.rv32i.specs.declared.stepped.Stepped.TheVariants.{Retired, Printed, B
 use Rattle.rv32i.proofs.Moving.{the_decoding, the_move}
 use Rattle.stepping.specs.RunLaws.{HasTick}
 use Rattle.course.specs.Positions.{IsFetched}
-use Rattle.stepping.specs.Ticks.{Debugged, IsTick, Moves, entry_checked, entry_tick, moved_as, settled, tick_of}
-use Rattle.stepping.specs.declared.tick.Tick.{Tick}
+use Rattle.stepping.specs.Ticks.{Debugged, entry_checked, entry_tick, moved_as, settled, tick_of}
 use Rattle.stepping.proofs.Advancing.{move_answers}
+use Rattle.stepping.proofs.Cases.{tick_of_entry, tick_of_move}
 
 -- what it fetches
 record Fetches (m : Machine) : Type 0 where
@@ -44,16 +44,6 @@ effect_with answer machine = record { answer = answer; machine = machine }
 abbrev moved_to : Debugged → Machine → Hart → Debugged
 moved_to d m hart = record d { hart = hart; memory = m.memory }
 
-not_due : (d : Debugged) (answer : Result Tick AllocError) (after : Debugged) → d.check_due ≡ false → Moves d answer after
-    → IsTick d answer after
-not_due d answer after due h =
-    subst (λ (b : Bool). MatchBool b ((answer ≡ Ok (entry_tick d)) × (after ≡ entry_checked d)) (Moves d answer after)) (sym due) h
-
-is_due : (d : Debugged) (answer : Result Tick AllocError) (after : Debugged) → d.check_due ≡ true
-    → (answer ≡ Ok (entry_tick d)) × (after ≡ entry_checked d) → IsTick d answer after
-is_due d answer after due h =
-    subst (λ (b : Bool). MatchBool b ((answer ≡ Ok (entry_tick d)) × (after ≡ entry_checked d)) (Moves d answer after)) (sym due) h
-
 moves : (d : Debugged) → d.check_due ≡ false → HasMove (machine_of d.hart d.memory) → HasTick d
 moves d due move = by_answer move.effect.answer refl (move_answers (machine_of d.hart d.memory) move.effect move.is) where
   m : Machine
@@ -74,7 +64,7 @@ moves d due move = by_answer move.effect.answer refl (move_answers (machine_of d
       record {
         tick = tick_of stepped f.instr d.hart.pc middle;
         after = after;
-        is = not_due d (Ok (tick_of stepped f.instr d.hart.pc middle)) after due (record {
+        is = tick_of_move d after (Ok (tick_of stepped f.instr d.hart.pc middle)) due (record {
           instr = f.instr;
           stepped = Ok stepped;
           fetched = f.is;
@@ -88,7 +78,7 @@ moves d due move = by_answer move.effect.answer refl (move_answers (machine_of d
 
 by_check : (d : Debugged) (due : Bool) → d.check_due ≡ due → HasTick d
 by_check d true due =
-    record { tick = entry_tick d; after = entry_checked d; is = is_due d (Ok (entry_tick d)) (entry_checked d) due (refl, refl) }
+    record { tick = entry_tick d; after = entry_checked d; is = tick_of_entry d (entry_checked d) (Ok (entry_tick d)) due (refl, refl) }
 by_check d false due = moves d due (the_move (machine_of d.hart d.memory))
 
 pub the_tick : (d : Debugged) → HasTick d

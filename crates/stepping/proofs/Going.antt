@@ -1,5 +1,5 @@
 -- The ticks of a run, and how it ends with one.
-use Rattle.std.proofs.Common.{◌≡◌, ◌≢◌, ℕ, zero, suc, ◌+◌, ◌-◌, ◌<◌, ◌≤◌, Bool, true, false, Option, Some, None, Result, Ok, Err, MatchBool, refl, sym, ap, subst, ◌∙◌, arith, add-one}
+use Rattle.std.proofs.Common.{◌≡◌, ℕ, zero, suc, ◌+◌, ◌-◌, ◌<◌, ◌≤◌, true, Option, Some, None, Result, Ok, Err, refl, sym, ap, subst, ◌∙◌, arith, add-one}
 use Rattle.std.specs.declared.alloc.AllocError.{AllocError}
 use Rattle.rv32i.specs.declared.stepped.Stepped.{Stepped}
 use Rattle.rv32i.specs.declared.stepped.Stepped.TheVariants.{Retired, Printed, Break, Exit, Trap}
@@ -12,31 +12,29 @@ use Rattle.stepping.specs.declared.tick.Ran.{Ran}
 use Rattle.stepping.specs.declared.tick.RunEnd.{RunEnd}
 use Rattle.stepping.specs.declared.tick.RunEnd.TheVariants.{Spent, Ticked, NoMemory}
 use Rattle.stepping.specs.declared.tick.Tick.{Tick}
+use Rattle.stepping.proofs.Cases.{by_tick}
 
 -- ---- how many instructions retire
 
 -- at most one in a tick
 pub tick_retires : (before after : Debugged) (answer : Result Tick AllocError) → IsTick before answer after
     → after.retired ≤ before.retired + 1
-tick_retires before after answer h = by_due before.check_due h where
-  by_stepped : (m : Moves before answer after) (s : Result Stepped AllocError) → Settles before m.instr s answer after
-      → after.retired ≤ before.retired + 1
-  by_stepped m (Ok Retired) e = omega (arith, ap (λ (d : Debugged). d.retired) e.1)
-  by_stepped m (Ok (Printed number)) e = omega (arith, ap (λ (d : Debugged). d.retired) e.1)
-  by_stepped m (Ok Break) e = omega (arith, ap (λ (d : Debugged). d.retired) e.1)
-  by_stepped m (Ok (Exit code)) e = omega (arith, ap (λ (d : Debugged). d.retired) e.1)
-  by_stepped m (Ok (Trap cause)) e = omega (arith, ap (λ (d : Debugged). d.retired) e.1)
-  by_stepped m (Err error) e = omega (arith, ap (λ (d : Debugged). d.retired) e.1)
-
-  by_due : (t : Bool) → MatchBool t ((answer ≡ Ok (entry_tick before)) × (after ≡ entry_checked before)) (Moves before answer after)
-      → after.retired ≤ before.retired + 1
-  by_due true e = omega (arith, ap (λ (d : Debugged). d.retired) e.1)
-  by_due false m = by_stepped m m.stepped m.settles
+tick_retires before after answer h =
+    by_tick before after answer h (λ due a e. omega (arith, ap (λ (d : Debugged). d.retired) e)) (λ due m. by_stepped m m.stepped m.settles)
+  where
+    by_stepped : (m : Moves before answer after) (s : Result Stepped AllocError) → Settles before m.instr s answer after
+        → after.retired ≤ before.retired + 1
+    by_stepped m (Ok Retired) e = omega (arith, ap (λ (d : Debugged). d.retired) e.1)
+    by_stepped m (Ok (Printed number)) e = omega (arith, ap (λ (d : Debugged). d.retired) e.1)
+    by_stepped m (Ok Break) e = omega (arith, ap (λ (d : Debugged). d.retired) e.1)
+    by_stepped m (Ok (Exit code)) e = omega (arith, ap (λ (d : Debugged). d.retired) e.1)
+    by_stepped m (Ok (Trap cause)) e = omega (arith, ap (λ (d : Debugged). d.retired) e.1)
+    by_stepped m (Err error) e = omega (arith, ap (λ (d : Debugged). d.retired) e.1)
 
 pub goes_retire : (n : ℕ) (before after : Debugged) → Goes n before after → after.retired ≤ before.retired + n
 goes_retire zero before after g = omega (arith, ap (λ (d : Debugged). d.retired) g)
 goes_retire (suc n) before after g =
-    omega (arith, goes_retire n before g.0 g.1.0, tick_retires g.0 after (Ok plain_tick) g.1.1)
+    omega (arith, goes_retire n before g.0 g.1.0, tick_retires g.0 after (Ok plain_tick) g.1.1.0)
 
 ends_retire : (most went : ℕ) (ending : RunEnd) (middle after : Debugged) → EndsRun most went ending middle after
     → (went ≤ most → after.retired + went ≤ middle.retired + most) × (went ≤ most)
@@ -71,10 +69,10 @@ stretch_retires most went before (Some ending) after s = run_retires most before
 
 -- one more tick, after which a run ends so, or goes on
 pub one_more : (most went : ℕ) (before middle after : Debugged) (tick : Tick) (ending : Option RunEnd) → went < most
-    → Goes went before middle → IsTick middle (Ok tick) after → IsEnding tick ending
+    → Goes went before middle → IsTick middle (Ok tick) after → IsEnding tick after ending
     → Stretches most before (stretch_of went ending).went (stretch_of went ending).ending after
 one_more most went before middle after tick None lt g t e =
-    let one : Goes (suc went) before after = (middle, (g, subst (λ (x : Tick). IsTick middle (Ok x) after) e t)) in
+    let one : Goes (suc went) before after = (middle, (g, (subst (λ (x : Tick). IsTick middle (Ok x) after) e.0 t, e.1))) in
     (omega arith, (omega (arith, lt), subst (λ (k : ℕ). Goes k before after) (sym (add-one went)) one))
 one_more most went before middle after tick (Some Spent) lt g t e = absurd e
 one_more most went before middle after tick (Some (Ticked other)) lt g t e = record {
@@ -83,7 +81,7 @@ one_more most went before middle after tick (Some (Ticked other)) lt g t e = rec
   ends = (
     lt,
     (
-      λ same. e.1 (sym e.0 ∙ same),
+      λ plain. e.1 (sym e.0 ∙ plain.0, plain.1),
       subst (λ (x : Tick). IsTick middle (Ok x) after) (sym e.0) t,
     ),
   );
@@ -92,14 +90,14 @@ one_more most went before middle after tick (Some NoMemory) lt g t e = absurd e
 
 -- the check at the entry
 pub entry_stretches : (most : ℕ) (before after : Debugged) (ending : Option RunEnd) → 0 < most → before.check_due ≡ true
-    → IsEnding (entry_tick before) ending → after ≡ entry_checked before
+    → IsEnding (entry_tick before) after ending → after ≡ entry_checked before
     → Stretches most before (stretch_of 0 ending).went (stretch_of 0 ending).ending after
 entry_stretches most before after ending some due e a =
     one_more most 0 before before after (entry_tick before) ending some refl (rw due (refl, a)) e
 
 -- a move that has to be looked at
 pub moved_stretches : (most went : ℕ) (before middle moved after : Debugged) (ending : Option RunEnd) → went < most
-    → Goes went before middle → HasMoved middle moved → IsEnding (record { printed = None; outcome = seen moved }) ending
+    → Goes went before middle → HasMoved middle moved → IsEnding (record { printed = None; outcome = seen moved }) after ending
     → after ≡ with_check moved → Stretches most before (stretch_of went ending).went (stretch_of went ending).ending after
 moved_stretches most went before middle moved after ending lt g h e a =
     one_more most went before middle after (record { printed = None; outcome = seen moved }) ending lt g
@@ -109,7 +107,8 @@ moved_stretches most went before middle moved after ending lt g h e a =
 pub halted_stretches : (most went : ℕ) (before middle after : Debugged) (ending : RunEnd) → went < most → Goes went before middle
     → EndsHalted middle ending after → Stretches most before went (Some ending) after
 halted_stretches most went before middle after Spent lt g e = absurd e
-halted_stretches most went before middle after (Ticked tick) lt g e = record { middle = middle; goes = g; ends = (lt, e) }
+halted_stretches most went before middle after (Ticked tick) lt g e =
+    record { middle = middle; goes = g; ends = (lt, (λ plain. e.0 plain.0, e.1)) }
 halted_stretches most went before middle after NoMemory lt g e = record { middle = middle; goes = g; ends = (lt, e) }
 
 -- ---- a run of such
@@ -164,4 +163,5 @@ pub one_spent : (before after : Debugged) (ran : Ran) → ran.ending ≡ Spent �
 one_spent before after ran e h =
     let ends : EndsRun 1 ran.went Spent h.middle after = subst (λ (x : RunEnd). EndsRun 1 ran.went x h.middle after) e h.ends in
     let one : Goes 1 before h.middle = subst (λ (k : ℕ). Goes k before h.middle) ends.0 h.goes in
-    subst (λ (d : Debugged). IsTick d (Ok plain_tick) after) one.1.0 (subst (λ (d : Debugged). IsTick one.0 (Ok plain_tick) d) (sym ends.1) one.1.1)
+    subst (λ (d : Debugged). IsTick d (Ok plain_tick) after) one.1.0
+    (subst (λ (d : Debugged). IsTick one.0 (Ok plain_tick) d) (sym ends.1) one.1.1.0)

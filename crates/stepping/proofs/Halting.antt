@@ -1,23 +1,21 @@
 -- An instruction that halts ends a run.
-use Rattle.std.proofs.Common.{◌≡◌, ◌≢◌, ℕ, Bool, true, false, cond, eqb, List, [], Option, Some, None, Result, Ok, Err, refl, sym, ap, subst, ◌∙◌}
+use Rattle.std.proofs.Common.{◌≡◌, ◌≢◌, ℕ, Bool, true, false, cond, eqb, List, [], Some, None, Result, Ok, Err, refl, sym, ap, subst, ◌∙◌}
 use Rattle.std.specs.Prelude.{alloc_error}
 use Rattle.std.specs.declared.alloc.AllocError.{AllocError}
 use Rattle.rv32i.specs.Machine.{Effect, IsMove, Machine, calls, machine_of, signed, sum, trapped, value}
 use Rattle.rv32i.specs.Steps.{settles}
-use Rattle.rv32i.specs.declared.instr.Instr.{Instr}
 use Rattle.rv32i.specs.declared.instr.Instr.TheVariants.{Ecall, Ebreak}
 use Rattle.rv32i.specs.declared.performing.Halt.{Halt}
 use Rattle.rv32i.specs.declared.performing.Halt.TheVariants.{Stopped, NoMemory, Calls, Breaks}
 use Rattle.rv32i.specs.declared.stepped.Cause.TheVariants.{UnknownCall}
 use Rattle.rv32i.specs.declared.stepped.Stepped.{Stepped}
 use Rattle.rv32i.specs.declared.stepped.Stepped.TheVariants.{Retired, Printed, Break, Exit, Trap}
-use Rattle.course.specs.Positions.{Halts, IsFetched, Says, machine_at}
-use Rattle.stepping.specs.Bursts.{EndsHalted}
+use Rattle.course.specs.Positions.{Halts, IsFetched}
 use Rattle.stepping.specs.Plain.{plain_tick}
 use Rattle.stepping.specs.Runs.{TickNeedsPage}
 use Rattle.stepping.specs.Ticks.{Debugged, IsTick, position_of, settled, tick_of}
 use Rattle.stepping.specs.declared.tick.Tick.{Tick}
-use Rattle.stepping.proofs.Bursting.{is_move}
+use Rattle.stepping.proofs.Cases.{tick_of_move}
 use Rattle.stepping.proofs.Moving.{settled_moves}
 
 -- the machine with another pc
@@ -41,21 +39,22 @@ either P false a b x y = y
 calls_so : (pc : ℕ) (x memory : List ℕ)
     → with_memory memory (calls (record { pc = pc; x = x; memory = [] })) ≡ calls (record { pc = pc; x = x; memory = memory })
 unfolding with_memory
-calls_so pc x memory = by (eqb (value 17 (record { pc = pc; x = x; memory = [] })) 93) (eqb (value 17 (record { pc = pc; x = x; memory = [] })) 1) where
-  m : Machine
-  m = record { pc = pc; x = x; memory = [] }
+calls_so pc x memory =
+    by (eqb (value 17 (record { pc = pc; x = x; memory = [] })) 93) (eqb (value 17 (record { pc = pc; x = x; memory = [] })) 1) where
+      m : Machine
+      m = record { pc = pc; x = x; memory = [] }
 
-  n : Machine
-  n = record { pc = pc; x = x; memory = memory }
+      n : Machine
+      n = record { pc = pc; x = x; memory = memory }
 
-  by : (s t : Bool) → with_memory memory
-      (cond s (record { answer = Ok (Exit (signed (value 10 m))); machine = m })
-      (cond t (record { answer = Ok (Printed (signed (value 10 m))); machine = record m { pc = sum m.pc 4 } }) (trapped UnknownCall m)))
-      ≡ cond s (record { answer = Ok (Exit (signed (value 10 n))); machine = n })
-      (cond t (record { answer = Ok (Printed (signed (value 10 n))); machine = record n { pc = sum n.pc 4 } }) (trapped UnknownCall n))
-  by true t = refl
-  by false true = refl
-  by false false = refl
+      by : (s t : Bool) → with_memory memory
+          (cond s (record { answer = Ok (Exit (signed (value 10 m))); machine = m })
+          (cond t (record { answer = Ok (Printed (signed (value 10 m))); machine = record m { pc = sum m.pc 4 } }) (trapped UnknownCall m)))
+          ≡ cond s (record { answer = Ok (Exit (signed (value 10 n))); machine = n })
+          (cond t (record { answer = Ok (Printed (signed (value 10 n))); machine = record n { pc = sum n.pc 4 } }) (trapped UnknownCall n))
+      by true t = refl
+      by false true = refl
+      by false false = refl
 
 -- and no instruction retires by it but to print
 calls_answer : (m : Machine) → (calls m).answer ≡ Ok Retired → ⊥
@@ -78,14 +77,26 @@ ecall_ticks : (d : Debugged) (pc : ℕ) (s : Stepped) → d.check_due ≡ false 
     → IsMove (machine_of d.hart d.memory) (record { answer = Ok s; machine = machine_of (record d.hart { pc = pc }) d.memory })
     → (s ≡ Retired → ⊥) → Ticks d (at_pc d pc) s
 ecall_ticks d pc Retired due f m never = absurd (never refl)
-ecall_ticks d pc (Printed number) due f m never =
-    (λ e. (let differs = ap (λ (t : Tick). t.printed) e in cc), is_move d _ _ due (settled_moves d (record d.hart { pc = pc }) d.memory (Some Ecall) (Printed number) f m))
-ecall_ticks d pc Break due f m never =
-    (λ e. (let differs = ap (λ (t : Tick). t.outcome) e in cc), is_move d _ _ due (settled_moves d (record d.hart { pc = pc }) d.memory (Some Ecall) Break f m))
-ecall_ticks d pc (Exit code) due f m never =
-    (λ e. (let differs = ap (λ (t : Tick). t.outcome) e in cc), is_move d _ _ due (settled_moves d (record d.hart { pc = pc }) d.memory (Some Ecall) (Exit code) f m))
-ecall_ticks d pc (Trap cause) due f m never =
-    (λ e. (let differs = ap (λ (t : Tick). t.outcome) e in cc), is_move d _ _ due (settled_moves d (record d.hart { pc = pc }) d.memory (Some Ecall) (Trap cause) f m))
+ecall_ticks d pc (Printed number) due f m never = (
+  λ e. (let differs = ap (λ (t : Tick). t.printed) e in cc),
+  tick_of_move d _ _ due
+      (settled_moves d (record d.hart { pc = pc }) d.memory (Some Ecall) (Printed number) f m),
+)
+ecall_ticks d pc Break due f m never = (
+  λ e. (let differs = ap (λ (t : Tick). t.outcome) e in cc),
+  tick_of_move d _ _ due
+      (settled_moves d (record d.hart { pc = pc }) d.memory (Some Ecall) Break f m),
+)
+ecall_ticks d pc (Exit code) due f m never = (
+  λ e. (let differs = ap (λ (t : Tick). t.outcome) e in cc),
+  tick_of_move d _ _ due
+      (settled_moves d (record d.hart { pc = pc }) d.memory (Some Ecall) (Exit code) f m),
+)
+ecall_ticks d pc (Trap cause) due f m never = (
+  λ e. (let differs = ap (λ (t : Tick). t.outcome) e in cc),
+  tick_of_move d _ _ due
+      (settled_moves d (record d.hart { pc = pc }) d.memory (Some Ecall) (Trap cause) f m),
+)
 
 -- ---- each halt
 
@@ -103,10 +114,12 @@ halt_settles d (Stopped cause) answer pc due h s =
     (sym s.1) h.says in
     let trap : Ticks d (at_pc d pc) (Trap cause) = (
       λ e. (let differs = ap (λ (t : Tick). t.outcome) e in cc),
-      is_move d _ _ due (settled_moves d (record d.hart { pc = pc }) d.memory h.instr (Trap cause) h.fetched stays),
+      tick_of_move d _ _ due (settled_moves d (record d.hart { pc = pc }) d.memory h.instr (Trap cause) h.fetched stays),
     ) in
     record {
-      ticks = λ t e. (let same : Trap cause ≡ t = (let both : Ok (Trap cause) ≡ Ok t = sym s.0 ∙ e in cc) in subst (Ticks d (at_pc d pc)) same trap);
+      ticks =
+          λ t e. (let same : Trap cause ≡ t = (let both : Ok (Trap cause) ≡ Ok t = sym s.0 ∙ e in cc) in
+          subst (Ticks d (at_pc d pc)) same trap);
       lacks = λ error e. absurd (let never : Ok (Trap cause) ≡ Err error = sym s.0 ∙ e in cc);
     }
 halt_settles d NoMemory answer pc due h s = record {
@@ -121,7 +134,8 @@ halt_settles d Calls answer pc due h s =
     let move = subst (IsMove m) (sym effect) h.says.1 in
     record {
       ticks = λ t e. ecall_ticks d pc t due f
-          (subst (λ (a : Result Stepped AllocError). IsMove m (record { answer = a; machine = machine_of (record d.hart { pc = pc }) d.memory })) e move)
+          (subst (λ (a : Result Stepped AllocError). IsMove m
+          (record { answer = a; machine = machine_of (record d.hart { pc = pc }) d.memory })) e move)
           (λ r. calls_answer m (ap (λ (x : Effect). x.answer) (sym effect) ∙ e ∙ ap (λ (x : Stepped). Ok x) r));
       lacks = λ error e. absurd (calls_no_error m error (ap (λ (x : Effect). x.answer) (sym effect) ∙ e));
     }
@@ -133,7 +147,7 @@ halt_settles d Breaks answer pc due h s =
     (sym s.1) h.says.1 in
     let break : Ticks d (at_pc d pc) Break = (
       λ e. (let differs = ap (λ (t : Tick). t.outcome) e in cc),
-      is_move d _ _ due (settled_moves d (record d.hart { pc = pc }) d.memory (Some Ebreak) Break f move),
+      tick_of_move d _ _ due (settled_moves d (record d.hart { pc = pc }) d.memory (Some Ebreak) Break f move),
     ) in
     record {
       ticks = λ t e. (let same : Break ≡ t = (let both : Ok Break ≡ Ok t = sym s.0 ∙ e in cc) in subst (Ticks d (at_pc d pc)) same break);

@@ -1,4 +1,5 @@
 pub mod Moving
+pub mod Cases
 pub mod Quiet
 pub mod Going
 pub mod Bursting

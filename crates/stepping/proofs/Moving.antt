@@ -1,5 +1,5 @@
 -- What a move comes to is a tick.
-use Rattle.std.proofs.Common.{◌≡◌, List, ℕ, Option, Result, Ok, refl}
+use Rattle.std.proofs.Common.{List, ℕ, Option, Ok, refl}
 use Rattle.rv32i.specs.Machine.{IsDecodedAtPc, IsMove, Machine, machine_of}
 use Rattle.rv32i.specs.declared.hart.Hart.{Hart}
 use Rattle.rv32i.specs.declared.instr.Instr.{Instr}

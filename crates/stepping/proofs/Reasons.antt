@@ -7,11 +7,11 @@ use Rattle.rv32i.specs.Machine.{IsMove, machine_of}
 use Rattle.rv32i.specs.declared.stepped.Stepped.{Stepped}
 use Rattle.rv32i.specs.declared.stepped.Stepped.TheVariants.{Retired, Printed, Break, Exit, Trap}
 use Rattle.stepping.specs.Goals.{is_met}
-use Rattle.stepping.specs.Stopping.{Advances, Answers, Applies, MeetsGoal, MeetsInstruction, MeetsSource, OneStops, has_retired, place}
+use Rattle.stepping.specs.Stopping.{Advances, Answers, Applies, MeetsFunction, MeetsGoal, MeetsInstruction, MeetsSource, OneStops, has_retired, place}
 use Rattle.stepping.specs.Ticks.{Debugged, Moves, Settles, gone_on, meets_goal, moved_as, outcome_of, settled, stayed, went_on}
 use Rattle.stepping.specs.declared.tick.Outcome.{Outcome}
 use Rattle.stepping.specs.declared.tick.Outcome.TheVariants.{Went, Stopped, Ended}
-use Rattle.stepping.specs.declared.tick.Reason.TheVariants.{Exception, Ebreak, Source, Instruction, Goal}
+use Rattle.stepping.specs.declared.tick.Reason.TheVariants.{Exception, Ebreak, Source, Instruction, Function, Goal}
 use Rattle.stepping.specs.declared.tick.Tick.{Tick}
 use Rattle.stepping.proofs.Advancing.{advance_answers, advance_equal, advances_so, answers_equal, stays_so}
 
@@ -28,6 +28,7 @@ SaysOnce (Ended code) before after = IsFirst (Ended code) before × (after ≡ s
 SaysOnce (Stopped Ebreak) before after = IsFirst (Stopped Ebreak) before × Advances before after
 SaysOnce (Stopped Source) before after = IsFirst (Stopped Source) before × Advances before after
 SaysOnce (Stopped Instruction) before after = IsFirst (Stopped Instruction) before × Advances before after
+SaysOnce (Stopped Function) before after = IsFirst (Stopped Function) before × Advances before after
 SaysOnce (Stopped Goal) before after = IsFirst (Stopped Goal) before × Advances before after
 
 -- ---- the reasons that an answer of the hart leaves
@@ -38,6 +39,7 @@ Leads s (Ended code) = s ≡ Exit code
 Leads s (Stopped Ebreak) = s ≡ Break
 Leads s (Stopped Source) = IsTrue (has_retired s)
 Leads s (Stopped Instruction) = IsTrue (has_retired s)
+Leads s (Stopped Function) = IsTrue (has_retired s)
 Leads s (Stopped Goal) = IsTrue (has_retired s)
 Leads s Went = ⊥
 
@@ -50,6 +52,7 @@ leads before s (Ended code) a x = answers_equal before s (Exit code) a x
 leads before s (Stopped Ebreak) a x = answers_equal before s Break a x
 leads before s (Stopped Source) a x = advanced before x.0 s a x.1.0
 leads before s (Stopped Instruction) a x = advanced before x.0 s a x.1.0
+leads before s (Stopped Function) a x = advanced before x.0 s a x.1.0
 leads before s (Stopped Goal) a x = advanced before x.0 s a x.1.0
 leads before s Went a x = x
 
@@ -66,6 +69,7 @@ at_least (Trap cause) (Stopped (Exception c)) h = omega arith
 at_least (Trap cause) (Stopped Ebreak) h = omega arith
 at_least (Trap cause) (Stopped Source) h = omega arith
 at_least (Trap cause) (Stopped Instruction) h = omega arith
+at_least (Trap cause) (Stopped Function) h = omega arith
 at_least (Trap cause) (Stopped Goal) h = omega arith
 at_least (Trap cause) (Ended code) h = omega arith
 at_least (Trap cause) Went h = absurd h
@@ -73,6 +77,7 @@ at_least (Exit code) (Stopped (Exception c)) h = cc
 at_least (Exit code) (Stopped Ebreak) h = omega arith
 at_least (Exit code) (Stopped Source) h = omega arith
 at_least (Exit code) (Stopped Instruction) h = omega arith
+at_least (Exit code) (Stopped Function) h = omega arith
 at_least (Exit code) (Stopped Goal) h = omega arith
 at_least (Exit code) (Ended c) h = omega arith
 at_least (Exit code) Went h = absurd h
@@ -80,6 +85,7 @@ at_least Break (Stopped (Exception c)) h = cc
 at_least Break (Stopped Ebreak) h = omega arith
 at_least Break (Stopped Source) h = omega arith
 at_least Break (Stopped Instruction) h = omega arith
+at_least Break (Stopped Function) h = omega arith
 at_least Break (Stopped Goal) h = omega arith
 at_least Break (Ended c) h = cc
 at_least Break Went h = absurd h
@@ -87,6 +93,7 @@ at_least Retired (Stopped (Exception c)) h = cc
 at_least Retired (Stopped Ebreak) h = cc
 at_least Retired (Stopped Source) h = omega arith
 at_least Retired (Stopped Instruction) h = omega arith
+at_least Retired (Stopped Function) h = omega arith
 at_least Retired (Stopped Goal) h = omega arith
 at_least Retired (Ended c) h = cc
 at_least Retired Went h = absurd h
@@ -94,6 +101,7 @@ at_least (Printed number) (Stopped (Exception c)) h = cc
 at_least (Printed number) (Stopped Ebreak) h = cc
 at_least (Printed number) (Stopped Source) h = omega arith
 at_least (Printed number) (Stopped Instruction) h = omega arith
+at_least (Printed number) (Stopped Function) h = omega arith
 at_least (Printed number) (Stopped Goal) h = omega arith
 at_least (Printed number) (Ended c) h = cc
 at_least (Printed number) Went h = absurd h
@@ -101,35 +109,50 @@ at_least (Printed number) Went h = absurd h
 above : (before : Debugged) (s : Stepped) → Answers before s → (other : Outcome) → Applies other before → lowest s ≤ place other
 above before s a other x = at_least s other (leads before s other a x)
 
--- ---- after an instruction that retired
+-- ---- after an instruction that retired, by the reasons that do not apply
 
-next_place : (before : Debugged) (other : Outcome) → Applies other before → 4 ≤ place other → (MeetsSource before → ⊥) → 5 ≤ place other
-next_place before (Stopped Source) x l none = absurd (none x)
-next_place before (Stopped (Exception c)) x l none = omega (arith, l)
-next_place before (Stopped Ebreak) x l none = omega (arith, l)
-next_place before (Stopped Instruction) x l none = omega arith
-next_place before (Stopped Goal) x l none = omega arith
-next_place before (Ended c) x l none = omega (arith, l)
-next_place before Went x l none = absurd x
+past_source : (before : Debugged) (other : Outcome) → Applies other before → 4 ≤ place other → (MeetsSource before → ⊥)
+    → 5 ≤ place other
+past_source before (Stopped (Exception c)) x l none = omega (arith, l)
+past_source before (Ended c) x l none = omega (arith, l)
+past_source before (Stopped Ebreak) x l none = omega (arith, l)
+past_source before (Stopped Source) x l none = absurd (none x)
+past_source before (Stopped Instruction) x l none = omega (arith, l)
+past_source before (Stopped Function) x l none = omega (arith, l)
+past_source before (Stopped Goal) x l none = omega (arith, l)
+past_source before Went x l none = absurd x
 
-last_place : (before : Debugged) (other : Outcome) → Applies other before → 5 ≤ place other → (MeetsInstruction before → ⊥)
+past_instructions : (before : Debugged) (other : Outcome) → Applies other before → 5 ≤ place other → (MeetsInstruction before → ⊥)
     → 6 ≤ place other
-last_place before (Stopped Instruction) x l none = absurd (none x)
-last_place before (Stopped Source) x l none = omega (arith, l)
-last_place before (Stopped (Exception c)) x l none = omega (arith, l)
-last_place before (Stopped Ebreak) x l none = omega (arith, l)
-last_place before (Stopped Goal) x l none = omega arith
-last_place before (Ended c) x l none = omega (arith, l)
-last_place before Went x l none = absurd x
+past_instructions before (Stopped (Exception c)) x l none = omega (arith, l)
+past_instructions before (Ended c) x l none = omega (arith, l)
+past_instructions before (Stopped Ebreak) x l none = omega (arith, l)
+past_instructions before (Stopped Source) x l none = omega (arith, l)
+past_instructions before (Stopped Instruction) x l none = absurd (none x)
+past_instructions before (Stopped Function) x l none = omega (arith, l)
+past_instructions before (Stopped Goal) x l none = omega (arith, l)
+past_instructions before Went x l none = absurd x
 
-no_place : (before : Debugged) (other : Outcome) → Applies other before → 6 ≤ place other → (MeetsGoal before → ⊥) → ⊥
-no_place before (Stopped Goal) x l none = none x
-no_place before (Stopped Source) x l none = absurd (omega (arith, l))
-no_place before (Stopped Instruction) x l none = absurd (omega (arith, l))
-no_place before (Stopped (Exception c)) x l none = absurd (omega (arith, l))
-no_place before (Stopped Ebreak) x l none = absurd (omega (arith, l))
-no_place before (Ended c) x l none = absurd (omega (arith, l))
-no_place before Went x l none = x
+past_functions : (before : Debugged) (other : Outcome) → Applies other before → 6 ≤ place other → (MeetsFunction before → ⊥)
+    → 7 ≤ place other
+past_functions before (Stopped (Exception c)) x l none = omega (arith, l)
+past_functions before (Ended c) x l none = omega (arith, l)
+past_functions before (Stopped Ebreak) x l none = omega (arith, l)
+past_functions before (Stopped Source) x l none = omega (arith, l)
+past_functions before (Stopped Instruction) x l none = omega (arith, l)
+past_functions before (Stopped Function) x l none = absurd (none x)
+past_functions before (Stopped Goal) x l none = omega (arith, l)
+past_functions before Went x l none = absurd x
+
+past_goal : (before : Debugged) (other : Outcome) → Applies other before → 7 ≤ place other → (MeetsGoal before → ⊥) → ⊥
+past_goal before (Stopped (Exception c)) x l none = absurd (omega (arith, l))
+past_goal before (Ended c) x l none = absurd (omega (arith, l))
+past_goal before (Stopped Ebreak) x l none = absurd (omega (arith, l))
+past_goal before (Stopped Source) x l none = absurd (omega (arith, l))
+past_goal before (Stopped Instruction) x l none = absurd (omega (arith, l))
+past_goal before (Stopped Function) x l none = absurd (omega (arith, l))
+past_goal before (Stopped Goal) x l none = none x
+past_goal before Went x l none = x
 
 module _ (before after : Debugged) (moves : Advances before after) where
   abbrev at_source : Bool
@@ -137,6 +160,9 @@ module _ (before after : Debugged) (moves : Advances before after) where
 
   abbrev at_instruction : Bool
   at_instruction = list_any (stops after.hart.pc after.hart after.memory) before.lists.instructions
+
+  abbrev at_function : Bool
+  at_function = list_any (stops after.hart.pc after.hart after.memory) before.lists.functions
 
   abbrev at_goal : Debugged → Bool
   at_goal d = is_met d.goal d.start d.table d.hart.pc d.calls.depth
@@ -153,29 +179,42 @@ module _ (before after : Debugged) (moves : Advances before after) where
       (advance_equal before m.0 after m.1.0 moves) m.1.1 in
       let never : true ≡ false = sym stops ∙ e in cc
 
+  no_function : at_function ≡ false → MeetsFunction before → ⊥
+  no_function e m =
+      let stops : OneStops before.lists.functions after = subst (λ (d : Debugged). OneStops before.lists.functions d)
+      (advance_equal before m.0 after m.1.0 moves) m.1.1 in
+      let never : true ≡ false = sym stops ∙ e in cc
+
   no_goal : at_goal after ≡ false → MeetsGoal before → ⊥
   no_goal e m =
       let met : IsTrue (at_goal after) = subst (λ (d : Debugged). IsTrue (at_goal d)) (advance_equal before m.0 after m.1.0 moves) m.1.1 in
       let never : true ≡ false = sym met ∙ e in cc
 
-  retired_says : ((other : Outcome) → Applies other before → 4 ≤ place other) → (source instruction goal : Bool) → at_source ≡ source
-      → at_instruction ≡ instruction → at_goal after ≡ goal
-      → SaysOnce (outcome_of (record { source = source; instruction = instruction }) goal) before after
-  retired_says low true instruction goal s i g = (record { applies = (after, (moves, s)); first = low }, moves)
-  retired_says low false true goal s i g =
-      (record { applies = (after, (moves, i)); first = λ other x. next_place before other x (low other x) (no_source s) }, moves)
-  retired_says low false false true s i g = (
-    record {
-      applies = (after, (moves, g));
-      first = λ other x. last_place before other x (next_place before other x (low other x) (no_source s)) (no_instruction i);
-    },
-    moves,
-  )
-  retired_says low false false false s i g = (
-    λ other x. no_place before other x
-        (last_place before other x (next_place before other x (low other x) (no_source s)) (no_instruction i)) (no_goal g),
-    moves,
-  )
+  -- no reason before a breakpoint of an instruction applies, or before one of a function, or before the goal
+  from_instructions : ((other : Outcome) → Applies other before → 4 ≤ place other) → at_source ≡ false → (other : Outcome)
+      → Applies other before → 5 ≤ place other
+  from_instructions low s other x = past_source before other x (low other x) (no_source s)
+
+  from_functions : ((other : Outcome) → Applies other before → 4 ≤ place other) → at_source ≡ false → at_instruction ≡ false
+      → (other : Outcome) → Applies other before → 6 ≤ place other
+  from_functions low s i other x = past_instructions before other x (from_instructions low s other x) (no_instruction i)
+
+  from_goal : ((other : Outcome) → Applies other before → 4 ≤ place other) → at_source ≡ false → at_instruction ≡ false
+      → at_function ≡ false → (other : Outcome) → Applies other before → 7 ≤ place other
+  from_goal low s i f other x = past_functions before other x (from_functions low s i other x) (no_function f)
+
+  retired_says : ((other : Outcome) → Applies other before → 4 ≤ place other) → (source instruction function goal : Bool)
+      → at_source ≡ source → at_instruction ≡ instruction → at_function ≡ function → at_goal after ≡ goal
+      → SaysOnce (outcome_of (record { source = source; instruction = instruction; function = function }) goal) before after
+  retired_says low true instruction function goal s i f g = (record { applies = (after, (moves, s)); first = low }, moves)
+  retired_says low false true function goal s i f g =
+      (record { applies = (after, (moves, i)); first = from_instructions low s }, moves)
+  retired_says low false false true goal s i f g =
+      (record { applies = (after, (moves, f)); first = from_functions low s i }, moves)
+  retired_says low false false false true s i f g =
+      (record { applies = (after, (moves, g)); first = from_goal low s i f }, moves)
+  retired_says low false false false false s i f g =
+      (λ other x. past_goal before other x (from_goal low s i f other x) (no_goal g), moves)
 
 -- ---- one tick
 
@@ -199,7 +238,8 @@ one_says before after tick m = go m.stepped m.moved m.settles where
       let low : (other : Outcome) → Applies other before
       → 4 ≤ place other = λ other x. subst (λ (n : ℕ). n ≤ place other) l (above before s (answered s i) other x) in
       retired_says before after moves low (at_source before after moves) (at_instruction before after moves)
-      (meets_goal m.instr before.hart.pc (moved_as before after)) refl refl (ap (at_goal before after moves) g)
+      (at_function before after moves) (meets_goal m.instr before.hart.pc (moved_as before after)) refl refl refl
+      (ap (at_goal before after moves) g)
 
   go : (s : Result Stepped AllocError)
       → IsMove (machine_of before.hart before.memory) (record { answer = s; machine = machine_of after.hart after.memory })

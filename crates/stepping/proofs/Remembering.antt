@@ -1,5 +1,5 @@
 -- A tick adds to the past what retires in it.
-use Rattle.std.proofs.Common.{◌≡◌, ℕ, ◌+◌, Bool, true, false, ◌⊎◌, inl, inr, List, [], ◌∷◌, ◌++◌, length, Option, None, Some, Result, Ok, Err, MatchBool, refl, sym, ap, subst, ◌∙◌, append-nil, length-append}
+use Rattle.std.proofs.Common.{◌≡◌, ℕ, ◌+◌, ◌⊎◌, inl, inr, List, [], ◌∷◌, ◌++◌, length, Option, None, Some, Result, Ok, Err, refl, sym, ap, subst, ◌∙◌, append-nil, length-append}
 use Rattle.std.specs.Prelude.{⊤, ℤ}
 use Rattle.std.specs.Result.{MatchResult}
 use Rattle.std.specs.declared.alloc.AllocError.{AllocError}
@@ -16,9 +16,10 @@ use Rattle.course.specs.Calls.{Kept, StandsFor, with_retired}
 use Rattle.course.specs.Marks.{Retired}
 use Rattle.stepping.specs.Past.{IsAdded, LoadedRemembersNone, Remembers, TicksRemember}
 use Rattle.course.specs.Positions.{IsFetched}
-use Rattle.stepping.specs.Ticks.{Debugged, Moves, entry_checked, entry_tick, gone_on, moved_as, Settles}
+use Rattle.stepping.specs.Ticks.{Debugged, Moves, gone_on, moved_as, Settles}
 use Rattle.stepping.specs.declared.tick.Tick.{Tick}
 use Rattle.course.proofs.Standing.{noted_stands, nothing_stands}
+use Rattle.stepping.proofs.Cases.{by_tick}
 
 abbrev Grown : Debugged → Debugged → List Retired → Type 0
 Grown before after retired = (added : List Retired) × (IsAdded before added × Remembers after (retired ++ added))
@@ -110,11 +111,10 @@ moved_on before after answer retired h m = go m.stepped refl m.moved m.settles w
   go (Ok stepped.Break) e i t = one_more before after retired m.instr (Ok stepped.Break) (inr (inr refl)) m.fetched i t.1 h
 
 pub ticks_remember : TicksRemember
-ticks_remember before after answer retired h t = go before.check_due t where
-  go : (due : Bool) → MatchBool due ((answer ≡ Ok (entry_tick before)) × (after ≡ entry_checked before)) (Moves before answer after)
-      → Grown before after retired
-  go true x = same before after retired (ap (λ (d : Debugged). d.calls) x.1) (ap (λ (d : Debugged). d.retired) x.1) h
-  go false x = moved_on before after answer retired h x
+ticks_remember before after answer retired h t =
+    by_tick before after answer t
+    (λ due a x. same before after retired (ap (λ (d : Debugged). d.calls) x) (ap (λ (d : Debugged). d.retired) x) h)
+    (λ due x. moved_on before after answer retired h x)
 
 pub loaded_remembers : LoadedRemembersNone
 loaded_remembers image size lists d h = record {

@@ -1,22 +1,23 @@
 -- Ticks stop at the least number at which a reason applies.
-use Rattle.std.proofs.Common.{◌≡◌, ℕ, zero, suc, ◌<◌, ◌≤◌, Bool, true, false, ◌⊎◌, inl, inr, Option, None, Result, Ok, Err, IsOk, MatchBool, if◌then◌else◌, eqb, Decides, refl, sym, ap, subst, ◌∙◌, arith}
+use Rattle.std.proofs.Common.{◌≡◌, ℕ, zero, suc, ◌<◌, ◌≤◌, Bool, true, false, ◌⊎◌, inl, inr, Option, None, Result, Ok, Err, IsOk, List, if◌then◌else◌, eqb, Decides, refl, sym, ap, subst, ◌∙◌, arith}
 use Rattle.std.specs.Prelude.{ℤ}
 use Rattle.std.specs.List.{list_any}
 use Rattle.std.specs.declared.alloc.AllocError.{AllocError}
 use Rattle.std.proofs.lemmas.Bool.Decides.{Decides-eqb, not_from_Decides}
-use Rattle.breakpoints.specs.Stops.{stops}
+use Rattle.breakpoints.specs.Stops.{Placed, stops}
 use Rattle.stepping.specs.Plain.{plain_tick}
 use Rattle.stepping.specs.Runs.{EndsRun, Goes}
 use Rattle.stepping.specs.Stopping.{After, Applies, AppliesAt, AppliesAtEntry, NoneBelow, StopsAt, place}
-use Rattle.stepping.specs.Ticks.{Debugged, IsTick, Moves, entry_checked, entry_tick, outcome_of}
+use Rattle.stepping.specs.Ticks.{Debugged, IsTick, outcome_of}
 use Rattle.stepping.specs.RunLaws.{AnswersWith, EndingSays, GoOn, RunsSayWhere, RunsStopThere, Says, TicksSayWhere, number_after}
 use Rattle.stepping.specs.declared.tick.RunEnd.{RunEnd}
 use Rattle.stepping.specs.declared.tick.RunEnd.TheVariants.{Spent, Ticked, NoMemory}
 use Rattle.stepping.specs.declared.tick.Outcome.{Outcome}
 use Rattle.stepping.specs.declared.tick.Outcome.TheVariants.{Went, Stopped, Ended}
-use Rattle.stepping.specs.declared.tick.Reason.TheVariants.{Exception, Ebreak, Source, Instruction, Goal}
+use Rattle.stepping.specs.declared.tick.Reason.TheVariants.{Exception, Ebreak, Source, Instruction, Function, Goal}
 use Rattle.stepping.specs.declared.tick.Tick.{Tick}
-use Rattle.stepping.proofs.Advancing.{after_ready, each_tick_answers, ticks_by_moves}
+use Rattle.stepping.proofs.Advancing.{after_ready, each_tick_answers}
+use Rattle.stepping.proofs.Cases.{entry_of, move_of}
 use Rattle.stepping.proofs.Reasons.{SaysOnce, one_says}
 use Rattle.stepping.proofs.Stopping.{applies_here, stop_is_unique}
 
@@ -55,6 +56,8 @@ next_says k start before after (Stopped Source) r s =
     (stops_there k start before (Stopped Source) r s.0.applies s.0.first, (before, (r.1, s.1)))
 next_says k start before after (Stopped Instruction) r s =
     (stops_there k start before (Stopped Instruction) r s.0.applies s.0.first, (before, (r.1, s.1)))
+next_says k start before after (Stopped Function) r s =
+    (stops_there k start before (Stopped Function) r s.0.applies s.0.first, (before, (r.1, s.1)))
 next_says k start before after (Stopped Goal) r s =
     (stops_there k start before (Stopped Goal) r s.0.applies s.0.first, (before, (r.1, s.1)))
 
@@ -62,7 +65,7 @@ tick_says : (k : ℕ) (start before after : Debugged) (tick : Tick) → Ready k 
     → Says (suc k) tick.outcome start after
 tick_says k start before after tick r t =
     next_says k start before after tick.outcome r
-    (one_says before after tick (ticks_by_moves before after (Ok tick) (after_ready k start before r.1) t))
+    (one_says before after tick (move_of before after (Ok tick) (after_ready k start before r.1) t))
 
 -- ---- the check at the entry
 
@@ -73,30 +76,47 @@ no_entry start e (suc lower) outcome l x = absurd (omega (arith, l))
 ready_at_start : (start : Debugged) → start.check_due ≡ false → Ready 0 start start
 ready_at_start start e = (no_entry start e, rw e refl)
 
-no_source : (start : Debugged) → list_any (stops start.hart.pc start.hart start.memory) start.lists.source ≡ false → (other : Outcome)
-    → AppliesAtEntry other start → 5 ≤ place other
+-- a breakpoint of such a list stops at the entry
+abbrev stops_in : Debugged → List Placed → Bool
+stops_in start list = list_any (stops start.hart.pc start.hart start.memory) list
+
+no_source : (start : Debugged) → stops_in start start.lists.source ≡ false → (other : Outcome) → AppliesAtEntry other start
+    → 5 ≤ place other
 no_source start e (Stopped Source) x = let never : true ≡ false = sym x ∙ e in cc
 no_source start e (Stopped Instruction) x = omega arith
+no_source start e (Stopped Function) x = omega arith
 no_source start e (Stopped (Exception c)) x = absurd x
 no_source start e (Stopped Ebreak) x = absurd x
 no_source start e (Stopped Goal) x = absurd x
 no_source start e (Ended c) x = absurd x
 no_source start e Went x = absurd x
 
-nothing : (start : Debugged) → list_any (stops start.hart.pc start.hart start.memory) start.lists.source ≡ false
-    → list_any (stops start.hart.pc start.hart start.memory) start.lists.instructions ≡ false → (other : Outcome)
-    → AppliesAtEntry other start → ⊥
-nothing start e f (Stopped Source) x = let never : true ≡ false = sym x ∙ e in cc
-nothing start e f (Stopped Instruction) x = let never : true ≡ false = sym x ∙ f in cc
-nothing start e f (Stopped (Exception c)) x = x
-nothing start e f (Stopped Ebreak) x = x
-nothing start e f (Stopped Goal) x = x
-nothing start e f (Ended c) x = x
-nothing start e f Went x = x
+no_instruction : (start : Debugged) → stops_in start start.lists.source ≡ false → stops_in start start.lists.instructions ≡ false
+    → (other : Outcome) → AppliesAtEntry other start → 6 ≤ place other
+no_instruction start e f (Stopped Source) x = let never : true ≡ false = sym x ∙ e in cc
+no_instruction start e f (Stopped Instruction) x = let never : true ≡ false = sym x ∙ f in cc
+no_instruction start e f (Stopped Function) x = omega arith
+no_instruction start e f (Stopped (Exception c)) x = absurd x
+no_instruction start e f (Stopped Ebreak) x = absurd x
+no_instruction start e f (Stopped Goal) x = absurd x
+no_instruction start e f (Ended c) x = absurd x
+no_instruction start e f Went x = absurd x
+
+nothing : (start : Debugged) → stops_in start start.lists.source ≡ false → stops_in start start.lists.instructions ≡ false
+    → stops_in start start.lists.functions ≡ false → (other : Outcome) → AppliesAtEntry other start → ⊥
+nothing start e f g (Stopped Source) x = let never : true ≡ false = sym x ∙ e in cc
+nothing start e f g (Stopped Instruction) x = let never : true ≡ false = sym x ∙ f in cc
+nothing start e f g (Stopped Function) x = let never : true ≡ false = sym x ∙ g in cc
+nothing start e f g (Stopped (Exception c)) x = x
+nothing start e f g (Stopped Ebreak) x = x
+nothing start e f g (Stopped Goal) x = x
+nothing start e f g (Ended c) x = x
+nothing start e f g Went x = x
 
 at_entry : (start : Debugged) (other : Outcome) → AppliesAtEntry other start → 4 ≤ place other
 at_entry start (Stopped Source) x = omega arith
 at_entry start (Stopped Instruction) x = omega arith
+at_entry start (Stopped Function) x = omega arith
 at_entry start (Stopped (Exception c)) x = absurd x
 at_entry start (Stopped Ebreak) x = absurd x
 at_entry start (Stopped Goal) x = absurd x
@@ -106,38 +126,32 @@ at_entry start Went x = absurd x
 none_lower : (start : Debugged) → NoneBelow 0 start
 none_lower start lower outcome l x = absurd (omega (arith, l))
 
-entry_outcome_says : (start after : Debugged) → start.check_due ≡ true → After 0 start after → (source instruction : Bool)
-    → list_any (stops start.hart.pc start.hart start.memory) start.lists.source ≡ source
-    → list_any (stops start.hart.pc start.hart start.memory) start.lists.instructions ≡ instruction
-    → Says 0 (outcome_of (record { source = source; instruction = instruction }) false) start after
-entry_outcome_says start after due a true instruction s i =
+entry_outcome_says : (start after : Debugged) → start.check_due ≡ true → After 0 start after → (source instruction function : Bool)
+    → stops_in start start.lists.source ≡ source → stops_in start start.lists.instructions ≡ instruction
+    → stops_in start start.lists.functions ≡ function
+    → Says 0 (outcome_of (record { source = source; instruction = instruction; function = function }) false) start after
+entry_outcome_says start after due a true instruction function s i f =
     (record { applies = (due, s); first = λ other x. at_entry start other x.1; least = none_lower start }, a)
-entry_outcome_says start after due a false true s i =
+entry_outcome_says start after due a false true function s i f =
     (record { applies = (due, i); first = λ other x. no_source start s other x.1; least = none_lower start }, a)
-entry_outcome_says start after due a false false s i = (none, a) where
+entry_outcome_says start after due a false false true s i f =
+    (record { applies = (due, f); first = λ other x. no_instruction start s i other x.1; least = none_lower start }, a)
+entry_outcome_says start after due a false false false s i f = (none, a) where
   none : NoneBelow 1 start
-  none zero outcome l x = nothing start s i outcome x.1
+  none zero outcome l x = nothing start s i f outcome x.1
   none (suc lower) outcome l x = absurd (omega (arith, l))
 
 abbrev outcome_in : Outcome → Result Tick AllocError → Outcome
 outcome_in other (Ok tick) = tick.outcome
 outcome_in other (Err error) = other
 
-by_entry : (start after : Debugged) (answer : Result Tick AllocError) → start.check_due ≡ true → IsTick start answer after
-    → (answer ≡ Ok (entry_tick start)) × (after ≡ entry_checked start)
-by_entry start after answer e t = go start.check_due e t where
-  go : (due : Bool) → due ≡ true
-      → MatchBool due ((answer ≡ Ok (entry_tick start)) × (after ≡ entry_checked start)) (Moves start answer after)
-      → (answer ≡ Ok (entry_tick start)) × (after ≡ entry_checked start)
-  go true e h = h
-  go false e h = cc
-
 entry_says : (start after : Debugged) (tick : Tick) → start.check_due ≡ true → IsTick start (Ok tick) after
     → Says 0 tick.outcome start after
 entry_says start after tick due t =
-    let h = by_entry start after (Ok tick) due t in
+    let h = entry_of start after (Ok tick) due t in
     let left : After 0 start after = rw due h.1 in
-    subst (λ (o : Outcome). Says 0 o start after) (sym (ap (outcome_in Went) h.0)) (entry_outcome_says start after due left _ _ refl refl)
+    subst (λ (o : Outcome). Says 0 o start after) (sym (ap (outcome_in Went) h.0))
+    (entry_outcome_says start after due left _ _ _ refl refl refl)
 
 -- ---- all ticks
 
@@ -205,7 +219,7 @@ runs_stop_there ticks n outcome start before after answer stop g t =
 
 plain_ticks_go_on : (ticks : ℕ) (start after : Debugged) → Goes ticks start after → GoOn ticks start after
 plain_ticks_go_on zero start after g = g
-plain_ticks_go_on (suc k) start after g = (g.0, Ok plain_tick, (plain_ticks_go_on k start g.0 g.1.0, (None, refl), g.1.1))
+plain_ticks_go_on (suc k) start after g = (g.0, Ok plain_tick, (plain_ticks_go_on k start g.0 g.1.0, (None, refl), g.1.1.0))
 
 none_so_far : (due : Bool) (ticks : ℕ) (start before : Debugged) → start.check_due ≡ due → ReadyFor due ticks start before
     → NoneBelow (if due then ticks else suc ticks) start

@@ -2,9 +2,8 @@
 --
 -- Where the addresses of breakpoints are far and the goal is out of reach, nothing has to be looked at: a run then goes
 -- from one address to the next, and the hart's pc and the count of instructions are set where it ends.
-use Rattle.std.specs.Prelude.{◌≡◌, ◌≢◌, ℕ, zero, suc, ◌+◌, ◌<◌, ◌≤◌, false, ◌||◌, Option, Some, None, Ok}
-use Rattle.std.specs.List.{list_any}
-use Rattle.breakpoints.specs.Places.{is_at}
+use Rattle.std.specs.Prelude.{◌≡◌, ◌≢◌, ℕ, zero, suc, ◌+◌, ◌<◌, ◌≤◌, false, Option, Some, None, Ok}
+use Rattle.breakpoints.specs.Places.{is_among}
 use Rattle.breakpoints.specs.Stops.{Lists}
 use Rattle.course.specs.Positions.{Halts, Position, Retires}
 use Rattle.stepping.specs.Plain.{plain_tick}
@@ -19,7 +18,7 @@ use Rattle.stepping.specs.declared.burst.BurstEnd.TheVariants.{Spent, Near, Halt
 
 -- no breakpoint is at an address, and so many calls are open that the goal is out of reach
 pub record IsFar (lists : Lists) (reach pc depth : ℕ) : Type 0 where
-  pub none : (list_any (is_at pc) lists.source || list_any (is_at pc) lists.instructions) ≡ false
+  pub none : is_among pc lists.source lists.instructions lists.functions ≡ false
   pub deep : reach ≤ depth
 
 -- so many instructions retire one after the other, and each leads to where there is nothing to see

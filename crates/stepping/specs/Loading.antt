@@ -33,11 +33,15 @@ pub record IsLoaded (image : Image) (size : ℕ) (lists : Lists) (d : Debugged) 
 
 -- no breakpoints
 abbrev pub no_breakpoints : Lists
-no_breakpoints = record { source = []; instructions = []; ids = [] }
+no_breakpoints = record { source = []; instructions = []; functions = []; ids = []; logs = [] }
 
 -- the same breakpoints, none of which was hit yet
 abbrev pub not_hit : Lists → Lists
-not_hit lists = record lists { source = map reset lists.source; instructions = map reset lists.instructions }
+not_hit lists = record lists {
+  source = map reset lists.source;
+  instructions = map reset lists.instructions;
+  functions = map reset lists.functions;
+}
 
 -- ---- as a function
 

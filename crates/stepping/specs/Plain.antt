@@ -1,7 +1,14 @@
--- The tick of which there is nothing to report: the machine goes on, and nothing was printed.
-use Rattle.std.specs.Prelude.{None}
+-- The tick of which there is nothing to report: the machine goes on, nothing was printed, and no logpoint has something
+-- to say.
+use Rattle.std.specs.Prelude.{◌≡◌, None, []}
+use Rattle.stepping.specs.Ticks.{Debugged}
 use Rattle.stepping.specs.declared.tick.Outcome.TheVariants.{Went}
 use Rattle.stepping.specs.declared.tick.Tick.{Tick}
 
+-- what it answers
 abbrev pub plain_tick : Tick
 plain_tick = record { printed = None; outcome = Went }
+
+-- There is nothing to report of a tick that left this machine.
+abbrev pub IsPlain : Tick → Debugged → Type 0
+IsPlain tick after = (tick ≡ plain_tick) × (after.lists.logs ≡ [])

@@ -1,8 +1,8 @@
 -- What holds of every machine that is debugged, and how a run goes on or ends: cited by private clauses alone.
-use Rattle.std.specs.Prelude.{◌≡◌, ◌≢◌, ℕ, ◌+◌, ◌%◌, ◌^◌, ◌<◌, ◌≤◌, Bool, true, false, Option, Some, None}
+use Rattle.std.specs.Prelude.{◌≡◌, ℕ, ◌%◌, ◌^◌, ◌<◌, ◌≤◌, true, false, Option, Some, None}
 use Rattle.image.specs.Lines.{Table}
 use Rattle.stepping.specs.Goals.{is_met, may_end}
-use Rattle.stepping.specs.Plain.{plain_tick}
+use Rattle.stepping.specs.Plain.{IsPlain}
 use Rattle.stepping.specs.Runs.{Goes, IsRun}
 use Rattle.stepping.specs.Ticks.{Debugged, seen, stayed, with_check}
 use Rattle.stepping.specs.declared.goal.Goal.{Goal}
@@ -41,12 +41,12 @@ pub record IsQuiet (d : Debugged) : Type 0 where
 
 -- ---- a tick of a run
 
--- how a run ends by what a tick comes to; where there is nothing to report it goes on
-abbrev pub IsEnding : Tick → Option RunEnd → Type 0
-IsEnding tick None = tick ≡ plain_tick
-IsEnding tick (Some Spent) = ⊥
-IsEnding tick (Some (Ticked other)) = (other ≡ tick) × (tick ≢ plain_tick)
-IsEnding tick (Some NoMemory) = ⊥
+-- how a run ends by what a tick comes to, and by the machine after it; where there is nothing to report it goes on
+abbrev pub IsEnding : Tick → Debugged → Option RunEnd → Type 0
+IsEnding tick after None = IsPlain tick after
+IsEnding tick after (Some Spent) = ⊥
+IsEnding tick after (Some (Ticked other)) = (other ≡ tick) × (IsPlain tick after → ⊥)
+IsEnding tick after (Some NoMemory) = ⊥
 
 -- A run of some ticks, which may be so many, ends so, or goes on after at least one.
 abbrev pub Stretches : ℕ → Debugged → ℕ → Option RunEnd → Debugged → Type 0

@@ -1,16 +1,17 @@
 -- Runs: many ticks.
-use Rattle.std.specs.Prelude.{◌≡◌, ◌≢◌, ℕ, zero, suc, ◌<◌, false, None, Ok}
+use Rattle.std.specs.Prelude.{◌≡◌, ℕ, zero, suc, ◌<◌, false, [], None, Ok}
 use Rattle.rv32i.specs.Machine.{MoveNeedsPage, machine_of}
-use Rattle.stepping.specs.Plain.{plain_tick}
+use Rattle.stepping.specs.Plain.{IsPlain, plain_tick}
 use Rattle.stepping.specs.Ticks.{Debugged, IsTick, seen, with_check}
 use Rattle.stepping.specs.declared.tick.RunEnd.{RunEnd}
 use Rattle.stepping.specs.declared.tick.RunEnd.TheVariants.{Spent, Ticked, NoMemory}
 use Rattle.stepping.specs.declared.tick.Ran.{Ran}
 
--- so many such ticks, one after the other
+-- so many ticks, one after the other, of which there is nothing to report
 abbrev pub Goes : ℕ → Debugged → Debugged → Type 0
 Goes zero before after = after ≡ before
-Goes (suc n) before after = (middle : Debugged) × (Goes n before middle × IsTick middle (Ok plain_tick) after)
+Goes (suc n) before after = (middle : Debugged)
+    × (Goes n before middle × (IsTick middle (Ok plain_tick) after × (after.lists.logs ≡ [])))
 
 -- An instruction has retired, and the machine is as its tick leaves it, but that the breakpoints were not looked at yet.
 pub record HasMoved (before after : Debugged) : Type 0 where
@@ -26,7 +27,8 @@ pub record TickNeedsPage (d : Debugged) : Type 0 where
 -- one more needs a page for which no memory was left, and was not made
 abbrev pub EndsRun : ℕ → ℕ → RunEnd → Debugged → Debugged → Type 0
 EndsRun most went Spent middle after = (went ≡ most) × (after ≡ middle)
-EndsRun most went (Ticked tick) middle after = (went < most) × ((tick ≢ plain_tick) × IsTick middle (Ok tick) after)
+EndsRun most went (Ticked tick) middle after =
+    (went < most) × ((IsPlain tick after → ⊥) × IsTick middle (Ok tick) after)
 EndsRun most went NoMemory middle after = (went < most) × ((after ≡ middle) × TickNeedsPage middle)
 
 -- a run of so many ticks at most

@@ -36,7 +36,7 @@ use Rattle.stepping.specs.Ticks.{Debugged}
 use Rattle.stepping.specs.declared.goal.Goal.TheVariants.{Go}
 use Rattle.stepping.specs.declared.tick.Outcome.{Outcome}
 use Rattle.stepping.specs.declared.tick.Outcome.TheVariants.{Went, Stopped, Ended}
-use Rattle.stepping.specs.declared.tick.Reason.TheVariants.{Exception, Ebreak, Source, Instruction, Goal}
+use Rattle.stepping.specs.declared.tick.Reason.TheVariants.{Exception, Ebreak, Source, Instruction, Function, Goal}
 
 -- ---- the moves, whatever would stop
 
@@ -100,12 +100,15 @@ Breaks before = Answers before Break
 abbrev pub OneStops : List Placed → Debugged → Type 0
 OneStops breakpoints now = IsTrue (list_any (stops now.hart.pc now.hart now.memory) breakpoints)
 
--- after it a breakpoint of a source line stops, or one of an instruction
+-- after it a breakpoint of a source line stops, or one of an instruction, or one of a function
 abbrev pub MeetsSource : Debugged → Type 0
 MeetsSource before = (after : Debugged) × (Advances before after × OneStops before.lists.source after)
 
 abbrev pub MeetsInstruction : Debugged → Type 0
 MeetsInstruction before = (after : Debugged) × (Advances before after × OneStops before.lists.instructions after)
+
+abbrev pub MeetsFunction : Debugged → Type 0
+MeetsFunction before = (after : Debugged) × (Advances before after × OneStops before.lists.functions after)
 
 -- after it the goal of the run is met
 abbrev pub MeetsGoal : Debugged → Type 0
@@ -121,6 +124,7 @@ Applies (Ended code) before = Exits code before
 Applies (Stopped Ebreak) before = Breaks before
 Applies (Stopped Source) before = MeetsSource before
 Applies (Stopped Instruction) before = MeetsInstruction before
+Applies (Stopped Function) before = MeetsFunction before
 Applies (Stopped Goal) before = MeetsGoal before
 Applies Went before = ⊥
 
@@ -128,6 +132,7 @@ Applies Went before = ⊥
 abbrev pub AppliesAtEntry : Outcome → Debugged → Type 0
 AppliesAtEntry (Stopped Source) start = OneStops start.lists.source start
 AppliesAtEntry (Stopped Instruction) start = OneStops start.lists.instructions start
+AppliesAtEntry (Stopped Function) start = OneStops start.lists.functions start
 AppliesAtEntry outcome start = ⊥
 
 -- the reason applies at a number: at 0 where a check is due at the entry, and from 1 on at the instruction of this
@@ -146,8 +151,10 @@ first_run hit = record {
   calls = nothing_kept;
   lists = record {
     source = [];
-    instructions = record { id = 1; address = 65536; condition = None; hit = hit; hits = 0 } ∷ [];
+    instructions = record { id = 1; address = 65536; condition = None; hit = hit; log = None; hits = 0 } ∷ [];
+    functions = [];
     ids = [];
+    logs = [];
   };
   retired = 0;
   goal = Go;
@@ -172,8 +179,9 @@ place (Ended code) = 2
 place (Stopped Ebreak) = 3
 place (Stopped Source) = 4
 place (Stopped Instruction) = 5
-place (Stopped Goal) = 6
-place Went = 7
+place (Stopped Function) = 6
+place (Stopped Goal) = 7
+place Went = 8
 
 -- no reason applies at a lower number
 abbrev pub NoneBelow : ℕ → Debugged → Type 0
@@ -187,10 +195,11 @@ pub record StopsAt (n : ℕ) (outcome : Outcome) (start : Debugged) : Type 0 whe
 
 -- ---- the machine that a run leaves
 
--- the one after so many moves, but that no breakpoint is named as one that stopped
+-- the one after so many moves, but that no breakpoint is named as one that stopped, and no logpoint as one that has
+-- something to say
 abbrev pub Unmoved : ℕ → Debugged → Debugged → Type 0
 Unmoved n start after = (before : Debugged)
-    × (After n start before × (after ≡ record before { lists = record before.lists { ids = [] } }))
+    × (After n start before × (after ≡ record before { lists = record before.lists { ids = []; logs = [] } }))
 
 -- the one after as many moves as the number says; where the last instruction did not retire, after one less
 abbrev pub Leaves : ℕ → Outcome → Debugged → Debugged → Type 0

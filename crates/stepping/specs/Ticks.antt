@@ -3,19 +3,17 @@
 -- A tick is one move of the hart (RISC-V Unprivileged ISA 20191213, chapter 2) with all that a debugger makes of it.
 -- Where the instruction retires, the call stack takes its marks, and the breakpoints at the new pc are looked at. The
 -- first reason to stop counts: a trap, the end of the program, EBREAK, a breakpoint of a source line, a breakpoint of
--- an instruction, the goal.
+-- an instruction, a breakpoint of a function, the goal. A logpoint is none: what it has to say stands in the lists.
 --
 -- A first run, of a program that was just loaded, begins with a tick of its own: the breakpoints at the entry are
 -- looked at, and nothing moves.
 use Rattle.std.specs.Prelude.{◌≡◌, ℕ, ◌+◌, Bool, false, if◌then◌else◌, List, [], Option, Some, None, Result, Ok, Err}
-use Rattle.std.specs.Prelude.{MatchBool, MatchResult}
+use Rattle.std.specs.Prelude.{MatchBool}
 use Rattle.std.specs.declared.alloc.AllocError.{AllocError}
 use Rattle.breakpoints.specs.Stops.{Lists, checked, hit_in}
 use Rattle.breakpoints.specs.declared.breakpoint.Hit.{Hit}
 use Rattle.image.specs.Lines.{Table}
-use Rattle.image.specs.Memory.{word_at}
-use Rattle.rv32i.specs.Encoding.{IsDecoding}
-use Rattle.rv32i.specs.Machine.{IsMove, Machine, machine_of}
+use Rattle.rv32i.specs.Machine.{IsMove, machine_of}
 use Rattle.rv32i.specs.declared.hart.Hart.{Hart}
 use Rattle.rv32i.specs.declared.instr.Instr.{Instr}
 use Rattle.rv32i.specs.declared.stepped.Stepped.{Stepped}
@@ -53,6 +51,7 @@ abbrev pub outcome_of : Hit → Bool → Outcome
 outcome_of hit goal_met =
     if hit.source then Stopped why.Source
     else if hit.instruction then Stopped why.Instruction
+    else if hit.function then Stopped why.Function
     else if goal_met then Stopped why.Goal
     else Went
 
@@ -92,7 +91,7 @@ went_on instr pc d = outcome_of (hit_at_pc d) (meets_goal instr pc d)
 
 -- nothing retired, and no breakpoint was looked at
 abbrev pub stayed : Debugged → Debugged
-stayed d = record d { lists = record d.lists { ids = [] } }
+stayed d = record d { lists = record d.lists { ids = []; logs = [] } }
 
 -- what a tick answers, and leaves, of a machine whose hart and memory have moved
 abbrev pub tick_of : Stepped → Option Instr → ℕ → Debugged → Tick

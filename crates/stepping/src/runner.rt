@@ -55,7 +55,8 @@ impl Model for Runner {
       table = r.lines;
     } };
 
-    ghost invariant = { λ r. IsSound r.size r.course.calls.depth r.retired r.out_of_reach r.goal r.start };
+    ghost invariant = { λ r. IsSound r.size r.course.calls.depth r.retired r.out_of_reach r.goal
+        r.start };
 }
 
 impl Runner {
@@ -134,8 +135,9 @@ impl Runner {
         }
     }
 
-    /// Makes so many ticks at most, and ends with the first that prints a number, stops the machine or ends the program, or for which no
-    /// memory is left: it answers and leaves what so many calls of `tick` do. Fewer than 2^62 instructions will have retired before each.
+    /// Makes so many ticks at most, and ends with the first that prints a number, stops the machine or ends the program, after which a
+    /// logpoint has something to say, or for which no memory is left: it answers and leaves what so many calls of `tick` do. Fewer
+    /// than 2^62 instructions will have retired before each.
     pub fn run(&mut self, most: u32) -> Ran
         requires { self.old.retired + most ≤ 2 ^ 62 }
         ensures run { IsRun most self.old result self.new }

@@ -16,7 +16,7 @@ use rv32i::{Halt, Stepped};
 /// Some ticks of a run.
 #[derive(Clone, Copy)]
 pub(crate) struct Stretch {
-    /// How many went, with nothing printed.
+    /// How many went, with nothing printed or logged.
     pub went: u32,
     /// What ended the run; `None`: it goes on.
     pub ending: Option<RunEnd>,
@@ -113,11 +113,11 @@ impl Runner {
     #[inline(never)]
     fn check_entry(&mut self) -> Option<RunEnd>
         requires { self.old.check_due ≡ true }
-        ensures ending { IsEnding (entry_tick self.old) result }
+        ensures ending { IsEnding (entry_tick self.old) self.new result }
         ensures state { self.new ≡ entry_checked self.old }
     {
         let tick = self.check();
-        ending_of(tick)
+        self.ending_of(tick)
     }
 
     // The tick of a move that was made, by an instruction that is no jump, where it retired.
@@ -172,11 +172,12 @@ impl Runner {
     // What there is to see at pc, and how a run ends with it.
     #[inline]
     fn look_closely(&mut self) -> Option<RunEnd>
-        ensures ending { IsEnding (record { printed = None; outcome = seen self.old }) result }
+        ensures ending { IsEnding (record { printed = None; outcome = seen self.old })
+            self.new result }
         ensures state { self.new ≡ with_check self.old }
     {
         let outcome = self.look();
-        ending_of(Tick {
+        self.ending_of(Tick {
             printed: None,
             outcome,
         })
@@ -207,9 +208,21 @@ impl Runner {
             return Hit {
                 source: false,
                 instruction: false,
+                function: false,
             };
         }
         self.breaks.check(hart.pc, hart, self.course.memory())
+    }
+
+    // How a run ends by the tick that led here; `None`: it goes on.
+    fn ending_of(&self, tick: Tick) -> Option<RunEnd>
+        ensures { IsEnding tick self.now result }
+    {
+        if tick.is_plain() && self.breaks.logs().is_empty() {
+            None
+        } else {
+            Some(RunEnd::Ticked(tick))
+        }
     }
 }
 
@@ -227,17 +240,6 @@ fn stretch_of(went: u32, ending: Option<RunEnd>) -> Stretch
     }
 }
 
-// How a run ends by a tick; `None`: it goes on.
-fn ending_of(tick: Tick) -> Option<RunEnd>
-    ensures { IsEnding tick result }
-{
-    if tick.is_plain() {
-        None
-    } else {
-        Some(RunEnd::Ticked(tick))
-    }
-}
-
 // What the breakpoints come to, and then the goal.
 fn outcome_of(hit: Hit, goal_met: bool) -> Outcome
     ensures { result ≡ outcome_of hit goal_met }
@@ -246,6 +248,8 @@ fn outcome_of(hit: Hit, goal_met: bool) -> Outcome
         Outcome::Stopped(Reason::Source)
     } else if hit.instruction {
         Outcome::Stopped(Reason::Instruction)
+    } else if hit.function {
+        Outcome::Stopped(Reason::Function)
     } else if goal_met {
         Outcome::Stopped(Reason::Goal)
     } else {

@@ -36,18 +36,20 @@ pub enum Reason {
     Source,
     /// A breakpoint of an instruction.
     Instruction,
+    /// A breakpoint of a function.
+    Function,
     /// The goal of the run.
     Goal,
 }
 
 impl Tick {
-    /// The tick of which there is nothing to report.
+    /// The tick of which there is nothing to report, unless a logpoint has something to say after it.
     pub(crate) const PLAIN: Tick = Tick {
         printed: None,
         outcome: Outcome::Went,
     };
 
-    /// Whether there is nothing to report: the machine goes on, and nothing was printed.
+    /// Whether the machine goes on, and nothing was printed. What logpoints have to say is no part of a tick.
     #[inline]
     pub fn is_plain(&self) -> bool
         ensures { MatchBool result (self.now ≡ plain_tick) (self.now ≢ plain_tick) }
@@ -65,7 +67,7 @@ impl Tick {
 /// What came of a run of ticks.
 #[derive(Clone, Copy, Debug, PartialEq, Eq)]
 pub struct Ran {
-    /// How many ticks went, with nothing printed.
+    /// How many ticks went, with nothing printed or logged.
     pub went: u32,
     /// What ended the run.
     pub ending: RunEnd,
@@ -76,7 +78,7 @@ pub struct Ran {
 pub enum RunEnd {
     /// As many ticks went as were asked for.
     Spent,
-    /// One more tick: it printed a number, stopped the machine, or the program ended with it.
+    /// One more tick: it printed a number, stopped the machine, or the program ended with it, or a logpoint has something to say after it.
     Ticked(Tick),
     /// No memory was left for one more.
     NoMemory,

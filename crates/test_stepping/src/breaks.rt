@@ -1,9 +1,10 @@
-//! A list of breakpoints as arguments: none, or an id, an address, a hit number and perhaps a condition without blanks.
+//! A list of breakpoints as arguments: none, or an id, an address, a hit number and perhaps a condition without blanks, or `log` and the text of a
+//! logpoint without blanks.
 
 ghost use Rattle.std.specs.Prelude.{IfOk};
 ghost use Rattle.breakpoints.specs.Stops.{CanBeSet};
 
-use breakpoints::{BreakSpec, Expr, ExprError};
+use breakpoints::{BreakSpec, Expr, ExprError, LogText};
 use std::alloc::Global;
 use testing::{Fault, parsed};
 
@@ -13,7 +14,25 @@ pub(crate) fn list_of(alloc: Global, arguments: &[&str]) -> Result<Vec<BreakSpec
 {
     match arguments {
         [] => Ok(Vec::new(alloc)),
-        [id, address, hit] => one(alloc, parsed(id)?, parsed(address)?, parsed(hit)?, None),
+        [id, address, hit] => one(
+            alloc,
+            parsed(id)?,
+            parsed(address)?,
+            parsed(hit)?,
+            None,
+            None,
+        ),
+        [id, address, hit, "log", text] => {
+            let text = LogText::new(String::from_str(alloc, text)?);
+            one(
+                alloc,
+                parsed(id)?,
+                parsed(address)?,
+                parsed(hit)?,
+                None,
+                Some(text),
+            )
+        }
         [id, address, hit, condition] => {
             let condition = condition_of(alloc, condition)?;
             one(
@@ -22,6 +41,7 @@ pub(crate) fn list_of(alloc: Global, arguments: &[&str]) -> Result<Vec<BreakSpec
                 parsed(address)?,
                 parsed(hit)?,
                 Some(condition),
+                None,
             )
         }
         _ => Err(Fault::NoCommand),
@@ -34,6 +54,7 @@ fn one(
     address: u32,
     hit: u32,
     condition: Option<Expr>,
+    log: Option<LogText>,
 ) -> Result<Vec<BreakSpec>, Fault>
     ensures { IfOk result (λ specs. CanBeSet specs.items) }
 {
@@ -46,6 +67,7 @@ fn one(
         address,
         condition,
         hit,
+        log,
     });
     match pushed {
         Ok(()) => Ok(specs),

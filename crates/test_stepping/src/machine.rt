@@ -3,7 +3,8 @@
 //! - `reload`: loads the program anew.
 //! - `begin GOAL`, `first GOAL`: begins a run, a first one or another; `goals.rt` has the goals.
 //! - `tick`: what it printed, if it did, and the outcome; `run COUNT`: how many ticks went, and what ended them.
-//! - `source LIST`, `instructions LIST`: sets breakpoints; `breaks.rt` has the lists. `clear`: takes all away. `ids`: which stopped.
+//! - `source LIST`, `instructions LIST`, `functions LIST`: sets breakpoints; `breaks.rt` has the lists. `clear`: takes all away. `ids`: which
+//!   stopped; `logs`: the places of the logpoints that have something to say.
 //! - `pc`; `x NUMBER`; `word ADDRESS`; `depth`; `kept`; `entry NUMBER`; `retired`: what there is.
 //! - `set NUMBER VALUE`: sets a register, 1 to 31; `write ADDRESS BYTES`: writes memory.
 
@@ -53,6 +54,11 @@ impl Machine {
             ["instructions", list @ ..] => {
                 let specs = list_of(alloc, list)?;
                 called(self.runner.breaks_mut().set_instructions(specs))?;
+                shown(alloc, "ok")
+            }
+            ["functions", list @ ..] => {
+                let specs = list_of(alloc, list)?;
+                called(self.runner.breaks_mut().set_functions(specs))?;
                 shown(alloc, "ok")
             }
             ["clear"] => {
@@ -138,6 +144,10 @@ impl Machine {
             ["ids"] => {
                 let ids = self.runner.breaks().ids();
                 Ok(format!(in alloc; "{ids:?}")?)
+            }
+            ["logs"] => {
+                let logs = self.runner.breaks().logs();
+                Ok(format!(in alloc; "{logs:?}")?)
             }
             _ => Err(Fault::NoCommand),
         }

@@ -1,4 +1,4 @@
-use Rattle.std.specs.Prelude.{string_bytes, OnErr}
+use Rattle.std.specs.Prelude.{string_bytes}
 use Rattle.execution.proofs.Joining.{lacked, on_err, spent, ticked, unsaid}
 use Rattle.execution.proofs.slices.stretch.Goals as goal
 

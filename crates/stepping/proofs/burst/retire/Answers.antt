@@ -1,4 +1,4 @@
-use Rattle.std.proofs.Common.{◌≡◌, ◌≤◌, ℕ, refl, sym, ap, ◌∙◌, subst, arith}
+use Rattle.std.proofs.Common.{◌≡◌, ℕ, refl, ap, ◌∙◌, subst, arith}
 use Rattle.course.specs.Calls.{Kept}
 use Rattle.stepping.specs.Bursts.{IsFar, Retire}
 use Rattle.stepping.proofs.Bursting.{retire_more, retires_deeper}
@@ -33,7 +33,8 @@ loop-went-preserved c =
     record {
       retire =
           retire_more c.loop-went.went _ _ _ c.loop-went.pc c.in-Ok.next _ c.loop-went.course c.quick.new.self c.loop-went.invariant.retire c.in-Ok.ensures far;
-      deep = omega (arith, c.loop-went.invariant.deep, retires_deeper c.loop-went.pc c.in-Ok.next c.loop-went.course c.quick.new.self c.in-Ok.ensures);
+      deep =
+          omega (arith, c.loop-went.invariant.deep, retires_deeper c.loop-went.pc c.in-Ok.next c.loop-went.course c.quick.new.self c.in-Ok.ensures);
       stays = c.in-Ok.ensures.pc ∙ c.loop-went.invariant.stays;
     }
 
@@ -43,7 +44,8 @@ returns c =
     record {
       pc = c.loop-went.pc;
       middle = c.loop-went.course;
-      retire = subst (λ (n : ℕ). Retire n c.args.breaks.now c.args.reach c.args.course.now.hart.pc c.args.course.now c.loop-went.pc c.loop-went.course) all
+      retire =
+          subst (λ (n : ℕ). Retire n c.args.breaks.now c.args.reach c.args.course.now.hart.pc c.args.course.now c.loop-went.pc c.loop-went.course) all
           c.loop-went.invariant.retire;
       ends = (refl, (refl, refl));
       stays = c.loop-went.invariant.stays;

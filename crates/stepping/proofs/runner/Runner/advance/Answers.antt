@@ -1,8 +1,8 @@
-use Rattle.std.proofs.Common.{◌≡◌, ◌<◌, ◌≤◌, ◌+◌, ◌^◌, false, ℕ, refl, sym, ap, ◌∙◌, subst, arith}
+use Rattle.std.proofs.Common.{◌≡◌, ◌<◌, ◌≤◌, ◌+◌, ◌^◌, false, ℕ, sym, ap, ◌∙◌, subst, arith}
 use Rattle.stepping.specs.Bursts.{Ends, moved_by}
 use Rattle.stepping.specs.Ticks.{Debugged}
 use Rattle.stepping.specs.contracts.runner.Runner as runner
-use Rattle.stepping.proofs.Bursting.{arrived, arrives_none, arrives_some, bursts_deeper, bursts_end, bursts_few, midway}
+use Rattle.stepping.proofs.Bursting.{arrived, arrives_none, arrives_some, bursts_deeper, bursts_end}
 use Rattle.stepping.proofs.runner.Runner.advance.Goals as goal
 
 pub invariant_of-self : goal.invariant_of-self
@@ -22,7 +22,8 @@ pub returns-then-moved-gt0 : goal.returns-then-moved-gt0
 returns-then-moved-gt0 c =
     let d : Debugged = runner.the_view c.self.inside in
     let due : d.check_due ≡ false = ap (λ (x : Debugged). x.check_due) c.self.view_is ∙ c.requires.due in
-    let few : d.retired + c.args.most ≤ 2 ^ 62 = subst (λ (x : Debugged). x.retired + c.args.most ≤ 2 ^ 62) (sym c.self.view_is) c.requires.few in
+    let few : d.retired + c.args.most ≤ 2 ^ 62 = subst (λ (x : Debugged). x.retired + c.args.most ≤ 2 ^ 62)
+    (sym c.self.view_is) c.requires.few in
     let deep : d.calls.depth + c.args.most ≤ 2 ^ 62 = omega (arith, few, c.self.invariant.called) in
     let b = c.retire-burst.result in
     let ends = bursts_end c.args.most c.self.inside.out_of_reach b c.retire-burst.new.course d due c.self.invariant.unmet deep c.retire-burst.ensures in
@@ -30,14 +31,16 @@ returns-then-moved-gt0 c =
     let there = ap (λ (n : ℕ). arrived n c.set_pc.new.self c.forget_ids.new.self d) moved
     ∙ arrives_some (moved_by b.went b.ending) b.pc c.retire-burst.new.course c.set_pc.new.self c.forget_ids.new.self d
     (subst (λ (n : ℕ). 0 < n) moved c.if-moved-gt0.true) c.set_pc.ensures c.forget_ids.ensures in
-    subst (λ (x : Debugged). Ends c.args.most b.went b.ending x (arrived c.moved-moved.result c.set_pc.new.self c.forget_ids.new.self d)) c.self.view_is
+    subst (λ (x : Debugged). Ends c.args.most b.went b.ending x
+    (arrived c.moved-moved.result c.set_pc.new.self c.forget_ids.new.self d)) c.self.view_is
     (subst (λ (x : Debugged). Ends c.args.most b.went b.ending d x) (sym there) ends)
 
 pub returns-else-moved-gt0 : goal.returns-else-moved-gt0
 returns-else-moved-gt0 c =
     let d : Debugged = runner.the_view c.self.inside in
     let due : d.check_due ≡ false = ap (λ (x : Debugged). x.check_due) c.self.view_is ∙ c.requires.due in
-    let few : d.retired + c.args.most ≤ 2 ^ 62 = subst (λ (x : Debugged). x.retired + c.args.most ≤ 2 ^ 62) (sym c.self.view_is) c.requires.few in
+    let few : d.retired + c.args.most ≤ 2 ^ 62 = subst (λ (x : Debugged). x.retired + c.args.most ≤ 2 ^ 62)
+    (sym c.self.view_is) c.requires.few in
     let deep : d.calls.depth + c.args.most ≤ 2 ^ 62 = omega (arith, few, c.self.invariant.called) in
     let b = c.retire-burst.result in
     let ends = bursts_end c.args.most c.self.inside.out_of_reach b c.retire-burst.new.course d due c.self.invariant.unmet deep c.retire-burst.ensures in

@@ -1,4 +1,4 @@
-use Rattle.std.proofs.Common.{◌≡◌, ◌<◌, ◌≤◌, ◌+◌, ◌-◌, ◌^◌, Option, Some, None, sym, ap, subst, arith}
+use Rattle.std.proofs.Common.{◌-◌, Option, subst, arith}
 use Rattle.stepping.specs.Running.{Stretches}
 use Rattle.stepping.specs.declared.tick.RunEnd.{RunEnd}
 use Rattle.stepping.proofs.Going.{all_went, ends_run, goes_on, goes_retire, run_retires}
@@ -10,7 +10,8 @@ stretch-stretch-requires-clause-few c =
 
 pub returns-in-Some : goal.returns-in-Some
 returns-in-Some c =
-    let s = subst (λ (e : Option RunEnd). Stretches (c.args.most - c.loop-went.went) c.loop-went.self c.stretch-stretch.result.went e c.stretch-stretch.new.self)
+    let s = subst (λ (e : Option RunEnd). Stretches
+    (c.args.most - c.loop-went.went) c.loop-went.self c.stretch-stretch.result.went e c.stretch-stretch.new.self)
     c.in-Some.is c.stretch-stretch.ensures in
     let run = ends_run c.args.most c.loop-went.went c.stretch-stretch.result.went c.args.self.now c.loop-went.self c.stretch-stretch.new.self c.in-Some.ending
     c.loop-went.invariant.few c.loop-went.invariant.goes s in
@@ -18,7 +19,8 @@ returns-in-Some c =
 
 pub loop-went-preserved : goal.loop-went-preserved
 loop-went-preserved c =
-    let s = subst (λ (e : Option RunEnd). Stretches (c.args.most - c.loop-went.went) c.loop-went.self c.stretch-stretch.result.went e c.stretch-stretch.new.self)
+    let s = subst (λ (e : Option RunEnd). Stretches
+    (c.args.most - c.loop-went.went) c.loop-went.self c.stretch-stretch.result.went e c.stretch-stretch.new.self)
     c.in_default.is c.stretch-stretch.ensures in
     let more = goes_on c.args.most c.loop-went.went c.stretch-stretch.result.went c.args.self.now c.loop-went.self c.stretch-stretch.new.self
     c.loop-went.invariant.few c.loop-went.invariant.goes s in

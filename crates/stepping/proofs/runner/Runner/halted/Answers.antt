@@ -1,4 +1,4 @@
-use Rattle.std.proofs.Common.{◌≡◌, ◌≢◌, false, None, Ok, refl, sym, ap, ◌∙◌, subst}
+use Rattle.std.proofs.Common.{◌≡◌, ◌≢◌, false, None, Ok, sym, ap, ◌∙◌, subst}
 use Rattle.course.specs.Positions.{Halts, Position}
 use Rattle.stepping.specs.Plain.{plain_tick}
 use Rattle.stepping.specs.Runs.{TickNeedsPage}
@@ -23,7 +23,8 @@ returns-in-Ok c =
     let state = c.tick_after.ensures.state ∙ ap (λ (x : Debugged). settled c.in-Ok.stepped None 0 x) there in
     subst (λ (x : Debugged). (c.tick_after.result ≢ plain_tick) × IsTick x (Ok c.tick_after.result) c.tick_after.new.self) c.self.view_is
     (subst (λ (x : Debugged). (c.tick_after.result ≢ plain_tick) × IsTick d (Ok c.tick_after.result) x) (sym state)
-    (subst (λ (t : Tick). (t ≢ plain_tick) × IsTick d (Ok t) (settled c.in-Ok.stepped None 0 (at_pc d c.settle.new.self.hart.pc))) (sym tick) ticks))
+    (subst (λ (t : Tick). (t ≢ plain_tick) × IsTick d (Ok t) (settled c.in-Ok.stepped None 0 (at_pc d c.settle.new.self.hart.pc)))
+    (sym tick) ticks))
 
 pub returns-in-Err : goal.returns-in-Err
 returns-in-Err c =

@@ -1,9 +1,8 @@
-use Rattle.std.proofs.Common.{◌≡◌, ◌<◌, ◌+◌, ◌≤◌, ◌^◌, true, None, Some, sym, ap, ◌∙◌, subst, arith}
+use Rattle.std.proofs.Common.{◌≡◌, true, sym, subst, arith}
 use Rattle.stepping.specs.Bursts.{Ends}
 use Rattle.stepping.specs.Running.{Stretches}
 use Rattle.stepping.specs.Ticks.{Debugged}
 use Rattle.stepping.specs.declared.burst.BurstEnd.{BurstEnd}
-use Rattle.stepping.specs.declared.burst.BurstEnd.TheVariants.{Spent, Near, Halted}
 use Rattle.stepping.specs.declared.running.Stretch.{Stretch}
 use Rattle.stepping.proofs.Going.{entry_stretches, goes_retire, halted_stretches, moved_stretches}
 use Rattle.stepping.proofs.runner.Runner.stretch.Goals as goal
@@ -25,7 +24,8 @@ pub returns-in-Near : goal.returns-in-Near
 returns-in-Near c =
     let ends = subst (λ (e : BurstEnd). Ends c.args.most c.advance-went.result.0 e c.args.self.now c.advance-went.new.self) c.in-Near.is
     c.advance-went.ensures in
-    subst (λ (s : Stretch). Stretches c.args.most c.args.self.now s.went s.ending c.look_closely.new.self) (sym c.stretch_of-in-Near.ensures)
+    subst (λ (s : Stretch). Stretches c.args.most c.args.self.now s.went s.ending c.look_closely.new.self)
+    (sym c.stretch_of-in-Near.ensures)
     (moved_stretches c.args.most c.advance-went.result.0 c.args.self.now ends.1.0 c.advance-went.new.self c.look_closely.new.self
     c.look_closely.result ends.0 ends.1.1.0 ends.1.1.1 c.look_closely.ensures.ending c.look_closely.ensures.state)
 
