@@ -2,7 +2,7 @@
 import base64
 import json
 
-from support.breaks import ADDRESS, CONDITION, HIT, MOST, NO_CODE, UNKNOWN, at, is_not, is_set, on
+from support.breaks import ADDRESS, CONDITION, FUNCTION, HIT, LONGEST_LOG, MOST, NO_CODE, UNKNOWN, at, is_not, is_set, named, on
 from support.players import Row
 
 PLAYER = "test_answers"
@@ -21,9 +21,9 @@ R = (1, 2, 1, 1, 1, 1, 1, 1, 2, 1, 1, 1)
 WITH_GAPS = (None, None, 1, None, 2, None)
 
 
-def program(words, size=SIZE, path=PATH):
-    """The program whose lines, from 1, have so many words, in a memory of so many bytes."""
-    steps, address = [], BASE
+def program(words, size=SIZE, path=PATH, labels=()):
+    """The program whose lines, from 1, have so many words, in a memory of so many bytes, with these labels and their addresses."""
+    steps, address = [("label %s %d" % label, "ok") for label in labels], BASE
     for line, count in enumerate(words, 1):
         if count:
             steps.append(("row %d %d %d" % (line, address, count), "ok"))
@@ -61,6 +61,10 @@ def lines(asked, entries, listed, path=PATH, **options):
     return succeeds("setBreakpoints", arguments, entries, listed, **options)
 
 
+def functions(asked, entries, listed, **options):
+    return succeeds("setFunctionBreakpoints", {"breakpoints": asked}, entries, listed, **options)
+
+
 def instructions(asked, entries, listed, **options):
     return succeeds("setInstructionBreakpoints", {"breakpoints": asked}, entries, listed, **options)
 
@@ -71,6 +75,11 @@ def the_list(*breakpoints):
 
 def item(number, address, hit=1, value=None):
     return "%d:%d:%d" % (number, address, hit) + ("" if value is None else ":%s" % value)
+
+
+def says(text):
+    """What follows a breakpoint of the list that is a logpoint."""
+    return "log", text.encode().hex()
 
 
 NONE = ("none",)
@@ -92,6 +101,20 @@ def one_on(asked, address, hit=1, value=None):
 
 def none_on(message, asked):
     return instructions([asked], [is_not(message)], the_list())
+
+
+def one_in(asked, address, hit=1, value=None):
+    """A breakpoint at a function of its own, which is set."""
+    return functions([asked], [is_set(1, address)], the_list(item(1, address, hit, value)))
+
+
+def none_in(message, asked):
+    return functions([asked], [is_not(message)], the_list())
+
+
+def logs(text, listed=True):
+    """A logpoint of its own at line 1: one that is set, or, where its text is no text, a breakpoint that stops."""
+    return lines([at(1, log=text)], [is_set(1, BASE, 1)], the_list(item(1, BASE), *(says(text) if listed else ())))
 
 
 SOURCE_ROWS = [
@@ -200,6 +223,60 @@ INSTRUCTION_ROWS = [
     ], PROFILE),
 ]
 
+# A function at the example's line 5, one at its entry, one of data below the end of memory and labels where no instruction can be.
+LABELS = (("f", BASE + 20), ("_start", BASE), ("g.h", BASE + 8), ("odd", BASE + 6), ("last", BASE + 4092), ("end", BASE + 4096), ("high", 0xfffffffc))
+FUNCTION_ROWS = [
+    Row("breakpoints at functions of the example", [
+        *program(S, labels=(("f", BASE + 12),)),
+        functions([named("f", None, "2"), named("g")], [is_set(1, 0x1000c), is_not(FUNCTION)], the_list(item(1, 0x1000c, 2))),
+        functions([], [], the_list()),
+    ], EXAMPLES),
+    Row("names of functions", [
+        *program(P, 4096, labels=LABELS), one_in(named("f"), BASE + 20), one_in(named("_start"), BASE), one_in(named("g.h"), BASE + 8),
+        one_in(named(" f"), BASE + 20), one_in(named("f   "), BASE + 20), one_in(named("  f "), BASE + 20),
+        *(none_in(FUNCTION, named(name)) for name in (
+            "", " ", "F", "f ;", "\tf", "f\t", "f\n", "\u00a0f", "f:", "f+4", "fg", "g", "h", "0x00010014", "65556", "_start f")),
+        *program(P), none_in(FUNCTION, named("f")),
+    ], PROFILE),
+    Row("labels where no instruction can be", [
+        *program(P, 4096, labels=LABELS), one_in(named("last"), BASE + 4092), none_in(ADDRESS, named("odd")), none_in(ADDRESS, named("end")),
+        none_in(ADDRESS, named("high")), *program(P, 8192, labels=LABELS), one_in(named("end"), BASE + 4096),
+    ], BY_HAND),
+    Row("the first problem of a breakpoint at a function", [
+        *program(P, 4096, labels=LABELS), none_in(CONDITION, named("x", "(", "0")), none_in(CONDITION, named("f", "(", "0")),
+        none_in(HIT, named("x", "1", "0")), none_in(HIT, named("odd", None, "0")), none_in(FUNCTION, named("x", "1", "1")),
+        none_in(ADDRESS, named("odd", "1", "1")), one_in(named("f", "1", "1"), BASE + 20, value=1),
+    ], PROFILE),
+    Row("numbers of those at functions", [
+        *program(P, labels=LABELS[:3]),
+        functions([named("f"), named("x"), named("f", " 7 ", " 9 "), named("g.h", "(")],
+                  [is_set(7, BASE + 20), is_not(FUNCTION), is_set(8, BASE + 20), is_not(CONDITION)],
+                  the_list(item(7, BASE + 20), item(8, BASE + 20, 9, 7)), number=7),
+    ], PROFILE),
+]
+
+LOG_ROWS = [
+    Row("a logpoint of the example", [
+        *program(S), lines([at(2, log="back {a0}")], [is_set(1, 0x10008, 2)], the_list(item(1, 0x10008), *says("back {a0}"))),
+    ], EXAMPLES),
+    Row("what a logpoint writes", [
+        *program(P), *(logs(text) for text in (" ", "  x ", "\t", "\n", "{}", "{", "a\nb", "\u00e9\u20ac", "\u0000", "0", "null")), logs("", False),
+        lines([at(2, "1", " 3 ", "x"), at(3), at(3, log="y"), at(9, log="z"), at(4, "(", None, "z")],
+              [is_set(1, BASE + 4, 2), is_set(2, BASE + 12, 3), is_set(3, BASE + 12, 3), is_not(NO_CODE, 9), is_not(CONDITION, 4)],
+              the_list(item(1, BASE + 4, 3, 1), *says("x"), item(2, BASE + 12), item(3, BASE + 12), *says("y"))),
+        lines([at(1, log="x")], [is_not(UNKNOWN, 1)], NONE, path="q"),
+    ], PROFILE),
+    Row("1,024 bytes of a logpoint, and one more", [
+        *program(P), logs(LONGEST_LOG * "x"), logs(LONGEST_LOG * " "), logs(LONGEST_LOG // 2 * "\u00e9"),
+        *(refused("setBreakpoints", {"source": {"path": path}, "breakpoints": [at(1), asked, at(2)]})
+          for path in (PATH, "q", "") for asked in (
+              at(1, log=(LONGEST_LOG + 1) * "x"), at(1, log=LONGEST_LOG // 2 * "\u00e9" + "x"), at(1, log=(LONGEST_LOG + 1) * " "),
+              at(9, "(", "0", (LONGEST_LOG + 1) * "x"))),
+        refused("setBreakpoints", {"breakpoints": [at(1, log=(LONGEST_LOG + 1) * "x")]}),
+        refused("setBreakpoints", {"source": {"path": PATH}, "breakpoints": (MOST + 1) * [at(1, log=(LONGEST_LOG + 1) * "x")]}),
+    ], PROFILE),
+]
+
 LIMIT_ROWS = [
     Row("1,024 breakpoints, and one more", [
         *program(P),
@@ -210,11 +287,18 @@ LIMIT_ROWS = [
         lines(MOST * [at(9)], MOST * [is_not(UNKNOWN, 9)], NONE, path="q"),
         instructions(MOST * [on("65536")], [is_set(1 + i, BASE) for i in range(MOST)], the_list(*(item(1 + i, BASE) for i in range(MOST)))),
         refused("setInstructionBreakpoints", {"breakpoints": (MOST + 1) * [on("65536")]}),
+        *program(P, labels=LABELS[:1]),
+        functions(MOST * [named("f")], [is_set(1 + i, BASE + 20) for i in range(MOST)], the_list(*(item(1 + i, BASE + 20) for i in range(MOST)))),
+        refused("setFunctionBreakpoints", {"breakpoints": (MOST + 1) * [named("f")]}),
+        refused("setFunctionBreakpoints", {"breakpoints": (MOST + 1) * [named("x")]}),
     ], PROFILE),
     Row("answers that found no memory", [
         *program(P), lines([at(1, "a0 == 0 || [0]", "2"), at(9)], [is_set(1, BASE, 1), is_not(NO_CODE, 9)], the_list(item(1, BASE, 2, 1))),
         lines([at(1)], [is_not(UNKNOWN, 1)], NONE, path="q"),
         instructions([on("65536", None, "1"), on("1")], [is_set(3, BASE), is_not(ADDRESS)], the_list(item(3, BASE, value=1)), number=3),
+        *program(P, labels=LABELS[:1]),
+        functions([named("f", "1"), named("x")], [is_set(3, BASE + 20), is_not(FUNCTION)], the_list(item(3, BASE + 20, value=1)), number=3),
+        lines([at(1, "1", None, "x")], [is_set(1, BASE, 1)], the_list(item(1, BASE, value=1), *says("x"))),
     ], PROFILE, refused=True),
 ]
 
@@ -370,4 +454,4 @@ LISTING_ROWS = [
     ], LOOKING, refused=True),
 ]
 
-ROWS = SOURCE_ROWS + TERMS_ROWS + INSTRUCTION_ROWS + LIMIT_ROWS + READING_ROWS + LISTING_ROWS
+ROWS = SOURCE_ROWS + TERMS_ROWS + LOG_ROWS + FUNCTION_ROWS + INSTRUCTION_ROWS + LIMIT_ROWS + READING_ROWS + LISTING_ROWS

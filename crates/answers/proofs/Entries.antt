@@ -1,16 +1,17 @@
 -- Entries and lists together.
-use Rattle.std.proofs.Common.{◌≡◌, ℕ, zero, suc, ◌+◌, ◌<◌, ◌≤◌, Bool, true, false, cond, ltb, List, [], ◌∷◌, length, map, Some, None, Result, Ok, Err, refl, ap, arith, slice_index}
-use Rattle.std.proofs.lemmas.Bool.{le-ltb}
+use Rattle.std.proofs.Common.{◌≡◌, ℕ, zero, suc, ◌+◌, ◌<◌, Bool, true, false, cond, ltb, List, [], ◌∷◌, length, map, Some, None, Result, Ok, Err, refl, ap, arith, slice_index}
 use Rattle.image.specs.Lines.{Table}
 use Rattle.protocol.specs.declared.command.Command.TheVariants as command
 use Rattle.protocol.specs.declared.refusal.Refusal.TheVariants.{TooMuch}
-use Rattle.replies.specs.declared.response.ResponseBody.TheVariants.{SetInstructionBreakpoints}
+use Rattle.replies.specs.declared.response.ResponseBody.TheVariants.{SetFunctionBreakpoints, SetInstructionBreakpoints}
 use Rattle.protocol.specs.declared.set_breakpoints.SourceBreakpoint.{SourceBreakpoint}
+use Rattle.protocol.specs.declared.set_function_breakpoints.FunctionBreakpoint.{FunctionBreakpoint}
 use Rattle.protocol.specs.declared.set_instruction_breakpoints.InstructionBreakpoint.{InstructionBreakpoint}
 use Rattle.breakpoints.specs.Stops.{Wanted}
 use Rattle.answers.specs.Breakpoints.{Answer, entries_of, followed_by, list_of, next_after}
 use Rattle.answers.specs.Laws.{EachHasItsEntry, EntriesTellTheList, NumbersFollowEachOther, entries_in, set_at_instructions, set_at_lines, set_by_body, those_set}
 use Rattle.answers.specs.SetBreakpoints as source
+use Rattle.answers.specs.SetFunctionBreakpoints as function
 use Rattle.answers.specs.SetInstructionBreakpoints as instruction
 use Rattle.answers.specs.declared.problem.Problem.{Problem}
 use Rattle.answers.specs.declared.view.View.{View}
@@ -52,10 +53,11 @@ lines_told judged base next (one ∷ others) = go (judged one) (lines_told judge
   go (Ok place) rest = ap (λ x. (next, place.address) ∷ x) rest
   go (Err problem) rest = rest
 
-instructions_told : (judged : InstructionBreakpoint → Result instruction.Place Problem) (next : ℕ) (asked : List InstructionBreakpoint)
+-- at addresses, or at functions
+instructions_told : {A : Type 0} (judged : A → Result instruction.Place Problem) (next : ℕ) (asked : List A)
     → set_at_instructions (entries_of judged instruction.entry next asked) ≡ map (λ w. (w.id, w.address)) (list_of judged instruction.wanted next asked)
 instructions_told judged next [] = refl
-instructions_told judged next (one ∷ others) = go (judged one) (instructions_told judged (next_after next (judged one)) others) where
+instructions_told {A} judged next (one ∷ others) = go (judged one) (instructions_told judged (next_after next (judged one)) others) where
   go : (found : Result instruction.Place Problem)
       → set_at_instructions (entries_of judged instruction.entry (next_after next found) others) ≡ map (λ w. (w.id, w.address)) (list_of judged instruction.wanted (next_after next found) others)
       → set_at_instructions (instruction.entry next one found ∷ entries_of judged instruction.entry (next_after next found) others) ≡ map (λ w. (w.id, w.address)) (followed_by instruction.wanted next found (list_of judged instruction.wanted (next_after next found) others))
@@ -109,6 +111,20 @@ made_of size next asked = record {
   list = Some (list_of (instruction.judged size) instruction.wanted next asked);
 }
 
+made_at : Table → ℕ → ℕ → List FunctionBreakpoint → Answer
+made_at table size next asked = record {
+  result = Ok (SetFunctionBreakpoints (record { breakpoints = entries_of (function.judged table size) instruction.entry next asked }));
+  list = Some (list_of (function.judged table size) instruction.wanted next asked);
+}
+
+function_tells : (table : Table) (size next : ℕ) (asked : List FunctionBreakpoint) → Tells (made_at table size next asked)
+unfolding Tells made_at
+function_tells table size next asked = instructions_told (function.judged table size) next asked
+
+function_numbers : (table : Table) (size next : ℕ) (asked : List FunctionBreakpoint) → Numbers next (made_at table size next asked)
+unfolding Numbers made_at
+function_numbers table size next asked k h = numbers (function.judged table size) instruction.wanted (λ n place. refl) next asked k h
+
 instruction_tells : (size next : ℕ) (asked : List InstructionBreakpoint) → Tells (made_of size next asked)
 unfolding Tells made_of
 instruction_tells size next asked = instructions_told (instruction.judged size) next asked
@@ -118,39 +134,52 @@ unfolding Numbers made_of
 instruction_numbers size next asked k h = numbers (instruction.judged size) instruction.wanted (λ n place. refl) next asked k h
 
 pub entries_tell : EntriesTellTheList
-unfolding Tells made_of
+unfolding Tells made_of made_at
 entries_tell (command.SetBreakpoints arguments) table size view next =
-    within_limit Tells (ltb 1024 (length arguments.breakpoints))
+    within_limit Tells (source.is_too_much arguments.breakpoints)
     (source.of_source (source.is_own view.path arguments.source.path) table view next arguments.breakpoints) refused_tells
     (source_tells (source.is_own view.path arguments.source.path) table view next arguments.breakpoints)
+entries_tell (command.SetFunctionBreakpoints arguments) table size view next =
+    within_limit Tells (ltb 1024 (length arguments.breakpoints)) (made_at table size next arguments.breakpoints) refused_tells
+    (function_tells table size next arguments.breakpoints)
 entries_tell (command.SetInstructionBreakpoints arguments) table size view next =
     within_limit Tells (ltb 1024 (length arguments.breakpoints)) (made_of size next arguments.breakpoints) refused_tells
     (instruction_tells size next arguments.breakpoints)
 entries_tell other table size view next = refl
 
 pub numbers_follow : NumbersFollowEachOther
-unfolding Numbers made_of
+unfolding Numbers made_of made_at
 numbers_follow (command.SetBreakpoints arguments) table size view next =
-    within_limit (Numbers next) (ltb 1024 (length arguments.breakpoints))
+    within_limit (Numbers next) (source.is_too_much arguments.breakpoints)
     (source.of_source (source.is_own view.path arguments.source.path) table view next arguments.breakpoints) (refused_numbers next)
     (source_numbers (source.is_own view.path arguments.source.path) table view next arguments.breakpoints)
+numbers_follow (command.SetFunctionBreakpoints arguments) table size view next =
+    within_limit (Numbers next) (ltb 1024 (length arguments.breakpoints)) (made_at table size next arguments.breakpoints)
+    (refused_numbers next) (function_numbers table size next arguments.breakpoints)
 numbers_follow (command.SetInstructionBreakpoints arguments) table size view next =
     within_limit (Numbers next) (ltb 1024 (length arguments.breakpoints)) (made_of size next arguments.breakpoints) (refused_numbers next)
     (instruction_numbers size next arguments.breakpoints)
 numbers_follow other table size view next = λ k h. absurd (omega arith)
 
-few_entries : (many : ℕ) (answer : Answer) (n : ℕ) → many ≤ 1024 → entries_in answer.result ≡ n
-    → entries_in (cond (ltb 1024 many) (record { result = Err TooMuch; list = None }) answer).result ≡ n
-few_entries many answer n few h = let no : ltb 1024 many ≡ false = le-ltb 1024 many few in rw no h
+few_entries : (much : Bool) (answer : Answer) (n : ℕ) → much ≡ false → entries_in answer.result ≡ n
+    → entries_in (cond much (record { result = Err TooMuch; list = None }) answer).result ≡ n
+few_entries much answer n little h = rw little h
 
 pub each_has_its_entry : EachHasItsEntry
 each_has_its_entry (command.SetBreakpoints arguments) table size view next sets few =
     let own = source.is_own view.path arguments.source.path in
-    few_entries (length arguments.breakpoints) (source.of_source own table view next arguments.breakpoints)
+    few_entries (source.is_too_much arguments.breakpoints) (source.of_source own table view next arguments.breakpoints)
     (length arguments.breakpoints) few
     (count (source.judged own table view.line_base) (source.entry view.line_base) next arguments.breakpoints)
+each_has_its_entry (command.SetFunctionBreakpoints arguments) table size view next sets few =
+    few_entries (ltb 1024 (length arguments.breakpoints)) (record {
+      result =
+          Ok (SetFunctionBreakpoints
+          (record { breakpoints = entries_of (function.judged table size) instruction.entry next arguments.breakpoints }));
+      list = Some (list_of (function.judged table size) instruction.wanted next arguments.breakpoints);
+    }) (length arguments.breakpoints) few (count (function.judged table size) instruction.entry next arguments.breakpoints)
 each_has_its_entry (command.SetInstructionBreakpoints arguments) table size view next sets few =
-    few_entries (length arguments.breakpoints) (record {
+    few_entries (ltb 1024 (length arguments.breakpoints)) (record {
       result =
           Ok (SetInstructionBreakpoints
           (record { breakpoints = entries_of (instruction.judged size) instruction.entry next arguments.breakpoints }));

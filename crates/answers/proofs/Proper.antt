@@ -1,13 +1,15 @@
 -- Answers can be sent: their numbers are in their ranges.
-use Rattle.std.proofs.Common.{◌≡◌, ℕ, ℤ, pos, negsuc, ◌+◌, ◌+ℤ◌, ◌<◌, ◌≤◌, Bool, true, false, cond, ◌&&◌, ltb, List, [], ◌∷◌, length, Option, Some, None, Result, Ok, Err, IfOk, option_map, refl, ap, subst, arith}
+use Rattle.std.proofs.Common.{◌≡◌, ℕ, ℤ, pos, negsuc, ◌+◌, ◌+ℤ◌, ◌<◌, ◌≤◌, Bool, true, false, cond, ◌&&◌, ◌%◌, ◌==◌, leb, ltb, List, [], ◌∷◌, length, Option, Some, None, Result, Ok, Err, IfOk, option_map, refl, ap, subst, arith}
 use Rattle.std.specs.Prelude.{All, find}
 use Rattle.std.specs.List.{list_all}
-use Rattle.std.proofs.lemmas.Bool.{lt-ltb, ltb-true}
+use Rattle.std.proofs.lemmas.Bool.{and_parts, lt-ltb, ltb-true}
 use Rattle.std.proofs.lemmas.List.Elements.{All-head, All-tail, All-weaker}
-use Rattle.image.specs.Lines.{Row, Table, bind, line_in, start_of}
+use Rattle.image.specs.Lines.{Row, Table, bind, label_address, line_in, start_of}
+use Rattle.image.specs.Memory.{first_address}
 use Rattle.protocol.specs.declared.command.Command.TheVariants as command
 use Rattle.protocol.specs.declared.refusal.Refusal.TheVariants.{TooMuch}
 use Rattle.protocol.specs.declared.set_breakpoints.SourceBreakpoint.{SourceBreakpoint}
+use Rattle.protocol.specs.declared.set_function_breakpoints.FunctionBreakpoint.{FunctionBreakpoint}
 use Rattle.protocol.specs.declared.set_instruction_breakpoints.InstructionBreakpoint.{InstructionBreakpoint}
 use Rattle.replies.specs.SetBreakpoints.{source_breakpoint}
 use Rattle.replies.specs.SetInstructionBreakpoints.{instruction_breakpoint}
@@ -18,10 +20,12 @@ use Rattle.numerals.specs.MemoryReferences.{address_in, address_of, offset_by}
 use Rattle.numerals.specs.Words.{word_of}
 use Rattle.answers.specs.EditorLines.{line_in_editor, line_in_image}
 use Rattle.answers.specs.SetBreakpoints as source
+use Rattle.answers.specs.SetFunctionBreakpoints as function
 use Rattle.answers.specs.SetInstructionBreakpoints as instruction
 use Rattle.answers.specs.Conditions.{Conditions, conditions_of}
+use Rattle.answers.specs.Spaces.{trimmed}
 use Rattle.answers.specs.declared.problem.Problem.{Problem}
-use Rattle.answers.specs.declared.problem.Problem.TheVariants.{UnknownSource}
+use Rattle.answers.specs.declared.problem.Problem.TheVariants.{BadAddress, UnknownSource}
 use Rattle.answers.specs.declared.view.View.{View}
 use Rattle.answers.proofs.Settable.{one_value}
 
@@ -79,20 +83,21 @@ bound p (row ∷ rows) found lines places e =
     here made found a b f =
         let same : made ≡ found = cc in (subst (λ (x : ℕ × ℕ). x.1 < 4294967296) same b, subst (λ (x : ℕ × ℕ). x.0 < 4294967296) same a)
 
-found_there : (conditions : Result Conditions Problem) (found : Option (ℕ × ℕ)) (place : source.Place)
-    → source.placed conditions found ≡ Ok place → found ≡ Some (place.line, place.address)
-found_there (Err problem) found place e = cc
-found_there (Ok conditions) None place e = cc
-found_there (Ok conditions) (Some found) place e =
+found_there : (conditions : Result Conditions Problem) (found : Option (ℕ × ℕ)) (log : Option (List ℕ)) (place : source.Place)
+    → source.placed conditions found log ≡ Ok place → found ≡ Some (place.line, place.address)
+found_there (Err problem) found log place e = cc
+found_there (Ok conditions) None log place e = cc
+found_there (Ok conditions) (Some found) log place e =
     ap (λ (x : source.Place). Some (x.line, x.address))
-    (one_value (Ok (record { line = found.0; address = found.1; conditions = conditions }))
-    (record { line = found.0; address = found.1; conditions = conditions }) place refl e)
+    (one_value (Ok (record { line = found.0; address = found.1; conditions = conditions; log = log }))
+    (record { line = found.0; address = found.1; conditions = conditions; log = log }) place refl e)
 
 source_narrow : (own : Bool) (table : Table) (base : ℕ) → IsNarrow table → (one : SourceBreakpoint) (place : source.Place)
     → source.judged own table base one ≡ Ok place → (place.address < 4294967296) × (place.line < 4294967296)
 source_narrow true table base narrow one place e =
     bound _ table.rows (place.line, place.address) narrow.lines narrow.places
-    (found_there (conditions_of one.condition one.hit_condition) (bind table (line_in_image base one.line)) place e)
+    (found_there (conditions_of one.condition one.hit_condition) (bind table (line_in_image base one.line))
+    (source.written one.log_message) place e)
 source_narrow false table base narrow one place e = cc
 
 -- ---- entries of instructions
@@ -101,12 +106,12 @@ instruction_set : (id address : ℕ) → id < 4294967296 → address < 429496729
 instruction_set id address a b =
     both (ltb id 4294967296) _ (lt-ltb id 4294967296 a) (both (ltb address 4294967296) true (lt-ltb address 4294967296 b) refl)
 
-instructions_proper : (judged : InstructionBreakpoint → Result instruction.Place Problem) (next : ℕ) (asked : List InstructionBreakpoint)
-    → ((one : InstructionBreakpoint) (place : instruction.Place) → judged one ≡ Ok place → place.address < 4294967296)
+instructions_proper : {A : Type 0} (judged : A → Result instruction.Place Problem) (next : ℕ) (asked : List A)
+    → ((one : A) (place : instruction.Place) → judged one ≡ Ok place → place.address < 4294967296)
     → next + length (list_of judged instruction.wanted next asked) ≤ 4294967296
     → list_all instruction_breakpoint.is_in (entries_of judged instruction.entry next asked) ≡ true
 instructions_proper judged next [] narrow room = refl
-instructions_proper judged next (one ∷ others) narrow room =
+instructions_proper {A} judged next (one ∷ others) narrow room =
     go (judged one) refl room (λ n r. instructions_proper judged n others narrow r) where
       go : (found : Result instruction.Place Problem) → judged one ≡ found
           → next + length (followed_by instruction.wanted next found (list_of judged instruction.wanted (next_after next found) others)) ≤ 4294967296
@@ -159,16 +164,42 @@ instruction_narrow size one place e =
     offset_small one.offset (word_of one.instruction_reference) place.address
     (kept_small size (address_in one.instruction_reference one.offset) place.address there)
 
+-- ---- entries of functions
+
+-- an address that an instruction can be at lies below the end of memory
+inside : (size address : ℕ) → instruction.is_instructions size address ≡ true → address < first_address + size
+inside size address e =
+    let others = and_parts (leb first_address address) (ltb address (first_address + size) && (address % 4 == 0)) e in
+    ltb-true address (first_address + size) (and_parts (ltb address (first_address + size)) (address % 4 == 0) others.1).0
+
+function_inside : (size : ℕ) (conditions : Result Conditions Problem) (found : Option ℕ) (place : instruction.Place)
+    → function.placed size conditions found ≡ Ok place → place.address < first_address + size
+function_inside size (Err problem) found place e = cc
+function_inside size (Ok conditions) None place e = cc
+function_inside size (Ok conditions) (Some address) place e =
+    let made : instruction.Place = record { address = address; conditions = conditions } in
+    let P : Bool → Type 0 = λ v. instruction.is_instructions size address ≡ v → cond v (Ok made) (Err BadAddress) ≡ Ok place
+    → place.address < first_address + size in
+    let go : P (instruction.is_instructions size address) = elim (instruction.is_instructions size address) as P [
+      | true ↦ λ v f. subst (λ (x : instruction.Place). x.address < first_address + size) (one_value (Ok made) made place refl f)
+          (inside size address v)
+      | false ↦ λ v f. cc
+    ] in go refl e
+
+function_narrow : (table : Table) (size : ℕ) → first_address + size < 4294967296 → (one : FunctionBreakpoint) (place : instruction.Place)
+    → function.judged table size one ≡ Ok place → place.address < 4294967296
+function_narrow table size end one place e =
+    let below : place.address < first_address + size = function_inside size (conditions_of one.condition one.hit_condition)
+    (label_address table (trimmed one.name)) place e in
+    omega (arith, below, end)
+
 -- ---- answers
 
--- what holds of an answer to few holds of the answer: too many are refused
-if_few : (P : ResponseBody → Type 0) (next many : ℕ) (answer : Answer) → (NumbersFit next answer.list → IfOk answer.result P) → let it =
-    cond (ltb 1024 many) (record { result = Err TooMuch; list = None }) answer in NumbersFit next it.list → IfOk it.result P
-if_few P next many answer h =
-    let Q : Bool → Type 0 = λ v. let it = cond v (record { result = Err TooMuch; list = None }) answer in NumbersFit next it.list
-    → IfOk it.result P in
-    let go : Q (ltb 1024 many) = elim (ltb 1024 many) as Q [ true ↦ λ fit. tt | false ↦ h ] in
-    go
+-- what holds of an answer to little holds of the answer: too much is refused
+if_few : (P : ResponseBody → Type 0) (next : ℕ) (much : Bool) (answer : Answer) → (NumbersFit next answer.list → IfOk answer.result P)
+    → let it = cond much (record { result = Err TooMuch; list = None }) answer in NumbersFit next it.list → IfOk it.result P
+if_few P next true answer h = λ fit. tt
+if_few P next false answer h = h
 
 -- the lines of a source, which is the program's or not
 source_proper : (own : Bool) (table : Table) (view : View) (next : ℕ) (asked : List SourceBreakpoint) → IsNarrow table
@@ -195,11 +226,18 @@ few_lines : (asked : List SourceBreakpoint) → All (λ b. b.line ≤ 2147483647
 few_lines asked h = All-weaker (λ b. b.line ≤ 2147483647) (λ b. b.line < 4294967296) (λ b few. omega (arith, few)) asked h
 
 pub answers_are_proper : AnswersAreProper
-answers_are_proper (command.SetBreakpoints arguments) table size view next sets narrow lines =
+answers_are_proper (command.SetBreakpoints arguments) table size view next sets narrow end lines =
     let own = source.is_own view.path arguments.source.path in
-    if_few _ next (length arguments.breakpoints) (source.of_source own table view next arguments.breakpoints)
+    if_few _ next (source.is_too_much arguments.breakpoints) (source.of_source own table view next arguments.breakpoints)
     (λ fit. (refl, alone _ (source_proper own table view next arguments.breakpoints narrow (few_lines arguments.breakpoints lines) fit)))
-answers_are_proper (command.SetInstructionBreakpoints arguments) table size view next sets narrow lines =
-    if_few _ next (length arguments.breakpoints) _
+answers_are_proper (command.SetFunctionBreakpoints arguments) table size view next sets narrow end lines =
+    if_few _ next (ltb 1024 (length arguments.breakpoints)) _
+    (λ fit. (
+      refl,
+      alone _
+          (instructions_proper (function.judged table size) next arguments.breakpoints (function_narrow table size end) fit),
+    ))
+answers_are_proper (command.SetInstructionBreakpoints arguments) table size view next sets narrow end lines =
+    if_few _ next (ltb 1024 (length arguments.breakpoints)) _
     (λ fit. (refl, alone _ (instructions_proper (instruction.judged size) next arguments.breakpoints (instruction_narrow size) fit)))
-answers_are_proper other table size view next sets narrow lines = cc
+answers_are_proper other table size view next sets narrow end lines = cc

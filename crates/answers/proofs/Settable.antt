@@ -1,29 +1,33 @@
 -- A list that an answer sets can be set: it is short enough, and each breakpoint stops at some hit.
-use Rattle.std.proofs.Common.{◌≡◌, ℕ, ◌≤◌, Bool, true, false, cond, ltb, leb, List, [], ◌∷◌, length, map, Option, Some, None, Result, Ok, Err, IfOk, IfSome, option_map, refl, sym, ap, subst, arith}
+use Rattle.std.proofs.Common.{◌≡◌, ℕ, ◌≤◌, Bool, true, false, ◌||◌, cond, ltb, leb, List, [], ◌∷◌, length, map, Option, Some, None, Result, Ok, Err, IfOk, IfSome, option_map, refl, sym, ap, subst, arith}
 use Rattle.std.specs.Prelude.{All}
 use Rattle.std.proofs.lemmas.Bool.{leb-true, ltb-false}
 use Rattle.std.proofs.lemmas.List.{length-map}
 use Rattle.std.specs.declared.alloc.AllocError.{AllocError}
+use Rattle.std.specs.List.{list_any}
 use Rattle.protocol.specs.declared.refusal.Refusal.TheVariants.{TooMuch}
-use Rattle.replies.specs.declared.response.ResponseBody.TheVariants.{SetInstructionBreakpoints}
-use Rattle.answers.specs.declared.problem.Problem.TheVariants.{BadHitCondition}
+use Rattle.replies.specs.declared.response.ResponseBody.TheVariants.{SetFunctionBreakpoints, SetInstructionBreakpoints}
+use Rattle.answers.specs.declared.problem.Problem.TheVariants.{BadAddress, BadHitCondition}
 use Rattle.std.proofs.lemmas.List.Elements.{All-cons, All-nil, All-head, All-tail}
 use Rattle.breakpoints.specs.Stops.{CanBeSet, Wanted, wanted_by}
 use Rattle.breakpoints.specs.declared.breakpoint.BreakSpec.{BreakSpec}
 use Rattle.expressions.specs.Trees.{Tree}
-use Rattle.image.specs.Lines.{Table, bind}
+use Rattle.image.specs.Lines.{Table, bind, label_address}
 use Rattle.numerals.specs.Numerals.{numeral}
 use Rattle.numerals.specs.declared.NumeralError.{NumeralError}
 use Rattle.protocol.specs.declared.set_breakpoints.SourceBreakpoint.{SourceBreakpoint}
 use Rattle.protocol.specs.declared.set_breakpoints.SetBreakpointsArguments.{SetBreakpointsArguments}
+use Rattle.protocol.specs.declared.set_function_breakpoints.FunctionBreakpoint.{FunctionBreakpoint}
+use Rattle.protocol.specs.declared.set_function_breakpoints.SetFunctionBreakpointsArguments as of_functions
 use Rattle.protocol.specs.declared.set_instruction_breakpoints.InstructionBreakpoint.{InstructionBreakpoint}
 use Rattle.protocol.specs.declared.set_instruction_breakpoints.SetInstructionBreakpointsArguments as given
 use Rattle.answers.specs.Answers.{answer_by}
 use Rattle.answers.specs.Breakpoints.{Answer, entries_of, followed_by, list_of, next_after}
 use Rattle.answers.specs.EditorLines.{line_in_image}
 use Rattle.answers.specs.SetBreakpoints as source
+use Rattle.answers.specs.SetFunctionBreakpoints as function
 use Rattle.answers.specs.SetInstructionBreakpoints as instruction
-use Rattle.answers.specs.Spaces.{said}
+use Rattle.answers.specs.Spaces.{said, trimmed}
 use Rattle.answers.specs.Conditions.{Conditions, both, condition_of, hit_of, if_positive, conditions_of}
 use Rattle.answers.specs.declared.breaks.BreakAnswer.{BreakAnswer}
 use Rattle.answers.specs.declared.problem.Problem.{Problem}
@@ -67,14 +71,14 @@ terms_positive : (condition hits : Option (List ℕ)) (conditions : Conditions) 
 terms_positive condition hits conditions e =
     hit_positive (said hits) conditions.hit (both_hit (condition_of (said condition)) (hit_of (said hits)) conditions e)
 
-source_placed : (conditions : Result Conditions Problem) (found : Option (ℕ × ℕ)) (place : source.Place)
-    → source.placed conditions found ≡ Ok place → conditions ≡ Ok place.conditions
-source_placed (Err problem) found place e = cc
-source_placed (Ok conditions) None place e = cc
-source_placed (Ok conditions) (Some found) place e =
+source_placed : (conditions : Result Conditions Problem) (found : Option (ℕ × ℕ)) (log : Option (List ℕ)) (place : source.Place)
+    → source.placed conditions found log ≡ Ok place → conditions ≡ Ok place.conditions
+source_placed (Err problem) found log place e = cc
+source_placed (Ok conditions) None log place e = cc
+source_placed (Ok conditions) (Some found) log place e =
     ap (λ (x : source.Place). Ok x.conditions)
-    (one_value (Ok (record { line = found.0; address = found.1; conditions = conditions }))
-    (record { line = found.0; address = found.1; conditions = conditions }) place refl e)
+    (one_value (Ok (record { line = found.0; address = found.1; conditions = conditions; log = log }))
+    (record { line = found.0; address = found.1; conditions = conditions; log = log }) place refl e)
 
 instruction_placed : (conditions : Result Conditions Problem) (found : Option ℕ) (place : instruction.Place)
     → instruction.placed conditions found ≡ Ok place → conditions ≡ Ok place.conditions
@@ -85,11 +89,25 @@ instruction_placed (Ok conditions) (Some found) place e =
     (one_value (Ok (record { address = found; conditions = conditions }))
     (record { address = found; conditions = conditions }) place refl e)
 
+-- a place that is kept only where an instruction can be
+function_placed : (size : ℕ) (conditions : Result Conditions Problem) (found : Option ℕ) (place : instruction.Place)
+    → function.placed size conditions found ≡ Ok place → conditions ≡ Ok place.conditions
+function_placed size (Err problem) found place e = cc
+function_placed size (Ok conditions) None place e = cc
+function_placed size (Ok conditions) (Some address) place e =
+    let made : instruction.Place = record { address = address; conditions = conditions } in
+    let P : Bool → Type 0 = λ v. cond v (Ok made) (Err BadAddress) ≡ Ok place → conditions ≡ place.conditions in
+    let go : P (instruction.is_instructions size address) = elim (instruction.is_instructions size address) as P [
+      | true ↦ λ f. ap (λ (x : instruction.Place). x.conditions) (one_value (Ok made) made place refl f)
+      | false ↦ λ f. absurd (no_value (Err BadAddress) BadAddress place refl f)
+    ] in ap (λ (x : Conditions). Ok x) (go e)
+
 source_positive : (own : Bool) (table : Table) (base : ℕ) (asked : SourceBreakpoint) (place : source.Place)
     → source.judged own table base asked ≡ Ok place → 1 ≤ place.conditions.hit
 source_positive true table base asked place e =
     terms_positive asked.condition asked.hit_condition place.conditions
-    (source_placed (conditions_of asked.condition asked.hit_condition) (bind table (line_in_image base asked.line)) place e)
+    (source_placed (conditions_of asked.condition asked.hit_condition) (bind table (line_in_image base asked.line))
+    (source.written asked.log_message) place e)
 source_positive false table base asked place e = cc
 
 instruction_positive : (size : ℕ) (asked : InstructionBreakpoint) (place : instruction.Place) → instruction.judged size asked ≡ Ok place
@@ -97,6 +115,12 @@ instruction_positive : (size : ℕ) (asked : InstructionBreakpoint) (place : ins
 instruction_positive size asked place e =
     terms_positive asked.condition asked.hit_condition place.conditions
     (instruction_placed (conditions_of asked.condition asked.hit_condition) (instruction.asked_address size asked) place e)
+
+function_positive : (table : Table) (size : ℕ) (asked : FunctionBreakpoint) (place : instruction.Place)
+    → function.judged table size asked ≡ Ok place → 1 ≤ place.conditions.hit
+function_positive table size asked place e =
+    terms_positive asked.condition asked.hit_condition place.conditions
+    (function_placed size (conditions_of asked.condition asked.hit_condition) (label_address table (trimmed asked.name)) place e)
 
 -- ---- lists
 
@@ -122,12 +146,22 @@ all_reachable : {A P : Type 0} (judged : A → Result P Problem) (wanted : ℕ �
 all_reachable judged wanted next [] h = All-nil (λ w. 1 ≤ w.hit)
 all_reachable {P = P} judged wanted next (one ∷ others) h =
     one_more (judged one) refl (all_reachable judged wanted (next_after next (judged one)) others h) where
-      one_more : (found : Result P Problem) → judged one ≡ found → All (λ w. 1 ≤ w.hit) (list_of judged wanted (next_after next found) others)
+      one_more : (found : Result P Problem) → judged one ≡ found
+          → All (λ w. 1 ≤ w.hit) (list_of judged wanted (next_after next found) others)
           → All (λ w. 1 ≤ w.hit) (followed_by wanted next found (list_of judged wanted (next_after next found) others))
       one_more (Ok place) e r = All-cons (λ w. 1 ≤ w.hit) (wanted next place) _ (h next one place e) r
       one_more (Err problem) e r = r
 
 -- ---- the lists of answers
+
+first_false : (a b : Bool) → (a || b) ≡ false → a ≡ false
+first_false true b e = cc
+first_false false b e = refl
+
+-- where no more is asked for than may be, there are no more than 1,024
+pub not_too_many : (asked : List SourceBreakpoint) → source.is_too_much asked ≡ false → length asked ≤ 1024
+not_too_many asked e =
+    ltb-false 1024 (length asked) (first_false (ltb 1024 (length asked)) (list_any (λ one. source.is_long one.log_message) asked) e)
 
 pub source_settable : (table : Table) (view : View) (next : ℕ) (arguments : SetBreakpointsArguments)
     → IfSome (source.set_breakpoints table view next arguments).list IsSettable
@@ -135,12 +169,12 @@ source_settable table view next arguments =
     let asked = arguments.breakpoints in
     let of_list : (own : Bool) → length asked ≤ 1024
     → IfSome (source.of_source own table view next asked).list IsSettable = λ own few. by own few in
-    let P : Bool → Type 0 = λ v. ltb 1024 (length asked) ≡ v
+    let P : Bool → Type 0 = λ v. source.is_too_much asked ≡ v
     → IfSome (cond v (record { result = Err TooMuch; list = None })
     (source.of_source (source.is_own view.path arguments.source.path) table view next asked)).list IsSettable in
-    let go : P (ltb 1024 (length asked)) = elim (ltb 1024 (length asked)) as P [
+    let go : P (source.is_too_much asked) = elim (source.is_too_much asked) as P [
       | true ↦ λ v. tt
-      | false ↦ λ v. of_list (source.is_own view.path arguments.source.path) (ltb-false 1024 (length asked) v)
+      | false ↦ λ v. of_list (source.is_own view.path arguments.source.path) (not_too_many asked v)
     ] in go refl
   where
     by : (own : Bool) → length arguments.breakpoints ≤ 1024
@@ -168,6 +202,26 @@ instruction_settable size next arguments =
       result = Ok
           (SetInstructionBreakpoints (record { breakpoints = entries_of (instruction.judged size) instruction.entry next asked }));
       list = Some (list_of (instruction.judged size) instruction.wanted next asked);
+    } in
+    let P : Bool → Type 0 = λ v. ltb 1024 (length asked) ≡ v
+    → IfSome (cond v (record { result = Err TooMuch; list = None }) made).list IsSettable in
+    let go : P (ltb 1024 (length asked)) = elim (ltb 1024 (length asked)) as P [
+      | true ↦ λ v. tt
+      | false ↦ λ v. of_list (ltb-false 1024 (length asked) v)
+    ] in go refl
+
+pub function_settable : (table : Table) (size next : ℕ) (arguments : of_functions.SetFunctionBreakpointsArguments)
+    → IfSome (function.set_function_breakpoints table size next arguments).list IsSettable
+function_settable table size next arguments =
+    let asked = arguments.breakpoints in
+    let judged = function.judged table size in
+    let of_list : length asked ≤ 1024 → IsSettable (list_of judged instruction.wanted next asked) = λ few. record {
+      few = let short = no_longer judged instruction.wanted next asked in omega (arith, few, short);
+      reachable = all_reachable judged instruction.wanted next asked (λ n one place e. function_positive table size one place e);
+    } in
+    let made : Answer = record {
+      result = Ok (SetFunctionBreakpoints (record { breakpoints = entries_of judged instruction.entry next asked }));
+      list = Some (list_of judged instruction.wanted next asked);
     } in
     let P : Bool → Type 0 = λ v. ltb 1024 (length asked) ≡ v
     → IfSome (cond v (record { result = Err TooMuch; list = None }) made).list IsSettable in

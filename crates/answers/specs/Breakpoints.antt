@@ -9,13 +9,14 @@ use Rattle.replies.specs.declared.response.ResponseBody.{ResponseBody}
 use Rattle.protocol.specs.declared.refusal.Refusal.{Refusal}
 use Rattle.answers.specs.declared.problem.Problem.{Problem}
 use Rattle.answers.specs.declared.problem.Problem.TheVariants.{UnknownSource, BadCondition, BadHitCondition}
-use Rattle.answers.specs.declared.problem.Problem.TheVariants.{NoCode, BadAddress}
+use Rattle.answers.specs.declared.problem.Problem.TheVariants.{UnknownFunction, NoCode, BadAddress}
 
 -- why a breakpoint is not set, as the editor shows it
 abbrev pub message_of : Problem → List ℕ
 message_of UnknownSource = codes "unknown source"
 message_of BadCondition = codes "bad condition"
 message_of BadHitCondition = codes "bad hit condition"
+message_of UnknownFunction = codes "unknown function"
 message_of NoCode = codes "no code at or after this line"
 message_of BadAddress = codes "bad address"
 

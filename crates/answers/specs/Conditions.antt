@@ -1,5 +1,5 @@
--- The texts of a breakpoint (DAP specification, `SourceBreakpoint`, `InstructionBreakpoint`: `condition`,
--- `hitCondition`).
+-- The texts of a breakpoint (DAP specification, `SourceBreakpoint`, `FunctionBreakpoint`, `InstructionBreakpoint`:
+-- `condition`, `hitCondition`).
 --
 -- A condition is an expression. A hit condition is a number from 1 to 4,294,967,295, in decimal digits: from that hit
 -- on the breakpoint stops, and from the first one where there is none. The condition is looked at first.

@@ -1,10 +1,10 @@
 -- What the definitions promise.
-use Rattle.std.specs.Prelude.{codes, true, All, IfOk, IfSome, ◌^◌}
+use Rattle.std.specs.Prelude.{codes, true, false, All, IfOk, IfSome, ◌^◌}
 use Rattle.std.specs.Prelude.{◌≡◌, ◌↔◌, ℕ, ◌+◌, ◌<◌, ◌≤◌, IsTrue, List, [], ◌∷◌, length, map, slice_index}
 use Rattle.std.specs.Prelude.{Option, Some, None, Result, Ok, ℤ, pos, ◌+ℤ◌, ◌*◌, slice_get}
 use Rattle.expressions.specs.Trees.{Tree}
 use Rattle.image.specs.Lines.{Table, line_in, start_of}
-use Rattle.image.specs.Memory.{byte_at, fault_at}
+use Rattle.image.specs.Memory.{byte_at, fault_at, first_address}
 use Rattle.protocol.specs.Commands.{name_of}
 use Rattle.protocol.specs.Laws.{AsksLinesWithin}
 use Rattle.protocol.specs.declared.command.Command.{Command}
@@ -17,12 +17,13 @@ use Rattle.replies.specs.declared.response.Outcome.TheVariants.{Done}
 use Rattle.replies.specs.declared.response.ResponseBody.{ResponseBody}
 use Rattle.replies.specs.declared.read_memory.ReadMemory.{ReadMemory}
 use Rattle.replies.specs.declared.response.ResponseBody.TheVariants.{ReadMemory as Bytes}
-use Rattle.replies.specs.declared.response.ResponseBody.TheVariants.{SetBreakpoints, SetInstructionBreakpoints}
+use Rattle.replies.specs.declared.response.ResponseBody.TheVariants.{SetBreakpoints, SetFunctionBreakpoints}
+use Rattle.replies.specs.declared.response.ResponseBody.TheVariants.{SetInstructionBreakpoints}
 use Rattle.replies.specs.declared.set_breakpoints.SourceBreakpoint as at_line
 use Rattle.replies.specs.declared.set_breakpoints.SourceBreakpoint.TheVariants as line
 use Rattle.replies.specs.declared.set_instruction_breakpoints.InstructionBreakpoint as at_instruction
 use Rattle.replies.specs.declared.set_instruction_breakpoints.InstructionBreakpoint.TheVariants as instruction
-use Rattle.answers.specs.Answers.{breaks_answer, count_asked, sets_breakpoints}
+use Rattle.answers.specs.Answers.{asks_too_much, breaks_answer, count_asked, sets_breakpoints}
 use Rattle.breakpoints.specs.Stops.{Wanted}
 use Rattle.rv32i.specs.Texts.{IsTextOf}
 use Rattle.answers.specs.Disassemble.{disassemble, entries_from, entry}
@@ -80,12 +81,14 @@ set_at_instructions ((instruction.Unverified message) ∷ others) = set_at_instr
 
 abbrev pub set_by_body : Result ResponseBody Refusal → List (ℕ × ℕ)
 set_by_body (Ok (SetBreakpoints body)) = set_at_lines body.breakpoints
+set_by_body (Ok (SetFunctionBreakpoints body)) = set_at_instructions body.breakpoints
 set_by_body (Ok (SetInstructionBreakpoints body)) = set_at_instructions body.breakpoints
 set_by_body other = []
 
 -- how many entries it has
 abbrev pub entries_in : Result ResponseBody Refusal → ℕ
 entries_in (Ok (SetBreakpoints body)) = length body.breakpoints
+entries_in (Ok (SetFunctionBreakpoints body)) = length body.breakpoints
 entries_in (Ok (SetInstructionBreakpoints body)) = length body.breakpoints
 entries_in other = 0
 
@@ -106,10 +109,10 @@ NumbersFollowEachOther = (command : Command) (table : Table) (size : ℕ) (view 
     k < length (those_set (breaks_answer command table size view next).list) →
     slice_index (map (λ w. w.id) (those_set (breaks_answer command table size view next).list)) k ≡ next + k
 
--- Each breakpoint that is asked for has an entry, where there are no more than 1,024.
+-- Each breakpoint that is asked for has an entry, where no more is asked for than may be.
 abbrev pub EachHasItsEntry : Type 0
 EachHasItsEntry = (command : Command) (table : Table) (size : ℕ) (view : View) (next : ℕ) →
-    IsTrue (sets_breakpoints command) → count_asked command ≤ 1024 →
+    IsTrue (sets_breakpoints command) → asks_too_much command ≡ false →
     entries_in (breaks_answer command table size view next).result ≡ count_asked command
 
 -- ---- answers that can be sent
@@ -123,10 +126,10 @@ pub record IsNarrow (table : Table) : Type 0 where
 abbrev pub NumbersFit : ℕ → Option (List Wanted) → Type 0
 NumbersFit next list = IfSome list (λ list. next + length list ≤ 2 ^ 32)
 
--- The body is that of the request, and its numbers are in their ranges.
+-- The body is that of the request, and its numbers are in their ranges, where the end of memory is an address.
 abbrev pub AnswersAreProper : Type 0
 AnswersAreProper = (command : Command) (table : Table) (size : ℕ) (view : View) (next : ℕ) →
-    IsTrue (sets_breakpoints command) → IsNarrow table → AsksLinesWithin command →
+    IsTrue (sets_breakpoints command) → IsNarrow table → first_address + size < 2 ^ 32 → AsksLinesWithin command →
     NumbersFit next (breaks_answer command table size view next).list →
     IfOk (breaks_answer command table size view next).result (λ body. IsOutcomeOf (name_of command) (Done body))
 

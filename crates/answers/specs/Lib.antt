@@ -9,6 +9,8 @@ pub mod Conditions
 pub mod EditorLines
 -- a request for breakpoints at lines
 pub mod SetBreakpoints
+-- a request for breakpoints at functions
+pub mod SetFunctionBreakpoints
 -- a request for breakpoints at instructions
 pub mod SetInstructionBreakpoints
 -- ---- what a request that looks into a stopped machine answers

@@ -45,20 +45,26 @@ asked_address size asked = if_instructions size (address_in asked.instruction_re
 abbrev pub judged : ℕ → InstructionBreakpoint → Result Place Problem
 judged size asked = placed (conditions_of asked.condition asked.hit_condition) (asked_address size asked)
 
--- what is said of it; `id` is its number where it is set
+-- what is said of one that is asked for; `id` is its number where it is set
 abbrev pub verified : ℕ → Place → replied.InstructionBreakpoint
 verified id place = Verified id place.address
 
 abbrev pub unverified : Problem → replied.InstructionBreakpoint
 unverified problem = Unverified (message_of problem)
 
-abbrev pub entry : ℕ → InstructionBreakpoint → Result Place Problem → replied.InstructionBreakpoint
+abbrev pub entry : {A : Type 0} → ℕ → A → Result Place Problem → replied.InstructionBreakpoint
 entry id asked (Ok place) = verified id place
 entry id asked (Err problem) = unverified problem
 
 abbrev pub wanted : ℕ → Place → Wanted
 wanted id place =
-    record { id = id; address = place.address; condition = place.conditions.condition; hit = place.conditions.hit }
+    record {
+      id = id;
+      address = place.address;
+      condition = place.conditions.condition;
+      hit = place.conditions.hit;
+      log = None;
+    }
 
 -- the answer, with a memory of so many bytes
 abbrev pub set_instruction_breakpoints : ℕ → ℕ → given.SetInstructionBreakpointsArguments → Answer

@@ -33,12 +33,17 @@ conditions_by (Ok conditions) = Ok (conditions_in conditions)
 conditions_by (Err problem) = Err problem
 
 -- where a breakpoint can be set
-abbrev pub source_place_in : source_place.Place → source.Place
-source_place_in place = record { line = place.line; address = place.address; conditions = conditions_in place.conditions }
+abbrev pub source_place_in : source_place.Place → Option (List ℕ) → source.Place
+source_place_in place log = record {
+  line = place.line;
+  address = place.address;
+  conditions = conditions_in place.conditions;
+  log = log;
+}
 
-abbrev pub source_place_by : Result source_place.Place Problem → Result source.Place Problem
-source_place_by (Ok place) = Ok (source_place_in place)
-source_place_by (Err problem) = Err problem
+abbrev pub source_place_by : Result source_place.Place Problem → Option (List ℕ) → Result source.Place Problem
+source_place_by (Ok place) log = Ok (source_place_in place log)
+source_place_by (Err problem) log = Err problem
 
 abbrev pub instruction_place_in : instruction_place.Place → instruction.Place
 instruction_place_in place = record { address = place.address; conditions = conditions_in place.conditions }

@@ -3,7 +3,7 @@
 ghost use Rattle.std.specs.Prelude.{◌≡◌, ◌+◌, ◌<◌, ◌^◌, ◌∷◌, ◌++◌, [], IfOk, OnOk};
 
 use crate::conditions::Conditions;
-use breakpoints::BreakSpec;
+use breakpoints::{BreakSpec, LogText};
 use std::alloc::{AllocError, Global};
 
 /// The breakpoints to be set so far, and the number of the next one.
@@ -25,8 +25,13 @@ impl Draft {
         }
     }
 
-    /// Adds a breakpoint at an address, and answers its number. It fails where no memory is left.
-    pub(crate) fn add(&mut self, address: u32, conditions: Conditions) -> Result<u32, AllocError>
+    /// Adds a breakpoint at an address, a logpoint where there is a text, and answers its number. It fails where no memory is left.
+    pub(crate) fn add(
+        &mut self,
+        address: u32,
+        conditions: Conditions,
+        log: Option<LogText>,
+    ) -> Result<u32, AllocError>
         requires { self.old.next_id + 1 < 2 ^ 32 }
         ensures id { IfOk result (λ id. id ≡ self.old.next_id) }
         ensures next { OnOk result (self.new.next_id ≡ self.old.next_id + 1) }
@@ -37,6 +42,7 @@ impl Draft {
               address = address;
               condition = conditions.condition;
               hit = conditions.hit;
+              log = log;
             } ∷ []) }
     {
         let id = self.next_id;
@@ -45,6 +51,7 @@ impl Draft {
             address,
             condition: conditions.condition,
             hit: conditions.hit,
+            log,
         })?;
         self.next_id = id + 1;
         Ok(id)

@@ -32,13 +32,13 @@ pub fn numbers_follow_each_other()
     ensures { NumbersFollowEachOther }
 {}
 
-/// Each breakpoint that is asked for has an entry, where they are not too many.
+/// Each breakpoint that is asked for has an entry, where no more is asked for than may be.
 pub fn each_has_its_entry()
     ensures { EachHasItsEntry }
 {}
 
 /// The body is that of the request, and its numbers are in their ranges, where those of the line table, of the request and of the
-/// breakpoints that are set are.
+/// breakpoints that are set are, and the end of memory is an address.
 pub fn answers_are_proper()
     ensures { AnswersAreProper }
 {}

@@ -17,6 +17,7 @@ mod problem;
 pub mod read_memory;
 mod scopes;
 mod set_breakpoints;
+mod set_function_breakpoints;
 mod set_instruction_breakpoints;
 pub mod set_variable;
 mod shown;

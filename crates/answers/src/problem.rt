@@ -15,9 +15,11 @@ pub(crate) enum Problem {
     BadCondition,
     /// The hit condition is no number from 1 to 4,294,967,295.
     BadHitCondition,
+    /// The function's name is no label.
+    UnknownFunction,
     /// No line from the asked one on has code.
     NoCode,
-    /// The reference is none, or an address outside memory or at no multiple of 4.
+    /// The reference is none, or it or the label is an address outside memory or at no multiple of 4.
     BadAddress,
 }
 
@@ -36,6 +38,7 @@ impl Problem {
             Problem::UnknownSource => "unknown source",
             Problem::BadCondition => "bad condition",
             Problem::BadHitCondition => "bad hit condition",
+            Problem::UnknownFunction => "unknown function",
             Problem::NoCode => "no code at or after this line",
             Problem::BadAddress => "bad address",
         }

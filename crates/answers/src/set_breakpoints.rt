@@ -1,6 +1,7 @@
 //! `setBreakpoints`: the breakpoints at the lines of a source.
 
-ghost use Rattle.std.specs.Prelude.{◌≡◌, ◌+◌, ◌<◌, ◌≤◌, ◌^◌, ◌++◌, IfOk, IsTrue, OnOk, OnErr, length};
+ghost use Rattle.std.specs.Prelude.{◌≡◌, ◌+◌, ◌<◌, ◌≤◌, ◌^◌, ◌++◌, ℕ, List, Option, false, IfOk, IsTrue, OnOk, OnErr, length, option_copied};
+ghost use Rattle.std.specs.List.{list_any};
 ghost use Rattle.answers.specs.Answers.{answer_by};
 ghost use Rattle.answers.specs.Breakpoints.{entries_of, list_of};
 ghost use Rattle.answers.specs.Conditions.{MayTakeMemory};
@@ -13,11 +14,16 @@ use crate::conditions::{Conditions, conditions_of};
 use crate::draft::Draft;
 use crate::editor_lines::{line_in_editor, line_in_image};
 use crate::problem::Problem;
+use crate::spaces::unless_empty;
 use crate::view::View;
+use breakpoints::LogText;
 use image::LineTable;
 use protocol::{Entries, Refusal, SetBreakpointsArguments, SourceBreakpoint, Text};
 use replies::{ResponseBody, SetBreakpoints};
 use std::alloc::{AllocError, Global};
+
+/// The most bytes that a logpoint may write.
+const MOST_BYTES: usize = 1024;
 
 /// Where a breakpoint can be set.
 #[derive(Drop)]
@@ -29,8 +35,9 @@ struct Place {
     conditions: Conditions,
 }
 
-/// The answer, with this number for the first breakpoint that is set. More than 1,024 breakpoints are refused as too many, and where the
-/// source is not the program's, no list is to be set. It fails where no memory is left.
+/// The answer, with this number for the first breakpoint that is set. More than 1,024 breakpoints are refused as too many, and so is
+/// a logpoint that is to write more than 1,024 bytes; where the source is not the program's, no list is to be set. It fails where no
+/// memory is left.
 pub(crate) fn answer(
     alloc: Global,
     arguments: &SetBreakpointsArguments,
@@ -43,10 +50,10 @@ pub(crate) fn answer(
     ensures answer { IfOk result
         (λ answer. answer_by answer
         ≡ spec.set_breakpoints lines.now view.now next_id arguments.now) }
-    ensures few { OnErr result (length arguments.now.breakpoints ≤ 1024) }
+    ensures few { OnErr result (spec.is_too_much arguments.now.breakpoints ≡ false) }
 {
     let asked = arguments.breakpoints.as_slice();
-    if asked.len() > MOST {
+    if is_too_much(asked) {
         return Ok(BreakAnswer {
             result: Err(Refusal::TooMuch),
             list: None,
@@ -54,6 +61,31 @@ pub(crate) fn answer(
     }
     let own = is_own(view.path.as_str(), &arguments.source.path);
     of_source(alloc, own, lines, view, next_id, asked)
+}
+
+// Whether too much is asked for.
+fn is_too_much(asked: &[SourceBreakpoint]) -> bool
+    ensures { result ≡ spec.is_too_much asked.now }
+{
+    asked.len() > MOST || has_long(asked)
+}
+
+// Whether a logpoint is to write more than may be.
+fn has_long(asked: &[SourceBreakpoint]) -> bool
+    ensures { result ≡ list_any (λ one. spec.is_long one.log_message) asked.now }
+{
+    asked
+        .iter()
+        .any(|breakpoint| is_long(&breakpoint.log_message))
+}
+
+fn is_long(log_message: &Option<Text>) -> bool
+    ensures { result ≡ spec.is_long log_message.now }
+{
+    match log_message {
+        None => false,
+        Some(text) => text.as_str().len() > MOST_BYTES,
+    }
 }
 
 // Whether a source is the program's.
@@ -137,20 +169,29 @@ fn entry(
         (Takes spec.wanted (spec.judged own lines.now base asked.now) draft.old draft.new) }
 {
     match judged(alloc, own, lines, base, asked)? {
-        Ok(place) => set(draft, base, place),
+        Ok(place) => set(alloc, draft, base, place, written(&asked.log_message)),
         Err(problem) => unset(alloc, asked.line, problem),
     }
 }
 
-fn set(draft: &mut Draft, base: u32, place: Place) -> Result<replies::SourceBreakpoint, AllocError>
+fn set(
+    alloc: Global,
+    draft: &mut Draft,
+    base: u32,
+    place: Place,
+    log: Option<&str>,
+) -> Result<replies::SourceBreakpoint, AllocError>
     requires base { base ≤ 1 }
     requires room { draft.old.next_id + 1 < 2 ^ 32 }
     ensures entry { IfOk result
-        (λ entry. entry ≡ spec.verified base draft.old.next_id (source_place_in place)) }
+        (λ entry. entry ≡ spec.verified base draft.old.next_id
+        (source_place_in place (option_copied log.entry))) }
     ensures takes { OnOk result
-        (Takes spec.wanted (Ok (source_place_in place)) draft.old draft.new) }
+        (Takes spec.wanted (Ok (source_place_in place (option_copied log.entry)))
+        draft.old draft.new) }
 {
-    let id = draft.add(place.address, place.conditions)?;
+    let log = log_text(alloc, log)?;
+    let id = draft.add(place.address, place.conditions, log)?;
     Ok(replies::SourceBreakpoint::Verified {
         id,
         instruction_reference: place.address,
@@ -171,6 +212,26 @@ fn unset(
     })
 }
 
+// What a logpoint writes; `None` where it is absent or empty.
+fn written(log_message: &Option<Text>) -> Option<&str>
+    ensures { option_copied result ≡ spec.written log_message.now }
+{
+    match log_message {
+        None => None,
+        Some(text) => unless_empty(text.as_str()),
+    }
+}
+
+// A copy of it.
+fn log_text(alloc: Global, text: Option<&str>) -> Result<Option<LogText>, AllocError>
+    ensures { IfOk result (λ log. log ≡ option_copied text.entry) }
+{
+    match text {
+        None => Ok(None),
+        Some(text) => Ok(Some(LogText::new(String::from_str(alloc, text)?))),
+    }
+}
+
 // Whether a breakpoint can be set, and where.
 fn judged(
     alloc: Global,
@@ -181,7 +242,8 @@ fn judged(
 ) -> Result<Result<Place, Problem>, AllocError>
     requires { base ≤ 1 }
     ensures found { IfOk result
-        (λ found. source_place_by found ≡ spec.judged own lines.now base asked.now) }
+        (λ found. source_place_by found (spec.written asked.now.log_message)
+        ≡ spec.judged own lines.now base asked.now) }
     ensures own { OnErr result (IsTrue own) }
     ensures short { OnErr result (MayTakeMemory (said asked.now.condition)) }
 {
@@ -195,7 +257,8 @@ fn judged(
 }
 
 fn placed(conditions: Conditions, found: Option<(u32, u32)>) -> Result<Place, Problem>
-    ensures { source_place_by result ≡ spec.placed (Ok (conditions_in conditions)) found }
+    ensures { (log : Option (List ℕ)) → source_place_by result log
+        ≡ spec.placed (Ok (conditions_in conditions)) found log }
 {
     match found {
         None => Err(Problem::NoCode),

@@ -20,10 +20,10 @@ use std::alloc::{AllocError, Global};
 
 /// Where a breakpoint can be set.
 #[derive(Drop)]
-struct Place {
+pub(crate) struct Place {
     /// The address of the instruction.
-    address: u32,
-    conditions: Conditions,
+    pub(crate) address: u32,
+    pub(crate) conditions: Conditions,
 }
 
 /// The answer, with a memory of so many bytes and this number for the first breakpoint that is set. More than 1,024 breakpoints are
@@ -98,21 +98,29 @@ fn entry(
     }
 }
 
-fn set(draft: &mut Draft, place: Place) -> Result<replies::InstructionBreakpoint, AllocError>
+/// It is set: it is added to the draft. What is said of it has its number. It fails where no memory is left.
+pub(crate) fn set(
+    draft: &mut Draft,
+    place: Place,
+) -> Result<replies::InstructionBreakpoint, AllocError>
     requires { draft.old.next_id + 1 < 2 ^ 32 }
     ensures entry { IfOk result
         (λ entry. entry ≡ spec.verified draft.old.next_id (instruction_place_in place)) }
     ensures takes { OnOk result
         (Takes spec.wanted (Ok (instruction_place_in place)) draft.old draft.new) }
 {
-    let id = draft.add(place.address, place.conditions)?;
+    let id = draft.add(place.address, place.conditions, None)?;
     Ok(replies::InstructionBreakpoint::Verified {
         id,
         instruction_reference: place.address,
     })
 }
 
-fn unset(alloc: Global, problem: Problem) -> Result<replies::InstructionBreakpoint, AllocError>
+/// It is not set, for this reason. It fails where no memory is left.
+pub(crate) fn unset(
+    alloc: Global,
+    problem: Problem,
+) -> Result<replies::InstructionBreakpoint, AllocError>
     ensures { IfOk result (λ entry. entry ≡ spec.unverified problem) }
 {
     Ok(replies::InstructionBreakpoint::Unverified {
@@ -159,8 +167,8 @@ fn instruction_at(size: u32, asked: &InstructionBreakpoint) -> Option<u32>
     }
 }
 
-// Whether an instruction can be at an address.
-fn is_instructions(size: u32, address: u32) -> bool
+/// Whether an instruction can be at an address.
+pub(crate) fn is_instructions(size: u32, address: u32) -> bool
     ensures { result ≡ spec.is_instructions size address }
 {
     address >= FIRST_ADDRESS && address - FIRST_ADDRESS < size && address % 4 == 0

@@ -15,13 +15,15 @@ pub(crate) fn said(argument: &Option<Text>) -> Option<&str>
     }
 }
 
-fn unless_empty(text: &str) -> Option<&str>
+/// The text; `None` where it is empty.
+pub(crate) fn unless_empty(text: &str) -> Option<&str>
     ensures { option_copied result ≡ unless_empty text.now }
 {
     if text.is_empty() { None } else { Some(text) }
 }
 
-fn trimmed(text: &str) -> &str
+/// The text without the spaces (U+0020) round it.
+pub(crate) fn trimmed(text: &str) -> &str
     ensures { result.now ≡ trimmed text.now }
 {
     without_trailing_spaces(without_leading_spaces(text))

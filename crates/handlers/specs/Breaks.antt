@@ -1,15 +1,16 @@
 -- What comes of a request that sets breakpoints (DAP specification, `SetBreakpointsRequest`,
--- `SetInstructionBreakpointsRequest`).
+-- `SetFunctionBreakpointsRequest`, `SetInstructionBreakpointsRequest`).
 --
--- The request is answered by what there is of the program: its line table, the path of its file and the size of its
+-- The request is answered by what there is of the program: its lines and labels, the path of its file and the size of its
 -- memory. Breakpoints that are set get the next numbers, which rise for as long as the server lives. Where they would
 -- pass the greatest number, nothing is set.
 use Rattle.std.specs.Prelude.{ℕ, ◌+◌, nat_lt, false, if◌then◌else◌, List, [], length, Option, Some, None, Result, Ok, Err}
 use Rattle.answers.specs.Answers.{breaks_answer}
 use Rattle.breakpoints.specs.Stops.{Wanted}
-use Rattle.debuggee.specs.Programs.{Program, on_program, with_instructions, with_source}
+use Rattle.debuggee.specs.Programs.{Program, on_program, with_functions, with_instructions, with_source}
 use Rattle.protocol.specs.declared.command.Command.{Command}
-use Rattle.protocol.specs.declared.command.Command.TheVariants.{SetBreakpoints, SetInstructionBreakpoints}
+use Rattle.protocol.specs.declared.command.Command.TheVariants.{SetBreakpoints, SetFunctionBreakpoints}
+use Rattle.protocol.specs.declared.command.Command.TheVariants.{SetInstructionBreakpoints}
 use Rattle.protocol.specs.declared.refusal.Refusal.{Refusal}
 use Rattle.protocol.specs.declared.refusal.Refusal.TheVariants.{ReferencesExhausted}
 use Rattle.replies.specs.declared.response.Outcome.TheVariants.{Done}
@@ -28,6 +29,7 @@ pub record Numbered : Type 0 where
 -- the program with this list in place of the one of the same kind
 abbrev pub with_list : Command → List Wanted → Program → Program
 with_list (SetBreakpoints arguments) list p = with_source list p
+with_list (SetFunctionBreakpoints arguments) list p = with_functions list p
 with_list (SetInstructionBreakpoints arguments) list p = with_instructions list p
 with_list other list p = p
 

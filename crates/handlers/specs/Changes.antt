@@ -1,7 +1,7 @@
 -- What the code of an answer changes, and the answer that it stands for.
 use Rattle.std.specs.Prelude.{List, [], ◌∷◌, length, Option, Some, None, ⊤}
-use Rattle.debuggee.specs.Programs.{Debuggee, Program, ended, first_run, left, marked, on_program, restarted, resumed, with_instructions}
-use Rattle.debuggee.specs.Programs.{with_hart, with_program, with_source, written}
+use Rattle.debuggee.specs.Programs.{Debuggee, Program, ended, first_run, left, marked, on_program, restarted, resumed, with_functions}
+use Rattle.debuggee.specs.Programs.{with_hart, with_instructions, with_program, with_source, written}
 use Rattle.image.specs.Memory.{NeedsPage}
 use Rattle.replies.specs.declared.event.Event.{Event as AnEvent}
 use Rattle.handlers.specs.declared.answer.Answer.{Answer as AnAnswer}
@@ -44,6 +44,8 @@ changed (change.SetSource breaks) d =
     record { program = on_program (with_source breaks.list) d.program; last_break = breaks.last }
 changed (change.SetInstructions breaks) d =
     record { program = on_program (with_instructions breaks.list) d.program; last_break = breaks.last }
+changed (change.SetFunctions breaks) d =
+    record { program = on_program (with_functions breaks.list) d.program; last_break = breaks.last }
 changed (change.Issue targets) d = d
 changed (change.OfProgram c) d = with_program (changed_one c) d
 
@@ -68,6 +70,7 @@ call_of change.Nothing = None
 call_of (change.Load program) = None
 call_of (change.SetSource breaks) = None
 call_of (change.SetInstructions breaks) = None
+call_of (change.SetFunctions breaks) = None
 call_of (change.Issue targets) = Some (Issue targets.items)
 call_of (change.OfProgram c) = call_of_one c
 

@@ -28,9 +28,10 @@ pub mod SetExceptionBreakpoints
 pub mod Continue
 pub mod Stepping
 pub mod Pause
--- what sets breakpoints, and the two requests that do
+-- what sets breakpoints, and the three requests that do
 pub mod Breaks
 pub mod SetBreakpoints
+pub mod SetFunctionBreakpoints
 pub mod SetInstructionBreakpoints
 -- what looks into the program, and the two requests that set something in it
 pub mod Looking

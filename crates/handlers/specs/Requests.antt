@@ -6,7 +6,8 @@ use Rattle.std.specs.Prelude.{ℕ, Bool, List, Option}
 use Rattle.protocol.specs.declared.command.Command.{Command}
 use Rattle.protocol.specs.declared.command.Command.TheVariants.{Initialize, Launch, Attach, ConfigurationDone, Threads, Cancel}
 use Rattle.protocol.specs.declared.command.Command.TheVariants.{Restart, Terminate, Disconnect, SetExceptionBreakpoints}
-use Rattle.protocol.specs.declared.command.Command.TheVariants.{SetBreakpoints, SetInstructionBreakpoints}
+use Rattle.protocol.specs.declared.command.Command.TheVariants.{SetBreakpoints, SetFunctionBreakpoints}
+use Rattle.protocol.specs.declared.command.Command.TheVariants.{SetInstructionBreakpoints}
 use Rattle.protocol.specs.declared.command.Command.TheVariants.{Continue, Next, StepIn, StepOut, Pause}
 use Rattle.protocol.specs.declared.command.Command.TheVariants.{StackTrace, Scopes, Variables, SetVariable, Evaluate}
 use Rattle.protocol.specs.declared.command.Command.TheVariants.{Disassemble, ReadMemory, WriteMemory}
@@ -27,6 +28,7 @@ use Rattle.handlers.specs.Restart as restart
 use Rattle.handlers.specs.Terminate as terminate
 use Rattle.handlers.specs.Disconnect as disconnect
 use Rattle.handlers.specs.SetBreakpoints as set_breakpoints
+use Rattle.handlers.specs.SetFunctionBreakpoints as set_function_breakpoints
 use Rattle.handlers.specs.SetInstructionBreakpoints as set_instruction_breakpoints
 use Rattle.handlers.specs.SetExceptionBreakpoints as set_exception_breakpoints
 use Rattle.handlers.specs.Continue as continue
@@ -48,6 +50,7 @@ demand_of Restart = restart.demand
 demand_of Terminate = terminate.demand
 demand_of (Disconnect arguments) = disconnect.demand
 demand_of (SetBreakpoints arguments) = set_breakpoints.demand
+demand_of (SetFunctionBreakpoints arguments) = set_function_breakpoints.demand
 demand_of (SetInstructionBreakpoints arguments) = set_instruction_breakpoints.demand
 demand_of SetExceptionBreakpoints = set_exception_breakpoints.demand
 demand_of (Continue arguments) = continue.demand arguments.thread_id
@@ -80,6 +83,8 @@ success_of given terms file Restart = restart.success given terms
 success_of given terms file Terminate = terminate.success given terms
 success_of given terms file (Disconnect arguments) = disconnect.success given terms arguments
 success_of given terms file (SetBreakpoints arguments) = set_breakpoints.success given terms arguments
+success_of given terms file (SetFunctionBreakpoints arguments) =
+    set_function_breakpoints.success given terms arguments
 success_of given terms file (SetInstructionBreakpoints arguments) =
     set_instruction_breakpoints.success given terms arguments
 success_of given terms file SetExceptionBreakpoints = set_exception_breakpoints.success given terms

@@ -6,6 +6,7 @@ use Rattle.debuggee.specs.declared.run.Why.{Why}
 use Rattle.debuggee.specs.declared.run.Why.TheVariants as why
 use Rattle.replies.specs.declared.event.Event.{Event}
 use Rattle.replies.specs.declared.event.Event.TheVariants as event
+use Rattle.replies.specs.declared.output.Category.TheVariants.{Console, Stdout}
 use Rattle.replies.specs.declared.stopped.Reason.{Reason}
 use Rattle.replies.specs.declared.stopped.Reason.TheVariants as reason
 use Rattle.rv32i.specs.Causes.{cause_text}
@@ -20,6 +21,7 @@ reason_of (why.Met (met.Exception c)) = reason.Exception
 reason_of (why.Met met.Ebreak) = reason.Breakpoint
 reason_of (why.Met met.Source) = reason.Breakpoint
 reason_of (why.Met met.Instruction) = reason.InstructionBreakpoint
+reason_of (why.Met met.Function) = reason.FunctionBreakpoint
 reason_of (why.Met met.Goal) = reason.Step
 
 -- what more there is to say of a stop: of an exception, its name
@@ -31,6 +33,7 @@ text_of (why.Met (met.Exception c)) = Some (cause_text c)
 text_of (why.Met met.Ebreak) = None
 text_of (why.Met met.Source) = None
 text_of (why.Met met.Instruction) = None
+text_of (why.Met met.Function) = None
 text_of (why.Met met.Goal) = None
 
 -- a stop, with the numbers of the breakpoints that made it
@@ -40,7 +43,11 @@ stop_event why ids =
 
 -- a number that the program printed, in decimal, on a line
 abbrev pub output_event : ℤ → Event
-output_event number = event.Output (record { output = signed_decimal number ++ codes "\n" })
+output_event number = event.Output (record { category = Stdout; output = signed_decimal number ++ codes "\n" })
+
+-- what a logpoint writes, on a line; it is no output of the program
+abbrev pub log_event : List ℕ → Event
+log_event text = event.Output (record { category = Console; output = text ++ codes "\n" })
 
 -- the end of the program, with its code
 abbrev pub exit_events : ℤ → List Event

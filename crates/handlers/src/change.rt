@@ -25,6 +25,8 @@ pub enum Change {
     SetSource(Numbered),
     /// The breakpoints of its instructions are these.
     SetInstructions(Numbered),
+    /// The breakpoints of its functions are these.
+    SetFunctions(Numbered),
     /// It stays as it is, and numbers are issued for these targets.
     Issue(Vec<Target>),
     /// This, if there is one.

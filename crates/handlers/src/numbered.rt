@@ -1,15 +1,15 @@
 //! Breakpoints that are to be set, with their numbers.
 ghost use Rattle.std.specs.Prelude.{◌≡◌, ◌≤◌, map, OnOk, OnErr};
 ghost use Rattle.breakpoints.specs.Stops.{CanBeSet, wanted_by};
-ghost use Rattle.debuggee.specs.Programs.{with_instructions, with_source};
+ghost use Rattle.debuggee.specs.Programs.{with_functions, with_instructions, with_source};
 
 use breakpoints::BreakSpec;
 use debuggee::Program;
 use std::alloc::AllocError;
 use std::marker::Model;
 
-/// Breakpoints that are to be set, of source lines or of instructions, and the last number that is given
-/// with them.
+/// Breakpoints that are to be set, of source lines, of instructions or of functions, and the last number that
+/// is given with them.
 #[derive(Drop)]
 pub struct Numbered {
     list: Vec<BreakSpec>,
@@ -65,5 +65,13 @@ impl Numbered {
         ensures err { OnErr result (program.new ≡ program.old) }
     {
         program.set_instructions(self.list)
+    }
+
+    /// They are now the breakpoints of its functions, likewise.
+    pub fn set_functions(self, program: &mut Program) -> Result<(), AllocError>
+        ensures ok { OnOk result (program.new ≡ with_functions self.list program.old) }
+        ensures err { OnErr result (program.new ≡ program.old) }
+    {
+        program.set_functions(self.list)
     }
 }

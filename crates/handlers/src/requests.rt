@@ -41,7 +41,9 @@ pub fn demand_of(command: &Command) -> Demand
         Command::Restart => restart::demand(),
         Command::Terminate => terminate::demand(),
         Command::Disconnect(_) => disconnect::demand(),
-        Command::SetBreakpoints(_) | Command::SetInstructionBreakpoints(_) => breaks::demand(),
+        Command::SetBreakpoints(_)
+        | Command::SetFunctionBreakpoints(_)
+        | Command::SetInstructionBreakpoints(_) => breaks::demand(),
         Command::SetExceptionBreakpoints => set_exception_breakpoints::demand(),
         Command::Continue(arguments) => continue_::demand(arguments.thread_id),
         Command::Next(arguments) => steps::demand(arguments.thread_id),
@@ -75,9 +77,9 @@ pub fn success_of(alloc: Global, lent: &Lent, command: &Command) -> Result<Answe
         Command::Restart => Ok(restart::success(terms)),
         Command::Terminate => Ok(terminate::success(terms)),
         Command::Disconnect(arguments) => Ok(disconnect::success(terms, arguments)),
-        Command::SetBreakpoints(_) | Command::SetInstructionBreakpoints(_) => {
-            breaks::success(alloc, lent, command)
-        }
+        Command::SetBreakpoints(_)
+        | Command::SetFunctionBreakpoints(_)
+        | Command::SetInstructionBreakpoints(_) => breaks::success(alloc, lent, command),
         Command::SetExceptionBreakpoints => Ok(set_exception_breakpoints::success(terms)),
         Command::Continue(_) => Ok(continue_::success(terms)),
         Command::Next(arguments) => Ok(steps::over(terms, arguments.granularity)),

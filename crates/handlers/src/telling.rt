@@ -5,7 +5,7 @@ ghost use Rattle.handlers.specs.Telling as spec;
 
 use debuggee::Why;
 use protocol::{Entries, Text};
-use replies::{Event, Exited, Output, Reason, Stopped};
+use replies::{Category, Event, Exited, Output, Reason, Stopped};
 use std::alloc::{AllocError, Global};
 
 /// A stop, with the numbers of the breakpoints that made it.
@@ -31,6 +31,18 @@ pub fn output_event(alloc: Global, number: i32) -> Result<Event, AllocError>
 {
     let output = format!(in alloc; "{number}\n")?;
     Ok(Event::Output(Output {
+        category: Category::Stdout,
+        output: Text::from_string(output),
+    }))
+}
+
+/// What a logpoint writes, on a line.
+pub fn log_event(alloc: Global, text: &str) -> Result<Event, AllocError>
+    ensures { IfOk result (λ event. event ≡ spec.log_event text.now) }
+{
+    let output = format!(in alloc; "{text}\n")?;
+    Ok(Event::Output(Output {
+        category: Category::Console,
         output: Text::from_string(output),
     }))
 }
@@ -54,6 +66,7 @@ fn reason_of(why: Why) -> Reason
             stepping::Reason::Exception(_) => Reason::Exception,
             stepping::Reason::Ebreak | stepping::Reason::Source => Reason::Breakpoint,
             stepping::Reason::Instruction => Reason::InstructionBreakpoint,
+            stepping::Reason::Function => Reason::FunctionBreakpoint,
             stepping::Reason::Goal => Reason::Step,
         },
     }

@@ -1,7 +1,7 @@
 //! The list that an answer sets.
 //!
 //! `none` where no list is set, else `list` and each breakpoint as `ID:ADDRESS:HIT`. One with a condition has a further `:` and the
-//! condition's value on the machine, or `Outside`.
+//! condition's value on the machine, or `Outside`. A logpoint is followed by `log` and its text as bytes.
 
 use breakpoints::BreakSpec;
 use std::alloc::Global;
@@ -21,8 +21,19 @@ pub(crate) fn show_list(
     line.word("list")?;
     for spec in &list {
         show_breakpoint(alloc, runner, spec, line)?;
+        show_log(spec, line)?;
     }
     Ok(())
+}
+
+fn show_log(spec: &BreakSpec, line: &mut Line) -> Result<(), Fault> {
+    match &spec.log {
+        None => Ok(()),
+        Some(text) => {
+            line.word("log")?;
+            line.bytes(text.as_str().as_bytes())
+        }
+    }
 }
 
 fn show_breakpoint(

@@ -126,7 +126,9 @@ fn is_for_breakpoints(command: &Command) -> bool
 {
     matches!(
         command,
-        Command::SetBreakpoints(_) | Command::SetInstructionBreakpoints(_)
+        Command::SetBreakpoints(_)
+            | Command::SetFunctionBreakpoints(_)
+            | Command::SetInstructionBreakpoints(_)
     )
 }
 

@@ -1,5 +1,5 @@
-//! `setBreakpoints` and `setInstructionBreakpoints`: the breakpoints of source lines, or of instructions, are
-//! now these.
+//! `setBreakpoints`, `setFunctionBreakpoints` and `setInstructionBreakpoints`: the breakpoints of source lines, of
+//! functions, or of instructions, are now these.
 ghost use Rattle.std.specs.Prelude.{◌≡◌, ◌+◌, ◌<◌, nat_lt, IfOk, IfSome, IsTrue, map, length, option_map};
 ghost use Rattle.answers.specs.Answers.{sets_breakpoints};
 ghost use Rattle.breakpoints.specs.Stops.{CanBeSet, wanted_by};
@@ -106,6 +106,7 @@ fn replaces(terms: Terms, command: &Command, body: ResponseBody, breaks: Numbere
 {
     match command {
         Command::SetBreakpoints(_) => changing(Change::SetSource(breaks), terms, body),
+        Command::SetFunctionBreakpoints(_) => changing(Change::SetFunctions(breaks), terms, body),
         Command::SetInstructionBreakpoints(_) => {
             changing(Change::SetInstructions(breaks), terms, body)
         }
