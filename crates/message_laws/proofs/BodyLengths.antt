@@ -7,7 +7,7 @@ use Rattle.std.proofs.lemmas.List.{length-append, length-drop, length-map, lengt
 use Rattle.std.proofs.lemmas.List.Elements.{All-append, All-cons, All-drop, All-map, All-nil, All-take}
 use Rattle.std.proofs.lemmas.List.Sums.{sum_by-le}
 use Rattle.answers.specs.Answers.{breaks_answer}
-use Rattle.answers.specs.Breakpoints.{Answer, entries_of, list_of, message_of}
+use Rattle.answers.specs.Breakpoints.{Answer, entries_of, message_of}
 use Rattle.answers.specs.Conditions.{conditions_of}
 use Rattle.answers.specs.EditorLines.{line_in_image}
 use Rattle.answers.specs.Disassemble.{disassembled, entries_from, entry, entry_by, first_place, start_by as places_by, word_in, wrapped}
@@ -19,8 +19,10 @@ use Rattle.answers.specs.Parts.{part}
 use Rattle.answers.specs.ReadMemory.{read, start_at, start_by}
 use Rattle.answers.specs.Scopes.{body_by as scopes_by}
 use Rattle.answers.specs.SetBreakpoints as source
+use Rattle.answers.specs.SetFunctionBreakpoints as function
 use Rattle.answers.specs.SetInstructionBreakpoints as instruction
 use Rattle.answers.specs.SetVariable.{set_in, set_variable, setting_of}
+use Rattle.answers.specs.Spaces.{trimmed}
 use Rattle.answers.specs.StackTrace.{above_label, addresses, file_name, frame_at, frames_given, indices, name_at, name_by, source_by}
 use Rattle.answers.specs.Targets.{frame_of, frame_refusal, target_of}
 use Rattle.answers.specs.Texts.{text_at}
@@ -32,7 +34,7 @@ use Rattle.answers.proofs.Words.{all_bytes}
 use Rattle.expressions.specs.Trees.{Tree}
 use Rattle.expressions.specs.Values.{value_of}
 use Rattle.expressions.specs.declared.error.ExprFault.{ExprFault}
-use Rattle.image.specs.Lines.{bind, Table, label_at, line_of}
+use Rattle.image.specs.Lines.{bind, Table, label_address, label_at, line_of}
 use Rattle.image.specs.Memory.{first_address}
 use Rattle.numerals.specs.MemoryReferences.{address_of, offset_by}
 use Rattle.numerals.specs.Words.{word_of}
@@ -45,6 +47,7 @@ use Rattle.protocol.specs.declared.read_memory.ReadMemoryArguments.{ReadMemoryAr
 use Rattle.protocol.specs.declared.refusal.Refusal.{Refusal}
 use Rattle.protocol.specs.declared.refusal.Refusal.TheVariants.{TooMuch, OutsideMemory}
 use Rattle.protocol.specs.declared.set_breakpoints.SourceBreakpoint.{SourceBreakpoint}
+use Rattle.protocol.specs.declared.set_function_breakpoints.FunctionBreakpoint.{FunctionBreakpoint}
 use Rattle.protocol.specs.declared.set_instruction_breakpoints.InstructionBreakpoint.{InstructionBreakpoint}
 use Rattle.protocol.specs.declared.set_variable.SetVariableArguments.{SetVariableArguments}
 use Rattle.protocol.specs.declared.stack_trace.StackTraceArguments.{StackTraceArguments}
@@ -75,7 +78,8 @@ use Rattle.message_laws.proofs.Ascii.{decimal_few}
 use Rattle.message_laws.proofs.BodyTexts.{each, label_found, word_small}
 use Rattle.message_laws.proofs.Instructions.{disassembly_ascii, name_few}
 use Rattle.message_laws.proofs.Named.{IsShortLabel, IsShortText}
-use Rattle.message_laws.proofs.Problems.{by_conditions, entries_all, entries_count}
+use Rattle.session.proofs.Reaching.{if_keeps}
+use Rattle.message_laws.proofs.Problems.{by_conditions, entries_all, entries_count, is_few, not_much}
 use Rattle.message_laws.proofs.Plain.{number_plain, plus_plain}
 
 -- a body that is short enough
@@ -96,21 +100,6 @@ part_few {A} start (Some count) list = by (eqb count 0) where
 
 while_few : {A : Type 0} (test : A → Bool) (list : List A) → length (take_while test list) ≤ length list
 while_few test list = let taken = length-take (prefix_len test list) list in omega (arith, taken)
-
-unless_many : (count : ℕ) (answer : Answer) → (count ≤ 1024 → IfOk answer.result IsShortBody)
-    → let it : Answer = cond (ltb 1024 count) (record { result = Err TooMuch; list = None }) answer in IfOk it.result IsShortBody
-unless_many count answer h = by (ltb 1024 count) refl where
-  by : (b : Bool) → ltb 1024 count ≡ b
-      → let it : Answer = cond b (record { result = Err TooMuch; list = None }) answer in IfOk it.result IsShortBody
-  by true e = tt
-  by false e = h (grind (arith, nat_tests, e))
-
--- what is answered where there are not too many
-abbrev pub instruction_answer : ℕ → ℕ → List InstructionBreakpoint → Answer
-instruction_answer size next asked = record {
-  result = Ok (SetInstructionBreakpoints (record { breakpoints = entries_of (instruction.judged size) instruction.entry next asked }));
-  list = Some (list_of (instruction.judged size) instruction.wanted next asked);
-}
 
 -- ---- names of frames
 
@@ -157,13 +146,15 @@ source_few_by base id asked false table = unset_line_few asked.line (codes "unkn
 source_few_by base id asked true table = by (bind table (line_in_image base asked.line)) where
   by : (found : Option (ℕ × ℕ))
       → most_of_source_breakpoint (source.entry base id asked
-      (source.placed (conditions_of asked.condition asked.hit_condition) found)) ≤ 3000
+      (source.placed (conditions_of asked.condition asked.hit_condition) found (source.written asked.log_message))) ≤ 3000
   by None =
-      by_conditions (λ n. n ≤ 3000) (λ r. most_of_source_breakpoint (source.entry base id asked (source.placed r None)))
+      by_conditions (λ n. n ≤ 3000)
+      (λ r. most_of_source_breakpoint (source.entry base id asked (source.placed r None (source.written asked.log_message))))
       (λ _. unset_line_few asked.line (codes "no code at or after this line") (omega arith))
       (λ problem m. unset_line_few asked.line (message_of problem) m.1) asked.condition asked.hit_condition
   by (Some found) =
-      by_conditions (λ n. n ≤ 3000) (λ r. most_of_source_breakpoint (source.entry base id asked (source.placed r (Some found))))
+      by_conditions (λ n. n ≤ 3000)
+      (λ r. most_of_source_breakpoint (source.entry base id asked (source.placed r (Some found) (source.written asked.log_message))))
       (λ _. omega arith) (λ problem m. unset_line_few asked.line (message_of problem) m.1) asked.condition
       asked.hit_condition
 
@@ -192,26 +183,53 @@ lines_few own table base next asked few =
     let count = entries_count (source.judged own table base) (source.entry base) next asked in
     omega (arith, sum, count, few)
 
-instructions_few : (size next : ℕ) (asked : List InstructionBreakpoint) → length asked ≤ 1024
-    → IsShortBody (SetInstructionBreakpoints (record { breakpoints = entries_of (instruction.judged size) instruction.entry next asked }))
-instructions_few size next asked few =
-    let list = entries_of (instruction.judged size) instruction.entry next asked in
+function_few_by : (table : Table) (size id : ℕ) (asked : FunctionBreakpoint)
+    → most_of_instruction_breakpoint (instruction.entry id asked (function.judged table size asked)) ≤ 3000
+function_few_by table size id asked = by (label_address table (trimmed asked.name)) where
+  by : (found : Option ℕ)
+      → most_of_instruction_breakpoint (instruction.entry id asked
+      (function.placed size (conditions_of asked.condition asked.hit_condition) found)) ≤ 3000
+  by None =
+      by_conditions (λ n. n ≤ 3000) (λ r. most_of_instruction_breakpoint (instruction.entry id asked (function.placed size r None)))
+      (λ _. unset_instruction_few (codes "unknown function") (omega arith))
+      (λ problem m. unset_instruction_few (message_of problem) m.1) asked.condition asked.hit_condition
+  by (Some address) =
+      by_conditions (λ n. n ≤ 3000) (λ r. most_of_instruction_breakpoint (instruction.entry id asked (function.placed size r (Some address))))
+      (λ _. if_keeps (λ (place : Result instruction.Place _). most_of_instruction_breakpoint (instruction.entry id asked place) ≤ 3000)
+      (instruction.is_instructions size address) _ _ (λ _. omega arith) (λ _. unset_instruction_few (codes "bad address") (omega arith)))
+      (λ problem m. unset_instruction_few (message_of problem) m.1) asked.condition asked.hit_condition
+
+addresses_few : {A : Type 0} (judged : A → Result instruction.Place _)
+    → ((id : ℕ) (asked : A) → most_of_instruction_breakpoint (instruction.entry id asked (judged asked)) ≤ 3000)
+    → (next : ℕ) (asked : List A) → length asked ≤ 1024
+    → sum_by most_of_instruction_breakpoint (entries_of judged instruction.entry next asked) ≤ 3072000
+addresses_few judged one next asked few =
+    let list = entries_of judged instruction.entry next asked in
     let sum = sum_by-le most_of_instruction_breakpoint 3000 list
-    (entries_all (λ e. most_of_instruction_breakpoint e ≤ 3000) (instruction.judged size) instruction.entry
-    (instruction_few_by size) next asked) in
-    let count = entries_count (instruction.judged size) instruction.entry next asked in
+    (entries_all (λ e. most_of_instruction_breakpoint e ≤ 3000) judged instruction.entry one next asked) in
+    let count = entries_count judged instruction.entry next asked in
     omega (arith, sum, count, few)
+
+-- what is answered where not too much is asked for
+IsShortAnswer : Answer → Type 0
+IsShortAnswer answer = IfOk answer.result IsShortBody
 
 -- of each request that sets breakpoints
 pub breaks_are_short : (c : Command) (table : Table) (size : ℕ) (view : View) (next : ℕ)
     → IfOk (breaks_answer c table size view next).result IsShortBody
+unfolding IsShortAnswer
 breaks_are_short (command.SetBreakpoints arguments) table size view next =
     let own = source.is_own view.path arguments.source.path in
-    unless_many (length arguments.breakpoints) (source.of_source own table view next arguments.breakpoints)
-    (lines_few own table view.line_base next arguments.breakpoints)
+    if_keeps IsShortAnswer (source.is_too_much arguments.breakpoints) _ _ (λ _. tt)
+    (λ e. lines_few own table view.line_base next arguments.breakpoints (not_much arguments.breakpoints e))
+breaks_are_short (command.SetFunctionBreakpoints arguments) table size view next =
+    if_keeps IsShortAnswer (ltb 1024 (length arguments.breakpoints)) _ _ (λ _. tt)
+    (λ e. let few = addresses_few (function.judged table size) (function_few_by table size) next arguments.breakpoints
+    (is_few (length arguments.breakpoints) e) in omega (arith, few))
 breaks_are_short (command.SetInstructionBreakpoints arguments) table size view next =
-    unless_many (length arguments.breakpoints) (instruction_answer size next arguments.breakpoints)
-    (instructions_few size next arguments.breakpoints)
+    if_keeps IsShortAnswer (ltb 1024 (length arguments.breakpoints)) _ _ (λ _. tt)
+    (λ e. let few = addresses_few (instruction.judged size) (instruction_few_by size) next arguments.breakpoints
+    (is_few (length arguments.breakpoints) e) in omega (arith, few))
 breaks_are_short other table size view next = omega arith
 
 -- ---- frames

@@ -7,7 +7,7 @@ use Rattle.std.specs.Result.{result_ok}
 use Rattle.std.proofs.lemmas.List.Elements.{All-append, All-cons, All-drop, All-head, All-map, All-nil, All-tail, All-take}
 use Rattle.json.proofs.Printed.Utf8.{IsUtf8-are_ascii}
 use Rattle.answers.specs.Answers.{breaks_answer}
-use Rattle.answers.specs.Breakpoints.{Answer, entries_of, list_of}
+use Rattle.answers.specs.Breakpoints.{Answer, entries_of}
 use Rattle.answers.specs.Conditions.{conditions_of}
 use Rattle.answers.specs.EditorLines.{line_in_image}
 use Rattle.answers.specs.Disassemble.{disassembled, entries_from, entry, entry_by, start as place_of_first, word_in, wrapped}
@@ -19,8 +19,10 @@ use Rattle.answers.specs.Parts.{part}
 use Rattle.answers.specs.ReadMemory.{bytes_from, read, start as start_of_bytes}
 use Rattle.answers.specs.Scopes.{body_by as scopes_by}
 use Rattle.answers.specs.SetBreakpoints as source
+use Rattle.answers.specs.SetFunctionBreakpoints as function
 use Rattle.answers.specs.SetInstructionBreakpoints as instruction
 use Rattle.answers.specs.SetVariable.{set_in, set_variable, setting_of}
+use Rattle.answers.specs.Spaces.{trimmed}
 use Rattle.answers.specs.StackTrace.{above_label, addresses, frame_at, frames_given, indices, name_at, name_by, source_by}
 use Rattle.answers.specs.Targets.{frame_of, frame_refusal, target_of}
 use Rattle.answers.specs.Texts.{text_at}
@@ -32,7 +34,7 @@ use Rattle.answers.proofs.Words.{all_bytes, small_at}
 use Rattle.expressions.specs.Trees.{Tree}
 use Rattle.expressions.specs.Values.{value_of}
 use Rattle.expressions.specs.declared.error.ExprFault.{ExprFault}
-use Rattle.image.specs.Lines.{bind, Label, Table, first_greatest, in_image, label_at, line_of, place_of, up_to}
+use Rattle.image.specs.Lines.{bind, Label, Table, first_greatest, in_image, label_address, label_at, line_of, place_of, up_to}
 use Rattle.image.specs.Memory.{bytes_at, fault_at, first_address, little_endian, unless_fault}
 use Rattle.image.specs.declared.fault.MemFault.{MemFault}
 use Rattle.numerals.specs.MemoryReferences.{address_of}
@@ -41,8 +43,9 @@ use Rattle.protocol.specs.declared.command.Command.TheVariants as command
 use Rattle.protocol.specs.declared.filter.Filter.{Filter}
 use Rattle.protocol.specs.declared.filter.Filter.TheVariants.{Indexed, Named}
 use Rattle.protocol.specs.declared.refusal.Refusal.{Refusal}
-use Rattle.protocol.specs.declared.refusal.Refusal.TheVariants.{TooMuch, OutsideMemory}
+use Rattle.protocol.specs.declared.refusal.Refusal.TheVariants.{OutsideMemory}
 use Rattle.protocol.specs.declared.set_breakpoints.SourceBreakpoint.{SourceBreakpoint}
+use Rattle.protocol.specs.declared.set_function_breakpoints.FunctionBreakpoint.{FunctionBreakpoint}
 use Rattle.protocol.specs.declared.set_instruction_breakpoints.InstructionBreakpoint.{InstructionBreakpoint}
 use Rattle.protocol.specs.declared.set_variable.SetVariableArguments.{SetVariableArguments}
 use Rattle.protocol.specs.declared.variables.VariablesArguments.{VariablesArguments}
@@ -71,6 +74,7 @@ use Rattle.variables.specs.declared.target.Target.{Target}
 use Rattle.variables.specs.declared.target.Target.TheVariants as target
 use Rattle.message_laws.proofs.Ascii.{append_ascii, decimal_ascii, if_either}
 use Rattle.message_laws.proofs.FileNames.{file_name_utf8}
+use Rattle.session.proofs.Reaching.{if_keeps}
 use Rattle.message_laws.proofs.Problems.{by_conditions, entries_all}
 use Rattle.message_laws.proofs.Instructions.{address_ascii, disassembly_ascii, name_ascii}
 
@@ -106,13 +110,15 @@ source_texts base id asked false table = (IsUtf8-are_ascii (codes "unknown sourc
 source_texts base id asked true table = by (bind table (line_in_image base asked.line)) where
   by : (found : Option (ℕ × ℕ))
       → AreTexts (source_breakpoint.texts (source.entry base id asked
-      (source.placed (conditions_of asked.condition asked.hit_condition) found)))
+      (source.placed (conditions_of asked.condition asked.hit_condition) found (source.written asked.log_message))))
   by None =
-      by_conditions AreTexts (λ r. source_breakpoint.texts (source.entry base id asked (source.placed r None)))
+      by_conditions AreTexts
+      (λ r. source_breakpoint.texts (source.entry base id asked (source.placed r None (source.written asked.log_message))))
       (λ _. (IsUtf8-are_ascii (codes "no code at or after this line") refl, tt))
       (λ problem m. (m.0, tt)) asked.condition asked.hit_condition
   by (Some found) =
-      by_conditions AreTexts (λ r. source_breakpoint.texts (source.entry base id asked (source.placed r (Some found)))) (λ _. tt)
+      by_conditions AreTexts
+      (λ r. source_breakpoint.texts (source.entry base id asked (source.placed r (Some found) (source.written asked.log_message)))) (λ _. tt)
       (λ problem m. (m.0, tt)) asked.condition asked.hit_condition
 
 instruction_texts : (size id : ℕ) (asked : InstructionBreakpoint)
@@ -128,33 +134,49 @@ instruction_texts size id asked = by (instruction.asked_address size asked) wher
       by_conditions AreTexts (λ r. instruction_breakpoint.texts (instruction.entry id asked (instruction.placed r (Some found)))) (λ _. tt)
       (λ problem m. (m.0, tt)) asked.condition asked.hit_condition
 
-unless_many : (many : Bool) (answer : Answer) → IfOk answer.result HasBodyTexts
-    → let it : Answer = cond many (record { result = Err TooMuch; list = None }) answer in IfOk it.result HasBodyTexts
-unless_many true answer h = tt
-unless_many false answer h = h
+function_texts : (table : Table) (size id : ℕ) (asked : FunctionBreakpoint)
+    → AreTexts (instruction_breakpoint.texts (instruction.entry id asked (function.judged table size asked)))
+function_texts table size id asked = by (label_address table (trimmed asked.name)) where
+  by : (found : Option ℕ)
+      → AreTexts (instruction_breakpoint.texts (instruction.entry id asked
+      (function.placed size (conditions_of asked.condition asked.hit_condition) found)))
+  by None =
+      by_conditions AreTexts (λ r. instruction_breakpoint.texts (instruction.entry id asked (function.placed size r None)))
+      (λ _. (IsUtf8-are_ascii (codes "unknown function") refl, tt)) (λ problem m. (m.0, tt)) asked.condition asked.hit_condition
+  by (Some address) =
+      by_conditions AreTexts (λ r. instruction_breakpoint.texts (instruction.entry id asked (function.placed size r (Some address))))
+      (λ _. if_keeps (λ (place : Result instruction.Place _). AreTexts (instruction_breakpoint.texts (instruction.entry id asked place)))
+      (instruction.is_instructions size address) _ _ (λ _. tt) (λ _. (IsUtf8-are_ascii (codes "bad address") refl, tt)))
+      (λ problem m. (m.0, tt)) asked.condition asked.hit_condition
 
--- what is answered where there are not too many
-abbrev instruction_answer : ℕ → ℕ → List InstructionBreakpoint → Answer
-instruction_answer size next asked = record {
-  result = Ok (SetInstructionBreakpoints (record { breakpoints = entries_of (instruction.judged size) instruction.entry next asked }));
-  list = Some (list_of (instruction.judged size) instruction.wanted next asked);
-}
+-- what is answered where not too much is asked for
+HasAnswerTexts : Answer → Type 0
+HasAnswerTexts answer = IfOk answer.result HasBodyTexts
+
+at_addresses : {A : Type 0} (judged : A → Result instruction.Place _)
+    → ((id : ℕ) (asked : A) → AreTexts (instruction_breakpoint.texts (instruction.entry id asked (judged asked))))
+    → (next : ℕ) (asked : List A) → AreTexts (texts_of instruction_breakpoint.texts (entries_of judged instruction.entry next asked) ++ [])
+at_addresses judged one next asked =
+    of_list instruction_breakpoint.texts (entries_of judged instruction.entry next asked)
+    (entries_all (λ e. AreTexts (instruction_breakpoint.texts e)) judged instruction.entry one next asked)
 
 -- of each request that sets breakpoints
 pub breaks_have_texts : (c : Command) (table : Table) (size : ℕ) (view : View) (next : ℕ)
     → IfOk (breaks_answer c table size view next).result HasBodyTexts
+unfolding HasAnswerTexts
 breaks_have_texts (command.SetBreakpoints arguments) table size view next =
     let own = source.is_own view.path arguments.source.path in
-    unless_many (ltb 1024 (length arguments.breakpoints)) (source.of_source own table view next arguments.breakpoints)
-    (of_list source_breakpoint.texts
+    if_keeps HasAnswerTexts (source.is_too_much arguments.breakpoints) _ _ (λ _. tt)
+    (λ _. of_list source_breakpoint.texts
     (entries_of (source.judged own table view.line_base) (source.entry view.line_base) next arguments.breakpoints)
     (entries_all (λ e. AreTexts (source_breakpoint.texts e)) (source.judged own table view.line_base) (source.entry view.line_base)
     (λ id asked. source_texts view.line_base id asked own table) next arguments.breakpoints))
+breaks_have_texts (command.SetFunctionBreakpoints arguments) table size view next =
+    if_keeps HasAnswerTexts (ltb 1024 (length arguments.breakpoints)) _ _ (λ _. tt)
+    (λ _. at_addresses (function.judged table size) (function_texts table size) next arguments.breakpoints)
 breaks_have_texts (command.SetInstructionBreakpoints arguments) table size view next =
-    unless_many (ltb 1024 (length arguments.breakpoints)) (instruction_answer size next arguments.breakpoints)
-    (of_list instruction_breakpoint.texts (entries_of (instruction.judged size) instruction.entry next arguments.breakpoints)
-    (entries_all (λ e. AreTexts (instruction_breakpoint.texts e)) (instruction.judged size) instruction.entry (instruction_texts size) next
-    arguments.breakpoints))
+    if_keeps HasAnswerTexts (ltb 1024 (length arguments.breakpoints)) _ _ (λ _. tt)
+    (λ _. at_addresses (instruction.judged size) (instruction_texts size) next arguments.breakpoints)
 breaks_have_texts other table size view next = tt
 
 -- ---- frames

@@ -1,8 +1,11 @@
--- A program has no more than 1,024 breakpoints of each kind, so no more than twice as many stop it at once.
-use Rattle.std.proofs.Common.{◌≡◌, ℕ, suc, ◌+◌, ◌≤◌, Bool, true, false, cond, List, [], ◌∷◌, ◌++◌, map, filter, length, Option, Result, Ok, Err, MatchBool, sym, subst, arith}
+-- A program has no more than 1,024 breakpoints of each kind, so no more than three times as many stop it at once; and
+-- what its logpoints say are short texts.
+use Rattle.std.proofs.Common.{◌≡◌, ℕ, zero, suc, ◌+◌, ◌≤◌, Bool, true, false, cond, List, [], ◌∷◌, ◌++◌, map, filter, length, Option, Some, None, Result, Ok, Err, MatchBool, refl, sym, subst, arith}
+use Rattle.std.specs.Prelude.{IfSome, filter_map, slice_get}
+use Rattle.std.specs.List.{cons_option}
 use Rattle.std.specs.declared.alloc.AllocError.{AllocError}
 use Rattle.std.proofs.lemmas.List.{length-append, length-map}
-use Rattle.breakpoints.specs.Stops.{Lists, Placed, Wanted, checked, counted, fresh, reset, stops, stopping_ids}
+use Rattle.breakpoints.specs.Stops.{Lists, Placed, Wanted, checked, counted, fresh, is_hit, log_at, log_of, reset, stops, stopping_ids}
 use Rattle.debuggee.specs.Programs.{Program, marked, marked_by, moved}
 use Rattle.debuggee.specs.declared.run.Mark.{Mark}
 use Rattle.debuggee.specs.declared.run.Run.{Run}
@@ -14,17 +17,67 @@ use Rattle.rv32i.specs.declared.hart.Hart.{Hart}
 use Rattle.rv32i.specs.declared.instr.Instr.{Instr}
 use Rattle.rv32i.specs.declared.stepped.Stepped.{Stepped}
 use Rattle.rv32i.specs.declared.stepped.Stepped.TheVariants as stepped
+use Rattle.session.proofs.Reaching.{if_keeps}
+use Rattle.stepping.specs.Loading.{no_breakpoints}
 use Rattle.stepping.specs.Ticks.{Debugged, IsTick, Moves, Settles, entry_checked, entry_tick, moved_as, settled}
 use Rattle.stepping.specs.declared.tick.Tick.{Tick}
 use Rattle.stepping.proofs.Existing.{the_tick}
+use Rattle.message_laws.proofs.Named.{IsShortText}
+
+-- ---- what logpoints say
+
+-- short texts
+abbrev pub AreShort : List (List ℕ) → Type 0
+AreShort [] = Unit {0}
+AreShort (text ∷ texts) = IsShortText text × AreShort texts
+
+-- each of them that says something says a short text
+abbrev pub SayShort : List Placed → Type 0
+SayShort [] = Unit {0}
+SayShort (b ∷ list) = IfSome b.log IsShortText × SayShort list
+
+abbrev pub AskShort : List Wanted → Type 0
+AskShort [] = Unit {0}
+AskShort (w ∷ list) = IfSome w.log IsShortText × AskShort list
+
+map_says : (f : Placed → Placed) → ((b : Placed) → (f b).log ≡ b.log) → (list : List Placed) → SayShort list → SayShort (map f list)
+map_says f same [] h = tt
+map_says f same (b ∷ list) h =
+    (subst (λ (log : Option (List ℕ)). IfSome log IsShortText) (sym (same b)) h.0, map_says f same list h.1)
+
+set_says : (list : List Wanted) → AskShort list → SayShort (map fresh list)
+set_says [] h = tt
+set_says (w ∷ list) h = (h.0, set_says list h.1)
+
+counted_log : (pc : ℕ) (hart : Hart) (memory : List ℕ) (b : Placed) → (counted pc hart memory b).log ≡ b.log
+counted_log pc hart memory b = if_keeps (λ (x : Placed). x.log ≡ b.log) (is_hit pc hart memory b) _ _ (λ _. refl) (λ _. refl)
+
+one_says : (list : List Placed) (place : ℕ) → SayShort list → IfSome (log_of (slice_get list place)) IsShortText
+one_says [] place h = tt
+one_says (b ∷ list) zero h = h.0
+one_says (b ∷ list) (suc place) h = one_says list place h.1
+
+-- what some of them say
+pub logs_are_short : (lists : Lists) (places : List ℕ) → SayShort lists.source → AreShort (filter_map (log_at lists) places)
+logs_are_short lists [] h = tt
+logs_are_short lists (place ∷ places) h =
+    by (log_at lists place) (one_says lists.source place h) (logs_are_short lists places h) where
+      by : (log : Option (List ℕ)) → IfSome log IsShortText → AreShort (filter_map (log_at lists) places)
+          → AreShort (cons_option log (filter_map (log_at lists) places))
+      by None one others = others
+      by (Some text) one others = (one, others)
+
+-- ---- the lists
 
 pub record HasFew (lists : Lists) : Type 0 where
   pub source : length lists.source ≤ 1024
   pub instructions : length lists.instructions ≤ 1024
-  pub ids : length lists.ids ≤ 2048
+  pub functions : length lists.functions ≤ 1024
+  pub ids : length lists.ids ≤ 3072
+  pub logs : SayShort lists.source
 
-pub no_breaks : HasFew (record { source = []; instructions = []; ids = [] })
-no_breaks = record { source = omega arith; instructions = omega arith; ids = omega arith }
+pub no_breaks : HasFew no_breakpoints
+no_breaks = record { source = omega arith; instructions = omega arith; functions = omega arith; ids = omega arith; logs = tt }
 
 few_mapped : {A B : Type 0} (f : A → B) (list : List A) → length list ≤ 1024 → length (map f list) ≤ 1024
 few_mapped f list h = let same = length-map list f in omega (arith, same, h)
@@ -47,24 +100,35 @@ checked_few : (pc : ℕ) (hart : Hart) (memory : List ℕ) (lists : Lists) → H
 checked_few pc hart memory lists h =
     let xs : List ℕ = stopping_ids pc hart memory lists.source in
     let ys : List ℕ = stopping_ids pc hart memory lists.instructions in
-    let all : length (xs ++ ys) ≡ length xs + length ys = length-append xs ys in
+    let zs : List ℕ = stopping_ids pc hart memory lists.functions in
+    let all : length (xs ++ ys ++ zs) ≡ length (xs ++ ys) + length zs = length-append (xs ++ ys) zs in
+    let others : length (xs ++ ys) ≡ length xs + length ys = length-append xs ys in
     let a : length xs ≤ 1024 = few_stop pc hart memory lists.source h.source in
     let b : length ys ≤ 1024 = few_stop pc hart memory lists.instructions h.instructions in
+    let c : length zs ≤ 1024 = few_stop pc hart memory lists.functions h.functions in
     record {
       source = few_mapped (counted pc hart memory) lists.source h.source;
       instructions = few_mapped (counted pc hart memory) lists.instructions h.instructions;
-      ids = omega (arith, all, a, b);
+      functions = few_mapped (counted pc hart memory) lists.functions h.functions;
+      ids = omega (arith, all, others, a, b, c);
+      logs = map_says (counted pc hart memory) (counted_log pc hart memory) lists.source h.logs;
     }
 
-pub none_named : (lists : Lists) → HasFew lists → HasFew (record lists { ids = [] })
-none_named lists h = record { source = h.source; instructions = h.instructions; ids = omega arith }
+pub none_named : (lists : Lists) → HasFew lists → HasFew (record lists { ids = []; logs = [] })
+none_named lists h =
+    record { source = h.source; instructions = h.instructions; functions = h.functions; ids = omega arith; logs = h.logs }
 
-pub reset_few : (lists : Lists) → HasFew lists
-    → HasFew (record lists { source = map reset lists.source; instructions = map reset lists.instructions })
+pub reset_few : (lists : Lists) → HasFew lists → HasFew (record lists {
+  source = map reset lists.source;
+  instructions = map reset lists.instructions;
+  functions = map reset lists.functions;
+})
 reset_few lists h = record {
   source = few_mapped reset lists.source h.source;
   instructions = few_mapped reset lists.instructions h.instructions;
+  functions = few_mapped reset lists.functions h.functions;
   ids = h.ids;
+  logs = map_says reset (λ b. refl) lists.source h.logs;
 }
 
 -- ---- a tick
@@ -110,10 +174,27 @@ by_run_few (run.Ended code) mark p h = h
 pub marked_few : (mark : Mark) (p : Program) → HasFewBreaks p → HasFewBreaks (marked mark p)
 marked_few mark p h = by_run_few p.run mark p h
 
-pub listed_few : (c : Command) (list : List Wanted) (p : Program) → length list ≤ 1024 → HasFewBreaks p
+pub listed_few : (c : Command) (list : List Wanted) (p : Program) → length list ≤ 1024 → AskShort list → HasFewBreaks p
     → HasFewBreaks (with_list c list p)
-listed_few (command.SetBreakpoints arguments) list p few h =
-    record { source = few_mapped fresh list few; instructions = h.instructions; ids = omega arith }
-listed_few (command.SetInstructionBreakpoints arguments) list p few h =
-    record { source = h.source; instructions = few_mapped fresh list few; ids = omega arith }
-listed_few other list p few h = h
+listed_few (command.SetBreakpoints arguments) list p few says h = record {
+  source = few_mapped fresh list few;
+  instructions = h.instructions;
+  functions = h.functions;
+  ids = omega arith;
+  logs = set_says list says;
+}
+listed_few (command.SetFunctionBreakpoints arguments) list p few says h = record {
+  source = h.source;
+  instructions = h.instructions;
+  functions = few_mapped fresh list few;
+  ids = omega arith;
+  logs = h.logs;
+}
+listed_few (command.SetInstructionBreakpoints arguments) list p few says h = record {
+  source = h.source;
+  instructions = few_mapped fresh list few;
+  functions = h.functions;
+  ids = omega arith;
+  logs = h.logs;
+}
+listed_few other list p few says h = h

@@ -25,7 +25,7 @@ use Rattle.handlers.specs.Disconnect.{departed, is_to_end, is_to_stand}
 use Rattle.handlers.specs.Given.{Answering, Given}
 use Rattle.handlers.specs.Launch.{error_text}
 use Rattle.handlers.specs.Looking.{seen_in}
-use Rattle.handlers.specs.Telling.{exit_events, output_event, stop_event}
+use Rattle.handlers.specs.Telling.{exit_events, log_event, output_event, stop_event}
 use Rattle.handlers.specs.declared.terms.Terms.{Terms}
 use Rattle.protocol.specs.Commands.{name_of}
 use Rattle.protocol.specs.declared.command.Command.{Command}
@@ -52,7 +52,7 @@ use Rattle.session.specs.Outcomes.{Outcome, answering, answers_next, closing, ne
 use Rattle.session.specs.Phases.{is_active}
 use Rattle.session.specs.Refusals.{answer_to, response_to}
 use Rattle.session.specs.Sessions.{After, Beginning, Effect, Life, Said, Session, accepted_on, agreed_on, histories, hung_on, life_of, opened_on, performed_on, referred_on, replied_on, said_next, said_on, start}
-use Rattle.session.specs.Slices.{Beat, beat, beat_by, beat_of, concludes, exits, goes, goes_unless, halts, is_runnable_by, moves_by, prints, telling, tells}
+use Rattle.session.specs.Slices.{Beat, beat, beat_by, beat_of, concludes, exits, goes, goes_unless, halts, is_runnable_by, logged, moves_by, output_events, telling, tells}
 use Rattle.session.specs.declared.event.Event.{Event}
 use Rattle.session.specs.declared.event.Event.TheVariants.{Connect, Recv, Turn, Slice, Hold, Sent, DropConnection}
 use Rattle.session.specs.declared.event.SliceEnd.{SliceEnd}
@@ -77,6 +77,8 @@ use Rattle.stepping.specs.declared.tick.Outcome.TheVariants.{Went, Stopped, Ende
 use Rattle.stepping.specs.declared.tick.Reason.TheVariants as met
 use Rattle.stepping.specs.declared.tick.Tick.{Tick}
 use Rattle.variables.specs.Laws.{Call}
+use Rattle.message_laws.proofs.Breaks.{AreShort}
+use Rattle.message_laws.proofs.Named.{IsShortText}
 use Rattle.variables.specs.Numbers.{Numbers}
 
 -- What is to hold of each message: of the body of a success, of a refusal with its text, and of an event. And with it, of
@@ -128,7 +130,7 @@ pub record Holds (q : Claim) : Type 0 where
   pub loaded : (arguments : LaunchArguments) (text : List ℕ) (size : ℕ) → error_of text size ≡ None → q.request (command.Launch arguments)
       → q.program (just_loaded (assembled text) arguments.program arguments.stop_on_entry size)
   pub listed : (c : Command) (p : Program) (given : Given) (terms : Terms) (list : List Wanted)
-      → (answer_on p given terms c).list ≡ Some list → Keeps q (with_list c list)
+      → (answer_on p given terms c).list ≡ Some list → q.request c → Keeps q (with_list c list)
   pub stopped : (reason : Why) → Keeps q (stopped reason)
   pub ended : (code : Option ℤ) → Keeps q (ended code)
   pub resumed : (goal : Goal) → Keeps q (resumed goal)
@@ -143,9 +145,11 @@ pub record Holds (q : Claim) : Type 0 where
   pub written : (address : ℕ) (bytes : List ℕ) → Keeps q (written address bytes)
   pub no_ids : q.ids []
   pub ids : (p : Program) → q.program p → q.ids p.machine.lists.ids
+  pub logs : (p : Program) → q.program p → AreShort (logged p.machine.lists)
   -- of what the editor is told
   pub stop : (reason : Why) (ids : List ℕ) → q.ids ids → q.event (stop_event reason ids)
   pub printed : (number : ℤ) → q.event (output_event number)
+  pub said : (text : List ℕ) → IsShortText text → q.event (log_event text)
   pub exited : (code : ℤ) → q.event (event.Exited (record { exit_code = code }))
   pub initialized : q.event event.Initialized
   pub continued : q.event event.Continued
@@ -283,8 +287,8 @@ module _ (q : Claim) (h : Holds q) where
     absent = λ _ _ _ _. record { program = g; outcome = h.empty; events = tt };
     refused = λ _ _ refusal _ _. record { program = g; outcome = h.refused refusal; events = tt };
     sets_none = λ c _ p b _ e _ _. record { program = g; outcome = h.set c p (given_of now) terms b e; events = tt };
-    sets_list = λ c _ p b list _ e f _ _. record {
-      program = on_all (with_list c list) (h.listed c p (given_of now) terms list f) now.debuggee.program g;
+    sets_list = λ c _ p b list _ e f _ asked. record {
+      program = on_all (with_list c list) (h.listed c p (given_of now) terms list f asked) now.debuggee.program g;
       outcome = h.set c p (given_of now) terms b e;
       events = tt;
     };
@@ -332,9 +336,13 @@ module _ (q : Claim) (h : Holds q) where
   tells_right : (now : Now) (events : List Told) → OfEvents q events → OfActs q (tells now events)
   tells_right now events e = if_keeps (OfActs q) (is_active now.link) _ [] (λ _. told_right events e) (λ _. tt)
 
-  prints_before : (now : Now) (number : Option ℤ) (acts : List Act) → OfActs q acts → OfActs q (prints now number ++ acts)
-  prints_before now None acts a = a
-  prints_before now (Some number) acts a = tells_before now (output_event number ∷ []) acts (h.printed number, tt) a
+  logs_right : (texts : List (List ℕ)) → AreShort texts → OfEvents q (map log_event texts)
+  logs_right [] short = tt
+  logs_right (text ∷ texts) short = (h.said text short.0, logs_right texts short.1)
+
+  output_right : (printed : Option ℤ) (texts : List (List ℕ)) → AreShort texts → OfEvents q (output_events printed texts)
+  output_right None texts short = logs_right texts short
+  output_right (Some number) texts short = (h.printed number, logs_right texts short)
 
   halts_right : (now : Now) (p : Program) (reason : Why) (ids : List ℕ) → q.program p → q.ids ids → OfActs q (halts now p reason ids)
   halts_right now p reason ids g i = (h.stopped reason p g, tells_right now (stop_event reason ids ∷ []) (h.stop reason ids i, tt))
@@ -350,8 +358,12 @@ module _ (q : Claim) (h : Holds q) where
 
   telling_right : (now : Now) (p : Program) (tick : Tick) → q.program p → OfActs q (telling now p tick)
   telling_right now p tick g =
-      let t : q.program (told p) = h.told p g in
-      (t, prints_before now tick.printed _ (concludes_right now (told p) tick.outcome p.machine.lists.ids t (h.ids p g)))
+      let t : q.program (told p) = h.told p g in (
+        t,
+        tells_before now (output_events tick.printed (logged p.machine.lists)) _
+            (output_right tick.printed (logged p.machine.lists) (h.logs p g))
+            (concludes_right now (told p) tick.outcome p.machine.lists.ids t (h.ids p g)),
+      )
 
   -- ---- a beat
 

@@ -1,36 +1,28 @@
 -- Each message is written in fewer bytes than a mirror reads.
-use Rattle.std.proofs.Common.{◌≡◌, ℕ, ℤ, ◌+◌, ◌<◌, ◌≤◌, Bool, true, false, cond, ltb, List, ◌++◌, get_or, length, Option, Some, None, Result, Ok, Err, IfOk, decimal, refl, subst, arith}
-use Rattle.std.specs.Prelude.{IfSome, codes}
+use Rattle.std.proofs.Common.{◌≡◌, ℕ, ℤ, ◌+◌, ◌<◌, ◌≤◌, List, ◌++◌, get_or, length, Some, Result, Ok, IfOk, decimal, subst, arith}
+use Rattle.std.specs.Prelude.{codes}
 use Rattle.std.specs.Fmt.{signed_decimal}
-use Rattle.std.proofs.lemmas.Bool.Decides.{nat_tests}
 use Rattle.std.proofs.lemmas.List.{length-append}
-use Rattle.answers.specs.Answers.{breaks_answer}
-use Rattle.answers.specs.Breakpoints.{Answer}
-use Rattle.answers.specs.SetBreakpoints as source
 use Rattle.answers.specs.SetInstructionBreakpoints as instruction
 use Rattle.answers.specs.declared.set_variable.Setting.{Setting}
-use Rattle.answers.specs.declared.view.View.{View}
 use Rattle.answers.specs.declared.write_memory.Writing.{Writing}
 use Rattle.assembler.specs.declared.error.AsmError.{AsmError}
 use Rattle.assembler.specs.declared.error.AsmErrorKind.{AsmErrorKind}
 use Rattle.assembler.specs.declared.error.AsmErrorKind.TheVariants as kind
-use Rattle.breakpoints.specs.Stops.{Wanted}
 use Rattle.debuggee.specs.Programs.{Program}
 use Rattle.debuggee.specs.declared.run.Why.{Why}
 use Rattle.debuggee.specs.declared.run.Why.TheVariants as why
 use Rattle.handlers.specs.Given.{Given}
 use Rattle.handlers.specs.Launch.{error_text, kind_name}
 use Rattle.handlers.specs.Looking.{seen_in}
-use Rattle.handlers.specs.Telling.{output_event, stop_event, text_of}
+use Rattle.handlers.specs.Telling.{log_event, output_event, stop_event, text_of}
 use Rattle.rv32i.specs.Causes.{cause_text}
 use Rattle.handlers.specs.Views.{view_of}
 use Rattle.handlers.specs.declared.terms.Terms.{Terms}
-use Rattle.image.specs.Lines.{Table}
 use Rattle.protocol.specs.declared.command.Command.{Command}
 use Rattle.protocol.specs.declared.command.Command.TheVariants as command
 use Rattle.protocol.specs.declared.refusal.Refusal.{Refusal}
-use Rattle.protocol.specs.declared.refusal.Refusal.TheVariants.{AssemblyFailed, TooMuch}
-use Rattle.protocol.specs.declared.set_breakpoints.SourceBreakpoint.{SourceBreakpoint}
+use Rattle.protocol.specs.declared.refusal.Refusal.TheVariants.{AssemblyFailed}
 use Rattle.replies.specs.Messages.{text_of as text_said}
 use Rattle.replies.specs.declared.message.Message.{Message}
 use Rattle.replies.specs.declared.message.Message.TheVariants.{Response as IsResponse, Event as IsEvent}
@@ -49,50 +41,16 @@ use Rattle.text_laws.specs.Lengths.{most_bytes, most_of_event, most_of_outcome, 
 use Rattle.text_laws.proofs.Lengths.{texts_are_bounded}
 use Rattle.message_laws.specs.Messages.{HasPath, MessagesAreShort}
 use Rattle.message_laws.proofs.Ascii.{decimal_few, signed_few}
-use Rattle.message_laws.proofs.BodyLengths.{IsShortBody, instruction_answer, breaks_are_short, looks_are_short, settings_are_short, writings_are_short, written_few}
-use Rattle.message_laws.proofs.Breaks.{HasFewBreaks, entered_few, listed_few, marked_few, moved_few, no_breaks, none_named, reset_few}
+use Rattle.message_laws.proofs.BodyLengths.{IsShortBody, breaks_are_short, looks_are_short, settings_are_short, writings_are_short, written_few}
+use Rattle.message_laws.proofs.Breaks.{logs_are_short}
 use Rattle.message_laws.proofs.Claims.{Claim, Holds, OfMessage, OfOutcome, of_messages}
-use Rattle.message_laws.proofs.Named.{IsNamed, listed_named, loaded_named, marked_named}
+use Rattle.message_laws.proofs.Listed.{listed_right}
+use Rattle.message_laws.proofs.Named.{IsShortText}
 use Rattle.message_laws.proofs.Names.{names_are_short}
 use Rattle.message_laws.proofs.Numbered.{in_range}
-use Rattle.message_laws.proofs.Problems.{list_few}
+use Rattle.message_laws.proofs.Programs.{IsShort, ended_short, entered_short, first_run_short, fresh_short, hart_short, left_short, listed_short, loaded_short, marked_short, moved_short, restarted_short, resumed_short, stopped_short, told_short, written_short}
 use Rattle.message_laws.proofs.Requests.{IsShortRequest, asks_have_texts}
 use Rattle.message_laws.proofs.Texts.{first_named, holds_words}
-
--- ---- how many breakpoints are set
-
-abbrev SetsFew : Option (List Wanted) → Type 0
-SetsFew list = IfSome list (λ l. length l ≤ 1024)
-
-unless_many : (count : ℕ) (answer : Answer) → (count ≤ 1024 → SetsFew answer.list)
-    → let it : Answer = cond (ltb 1024 count) (record { result = Err TooMuch; list = None }) answer in SetsFew it.list
-unless_many count answer h = by (ltb 1024 count) refl where
-  by : (b : Bool) → ltb 1024 count ≡ b
-      → let it : Answer = cond b (record { result = Err TooMuch; list = None }) answer in SetsFew it.list
-  by true e = tt
-  by false e = h (grind (arith, nat_tests, e))
-
-own_few : (own : Bool) (table : Table) (view : View) (next : ℕ) (asked : List SourceBreakpoint) → length asked ≤ 1024
-    → SetsFew (source.of_source own table view next asked).list
-own_few true table view next asked few =
-    let some = list_few (source.judged true table view.line_base) source.wanted next asked in omega (arith, some, few)
-own_few false table view next asked few = tt
-
-sets_few : (c : Command) (table : Table) (size : ℕ) (view : View) (next : ℕ) → SetsFew (breaks_answer c table size view next).list
-sets_few (command.SetBreakpoints arguments) table size view next =
-    let own = source.is_own view.path arguments.source.path in
-    unless_many (length arguments.breakpoints) (source.of_source own table view next arguments.breakpoints)
-    (own_few own table view next arguments.breakpoints)
-sets_few (command.SetInstructionBreakpoints arguments) table size view next =
-    unless_many (length arguments.breakpoints) (instruction_answer size next arguments.breakpoints) (λ few.
-    let some = list_few (instruction.judged size) instruction.wanted next arguments.breakpoints in omega (arith, some, few))
-sets_few other table size view next = tt
-
--- ---- a program
-
-record IsShortProgram (p : Program) : Type 0 where
-  named : IsNamed p
-  few : HasFewBreaks p
 
 -- ---- the claim
 
@@ -101,8 +59,8 @@ lengths = record {
   body = IsShortBody;
   refusal = λ refusal said. most_of_outcome (Refused refusal said) ≤ 4000000000;
   event = λ e. most_of_event e ≤ 4000000000;
-  program = IsShortProgram;
-  ids = λ ids. length ids ≤ 2048;
+  program = IsShort;
+  ids = λ ids. length ids ≤ 3072;
   request = IsShortRequest;
   name = λ name. length name ≤ 1048576;
 }
@@ -145,9 +103,10 @@ why_few (why.Met (met.Exception c)) = let few = written_few (cause_text c) 40 (c
 why_few (why.Met met.Ebreak) = omega arith
 why_few (why.Met met.Source) = omega arith
 why_few (why.Met met.Instruction) = omega arith
+why_few (why.Met met.Function) = omega arith
 why_few (why.Met met.Goal) = omega arith
 
-stop_few : (reason : Why) (ids : List ℕ) → length ids ≤ 2048 → most_of_event (stop_event reason ids) ≤ 4000000000
+stop_few : (reason : Why) (ids : List ℕ) → length ids ≤ 3072 → most_of_event (stop_event reason ids) ≤ 4000000000
 stop_few reason ids h = let text = why_few reason in omega (arith, text, h)
 
 output_few : (number : ℤ) → most_of_event (output_event number) ≤ 4000000000
@@ -155,6 +114,12 @@ output_few number =
     let digits = signed_few number in
     let all = length-append (signed_decimal number) (codes "\n") in
     let few = written_few (signed_decimal number ++ codes "\n") 66 (omega (arith, digits, all)) in omega (arith, few)
+
+log_few : (text : List ℕ) → IsShortText text → most_of_event (log_event text) ≤ 4000000000
+log_few text h =
+    let short = h.1 in
+    let all = length-append text (codes "\n") in
+    let few = written_few (text ++ codes "\n") 1048577 (omega (arith, short, all)) in omega (arith, few)
 
 wrong_few : (error : AsmError) → most_of_outcome (Refused AssemblyFailed (Some (error_text error))) ≤ 4000000000
 wrong_few error = let few = written_few (error_text error) 100 (error_few error) in omega (arith, few)
@@ -165,53 +130,38 @@ set_short c p given terms b e =
     subst (λ (r : Result ResponseBody Refusal). IfOk r IsShortBody) e
     (breaks_are_short c p.image.lines p.machine.size (view_of terms p) (given.debuggee.last_break + 1))
 
-shown_short : (c : Command) (p : Program) (given : Given) (terms : Terms) (b : ResponseBody) → Orderly p → IsShortProgram p
+shown_short : (c : Command) (p : Program) (given : Given) (terms : Terms) (b : ResponseBody) → Orderly p → IsShort p
     → (seen_in p given terms c).result ≡ Ok b → IsShortBody b
 shown_short c p given terms b orderly h e =
     subst (λ (r : Result ResponseBody Refusal). IfOk r IsShortBody) e
     (looks_are_short c p.machine p.image.lines given.numbers (view_of terms p) (holds_words p orderly) h.named.labels
     h.named.path)
 
-listed_short : (c : Command) (p : Program) (given : Given) (terms : Terms) (list : List Wanted)
-    → (answer_on p given terms c).list ≡ Some list → length list ≤ 1024
-listed_short c p given terms list e =
-    subst SetsFew e (sets_few c p.image.lines p.machine.size (view_of terms p) (given.debuggee.last_break + 1))
-
 holds : Holds lengths
 holds = record {
   names = λ c. let short = names_are_short c in let few = short.1 in omega (arith, few);
   asks = asks_have_texts lengths (λ c h. h) (λ name h. h.1);
-  loaded =
-      λ arguments text size e h. record {
-        named = loaded_named arguments.program text arguments.stop_on_entry size e h;
-        few = no_breaks;
-      };
-  listed = λ c p given terms list e other h. record {
-    named = listed_named c list other h.named;
-    few = listed_few c list other (listed_short c p given terms list e) h.few;
-  };
-  stopped = λ _ p h. record { named = record { path = h.named.path; labels = h.named.labels }; few = h.few };
-  ended = λ _ p h. record { named = record { path = h.named.path; labels = h.named.labels }; few = h.few };
-  resumed = λ _ p h. record { named = record { path = h.named.path; labels = h.named.labels }; few = h.few };
-  first_run = λ p h. record { named = record { path = h.named.path; labels = h.named.labels }; few = h.few };
-  restarted = λ p h. record {
-    named = record { path = h.named.path; labels = h.named.labels };
-    few = reset_few p.machine.lists h.few;
-  };
-  marked = λ m p h. record { named = marked_named m p h.named; few = marked_few m p h.few };
-  entered = λ p h. record { named = record { path = h.named.path; labels = h.named.labels }; few = entered_few p h.few };
-  moved = λ p h. record { named = record { path = h.named.path; labels = h.named.labels }; few = moved_few p h.few };
-  told = λ p h. record {
-    named = record { path = h.named.path; labels = h.named.labels };
-    few = none_named p.machine.lists h.few;
-  };
-  left = λ p h. record { named = record { path = h.named.path; labels = h.named.labels }; few = no_breaks };
-  hart = λ _ p h. record { named = record { path = h.named.path; labels = h.named.labels }; few = h.few };
-  written = λ _ _ p h. record { named = record { path = h.named.path; labels = h.named.labels }; few = h.few };
+  loaded = λ arguments text size e h. loaded_short arguments.program text arguments.stop_on_entry size e h;
+  listed = λ c p given terms list e asked other h.
+      let right = listed_right c p given terms list e asked in listed_short c list other right.0 right.1 h;
+  stopped = stopped_short;
+  ended = ended_short;
+  resumed = resumed_short;
+  first_run = first_run_short;
+  restarted = restarted_short;
+  marked = marked_short;
+  entered = entered_short;
+  moved = moved_short;
+  told = told_short;
+  left = left_short;
+  hart = hart_short;
+  written = written_short;
   no_ids = omega arith;
   ids = λ p h. h.few.ids;
+  logs = λ p h. logs_are_short p.machine.lists p.machine.lists.logs h.few.logs;
   stop = stop_few;
   printed = output_few;
+  said = log_few;
   exited = λ _. omega arith;
   initialized = omega arith;
   continued = omega arith;
@@ -249,7 +199,7 @@ messages_are_short from events path c k d below =
     let life = life_of c (After from events) in
     let m : Said = get_or life.said k d in
     let right = of_messages lengths holds from
-    (first_named lengths (λ _ _ _ h. record { named = h; few = no_breaks }) from.program from.size from.image path) events c k d below in
+    (first_named lengths fresh_short from.program from.size from.image path) events c k d below in
     let numbers = in_range from events c in
     let number = numbers.all k d below in
     let few = numbers.few in

@@ -6,12 +6,14 @@ pub mod Problems
 pub mod BodyTexts
 pub mod BodyLengths
 pub mod Frames
-pub mod Claims
 pub mod Named
+pub mod Breaks
+pub mod Programs
+pub mod Claims
 pub mod Names
 pub mod Requests
+pub mod Listed
 pub mod Texts
-pub mod Breaks
 pub mod Numbered
 pub mod Lengths
 pub mod Readable

@@ -65,5 +65,6 @@ marked_named mark p h = named_as p (marked mark p) (marked_path p.run mark p) (m
 
 pub listed_named : (c : Command) (list : List Wanted) (p : Program) → IsNamed p → IsNamed (with_list c list p)
 listed_named (command.SetBreakpoints arguments) list p h = record { path = h.path; labels = h.labels }
+listed_named (command.SetFunctionBreakpoints arguments) list p h = record { path = h.path; labels = h.labels }
 listed_named (command.SetInstructionBreakpoints arguments) list p h = record { path = h.path; labels = h.labels }
 listed_named other list p h = h

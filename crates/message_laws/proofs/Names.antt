@@ -19,6 +19,7 @@ fits command.Restart = refl
 fits command.Terminate = refl
 fits (command.Disconnect arguments) = refl
 fits (command.SetBreakpoints arguments) = refl
+fits (command.SetFunctionBreakpoints arguments) = refl
 fits (command.SetInstructionBreakpoints arguments) = refl
 fits command.SetExceptionBreakpoints = refl
 fits (command.Continue arguments) = refl

@@ -1,16 +1,20 @@
 -- What is said of a breakpoint that cannot be set.
-use Rattle.std.proofs.Common.{◌≡◌, ℕ, ◌≤◌, leb, List, [], ◌∷◌, length, ap, suc, Option, Some, None, Result, Ok, Err, IsUtf8, refl, arith}
-use Rattle.std.specs.Prelude.{All, codes}
+use Rattle.std.proofs.Common.{◌≡◌, ℕ, ◌≤◌, Bool, true, false, leb, ltb, List, [], ◌∷◌, length, ap, suc, Option, Some, None, Result, Ok, Err, IsUtf8, refl, arith}
+use Rattle.std.specs.Prelude.{All, codes, ◌||◌}
+use Rattle.std.specs.List.{list_any}
+use Rattle.std.proofs.lemmas.Bool.Decides.{nat_tests}
 use Rattle.std.proofs.lemmas.List.Elements.{All-cons, All-nil}
 use Rattle.json.proofs.Printed.Utf8.{IsUtf8-are_ascii}
 use Rattle.answers.specs.Breakpoints.{entries_of, followed_by, list_of, message_of, next_after}
 use Rattle.answers.specs.Conditions.{Conditions, both, condition_of, conditions_of, hit_of, if_expression, if_positive}
 use Rattle.answers.specs.Expressions.{expression_of}
+use Rattle.answers.specs.SetBreakpoints.{is_long, is_too_much}
 use Rattle.answers.specs.Spaces.{said}
 use Rattle.breakpoints.specs.Stops.{Wanted}
 use Rattle.expressions.specs.Trees.{Tree}
 use Rattle.numerals.specs.Numerals.{numeral}
 use Rattle.numerals.specs.declared.NumeralError.{NumeralError}
+use Rattle.protocol.specs.declared.set_breakpoints.SourceBreakpoint.{SourceBreakpoint}
 use Rattle.message_laws.proofs.Ascii.{if_either}
 
 -- what is said of it: a text of a few bytes
@@ -53,6 +57,19 @@ pub entries_count : {A P E : Type 0} (judged : A → Result P _) (entry : ℕ �
     → length (entries_of judged entry next asked) ≡ length asked
 entries_count judged entry next [] = refl
 entries_count judged entry next (one ∷ others) = ap suc (entries_count judged entry (next_after next (judged one)) others)
+
+-- ---- how many are asked for
+
+pub is_few : (count : ℕ) → ltb 1024 count ≡ false → count ≤ 1024
+is_few count e = grind (arith, nat_tests, e)
+
+-- where it does not ask for too much, it asks for few
+pub not_much : (asked : List SourceBreakpoint) → is_too_much asked ≡ false → length asked ≤ 1024
+not_much asked e = by (ltb 1024 (length asked)) refl e where
+  by : (many : Bool) → ltb 1024 (length asked) ≡ many → (many || list_any (λ one. is_long one.log_message) asked) ≡ false
+      → length asked ≤ 1024
+  by true is e = absurd (let never : true ≡ false = e in cc)
+  by false is e = is_few (length asked) is
 
 -- no more are set than are asked for
 pub list_few : {A P : Type 0} (judged : A → Result P _) (wanted : ℕ → P → Wanted) (next : ℕ) (asked : List A)

@@ -1,28 +1,41 @@
 -- The requests that come have texts that are UTF-8, and no longer than a body may be.
-use Rattle.std.proofs.Common.{ℕ, ◌≤◌, List, [], ◌∷◌, map, length, Result, Ok, Err, arith}
-use Rattle.std.proofs.lemmas.List.Elements.{All-head, All-tail}
+use Rattle.std.proofs.Common.{ℕ, ◌≤◌, List, [], ◌∷◌, map, length, Option, Some, None, Result, Ok, Err, arith}
+use Rattle.std.specs.Prelude.{All, IfSome}
+use Rattle.std.proofs.lemmas.List.Elements.{All-head, All-tail, All-weaker}
 use Rattle.protocol.specs.Reading.{incoming_of}
 use Rattle.protocol.specs.declared.command.Command.{Command}
 use Rattle.protocol.specs.declared.command.Command.TheVariants as command
 use Rattle.protocol.specs.declared.request.Incoming.{Incoming}
 use Rattle.protocol.specs.declared.request.Incoming.TheVariants.{Request as IsRequest, Bad as IsBad, Ignored}
 use Rattle.protocol.specs.declared.request.MessageError.{MessageError}
+use Rattle.protocol.specs.declared.set_breakpoints.SourceBreakpoint.{SourceBreakpoint}
 use Rattle.session.specs.Acts.{Now, read_on}
 use Rattle.session.specs.Arrivals.{asks_in, asks_of}
 use Rattle.session.specs.declared.TheConstants.{BODY_LIMIT}
-use Rattle.text_laws.specs.Requests.{AsksWithin, MeansWithin}
+use Rattle.text_laws.specs.Requests.{AsksWithin, MeansWithin, WritesWithin}
+use Rattle.text_laws.specs.Texts.{IsTextWithin}
 use Rattle.text_laws.proofs.Requests.{requests_have_texts}
 use Rattle.message_laws.proofs.Claims.{Claim, OfAsks}
 use Rattle.message_laws.proofs.Frames.{AreWithin, bodies_within}
 use Rattle.message_laws.proofs.Named.{IsShortText}
 
+-- a breakpoint that writes such a text, if it is a logpoint
+abbrev pub WritesShort : SourceBreakpoint → Type 0
+WritesShort one = IfSome one.log_message IsShortText
+
 -- a request with such texts
 abbrev pub IsShortRequest : Command → Type 0
 IsShortRequest (command.Launch arguments) = IsShortText arguments.program
+IsShortRequest (command.SetBreakpoints arguments) = All WritesShort arguments.breakpoints
 IsShortRequest other = Unit {0}
 
 short_request : (n : ℕ) (c : Command) → n ≤ 1048576 → AsksWithin n c → IsShortRequest c
 short_request n (command.Launch arguments) few h = (h.0, (let within = h.1 in omega (arith, within, few)))
+short_request n (command.SetBreakpoints arguments) few h =
+    All-weaker (WritesWithin n) WritesShort (λ one within. fewer one.log_message within) arguments.breakpoints h.1 where
+      fewer : (log : Option (List ℕ)) → IfSome log (IsTextWithin n) → IfSome log IsShortText
+      fewer None within = tt
+      fewer (Some text) within = (within.0, (let most = within.1 in omega (arith, most, few)))
 short_request n other few h = tt
 
 module _ (q : Claim) (of_request : (c : Command) → IsShortRequest c → q.request c)

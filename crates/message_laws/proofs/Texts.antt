@@ -3,6 +3,7 @@ use Rattle.std.proofs.Common.{◌≡◌, ℕ, ℤ, ◌+◌, ◌≤◌, true, fal
 use Rattle.std.specs.Prelude.{IfSome, codes}
 use Rattle.std.specs.Fmt.{signed_decimal}
 use Rattle.std.proofs.lemmas.List.Elements.{All-weaker}
+use Rattle.std.proofs.lemmas.Str.{IsUtf8-append}
 use Rattle.json.proofs.Printed.Utf8.{are_ascii, IsUtf8-are_ascii}
 use Rattle.answers.specs.Laws.{HoldsWords}
 use Rattle.answers.specs.declared.set_variable.Setting.{Setting}
@@ -17,7 +18,7 @@ use Rattle.debuggee.specs.declared.run.Why.TheVariants as why
 use Rattle.handlers.specs.Given.{Given}
 use Rattle.handlers.specs.Launch.{error_text, kind_name}
 use Rattle.handlers.specs.Looking.{seen_in}
-use Rattle.handlers.specs.Telling.{output_event, stop_event, text_of}
+use Rattle.handlers.specs.Telling.{log_event, output_event, stop_event, text_of}
 use Rattle.rv32i.specs.Causes.{cause_text}
 use Rattle.handlers.specs.Views.{view_of}
 use Rattle.handlers.specs.declared.terms.Terms.{Terms}
@@ -46,8 +47,11 @@ use Rattle.message_laws.specs.Messages.{HasPath, TextsAreUtf8}
 use Rattle.message_laws.proofs.Ascii.{append_ascii, decimal_ascii, signed_ascii}
 use Rattle.message_laws.proofs.BodyTexts.{HasBodyTexts, HasLabels, breaks_have_texts, looks_have_texts, settings_have_texts, texts_append, writings_have_texts}
 use Rattle.message_laws.proofs.Claims.{Claim, Holds, OfMessage, OfOutcome, OfProgram, of_messages}
-use Rattle.message_laws.proofs.Named.{IsNamed, IsShortLabel, listed_named, loaded_named, marked_named}
+use Rattle.message_laws.proofs.Breaks.{logs_are_short}
+use Rattle.message_laws.proofs.Listed.{listed_right}
+use Rattle.message_laws.proofs.Named.{IsNamed, IsShortLabel, IsShortText, loaded_named}
 use Rattle.message_laws.proofs.Names.{names_are_short}
+use Rattle.message_laws.proofs.Programs.{IsShort, ended_short, entered_short, first_run_short, fresh_short, hart_short, left_short, listed_short, loaded_short, marked_short, moved_short, restarted_short, resumed_short, stopped_short, told_short, written_short}
 use Rattle.message_laws.proofs.Requests.{IsShortRequest, asks_have_texts}
 
 -- ---- texts of events and refusals
@@ -70,6 +74,7 @@ why_text (why.Met (met.Exception c)) = IsUtf8-are_ascii (cause_text c) (cause_as
 why_text (why.Met met.Ebreak) = tt
 why_text (why.Met met.Source) = tt
 why_text (why.Met met.Instruction) = tt
+why_text (why.Met met.Function) = tt
 why_text (why.Met met.Goal) = tt
 
 no_texts : (ids : List ℕ) → AreTexts (texts_of whole.texts ids)
@@ -90,6 +95,9 @@ output_has_texts number = (
       (append_ascii (signed_decimal number) (codes "\n") (signed_ascii number) refl),
   tt,
 )
+
+log_has_texts : (text : List ℕ) → IsShortText text → AreTexts (event_texts (log_event text))
+log_has_texts text h = (IsUtf8-append text (codes "\n") h.0 (IsUtf8-are_ascii (codes "\n") refl), tt)
 
 pub kind_ascii : (k : AsmErrorKind) → are_ascii (kind_name k) ≡ true
 kind_ascii kind.NotUtf8 = refl
@@ -123,7 +131,7 @@ texts = record {
   body = HasBodyTexts;
   refusal = λ refusal said. IfSome said IsUtf8;
   event = λ e. AreTexts (event_texts e);
-  program = IsNamed;
+  program = IsShort;
   ids = λ _. Unit {0};
   request = IsShortRequest;
   name = IsUtf8;
@@ -141,34 +149,37 @@ set_texts c p given terms b e =
     subst (λ (r : Result ResponseBody Refusal). IfOk r HasBodyTexts) e
     (breaks_have_texts c p.image.lines p.machine.size (view_of terms p) (given.debuggee.last_break + 1))
 
-shown_texts : (c : Command) (p : Program) (given : Given) (terms : Terms) (b : ResponseBody) → Orderly p → IsNamed p
+shown_texts : (c : Command) (p : Program) (given : Given) (terms : Terms) (b : ResponseBody) → Orderly p → IsShort p
     → (seen_in p given terms c).result ≡ Ok b → HasBodyTexts b
-shown_texts c p given terms b orderly named e =
+shown_texts c p given terms b orderly h e =
     subst (λ (r : Result ResponseBody Refusal). IfOk r HasBodyTexts) e
-    (looks_have_texts c p.machine p.image.lines given.numbers (view_of terms p) (holds_words p orderly) (has_labels p named) named.path.0)
+    (looks_have_texts c p.machine p.image.lines given.numbers (view_of terms p) (holds_words p orderly) (has_labels p h.named) h.named.path.0)
 
 holds : Holds texts
 holds = record {
   names = λ c. IsUtf8-are_ascii (name_of c) (let short = names_are_short c in short.0);
   asks = asks_have_texts texts (λ c h. h) (λ name h. h.0);
-  loaded = λ arguments text size e h. loaded_named arguments.program text arguments.stop_on_entry size e h;
-  listed = λ c _ _ _ list _ p h. listed_named c list p h;
-  stopped = λ _ p h. record { path = h.path; labels = h.labels };
-  ended = λ _ p h. record { path = h.path; labels = h.labels };
-  resumed = λ _ p h. record { path = h.path; labels = h.labels };
-  first_run = λ p h. record { path = h.path; labels = h.labels };
-  restarted = λ p h. record { path = h.path; labels = h.labels };
-  marked = marked_named;
-  entered = λ p h. record { path = h.path; labels = h.labels };
-  moved = λ p h. record { path = h.path; labels = h.labels };
-  told = λ p h. record { path = h.path; labels = h.labels };
-  left = λ p h. record { path = h.path; labels = h.labels };
-  hart = λ _ p h. record { path = h.path; labels = h.labels };
-  written = λ _ _ p h. record { path = h.path; labels = h.labels };
+  loaded = λ arguments text size e h. loaded_short arguments.program text arguments.stop_on_entry size e h;
+  listed = λ c p given terms list e asked other h.
+      let right = listed_right c p given terms list e asked in listed_short c list other right.0 right.1 h;
+  stopped = stopped_short;
+  ended = ended_short;
+  resumed = resumed_short;
+  first_run = first_run_short;
+  restarted = restarted_short;
+  marked = marked_short;
+  entered = entered_short;
+  moved = moved_short;
+  told = told_short;
+  left = left_short;
+  hart = hart_short;
+  written = written_short;
   no_ids = tt;
   ids = λ _ _. tt;
+  logs = λ p h. logs_are_short p.machine.lists p.machine.lists.logs h.few.logs;
   stop = λ reason ids _. stops_have_texts reason ids;
   printed = output_has_texts;
+  said = log_has_texts;
   exited = λ _. tt;
   initialized = tt;
   continued = tt;
@@ -210,4 +221,4 @@ pub texts_are_utf8 : (from : Beginning) (events : List Event) → HasPath from �
 texts_are_utf8 from events path c =
     All-weaker (λ (m : Said). OfMessage texts m.message) (λ (m : Said). HasTexts m.message) (λ m h. message_texts m.message h)
     (life_of c (After from events)).said
-    (of_messages texts holds from (first_named texts (λ _ _ _ h. h) from.program from.size from.image path) events c)
+    (of_messages texts holds from (first_named texts fresh_short from.program from.size from.image path) events c)

@@ -1,16 +1,16 @@
 -- Moves of which there is nothing to tell are as many beats.
-use Rattle.std.proofs.Common.{◌≡◌, ℕ, zero, suc, ◌+◌, ◌<◌, ◌≤◌, Bool, true, false, leb, ltb, Option, Some, None, Result, Ok, Err, MatchBool, inr, refl, sym, ap, ◌∙◌, subst, arith}
+use Rattle.std.proofs.Common.{◌≡◌, ℕ, ℤ, zero, suc, ◌+◌, ◌<◌, ◌≤◌, Bool, true, false, leb, ltb, List, Option, Some, None, Result, Ok, Err, MatchBool, inr, refl, sym, ap, ◌∙◌, subst, arith}
 use Rattle.std.proofs.lemmas.Bool.Decides.{nat_tests}
 use Rattle.std.specs.declared.alloc.AllocError.{AllocError}
 use Rattle.rv32i.specs.declared.instr.Instr.{Instr}
 use Rattle.rv32i.specs.declared.stepped.Stepped.{Stepped}
 use Rattle.rv32i.specs.declared.stepped.Stepped.TheVariants.{Retired, Printed, Break, Exit, Trap}
-use Rattle.stepping.specs.Plain.{plain_tick}
 use Rattle.stepping.specs.Ticks.{Debugged, IsTick, Moves as Ticks, Settles, entry_checked, entry_tick, moved_as, settled, tick_of}
 use Rattle.stepping.specs.declared.tick.Outcome.{Outcome}
+use Rattle.stepping.specs.declared.tick.Outcome.TheVariants.{Went, Stopped, Ended}
 use Rattle.stepping.specs.declared.tick.Tick.{Tick}
 use Rattle.stepping.proofs.Existing.{the_tick}
-use Rattle.debuggee.specs.Programs.{Program, Advances, GoesQuietly, moved, next_tick, owing, stays}
+use Rattle.debuggee.specs.Programs.{Program, Advances, GoesQuietly, moved, next_tick, owing_by, stays}
 use Rattle.debuggee.specs.declared.program.Advanced.{Advanced}
 use Rattle.debuggee.specs.declared.program.Advanced.TheVariants.{Spent, Owes, Meets, Lacks}
 use Rattle.debuggee.specs.declared.run.Run.{Run}
@@ -57,8 +57,16 @@ tick_retires before after tick due e h =
 pub move_retires : (p : Program) → p.machine.check_due ≡ false → stays (next_tick p).outcome ≡ false → Retires p.machine (moved p).machine
 move_retires p due e = tick_retires p.machine (the_tick p.machine).after (next_tick p) due e (the_tick p.machine).is
 
-plain_goes : (t : Tick) → t ≡ plain_tick → stays t.outcome ≡ false
-plain_goes t e = ap (λ (x : Tick). stays x.outcome) e
+-- where a move leaves nothing to tell, its instruction has retired
+owes_none : (printed : Option ℤ) (outcome : Outcome) (logs : List ℕ) → owing_by printed outcome logs ≡ None → stays outcome ≡ false
+owes_none printed Went logs e = refl
+owes_none None (Stopped reason) logs e = absurd (cc)
+owes_none (Some number) (Stopped reason) logs e = absurd (cc)
+owes_none None (Ended code) logs e = absurd (cc)
+owes_none (Some number) (Ended code) logs e = absurd (cc)
+
+quiet_goes : (p : Program) → (moved p).owed ≡ None → stays (next_tick p).outcome ≡ false
+quiet_goes p e = owes_none (next_tick p).printed (next_tick p).outcome (moved p).machine.lists.logs e
 
 -- ---- a beat that makes a move
 
@@ -111,15 +119,15 @@ still_free k p q j most f s lt few = record {
   few = still_fewer k.now.limits.last_retired p.machine.retired q.machine.retired j most s.retired lt few;
 }
 
-moved_still : (j : ℕ) (p q : Program) → Still j p q → next_tick q ≡ plain_tick → Still (suc j) p (moved q)
+moved_still : (j : ℕ) (p q : Program) → Still j p q → (moved q).owed ≡ None → Still (suc j) p (moved q)
 moved_still j p q s e =
-    let r = move_retires q s.due (plain_goes (next_tick q) e) in
+    let r = move_retires q s.due (quiet_goes q e) in
     let one = r.1 in
     let all = s.retired in
     record {
       run = s.run;
       mark = s.mark;
-      owed = ap owing e;
+      owed = e;
       due = r.0 ∙ s.due;
       retired = omega (arith, one, all);
     }
@@ -154,7 +162,7 @@ quietly n m most (suc j) k p q f le room few g =
     record {
       goes =
           one_more n m j k (with_one middle k) middle (still_more m j most n le room) free
-          (plain_goes (next_tick middle) g.1.1.0) before.goes
+          (quiet_goes middle g.1.1.0) before.goes
           ∙ ap (λ (x : Program). going (with_one x k) (m + suc j)) (sym g.1.1.1);
       still = subst (λ (x : Program). Still (suc j) p x) (sym g.1.1.1) (moved_still j p middle before.still g.1.1.0);
     }

@@ -6,13 +6,13 @@ use Rattle.std.specs.Prelude.{IsTrue, MatchResult, slice_index}
 use Rattle.answers.specs.Answers.{breaks_answer, sets_breakpoints}
 use Rattle.answers.specs.Breakpoints.{Answer}
 use Rattle.answers.specs.Laws.{those_set}
-use Rattle.answers.specs.SetBreakpoints.{is_own, of_source}
+use Rattle.answers.specs.SetBreakpoints.{is_own, is_too_much, of_source}
 use Rattle.answers.proofs.Entries.{numbers_follow}
 use Rattle.breakpoints.specs.Stops.{Wanted}
 use Rattle.debuggee.specs.Programs.{Program}
 use Rattle.protocol.specs.Refusals.{has_text}
 use Rattle.protocol.specs.declared.command.Command.{Command}
-use Rattle.protocol.specs.declared.command.Command.TheVariants.{SetBreakpoints, SetInstructionBreakpoints}
+use Rattle.protocol.specs.declared.command.Command.TheVariants.{SetBreakpoints, SetFunctionBreakpoints, SetInstructionBreakpoints}
 use Rattle.protocol.specs.declared.refusal.Refusal.{Refusal}
 use Rattle.protocol.specs.declared.refusal.Refusal.TheVariants.{ReferencesExhausted, TooMuch}
 use Rattle.replies.specs.Forms.{is_word}
@@ -46,9 +46,10 @@ pub is_plain : (p : Program) (given : Given) (terms : Terms) (command : Command)
     → IsPlain (answer_on p given terms command).result
 is_plain p given terms (SetBreakpoints arguments) sets =
     let view = view_of terms p in
-    plain_by (ltb 1024 (length arguments.breakpoints))
+    plain_by (is_too_much arguments.breakpoints)
     (of_source (is_own view.path arguments.source.path) p.image.lines view (given.debuggee.last_break + 1) arguments.breakpoints) refl
 is_plain p given terms (SetInstructionBreakpoints arguments) sets = plain_by (ltb 1024 (length arguments.breakpoints)) _ refl
+is_plain p given terms (SetFunctionBreakpoints arguments) sets = plain_by (ltb 1024 (length arguments.breakpoints)) _ refl
 is_plain p given terms other sets = absurd (let no : false ≡ true = sets in cc)
 
 few_given : (last greatest : ℕ) → ltb greatest last ≡ false → last ≤ greatest

@@ -21,5 +21,6 @@ by_move P now p (Stopped (met.Exception cause)) retired traps ends = traps cause
 by_move P now p (Stopped met.Ebreak) retired traps ends = retired (Stopped met.Ebreak) refl
 by_move P now p (Stopped met.Source) retired traps ends = retired (Stopped met.Source) refl
 by_move P now p (Stopped met.Instruction) retired traps ends = retired (Stopped met.Instruction) refl
+by_move P now p (Stopped met.Function) retired traps ends = retired (Stopped met.Function) refl
 by_move P now p (Stopped met.Goal) retired traps ends = retired (Stopped met.Goal) refl
 by_move P now p (Ended code) retired traps ends = ends code

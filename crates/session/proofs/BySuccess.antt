@@ -212,6 +212,8 @@ module _ (given : Given) (terms : Terms) (P : Command → Answering → Type 0) 
       (goal.Out (granularity_of arguments.granularity))
   by_success file (command.SetBreakpoints arguments) =
       listed (command.SetBreakpoints arguments) (record { sets = refl; about = record { loaded = refl; stays = refl } })
+  by_success file (command.SetFunctionBreakpoints arguments) =
+      listed (command.SetFunctionBreakpoints arguments) (record { sets = refl; about = record { loaded = refl; stays = refl } })
   by_success file (command.SetInstructionBreakpoints arguments) =
       listed (command.SetInstructionBreakpoints arguments) (record { sets = refl; about = record { loaded = refl; stays = refl } })
   by_success file (command.StackTrace arguments) =

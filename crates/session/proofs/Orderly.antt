@@ -14,7 +14,7 @@ use Rattle.debuggee.specs.declared.run.Why.{Why}
 use Rattle.debuggee.specs.declared.run.Why.TheVariants as why
 use Rattle.image.specs.declared.Image.{Image}
 use Rattle.protocol.specs.declared.command.Command.{Command}
-use Rattle.protocol.specs.declared.command.Command.TheVariants.{SetBreakpoints, SetInstructionBreakpoints}
+use Rattle.protocol.specs.declared.command.Command.TheVariants.{SetBreakpoints, SetFunctionBreakpoints, SetInstructionBreakpoints}
 use Rattle.stepping.specs.declared.goal.Goal.{Goal}
 use Rattle.replies.specs.Events.{IsProperEvent}
 use Rattle.replies.specs.Forms.{is_signed_word, is_word}
@@ -29,7 +29,8 @@ use Rattle.image.specs.Memory.{first_address}
 use Rattle.range_laws.specs.Debugging.{HartInRange, ImageInRange}
 use Rattle.range_laws.specs.Machines.{AreBytes}
 use Rattle.range_laws.specs.Programs.{ProgramInRange}
-use Rattle.range_laws.proofs.Programs.{ended_in_range, entered_in_range, first_run_in_range, just_loaded_in_range, left_in_range, moved_in_range, restarted_in_range, resumed_in_range, stopped_in_range, told_in_range, with_hart_in_range, with_instructions_in_range, with_source_in_range, written_in_range}
+use Rattle.range_laws.proofs.Programs.{ended_in_range, entered_in_range, first_run_in_range, just_loaded_in_range, left_in_range, moved_in_range, restarted_in_range, resumed_in_range, stopped_in_range, told_in_range, with_functions_in_range, with_hart_in_range, with_instructions_in_range, with_source_in_range, written_in_range}
+use Rattle.stepping.specs.Loading.{no_breakpoints}
 use Rattle.stepping.specs.RunLaws.{HasSignedCode}
 use Rattle.stepping.specs.Ticks.{Debugged, IsTick, Moves, Settles, entry_checked, entry_tick, hit_at_pc, moved_as, settled}
 use Rattle.stepping.specs.declared.tick.Outcome.{Outcome}
@@ -39,7 +40,7 @@ use Rattle.stepping.proofs.Existing.{the_tick}
 use Rattle.stepping.proofs.Exiting.{ends_with_codes, no_end}
 use Rattle.handlers.specs.Breaks.{with_list}
 use Rattle.handlers.specs.Disconnect.{departed}
-use Rattle.handlers.specs.Telling.{output_event, stop_event, text_of, reason_of}
+use Rattle.handlers.specs.Telling.{log_event, output_event, stop_event, text_of, reason_of}
 use Rattle.session.proofs.Reaching.{if_keeps}
 
 -- ---- numbers
@@ -51,6 +52,10 @@ AreWords (n ∷ rest) = (is_word n ≡ true) × AreWords rest
 words_append : (xs ys : List ℕ) → AreWords xs → AreWords ys → AreWords (xs ++ ys)
 words_append [] ys a b = b
 words_append (x ∷ xs) ys a b = (a.0, words_append xs ys a.1 b)
+
+-- those of three lists, as a check joins them
+ids_append : (xs ys zs : List ℕ) → AreWords xs → AreWords ys → AreWords zs → AreWords (xs ++ ys ++ zs)
+ids_append xs ys zs a b c = words_append (xs ++ ys) zs (words_append xs ys a b) c
 
 all_words : (ids : List ℕ) → AreWords ids → list_all is_word ids ≡ true
 all_words [] h = refl
@@ -78,24 +83,35 @@ counted_id pc hart memory b = if_keeps (λ (x : Placed). x.id ≡ b.id) (is_hit 
 pub record AreOrderly (lists : Lists) : Type 0 where
   pub source : AreNumbered lists.source
   pub instructions : AreNumbered lists.instructions
+  pub functions : AreNumbered lists.functions
   pub ids : AreWords lists.ids
+
+no_orderly : AreOrderly no_breakpoints
+no_orderly = record { source = tt; instructions = tt; functions = tt; ids = tt }
 
 checked_orderly : (pc : ℕ) (hart : Hart) (memory : List ℕ) (lists : Lists) → AreOrderly lists → AreOrderly (checked pc hart memory lists)
 checked_orderly pc hart memory lists h = record {
   source = map_numbered (counted pc hart memory) (counted_id pc hart memory) lists.source h.source;
   instructions = map_numbered (counted pc hart memory) (counted_id pc hart memory) lists.instructions h.instructions;
-  ids = words_append (stopping_ids pc hart memory lists.source) (stopping_ids pc hart memory lists.instructions)
-      (filter_words (stops pc hart memory) lists.source h.source) (filter_words (stops pc hart memory) lists.instructions h.instructions);
+  functions = map_numbered (counted pc hart memory) (counted_id pc hart memory) lists.functions h.functions;
+  ids = ids_append (stopping_ids pc hart memory lists.source) (stopping_ids pc hart memory lists.instructions)
+      (stopping_ids pc hart memory lists.functions) (filter_words (stops pc hart memory) lists.source h.source)
+      (filter_words (stops pc hart memory) lists.instructions h.instructions)
+      (filter_words (stops pc hart memory) lists.functions h.functions);
 }
 
-none_named : (lists : Lists) → AreOrderly lists → AreOrderly (record lists { ids = [] })
-none_named lists h = record { source = h.source; instructions = h.instructions; ids = tt }
+none_named : (lists : Lists) → AreOrderly lists → AreOrderly (record lists { ids = []; logs = [] })
+none_named lists h = record { source = h.source; instructions = h.instructions; functions = h.functions; ids = tt }
 
-reset_orderly : (lists : Lists) → AreOrderly lists
-    → AreOrderly (record lists { source = map reset lists.source; instructions = map reset lists.instructions })
+reset_orderly : (lists : Lists) → AreOrderly lists → AreOrderly (record lists {
+  source = map reset lists.source;
+  instructions = map reset lists.instructions;
+  functions = map reset lists.functions;
+})
 reset_orderly lists h = record {
   source = map_numbered reset (λ b. refl) lists.source h.source;
   instructions = map_numbered reset (λ b. refl) lists.instructions h.instructions;
+  functions = map_numbered reset (λ b. refl) lists.functions h.functions;
   ids = h.ids;
 }
 
@@ -165,15 +181,16 @@ told_orderly p h = record { image = h.image; lists = none_named p.machine.lists 
 
 pub left_orderly : (p : Program) → Orderly p → Orderly (left p)
 left_orderly p h =
-    record { image = h.image; lists = record { source = tt; instructions = tt; ids = tt }; owed = tt; range = left_in_range p h.range }
+    record { image = h.image; lists = no_orderly; owed = tt; range = left_in_range p h.range }
 
-owing_fits : (printed : Option ℤ) (outcome : Outcome) → HasSignedCode outcome → FitsOwed (owing_by printed outcome)
-owing_fits None Went h = tt
-owing_fits (Some number) Went h = h
-owing_fits None (Stopped reason) h = h
-owing_fits (Some number) (Stopped reason) h = h
-owing_fits None (Ended code) h = h
-owing_fits (Some number) (Ended code) h = h
+owing_fits : (printed : Option ℤ) (outcome : Outcome) (logs : List ℕ) → HasSignedCode outcome → FitsOwed (owing_by printed outcome logs)
+owing_fits None Went [] h = tt
+owing_fits None Went (place ∷ logs) h = h
+owing_fits (Some number) Went logs h = h
+owing_fits None (Stopped reason) logs h = h
+owing_fits (Some number) (Stopped reason) logs h = h
+owing_fits None (Ended code) logs h = h
+owing_fits (Some number) (Ended code) logs h = h
 
 pub entered_orderly : (p : Program) → Orderly p → Orderly (entered p)
 entered_orderly p h =
@@ -181,7 +198,7 @@ entered_orderly p h =
     record {
       image = h.image;
       lists = checked_orderly d.hart.pc d.hart d.memory d.lists h.lists;
-      owed = owing_fits None (entry_tick d).outcome (no_end (hit_at_pc d) false);
+      owed = owing_fits None (entry_tick d).outcome (entry_checked d).lists.logs (no_end (hit_at_pc d) false);
       range = entered_in_range p h.range;
     }
 
@@ -194,7 +211,7 @@ moved_orderly p h =
     record {
       image = h.image;
       lists = tick_orderly p.machine t.after (Ok t.tick) t.is h.lists;
-      owed = owing_fits (next_tick p).printed (next_tick p).outcome (next_fits p);
+      owed = owing_fits (next_tick p).printed (next_tick p).outcome t.after.lists.logs (next_fits p);
       range = moved_in_range p h.range;
     }
 
@@ -239,16 +256,23 @@ pub listed_orderly : (command : Command) (list : List Wanted) → AreWords (map 
 listed_orderly (SetBreakpoints arguments) list ids p h =
     record {
       image = h.image;
-      lists = record { source = set_numbered list ids; instructions = h.lists.instructions; ids = tt };
+      lists = record { source = set_numbered list ids; instructions = h.lists.instructions; functions = h.lists.functions; ids = tt };
       owed = h.owed;
       range = with_source_in_range list p h.range;
     }
 listed_orderly (SetInstructionBreakpoints arguments) list ids p h =
     record {
       image = h.image;
-      lists = record { source = h.lists.source; instructions = set_numbered list ids; ids = tt };
+      lists = record { source = h.lists.source; instructions = set_numbered list ids; functions = h.lists.functions; ids = tt };
       owed = h.owed;
       range = with_instructions_in_range list p h.range;
+    }
+listed_orderly (SetFunctionBreakpoints arguments) list ids p h =
+    record {
+      image = h.image;
+      lists = record { source = h.lists.source; instructions = h.lists.instructions; functions = set_numbered list ids; ids = tt };
+      owed = h.owed;
+      range = with_functions_in_range list p h.range;
     }
 listed_orderly other list ids p h = h
 
@@ -256,7 +280,7 @@ pub loaded_orderly : (image : Image) (path : List ℕ) (stop_on_entry : Bool) (s
     → first_address + size < 2 ^ 32 → Orderly (just_loaded image path stop_on_entry size)
 loaded_orderly image path stop_on_entry size narrow fits ends = record {
   image = narrow;
-  lists = record { source = tt; instructions = tt; ids = tt };
+  lists = no_orderly;
   owed = tt;
   range = just_loaded_in_range image path stop_on_entry size fits ends;
 }
@@ -278,6 +302,9 @@ stop_is_proper why ids h = stop_with ids (reason_of why) (text_of why) h
 
 pub output_is_proper : (number : ℤ) → IsProperEvent (output_event number)
 output_is_proper number = refl
+
+pub log_is_proper : (text : List ℕ) → IsProperEvent (log_event text)
+log_is_proper text = refl
 
 at_most : (a b : ℤ) → a ≤ℤ b → int_le a b ≡ true
 at_most a b h = by (int_le a b) refl where

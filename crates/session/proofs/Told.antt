@@ -1,5 +1,5 @@
 -- What a beat tells is written first, and numbered at once.
-use Rattle.std.proofs.Common.{◌≡◌, ℕ, ℤ, Bool, true, false, cond, ltb, List, [], ◌∷◌, ◌++◌, map, Option, Some, None, Result, Ok, Err, OnOk, refl, sym, ap, ◌∙◌, append-nil}
+use Rattle.std.proofs.Common.{◌≡◌, ℕ, Bool, true, false, cond, ltb, List, [], ◌∷◌, ◌++◌, map, Option, Some, None, Result, Ok, Err, OnOk, refl, sym, ap, ◌∙◌, append-nil}
 use Rattle.debuggee.specs.Programs.{Debuggee, Program, ended, stays, stopped, told}
 use Rattle.debuggee.specs.declared.run.Why.{Why}
 use Rattle.debuggee.specs.declared.run.Why.TheVariants as why
@@ -9,13 +9,13 @@ use Rattle.replies.specs.declared.message.Message.TheVariants.{Event as IsEvent}
 use Rattle.session.specs.declared.link.Link.{Link}
 use Rattle.session.specs.declared.pending.Pending.{Pending}
 use Rattle.session.specs.Acts.{Act, Become, Tell}
-use Rattle.session.specs.Beats.{concluded, outcome_events, printed_events, queued_with, tick_events}
+use Rattle.session.specs.Beats.{concluded, outcome_events, queued_with, tick_events}
 use Rattle.session.specs.Effects.{performed}
-use Rattle.session.specs.Kept.{Drafted, Kept, draft_on, draft_told, drafted_all, keepings, kept_said}
+use Rattle.session.specs.Kept.{Drafted, Kept, draft_on, draft_told, drafted, drafted_all, keepings, kept_said}
 use Rattle.session.specs.declared.limits.Limits.{Limits}
 use Rattle.session.specs.Phases.{is_active}
-use Rattle.session.specs.Slices.{concludes, halts, prints, telling}
-use Rattle.handlers.specs.Telling.{exit_events, stop_event}
+use Rattle.session.specs.Slices.{concludes, halts, logged, output_events, printed_events, telling}
+use Rattle.handlers.specs.Telling.{exit_events, log_event, stop_event}
 use Rattle.stepping.specs.declared.tick.Outcome.{Outcome}
 use Rattle.stepping.specs.declared.tick.Outcome.TheVariants.{Went, Stopped, Ended}
 use Rattle.stepping.specs.declared.tick.Tick.{Tick}
@@ -84,31 +84,50 @@ end_tells k p Went e = absurd (let never : false ≡ true = e in cc)
 end_tells k p (Stopped reason) e = tells_told (stop_event (why.Met reason) [] ∷ []) (with_one (stopped (why.Met reason) p) k)
 end_tells k p (Ended code) e = tells_told (exit_events code) (with_one (ended (Some code) p) k)
 
-printed_as : (k : Kept) (printed : Option ℤ) → prints k.now printed ≡ tells_if (is_active k.now.link) (printed_events printed)
-printed_as k None = none (is_active k.now.link) where
-  none : (b : Bool) → [] ≡ tells_if b []
-  none true = refl
-  none false = refl
-printed_as k (Some number) = refl
-
-by_outcome : (k : Kept) (p : Program) (printed : List Event) (outcome : Outcome) (ids : List ℕ) →
-    performed keepings (tells_if (is_active k.now.link) printed ++ concludes k.now p outcome ids) (with_one p k)
-    ≡ performed keepings (tells_if (is_active k.now.link) (printed ++ outcome_events outcome ids)) (with_one (concluded outcome p) k)
-by_outcome k p printed Went ids = told_once (is_active k.now.link) printed (with_one p k)
-by_outcome k p printed (Stopped reason) ids =
-    told_twice (is_active k.now.link) printed (stop_event (why.Met reason) ids ∷ [])
+by_outcome : (k : Kept) (p : Program) (output : List Event) (outcome : Outcome) (ids : List ℕ) →
+    performed keepings (tells_if (is_active k.now.link) output ++ concludes k.now p outcome ids) (with_one p k)
+    ≡ performed keepings (tells_if (is_active k.now.link) (output ++ outcome_events outcome ids)) (with_one (concluded outcome p) k)
+by_outcome k p output Went ids = told_once (is_active k.now.link) output (with_one p k)
+by_outcome k p output (Stopped reason) ids =
+    told_twice (is_active k.now.link) output (stop_event (why.Met reason) ids ∷ [])
     (record k.now.debuggee { program = Some (stopped (why.Met reason) p) }) (with_one p k)
-by_outcome k p printed (Ended code) ids =
-    told_twice (is_active k.now.link) printed (exit_events code) (record k.now.debuggee { program = Some (ended (Some code) p) })
+by_outcome k p output (Ended code) ids =
+    told_twice (is_active k.now.link) output (exit_events code) (record k.now.debuggee { program = Some (ended (Some code) p) })
     (with_one p k)
 
 pub tick_tells : (k : Kept) (p : Program) (tick : Tick)
-    → performed keepings (telling k.now p tick) k ≡ settling k.now.link k.now.arrivals.pending (draft_told k.now.limits k.now.link (tick_events tick p.machine.lists.ids)) (with_one (concluded tick.outcome (told p)) k)
+    → performed keepings (telling k.now p tick) k ≡ settling k.now.link k.now.arrivals.pending (draft_told k.now.limits k.now.link (tick_events tick (logged p.machine.lists) p.machine.lists.ids)) (with_one (concluded tick.outcome (told p)) k)
 tick_tells k p tick =
-    ap (λ acts. performed keepings (acts ++ concludes k.now (told p) tick.outcome p.machine.lists.ids) (with_one (told p) k))
-    (printed_as k tick.printed)
-    ∙ by_outcome k (told p) (printed_events tick.printed) tick.outcome p.machine.lists.ids
-    ∙ tells_told (tick_events tick p.machine.lists.ids) (with_one (concluded tick.outcome (told p)) k)
+    by_outcome k (told p) (output_events tick.printed (logged p.machine.lists)) tick.outcome p.machine.lists.ids
+    ∙ tells_told (tick_events tick (logged p.machine.lists) p.machine.lists.ids) (with_one (concluded tick.outcome (told p)) k)
+
+-- a draft of events, and of others after them
+drafts_join : (limits : Limits) (first more : List Event) (d : Drafted)
+    → drafted_all limits (first ++ more) d ≡ drafted_all limits more (drafted_all limits first d)
+drafts_join limits [] more d = refl
+drafts_join limits (e ∷ es) more d = drafts_join limits es more (drafted limits (IsEvent e) d)
+
+tick_drafted : (limits : Limits) (tick : Tick) (texts : List (List ℕ)) (ids : List ℕ) (d : Drafted)
+    → drafted_all limits (tick_events tick texts ids) d
+    ≡ drafted_all limits (outcome_events tick.outcome ids)
+    (drafted_all limits (map log_event texts) (drafted_all limits (printed_events tick.printed) d))
+tick_drafted limits tick texts ids d =
+    drafts_join limits (output_events tick.printed texts) (outcome_events tick.outcome ids) d
+    ∙ ap (drafted_all limits (outcome_events tick.outcome ids)) (drafts_join limits (printed_events tick.printed) (map log_event texts) d)
+
+-- what was printed, what logpoints say and the outcome, one after the other, are what is told of a tick
+pub adds_tick : {E : Type 0} (result : Result (Unit {0}) E) (limits : Limits) (program : Option Program) (tick : Tick) (d printed logs all : Drafted)
+    → printed ≡ drafted_all limits (printed_events tick.printed) d
+    → ((p : Program) → program ≡ Some p → logs ≡ drafted_all limits (map log_event (logged p.machine.lists)) printed)
+    → OnOk result ((p : Program) → program ≡ Some p → all ≡ drafted_all limits (outcome_events tick.outcome p.machine.lists.ids) logs)
+    → OnOk result ((p : Program) → program ≡ Some p
+    → all ≡ drafted_all limits (tick_events tick (logged p.machine.lists) p.machine.lists.ids) d)
+adds_tick (Err e) limits program tick d printed logs all a b c = tt
+adds_tick (Ok x) limits program tick d printed logs all a b c =
+    λ p there. c p there
+    ∙ ap (drafted_all limits (outcome_events tick.outcome p.machine.lists.ids))
+    (b p there ∙ ap (drafted_all limits (map log_event (logged p.machine.lists))) a)
+    ∙ sym (tick_drafted limits tick (logged p.machine.lists) p.machine.lists.ids d)
 
 -- a stop that was drafted, and queued with its change, is told
 pub stop_so : {E : Type 0} (result : Result (Unit {0}) E) (old new : Kept) (reason : Why) (draft : Drafted)

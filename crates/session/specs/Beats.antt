@@ -1,5 +1,5 @@
 -- For private clauses alone: what comes next in a slice, and many beats at once.
-use Rattle.std.specs.Prelude.{◌≡◌, ℕ, ℤ, ◌+◌, ◌<◌, ◌≤◌, nat_lt, Bool, true, false, List, [], ◌∷◌, ◌++◌, Option, Some, None}
+use Rattle.std.specs.Prelude.{◌≡◌, ℕ, ◌+◌, ◌<◌, ◌≤◌, nat_lt, Bool, true, false, List, [], ◌∷◌, ◌++◌, Option, Some, None}
 use Rattle.debuggee.specs.Programs.{Program, ended, entered, next_tick, stays, stopped, told}
 use Rattle.debuggee.specs.declared.program.Advanced.{Advanced}
 use Rattle.debuggee.specs.declared.program.Advanced.TheVariants as advanced
@@ -17,8 +17,8 @@ use Rattle.session.specs.declared.slices.Next.TheVariants as next
 use Rattle.session.specs.declared.slices.Step.{Step}
 use Rattle.session.specs.Effects.{MayLack, Slicing, beats, beats_on}
 use Rattle.session.specs.Kept.{Drafted, Kept, keepings, settled}
-use Rattle.session.specs.Slices.{IsFree, beat, ends, stops, becomes}
-use Rattle.handlers.specs.Telling.{exit_events, output_event, stop_event}
+use Rattle.session.specs.Slices.{IsFree, beat, ends, output_events, stops, becomes}
+use Rattle.handlers.specs.Telling.{exit_events, stop_event}
 use Rattle.stepping.specs.Runs.{TickNeedsPage}
 use Rattle.stepping.specs.declared.tick.Outcome.{Outcome}
 use Rattle.stepping.specs.declared.tick.Outcome.TheVariants.{Went, Stopped, Ended}
@@ -30,17 +30,13 @@ owed_of None = None
 owed_of (Some p) = p.owed
 
 -- what is told of a tick
-abbrev pub printed_events : Option ℤ → List Event
-printed_events None = []
-printed_events (Some number) = output_event number ∷ []
-
 abbrev pub outcome_events : Outcome → List ℕ → List Event
 outcome_events Went ids = []
 outcome_events (Stopped reason) ids = stop_event (why.Met reason) ids ∷ []
 outcome_events (Ended code) ids = exit_events code
 
-abbrev pub tick_events : Tick → List ℕ → List Event
-tick_events tick ids = printed_events tick.printed ++ outcome_events tick.outcome ids
+abbrev pub tick_events : Tick → List (List ℕ) → List ℕ → List Event
+tick_events tick texts ids = output_events tick.printed texts ++ outcome_events tick.outcome ids
 
 -- what it comes to is made
 abbrev pub concluded : Outcome → Program → Program

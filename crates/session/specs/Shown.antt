@@ -59,6 +59,7 @@ shown_of p numbers = record {
   launched = false;
   source = listed_at p.path (map info_of p.machine.lists.source);
   instructions = map info_of p.machine.lists.instructions;
+  functions = map info_of p.machine.lists.functions;
   frame = λ index. frame_at p.image.lines numbers index (slice_get (addresses p.machine) index);
   register = register_at p.machine.hart;
   byte = byte_at p.machine.memory;

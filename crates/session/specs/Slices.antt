@@ -6,12 +6,14 @@
 -- stops; in a first run the breakpoints at the entry are looked at; the slice ends where all its moves were made; and
 -- the program stops where as many instructions have retired as may.
 --
--- A move whose instruction retires leaves what is to be told of it, which the next beat tells. One that traps, or ends
--- the program, does not: the stop or the end is made and told at once.
+-- A move whose instruction retires leaves what is to be told of it, which the next beat tells: a number that it
+-- printed, what the logpoints say that it reached (Debug Adapter Protocol, `logMessage`), in the order of their list, and
+-- then its stop. One that traps, or ends the program, leaves nothing: the stop or the end is made and told at once.
 --
 -- Only an editor that has said all is told.
 use Rattle.std.specs.Prelude.{◌≡◌, ℕ, ℤ, nat_lt, nat_le, Bool, true, false, ◌&&◌, not, if◌then◌else◌, List, [], ◌∷◌}
-use Rattle.std.specs.Prelude.{◌++◌, map, Option, Some, None}
+use Rattle.std.specs.Prelude.{◌++◌, map, filter_map, Option, Some, None}
+use Rattle.breakpoints.specs.Stops.{Lists, log_at}
 use Rattle.debuggee.specs.Programs.{Program, ended, entered, is_running, moved, next_tick, stopped, told}
 use Rattle.debuggee.specs.Programs.{why_marked}
 use Rattle.debuggee.specs.declared.run.Mark.{Mark}
@@ -25,7 +27,7 @@ use Rattle.session.specs.declared.link.Link.{Link}
 use Rattle.session.specs.declared.state.TheConstants.{FULL}
 use Rattle.session.specs.Acts.{Now, Seen, Act, Become, Tell}
 use Rattle.session.specs.Phases.{is_active, is_configuring}
-use Rattle.handlers.specs.Telling.{exit_events, output_event, stop_event}
+use Rattle.handlers.specs.Telling.{exit_events, log_event, output_event, stop_event}
 use Rattle.stepping.specs.declared.tick.Outcome.{Outcome}
 use Rattle.stepping.specs.declared.tick.Outcome.TheVariants.{Went, Stopped, Ended}
 use Rattle.stepping.specs.declared.tick.Reason.TheVariants as met
@@ -49,10 +51,18 @@ halts now p why ids = becomes now (stopped why p) ∷ tells now (stop_event why 
 abbrev pub exits : Now → Program → ℤ → List Act
 exits now p code = becomes now (ended (Some code) p) ∷ tells now (exit_events code)
 
--- what was printed is told
-abbrev pub prints : Now → Option ℤ → List Act
-prints now None = []
-prints now (Some number) = tells now (output_event number ∷ [])
+-- what was printed
+abbrev pub printed_events : Option ℤ → List Event
+printed_events None = []
+printed_events (Some number) = output_event number ∷ []
+
+-- what the logpoints say that the last look reached, in the order of their list
+abbrev pub logged : Lists → List (List ℕ)
+logged lists = filter_map (log_at lists) lists.logs
+
+-- the output of a tick: what was printed, and then what logpoints say
+abbrev pub output_events : Option ℤ → List (List ℕ) → List Event
+output_events printed texts = printed_events printed ++ map log_event texts
 
 -- what a tick came to is made, and told
 abbrev pub concludes : Now → Program → Outcome → List ℕ → List Act
@@ -60,10 +70,11 @@ concludes now p Went ids = []
 concludes now p (Stopped reason) ids = halts now p (why.Met reason) ids
 concludes now p (Ended code) ids = exits now p code
 
--- what a tick left is told: what was printed while the program still runs, and then why it stops, if it does
+-- what a tick left is told: its output while the program still runs, and then why it stops, if it does
 abbrev pub telling : Now → Program → Tick → List Act
 telling now p tick =
-    becomes now (told p) ∷ (prints now tick.printed ++ concludes now (told p) tick.outcome p.machine.lists.ids)
+    becomes now (told p) ∷ (tells now (output_events tick.printed (logged p.machine.lists))
+    ++ concludes now (told p) tick.outcome p.machine.lists.ids)
 
 -- ---- beats
 
@@ -98,6 +109,7 @@ moves_by now p (Stopped (met.Exception cause)) = stops now p (why.Met (met.Excep
 moves_by now p (Stopped met.Ebreak) = retires now p
 moves_by now p (Stopped met.Source) = retires now p
 moves_by now p (Stopped met.Instruction) = retires now p
+moves_by now p (Stopped met.Function) = retires now p
 moves_by now p (Stopped met.Goal) = retires now p
 moves_by now p (Ended code) = record { acts = exits now p code; moved = 0; ending = Some ending.Ended }
 

@@ -20,9 +20,10 @@ pub record Captured : Type 0 where
   pub run : RunState
   -- the path of its file
   pub path : List ℕ
-  -- its breakpoints in the source, and those at instructions
+  -- its breakpoints in the source, those at instructions, and those of functions
   pub source : List BreakInfo
   pub instructions : List BreakInfo
+  pub functions : List BreakInfo
   -- the frames of its call stack, the innermost first
   pub frames : List FrameInfo
   -- its registers and its memory
@@ -42,6 +43,7 @@ captured_of p numbers = record {
   path = p.path;
   source = map info_of p.machine.lists.source;
   instructions = map info_of p.machine.lists.instructions;
+  functions = map info_of p.machine.lists.functions;
   frames = frames_from p.image.lines numbers 0 (addresses p.machine);
   hart = p.machine.hart;
   memory = p.machine.memory;
@@ -60,6 +62,7 @@ facts_in c = record {
   launched = false;
   source = listed_at c.path c.source;
   instructions = c.instructions;
+  functions = c.functions;
   frame = slice_get c.frames;
   register = register_at c.hart;
   byte = byte_at c.memory;

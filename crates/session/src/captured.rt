@@ -28,6 +28,8 @@ pub(crate) struct Captured {
     pub path: Name,
     /// The breakpoints at instructions.
     pub instructions: Vec<BreakInfo>,
+    /// The breakpoints of functions.
+    pub functions: Vec<BreakInfo>,
     source: Vec<BreakInfo>,
     frames: Vec<FrameInfo>,
     hart: Hart,
@@ -44,6 +46,7 @@ impl Model for Captured {
       path = c.path;
       source = c.source.items;
       instructions = c.instructions.items;
+      functions = c.functions.items;
       frames = c.frames.items;
       hart = c.hart;
       memory = c.memory;
@@ -65,6 +68,7 @@ impl Captured {
             path: Name::of(alloc, program.path())?,
             source: infos(alloc, machine.breaks().source())?,
             instructions: infos(alloc, machine.breaks().instructions())?,
+            functions: infos(alloc, machine.breaks().functions())?,
             frames: frames(alloc, machine, &program.image().lines, handles)?,
             hart: *machine.hart(),
             memory: machine.memory().copied(alloc)?,

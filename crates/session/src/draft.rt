@@ -1,11 +1,12 @@
 //! Messages that are written before any of them is queued.
 ghost use Rattle.std.specs.Prelude.{◌≡◌, ◌++◌, OnOk};
+ghost use Rattle.replies.specs.declared.message.Message.TheVariants as a_message;
 ghost use Rattle.session.specs.Kept.{draft_on, drafted};
 
 use crate::limits::Limits;
 use crate::link::Link;
 use crate::writing::framed;
-use replies::Message;
+use replies::{Event, Message};
 use std::alloc::{AllocError, Global};
 use std::marker::Model;
 
@@ -51,6 +52,13 @@ impl Draft {
             self.seq += 1;
         }
         Ok(())
+    }
+
+    /// One event more, if a number is left for it.
+    pub(crate) fn add_event(&mut self, limits: Limits, event: Event) -> Result<(), AllocError>
+        ensures { OnOk result (self.new ≡ drafted limits (a_message.Event event) self.old) }
+    {
+        self.add(limits, &Message::Event(event))
     }
 
     /// Their frames.

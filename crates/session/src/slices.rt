@@ -1,5 +1,5 @@
 //! The program is given time.
-ghost use Rattle.std.specs.Prelude.{◌≡◌, nat_lt, true, ◌++◌, ◌+◌, ◌*◌, ◌<◌, ◌≤◌, ℕ, Some, None, Ok, [], ◌∷◌, IfOk, OnOk, OnErr, Bool, false};
+ghost use Rattle.std.specs.Prelude.{◌≡◌, nat_lt, true, ◌++◌, ◌+◌, ◌*◌, ◌<◌, ◌≤◌, ℕ, Some, None, Ok, [], ◌∷◌, map, IfOk, OnOk, OnErr, Bool, false};
 ghost use Rattle.session.specs.declared.event.Event.TheVariants as event;
 ghost use Rattle.session.specs.declared.event.Applied.TheVariants as applied;
 ghost use Rattle.debuggee.specs.Programs.{Program as AProgram, entered, next_tick, stays};
@@ -8,8 +8,8 @@ ghost use Rattle.session.specs.Effects.{performed};
 ghost use Rattle.session.specs.Kept.{Goes, draft_told, drafted_all, keepings, see_kept};
 ghost use Rattle.session.specs.Phases.{is_active};
 ghost use Rattle.session.specs.Slices as spec;
-ghost use Rattle.session.specs.Slices.{IsFree};
-ghost use Rattle.handlers.specs.Telling.{exit_events, output_event, stop_event};
+ghost use Rattle.session.specs.Slices.{IsFree, logged, printed_events};
+ghost use Rattle.handlers.specs.Telling.{exit_events, log_event, output_event, stop_event};
 ghost use Rattle.session.specs.Beats.{moves_of, outcome_events, Decides, Moved, Stretches, after_made, concluded, owed_of, queued_with, tick_events};
 
 use crate::draft::Draft;
@@ -18,7 +18,7 @@ use crate::limits::Limits;
 use crate::state::{FULL, State};
 use debuggee::{Advanced, Program, Run, Why};
 use handlers::telling;
-use replies::{Event, Message};
+use replies::Event;
 use std::alloc::AllocError;
 use stepping::{Outcome, Tick};
 
@@ -179,7 +179,7 @@ impl State {
     }
 
     // The program stops.
-    #[tactic(auto, using(crate::proofs::Stretching::stops_there, crate::proofs::Stretching::lacks_stopping))]
+    #[tactic(auto, using(crate::proofs::Stretching::stops_there))]
     fn step_stopping(&mut self, why: Why, more: bool) -> Step
         requires { Decides (a_next.Stop why) self.old more }
         ensures moved { result.moved ≡ 0 }
@@ -338,7 +338,7 @@ impl State {
     fn draft_tick(&self, tick: Tick) -> Result<Draft, AllocError>
         ensures ok { IfOk result (λ d. (p : AProgram) → self.now.now.debuggee.program ≡ Some p
             → d ≡ draft_told self.now.now.limits self.now.now.link
-            (tick_events tick p.machine.lists.ids)) }
+            (tick_events tick (logged p.machine.lists) p.machine.lists.ids)) }
         ensures empty { is_active self.now.now.link ≡ false → IfOk result (λ d. d.bytes ≡ []) }
         ensures told { OnErr result (is_active self.now.now.link ≡ true) }
     {
@@ -346,12 +346,53 @@ impl State {
         if !self.is_told() {
             return Ok(draft);
         }
-        if let Some(number) = tick.printed {
-            let event = telling::output_event(self.alloc, number)?;
-            draft.add(self.limits, &Message::Event(event))?;
-        }
-        self.add_outcome(&mut draft, tick.outcome)?;
+        self.add_tick(&mut draft, tick)?;
         Ok(draft)
+    }
+
+    // Adds what is told of a tick.
+    #[tactic(auto, using(crate::proofs::Told::adds_tick))]
+    fn add_tick(&self, draft: &mut Draft, tick: Tick) -> Result<(), AllocError>
+        ensures { OnOk result ((p : AProgram) → self.now.now.debuggee.program ≡ Some p
+            → draft.new ≡ drafted_all self.now.now.limits
+            (tick_events tick (logged p.machine.lists) p.machine.lists.ids) draft.old) }
+    {
+        self.add_printed(draft, tick.printed)?;
+        self.add_logs(draft)?;
+        self.add_outcome(draft, tick.outcome)
+    }
+
+    // Adds the event of a number that was printed, if one was.
+    fn add_printed(&self, draft: &mut Draft, printed: Option<i32>) -> Result<(), AllocError>
+        ensures { OnOk result (draft.new
+            ≡ drafted_all self.now.now.limits (printed_events printed) draft.old) }
+    {
+        match printed {
+            Some(number) => {
+                let event = telling::output_event(self.alloc, number)?;
+                draft.add_event(self.limits, event)
+            }
+            None => Ok(()),
+        }
+    }
+
+    // Adds what the logpoints say that the last look reached, an event each.
+    fn add_logs(&self, draft: &mut Draft) -> Result<(), AllocError>
+        ensures { OnOk result ((p : AProgram) → self.now.now.debuggee.program ≡ Some p
+            → draft.new ≡ drafted_all self.now.now.limits
+            (map log_event (logged p.machine.lists)) draft.old) }
+    {
+        let Some(program) = &self.program else {
+            return Ok(());
+        };
+        let breaks = program.machine().breaks();
+        for place in breaks.logs() {
+            if let Some(text) = breaks.log_text(*place) {
+                let event = telling::log_event(self.alloc, text)?;
+                draft.add_event(self.limits, event)?;
+            }
+        }
+        Ok(())
     }
 
     // Adds the events of what a tick came to.
@@ -366,7 +407,7 @@ impl State {
                 Some(program) => {
                     let ids = program.machine().breaks().ids();
                     let event = telling::stop_event(self.alloc, Why::Met(reason), ids)?;
-                    draft.add(self.limits, &Message::Event(event))
+                    draft.add_event(self.limits, event)
                 }
                 None => Ok(()),
             },
@@ -395,7 +436,7 @@ impl State {
         let mut draft = Draft::new(self.alloc, self.limits, self.link);
         if self.is_told() {
             let event = telling::stop_event(self.alloc, why, &[])?;
-            draft.add(self.limits, &Message::Event(event))?;
+            draft.add_event(self.limits, event)?;
         }
         Ok(draft)
     }
@@ -429,7 +470,7 @@ impl State {
             Outcome::Went => {}
             Outcome::Stopped(reason) => {
                 let event = telling::stop_event(self.alloc, Why::Met(reason), &[])?;
-                draft.add(self.limits, &Message::Event(event))?;
+                draft.add_event(self.limits, event)?;
             }
             Outcome::Ended(code) => add_exit(&mut draft, self.limits, code)?,
         }
@@ -441,8 +482,8 @@ impl State {
 fn add_exit(draft: &mut Draft, limits: Limits, code: i32) -> Result<(), AllocError>
     ensures { OnOk result (draft.new ≡ drafted_all limits (exit_events code) draft.old) }
 {
-    draft.add(limits, &Message::Event(telling::exit_event(code)))?;
-    draft.add(limits, &Message::Event(Event::Terminated))
+    draft.add_event(limits, telling::exit_event(code))?;
+    draft.add_event(limits, Event::Terminated)
 }
 
 // How many moves may be made of those that are left, by how many instructions may retire and have.

@@ -75,6 +75,16 @@ impl Snapshot {
         }
     }
 
+    /// The breakpoint at an index, from 0, of those that are set on functions.
+    pub fn function_break(&self, index: usize) -> Option<BreakInfo>
+        ensures { result ≡ slice_get (seen_of self.now).functions index }
+    {
+        match &self.program {
+            None => None,
+            Some(program) => program.functions.get(index).copied(),
+        }
+    }
+
     /// The frame at an index, lent; the innermost is 0. Its number is 0 where none was given to it.
     pub fn frame(&self, index: u32) -> Option<&FrameInfo>
         ensures { option_copied result ≡ (seen_of self.now).frame index }

@@ -328,7 +328,7 @@ impl State {
         let response = response_to(self.alloc, &pending.ask, outcome)?;
         draft.add(self.limits, &Message::Response(response))?;
         if let Some(event) = event {
-            draft.add(self.limits, &Message::Event(event))?;
+            draft.add_event(self.limits, event)?;
         }
         Ok(draft)
     }
@@ -366,6 +366,7 @@ impl State {
             Change::Load(program) => self.program = Some(program),
             Change::SetSource(breaks) => return self.set_source(breaks),
             Change::SetInstructions(breaks) => return self.set_instructions(breaks),
+            Change::SetFunctions(breaks) => return self.set_functions(breaks),
             Change::Issue(targets) => return self.issue(&targets),
             Change::OfProgram(change) => return self.change_program(change),
         }
@@ -432,6 +433,23 @@ impl State {
         let last = breaks.last();
         if let Some(program) = &mut self.program {
             breaks.set_instructions(program)?;
+        }
+        self.last_break = last;
+        Ok(())
+    }
+
+    // Those of functions are now these.
+    fn set_functions(&mut self, breaks: Numbered) -> Result<(), AllocError>
+        ensures ok { OnOk result
+            (self.new ≡ record self.old {
+              now = record self.old.now
+                  { debuggee = changed (a_change.SetFunctions breaks) self.old.now.debuggee };
+            }) }
+        ensures err { OnErr result (self.new ≡ self.old) }
+    {
+        let last = breaks.last();
+        if let Some(program) = &mut self.program {
+            breaks.set_functions(program)?;
         }
         self.last_break = last;
         Ok(())

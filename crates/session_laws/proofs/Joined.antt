@@ -16,8 +16,8 @@ use Rattle.session.specs.Effects.{Slicing, after_beat, beats, beats_on, enough, 
 use Rattle.session_laws.specs.Laws.{SlicesEnd, SlicesJoin}
 use Rattle.session.specs.Phases.{is_active, is_configuring}
 use Rattle.session.specs.Sessions.{Session, histories, performed_on, waiting_of}
-use Rattle.session.specs.Slices.{Beat, beat, beat_by, beat_of, becomes, concludes, ending_of, ends, exits, goes, goes_unless, halts, is_runnable_by, moves_by, prints, retires, runs, stops, telling, tells}
-use Rattle.handlers.specs.Telling.{exit_events, output_event, stop_event}
+use Rattle.session.specs.Slices.{Beat, beat, beat_by, beat_of, becomes, concludes, ending_of, ends, exits, goes, goes_unless, halts, is_runnable_by, logged, moves_by, output_events, retires, runs, stops, telling, tells}
+use Rattle.handlers.specs.Telling.{exit_events, stop_event}
 use Rattle.stepping.specs.declared.tick.Outcome.{Outcome}
 use Rattle.stepping.specs.declared.tick.Outcome.TheVariants.{Went, Stopped, Ended}
 use Rattle.stepping.specs.declared.tick.Reason.TheVariants as met
@@ -43,11 +43,6 @@ told_only (e ∷ es) = told_only es
 pub tells_only : (now : Now) (events : List Told) → OnlyTells (tells now events)
 unfolding OnlyTells
 tells_only now events = if_keeps OnlyTells (is_active now.link) _ [] (λ _. told_only events) (λ _. tt)
-
-prints_only : (now : Now) (printed : Option ℤ) → OnlyTells (prints now printed)
-unfolding OnlyTells
-prints_only now None = tt
-prints_only now (Some number) = tells_only now (output_event number ∷ [])
 
 pub same_debuggee : (acts : List Act) (s : Session) → OnlyTells acts → (performed histories acts s).now.debuggee ≡ s.now.debuggee
 unfolding OnlyTells
@@ -80,10 +75,11 @@ pub telling_program : (now : Now) (p : Program) (tick : Tick) (s : Session)
     → program_of (performed histories (telling now p tick) s) ≡ Some (concluded tick.outcome (told p))
 telling_program now p tick s =
     let t : Session = performed_on (becomes now (told p)) s in
+    let output : List Told = output_events tick.printed (logged p.machine.lists) in
     let acts : List Act = concludes now (told p) tick.outcome p.machine.lists.ids in
-    ap program_of (performed_append (prints now tick.printed) acts t)
-    ∙ concludes_program now (told p) tick.outcome p.machine.lists.ids (performed histories (prints now tick.printed) t)
-    (ap (λ (d : Debuggee). d.program) (same_debuggee (prints now tick.printed) t (prints_only now tick.printed)))
+    ap program_of (performed_append (tells now output) acts t)
+    ∙ concludes_program now (told p) tick.outcome p.machine.lists.ids (performed histories (tells now output) t)
+    (ap (λ (d : Debuggee). d.program) (same_debuggee (tells now output) t (tells_only now output)))
 
 -- ---- one beat
 

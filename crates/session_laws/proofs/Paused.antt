@@ -6,7 +6,7 @@ use Rattle.answers.specs.Answers.{sets_breakpoints}
 use Rattle.answers.specs.Looking.{looks_in}
 use Rattle.assembler.specs.Assembled.{assembled}
 use Rattle.breakpoints.specs.Stops.{Wanted}
-use Rattle.debuggee.specs.Programs.{with_instructions, with_source}
+use Rattle.debuggee.specs.Programs.{with_functions, with_instructions, with_source}
 use Rattle.debuggee.specs.Programs.{Debuggee, Program, ended, first_mark, first_run, is_running, just_loaded, marked, marked_by, on_program, restarted, stopped, told, why_marked}
 use Rattle.debuggee.specs.declared.run.Mark.{Mark}
 use Rattle.debuggee.specs.declared.run.Mark.TheVariants as mark
@@ -14,7 +14,7 @@ use Rattle.debuggee.specs.declared.run.Run.{Run}
 use Rattle.debuggee.specs.declared.run.Run.TheVariants as run
 use Rattle.debuggee.specs.declared.run.Why.TheVariants as why
 use Rattle.protocol.specs.declared.command.Command.{Command}
-use Rattle.protocol.specs.declared.command.Command.TheVariants.{Pause, SetBreakpoints, SetVariable, WriteMemory, SetInstructionBreakpoints}
+use Rattle.protocol.specs.declared.command.Command.TheVariants.{Pause, SetBreakpoints, SetFunctionBreakpoints, SetInstructionBreakpoints, SetVariable, WriteMemory}
 use Rattle.protocol.specs.Commands.{name_of}
 use Rattle.protocol.specs.declared.disconnect.TheConstants.{NAME as DISCONNECT}
 use Rattle.protocol.specs.declared.pause.TheConstants.{NAME as PAUSE}
@@ -238,6 +238,7 @@ no_step (Some p) h still = absurd (let no : true ≡ false = sym h.0 ∙ still i
 listed_waits : (command : Command) (list : List Wanted) (p : Program) → is_running p.run ≡ true → is_some p.mark ≡ true
     → Waits (Some (with_list command list p))
 listed_waits (SetBreakpoints arguments) list p r m = marked_one (with_source list p) r m
+listed_waits (SetFunctionBreakpoints arguments) list p r m = marked_one (with_functions list p) r m
 listed_waits (SetInstructionBreakpoints arguments) list p r m = marked_one (with_instructions list p) r m
 listed_waits other list p r m = marked_one p r m
 

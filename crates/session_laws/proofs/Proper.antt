@@ -102,9 +102,10 @@ module _ (now : Now) (terms : Terms) (few : BoundsIn now) (h : OrderlyIn now.deb
       → now.debuggee.program ≡ Some p → (answer_on p (given_of now) terms c).result ≡ Ok b
       → (answer_on p (given_of now) terms c).list ≡ list → NumbersFit (now.debuggee.last_break + 1) list → IsOutcomeOf (name_of c) (Done b)
   set_is_of c kind asks p b list is e f fit =
+      let o : Orderly p = subst OrderlyOf is h in
       subst (IsOf c) e
       (breaks_are_proper c p.image.lines p.machine.size (view_of terms p) (now.debuggee.last_break + 1) kind.sets
-      (narrow_table p (subst OrderlyOf is h)) asks
+      (narrow_table p o) o.range.machine.end asks
       (subst (NumbersFit (now.debuggee.last_break + 1)) (sym f) fit))
 
   shown_is_of : (c : Command) → Looks c → (p : Program) (b : ResponseBody) → now.debuggee.program ≡ Some p

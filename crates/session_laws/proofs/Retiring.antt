@@ -246,6 +246,7 @@ departed_keeps ends stands p =
 
 listed_keeps : (c : Command) (list : List Wanted) (p : Program) → Keeps p.machine (with_list c list p).machine
 listed_keeps (command.SetBreakpoints arguments) list p = record { calls = refl; count = refl }
+listed_keeps (command.SetFunctionBreakpoints arguments) list p = record { calls = refl; count = refl }
 listed_keeps (command.SetInstructionBreakpoints arguments) list p = record { calls = refl; count = refl }
 listed_keeps other list p = record { calls = refl; count = refl }
 

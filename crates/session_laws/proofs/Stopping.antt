@@ -1,5 +1,5 @@
 -- A slice stops where a run stops.
-use Rattle.std.proofs.Common.{◌≡◌, ℕ, ℤ, zero, suc, ◌+◌, Bool, true, false, cond, leb, ltb, [], ◌∷◌, length, Option, Some, None, Result, Ok, MatchBool, refl, sym, ap, ◌∙◌, subst, arith}
+use Rattle.std.proofs.Common.{◌≡◌, ℕ, ℤ, zero, suc, ◌+◌, Bool, true, false, cond, leb, ltb, List, [], ◌∷◌, length, Option, Some, None, Result, Ok, Err, MatchBool, refl, sym, ap, ◌∙◌, subst, arith}
 use Rattle.std.specs.Prelude.{IsTrue, not}
 use Rattle.std.specs.declared.alloc.AllocError.{AllocError}
 use Rattle.breakpoints.specs.declared.breakpoint.Hit.{Hit}
@@ -12,7 +12,10 @@ use Rattle.debuggee.specs.declared.run.Why.{Why}
 use Rattle.debuggee.specs.declared.run.Why.TheVariants as why
 use Rattle.debuggee.proofs.Advancing.{going_names_none}
 use Rattle.handlers.specs.Telling.{exit_events, stop_event}
+use Rattle.rv32i.specs.declared.instr.Instr.{Instr}
 use Rattle.rv32i.specs.declared.stepped.Cause.{Cause}
+use Rattle.rv32i.specs.declared.stepped.Stepped.{Stepped}
+use Rattle.rv32i.specs.declared.stepped.Stepped.TheVariants as stepped
 use Rattle.session.specs.Beats.{concluded}
 use Rattle.session.specs.Effects.{Slicing, beats, enough, next_by, performed, sliced}
 use Rattle.session.specs.Sessions.{Session, histories, waiting_of}
@@ -25,7 +28,7 @@ use Rattle.stepping.proofs.Existing.{the_tick}
 use Rattle.stepping.proofs.Ticking.{ticks_say_where}
 use Rattle.stepping.specs.RunLaws.{GoOn, Says, number_after}
 use Rattle.stepping.specs.Stopping.{NoneBelow, StopsAt}
-use Rattle.stepping.specs.Ticks.{Debugged, IsTick, Moves, hit_at_pc, outcome_of, entry_checked, entry_tick}
+use Rattle.stepping.specs.Ticks.{Debugged, IsTick, Moves, Settles, hit_at_pc, outcome_of, entry_checked, entry_tick}
 use Rattle.stepping.specs.declared.tick.Outcome.{Outcome}
 use Rattle.stepping.specs.declared.tick.Outcome.TheVariants.{Went, Stopped, Ended}
 use Rattle.stepping.specs.declared.tick.Reason.TheVariants as met
@@ -59,12 +62,49 @@ none_yet (suc ticks) start now g =
     (ticks_say_where ticks start g.0 now (record { printed = g.2.1.0; outcome = Went }) g.2.0
     (subst (λ (r : Result Tick AllocError). IsTick g.0 r now) g.2.1.1 g.2.2)).0
 
+-- ---- what the last look reached
+
+-- a machine, but for the logpoints that the last look reached
+abbrev but_logs : List ℕ → Debugged → Debugged
+but_logs logs d = record d { lists = record d.lists { logs = logs } }
+
+settles_so : (logs : List ℕ) (d : Debugged) (instr : Option Instr) (s : Result Stepped AllocError) (tick : Tick) (after : Debugged)
+    → Settles (but_logs logs d) instr s (Ok tick) after → Settles d instr s (Ok tick) after
+settles_so logs d instr (Ok stepped.Retired) tick after h = h
+settles_so logs d instr (Ok (stepped.Printed number)) tick after h = h
+settles_so logs d instr (Ok stepped.Break) tick after h = h
+settles_so logs d instr (Ok (stepped.Exit code)) tick after h = h
+settles_so logs d instr (Ok (stepped.Trap cause)) tick after h = h
+settles_so logs d instr (Err error) tick after h = absurd (let no = h.0 in cc)
+
+-- each tick has a look of its own, so that they do not matter to it
+ticks_so : (logs : List ℕ) (d : Debugged) (tick : Tick) (after : Debugged) → IsTick (but_logs logs d) (Ok tick) after
+    → IsTick d (Ok tick) after
+ticks_so logs d tick after t = go d.check_due t where
+  answer : Result Tick AllocError
+  answer = Ok tick
+
+  go : (due : Bool)
+      → MatchBool due ((answer ≡ Ok (entry_tick (but_logs logs d))) × (after ≡ entry_checked (but_logs logs d))) (Moves (but_logs logs d) answer after)
+      → MatchBool due ((answer ≡ Ok (entry_tick d)) × (after ≡ entry_checked d)) (Moves d answer after)
+  go true e = e
+  go false m = record {
+    instr = m.instr;
+    stepped = m.stepped;
+    fetched = m.fetched;
+    moved = m.moved;
+    settles = settles_so logs d m.instr m.stepped tick after m.settles;
+  }
+
 -- ---- how far a slice is
 
--- the run goes on, and owes nothing
+-- the run goes on, and owes nothing; what its logpoints said was told
 record Going (start : Debugged) (made : ℕ) (p : Program) : Type 0 where
   ticks : ℕ
-  goes : GoOn ticks start p.machine
+  machine : Debugged
+  logs : List ℕ
+  goes : GoOn ticks start machine
+  same : p.machine ≡ but_logs logs machine
   owed : p.owed ≡ None
   running : is_running p.run ≡ true
   count : next_number made p.machine ≡ number_after ticks start
@@ -109,17 +149,20 @@ record Ticked (start : Debugged) (made : ℕ) (p : Program) (tick : Tick) : Type
   stay : stays tick.outcome ≡ false
 
 -- the run goes on after it
-goes_after : (start : Debugged) (made : ℕ) (p q : Program) (tick : Tick) → Ticked start made p tick → tick.outcome ≡ Went
-    → q.machine ≡ p.machine → q.owed ≡ None → q.run ≡ p.run → Going start made q
-goes_after start made p q tick t went same owed run = record {
+goes_after : (start : Debugged) (made : ℕ) (p q : Program) (tick : Tick) (logs : List ℕ) → Ticked start made p tick → tick.outcome ≡ Went
+    → q.machine ≡ but_logs logs p.machine → q.owed ≡ None → q.run ≡ p.run → Going start made q
+goes_after start made p q tick logs t went same owed run = record {
   ticks = suc t.ticks;
+  machine = p.machine;
+  logs = logs;
+  same = same;
   goes = (
     t.before,
     Ok tick,
     (
       t.goes,
       (tick.printed, ap (λ (o : Outcome). let r : Result Tick AllocError = Ok (record { printed = tick.printed; outcome = o }) in r) went),
-      subst (λ (d : Debugged). IsTick t.before (Ok tick) d) (sym same) t.is,
+      t.is,
     ),
   );
   owed = owed;
@@ -142,21 +185,24 @@ owes start made p tick t e = record {
   stay = t.stay;
 }
 
-owed_by : (start : Debugged) (made : ℕ) (p : Program) (printed : Option ℤ) (outcome : Outcome)
-    → Ticked start made p (record { printed = printed; outcome = outcome }) → p.owed ≡ owing_by printed outcome
-    → Middle start made p (owing_by printed outcome)
+owed_by : (start : Debugged) (made : ℕ) (p : Program) (printed : Option ℤ) (outcome : Outcome) (logs : List ℕ)
+    → Ticked start made p (record { printed = printed; outcome = outcome }) → p.owed ≡ owing_by printed outcome logs
+    → Middle start made p (owing_by printed outcome logs)
 unfolding Middle
-owed_by start made p None Went t e = goes_after start made p p (record { printed = None; outcome = Went }) t refl refl e refl
-owed_by start made p (Some number) Went t e = owes start made p (record { printed = Some number; outcome = Went }) t e
-owed_by start made p None (Stopped reason) t e = owes start made p (record { printed = None; outcome = Stopped reason }) t e
-owed_by start made p (Some number) (Stopped reason) t e = owes start made p (record { printed = Some number; outcome = Stopped reason }) t e
-owed_by start made p None (Ended code) t e = owes start made p (record { printed = None; outcome = Ended code }) t e
-owed_by start made p (Some number) (Ended code) t e = owes start made p (record { printed = Some number; outcome = Ended code }) t e
+owed_by start made p None Went [] t e =
+    goes_after start made p p (record { printed = None; outcome = Went }) p.machine.lists.logs t refl refl e refl
+owed_by start made p None Went (place ∷ logs) t e = owes start made p (record { printed = None; outcome = Went }) t e
+owed_by start made p (Some number) Went logs t e = owes start made p (record { printed = Some number; outcome = Went }) t e
+owed_by start made p None (Stopped reason) logs t e = owes start made p (record { printed = None; outcome = Stopped reason }) t e
+owed_by start made p (Some number) (Stopped reason) logs t e =
+    owes start made p (record { printed = Some number; outcome = Stopped reason }) t e
+owed_by start made p None (Ended code) logs t e = owes start made p (record { printed = None; outcome = Ended code }) t e
+owed_by start made p (Some number) (Ended code) logs t e = owes start made p (record { printed = Some number; outcome = Ended code }) t e
 
-middle_after : (start : Debugged) (made : ℕ) (p : Program) (tick : Tick) → Ticked start made p tick → p.owed ≡ owing tick
+middle_after : (start : Debugged) (made : ℕ) (p : Program) (tick : Tick) → Ticked start made p tick → p.owed ≡ owing tick p.machine
     → Middle start made p p.owed
 middle_after start made p tick t e =
-    subst (Middle start made p) (sym e) (owed_by start made p tick.printed tick.outcome t e)
+    subst (Middle start made p) (sym e) (owed_by start made p tick.printed tick.outcome p.machine.lists.logs t e)
 
 -- ---- a beat
 
@@ -169,7 +215,13 @@ still_far start made program e h = subst (λ (n : ℕ). Far start n program e) (
 
 -- none of the moves that were made met a reason
 none_by : (start : Debugged) (made : ℕ) (p : Program) → Going start made p → NoneBelow (next_number made p.machine) start
-none_by start made p g = subst (λ (n : ℕ). NoneBelow n start) (sym g.count) (none_yet g.ticks start p.machine g.goes)
+none_by start made p g = subst (λ (n : ℕ). NoneBelow n start) (sym g.count) (none_yet g.ticks start g.machine g.goes)
+
+-- what its next move comes to
+next_is : (start : Debugged) (made : ℕ) (p : Program) (g : Going start made p) → IsTick g.machine (Ok (next_tick p)) (moved p).machine
+next_is start made p g =
+    ticks_so g.logs g.machine (next_tick p) (moved p).machine
+    (subst (λ (d : Debugged). let r : Result Tick AllocError = Ok (next_tick p) in IsTick d r (moved p).machine) g.same (the_tick p.machine).is)
 
 runs_on : (r : Run) (start : Debugged) (made : ℕ) (d : Debugged) → is_running r ≡ true → NoneBelow (next_number made d) start
     → SaysWhere made r start d
@@ -204,7 +256,7 @@ stay_says start made p outcome g due e =
     subst (λ (n : ℕ). Says n outcome start (moved p).machine)
     (sym (ap (λ (b : Bool). cond b made (suc made)) (sym due) ∙ g.count))
     (subst (λ (o : Outcome). Says (number_after g.ticks start) o start (moved p).machine) e
-    (ticks_say_where g.ticks start p.machine (moved p).machine (next_tick p) g.goes (the_tick p.machine).is))
+    (ticks_say_where g.ticks start g.machine (moved p).machine (next_tick p) g.goes (next_is start made p g)))
 
 trap_far : (start : Debugged) (made : ℕ) (s : Session) (p : Program) (cause : Cause) → Going start made p → p.machine.check_due ≡ false
     → (next_tick p).outcome ≡ Stopped (met.Exception cause) → FarBy start made s (stops s.now p (why.Met (met.Exception cause)))
@@ -227,9 +279,9 @@ unfolding FarBy Far
 retire_far start made s p g due stay =
     middle_after start (made + 1) (moved p) (next_tick p) (record {
       ticks = g.ticks;
-      before = p.machine;
+      before = g.machine;
       goes = g.goes;
-      is = (the_tick p.machine).is;
+      is = next_is start made p g;
       running = g.running;
       count =
           (let more : made + 1 ≡ suc made = omega arith in more)
@@ -245,11 +297,13 @@ entry_is d due =
     (sym due) (refl, refl)
 
 entry_stays : (hit : Hit) → stays (outcome_of hit false) ≡ false
-entry_stays hit = by hit.source hit.instruction where
-  by : (source instruction : Bool) → stays (outcome_of (record { source = source; instruction = instruction }) false) ≡ false
-  by true instruction = refl
-  by false true = refl
-  by false false = refl
+entry_stays hit = by hit.source hit.instruction hit.function where
+  by : (source instruction function : Bool)
+      → stays (outcome_of (record { source = source; instruction = instruction; function = function }) false) ≡ false
+  by true instruction function = refl
+  by false true function = refl
+  by false false true = refl
+  by false false false = refl
 
 entry_far : (start : Debugged) (made : ℕ) (s : Session) (p : Program) → Going start made p → p.machine.check_due ≡ true
     → FarBy start made s (record { acts = becomes s.now (entered p) ∷ []; moved = 0; ending = None })
@@ -257,9 +311,11 @@ unfolding FarBy Far
 entry_far start made s p g due = still_far start made (Some (entered p)) None
     (middle_after start made (entered p) (entry_tick p.machine) (record {
       ticks = g.ticks;
-      before = p.machine;
+      before = g.machine;
       goes = g.goes;
-      is = entry_is p.machine due;
+      is = ticks_so g.logs g.machine (entry_tick p.machine) (entry_checked p.machine)
+          (subst (λ (d : Debugged). let r : Result Tick AllocError = Ok (entry_tick p.machine) in IsTick d r (entry_checked p.machine)) g.same
+          (entry_is p.machine due));
       running = g.running;
       count = ap (λ (b : Bool). cond b made (suc made)) (sym due) ∙ g.count;
       due = refl;
@@ -294,8 +350,8 @@ mark_far start made s p (Some m) more is g =
     stops_far start made s p (why_marked m) (marked_says m start made p.machine (none_by start made p g))
 
 -- what is owed is told
-told_machine : (p : Program) → p.machine.lists.ids ≡ [] → (told p).machine ≡ p.machine
-told_machine p none = λ j. record p.machine { lists = record p.machine.lists { ids = sym none j } }
+told_machine : (p : Program) → p.machine.lists.ids ≡ [] → (told p).machine ≡ but_logs [] p.machine
+told_machine p none = λ j. record p.machine { lists = record p.machine.lists { ids = sym none j; logs = [] } }
 
 tick_far : (start : Debugged) (made : ℕ) (s : Session) (p : Program) (tick : Tick) → Owing start made p tick
     → FarBy start made s (record { acts = telling s.now p tick; moved = 0; ending = ending_of tick.outcome })
@@ -324,7 +380,7 @@ tick_far start made s p tick o = by tick.outcome refl where
       still_far start made _ (ending_of tick.outcome)
       (subst (λ (x : Option SliceEnd). Far start made (program_of (performed histories (telling s.now p tick) s)) x) (sym (ap ending_of e))
       (subst (λ (x : Option Program). Far start made x None) (sym (left Went e))
-      (goes_after start made p (told p) tick ticked e (told_machine p (going_names_none o.before p.machine tick e o.is)) refl refl)))
+      (goes_after start made p (told p) tick [] ticked e (told_machine p (going_names_none o.before p.machine tick e o.is)) refl refl)))
   by (Stopped reason) e =
       let stay : stays (Stopped reason) ≡ false = sym (ap stays e) ∙ o.stay in
       still_far start made _ (ending_of tick.outcome)
@@ -368,7 +424,16 @@ beats_far n (suc k) s start h =
 begins_far : (p : Program) → is_running p.run ≡ true → p.owed ≡ None → Middle p.machine 0 p p.owed
 unfolding Middle
 begins_far p runs owed = subst (Middle p.machine 0 p) (sym owed)
-    (record { ticks = 0; goes = refl; owed = owed; running = runs; count = refl })
+    (record {
+      ticks = 0;
+      machine = p.machine;
+      logs = p.machine.lists.logs;
+      goes = refl;
+      same = refl;
+      owed = owed;
+      running = runs;
+      count = refl;
+    })
 
 says_by : (program : Option Program) (e : Option SliceEnd) (start : Debugged) (made : ℕ) → (e ≡ None → ⊥) → Far start made program e
     → SaysWhereIn made program start

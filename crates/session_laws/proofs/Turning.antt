@@ -38,8 +38,8 @@ use Rattle.session.specs.Outcomes.{Outcome, outcome_at, answers_next, closing, h
 use Rattle.session.specs.Phases.{is_active}
 use Rattle.session.specs.Refusals.{answer_to, response_to}
 use Rattle.session.specs.Sessions.{Beginning, Session, After, Effect, histories, agreed_on, hung_on, performed_on, referred_on, replied_on, said_on, start, waiting_of}
-use Rattle.session.specs.Slices.{Beat, beat, beat_by, beat_of, concludes, ends, exits, goes, goes_unless, halts, is_runnable_by, moves_by, prints, retires, telling, tells}
-use Rattle.handlers.specs.Telling.{exit_events, output_event, stop_event}
+use Rattle.session.specs.Slices.{Beat, beat, beat_by, beat_of, concludes, ends, exits, goes, goes_unless, halts, is_runnable_by, logged, moves_by, output_events, retires, telling, tells}
+use Rattle.handlers.specs.Telling.{exit_events, log_event, stop_event}
 use Rattle.stepping.specs.RunLaws.{HasSignedCode}
 use Rattle.stepping.specs.declared.tick.Outcome.{Outcome as CameTo}
 use Rattle.stepping.specs.declared.tick.Outcome.TheVariants.{Went, Stopped, Ended}
@@ -71,7 +71,7 @@ use Rattle.variables.specs.declared.target.Target.{Target}
 use Rattle.variables.specs.declared.target.Target.TheVariants as target
 use Rattle.session_laws.proofs.Asked.{AreRead, IsRead, asks_that_wait, joined_are_read}
 use Rattle.session.proofs.Serving.{of_answer}
-use Rattle.session.proofs.Orderly.{AreWords, Orderly, OrderlyIn, OrderlyOf, departed_orderly, ended_orderly, entered_orderly, exit_is_proper, first_run_orderly, hart_orderly, written_orderly, ids_are_words as named_are_words, left_orderly, listed_orderly, loaded_orderly, marked_orderly, moved_orderly, next_fits, output_is_proper, owed_fits, restarted_orderly, resumed_orderly, stop_is_proper, stopped_orderly, told_orderly, with_orderly}
+use Rattle.session.proofs.Orderly.{AreWords, Orderly, OrderlyIn, OrderlyOf, departed_orderly, ended_orderly, entered_orderly, exit_is_proper, first_run_orderly, hart_orderly, written_orderly, ids_are_words as named_are_words, left_orderly, listed_orderly, loaded_orderly, log_is_proper, marked_orderly, moved_orderly, next_fits, output_is_proper, owed_fits, restarted_orderly, resumed_orderly, stop_is_proper, stopped_orderly, told_orderly, with_orderly}
 use Rattle.session.proofs.BySuccess.{BySuccess, by_success}
 use Rattle.session.proofs.ByMove.{by_move}
 
@@ -132,11 +132,15 @@ tells_quiet : (now : Now) (d : Debuggee) (events : List Told) → AllTellable d 
 unfolding AllQuiet
 tells_quiet now d events h = subst (AllQuiet d) (append-nil (tells now events)) (tells_before now d events [] h tt)
 
-prints_before : (now : Now) (d : Debuggee) (printed : Option ℤ) (acts : List Act) → AllQuiet d acts
-    → AllQuiet d (prints now printed ++ acts)
+logs_tellable : (d : Debuggee) (texts : List (List ℕ)) → AllTellable d (map log_event texts)
 unfolding Tellable
-prints_before now d None acts q = q
-prints_before now d (Some number) acts q = tells_before now d (output_event number ∷ []) acts ((output_is_proper number, tt), tt) q
+logs_tellable d [] = tt
+logs_tellable d (text ∷ texts) = ((log_is_proper text, tt), logs_tellable d texts)
+
+output_tellable : (d : Debuggee) (printed : Option ℤ) (texts : List (List ℕ)) → AllTellable d (output_events printed texts)
+unfolding Tellable
+output_tellable d None texts = logs_tellable d texts
+output_tellable d (Some number) texts = ((output_is_proper number, tt), logs_tellable d texts)
 
 -- the program that is debugged, if it is this
 abbrev debugging : Now → Program → Debuggee
@@ -171,7 +175,8 @@ telling_quiet : (now : Now) (d : Debuggee) (p : Program) (tick : Tick) → Order
 unfolding AllQuiet
 telling_quiet now d p tick h c = (
   told_orderly p h,
-  prints_before now (debugging now (told p)) tick.printed _
+  tells_before now (debugging now (told p)) (output_events tick.printed (logged p.machine.lists)) _
+      (output_tellable (debugging now (told p)) tick.printed (logged p.machine.lists))
       (concludes_quiet now (debugging now (told p)) (told p) tick.outcome p.machine.lists.ids (told_orderly p h) c (named_are_words p h)),
 )
 

@@ -27,6 +27,7 @@ fn answer(alloc: Global, snapshot: &Snapshot, query: &[&str]) -> Result<String, 
             break_of(alloc, snapshot.source_break(path.as_bytes(), index))
         }
         ["instruction_break", index] => break_of(alloc, snapshot.instruction_break(parsed(index)?)),
+        ["function_break", index] => break_of(alloc, snapshot.function_break(parsed(index)?)),
         ["frame", index] => frame_of(alloc, snapshot.frame(parsed(index)?)),
         ["register", number] => value_of(alloc, snapshot.register(parsed(number)?)),
         ["byte", address] => {

@@ -53,6 +53,7 @@ fn add_run(line: &mut Line, snapshot: &Snapshot) -> Result<(), Fault> {
     for index in 0..BREAKS {
         line.name(snapshot.source_break(PATH, index))?;
         line.name(snapshot.instruction_break(index))?;
+        line.name(snapshot.function_break(index))?;
     }
     Ok(())
 }
