@@ -12,7 +12,7 @@ from support.texts import CAPABILITIES
 
 PLAYER = "test_mirror"
 TAKES_NONE = {"Mirror::new": "new", "Mirror::run": "run", "Mirror::source_break": "source_break", "Mirror::instruction_break": "instruction_break",
-              "Mirror::frame": "frame", "Mirror::register": "register", "Mirror::byte": "byte"}
+              "Mirror::function_break": "function_break", "Mirror::frame": "frame", "Mirror::register": "register", "Mirror::byte": "byte"}
 RULES = "docs/HEADLINE.md and docs/PROTOCOL.md, worked by hand"
 NONE = "none"
 PATH = "/w/p.s"
@@ -63,6 +63,7 @@ def verified_at(number, address):
 
 NO_CODE = '{"line":9,"message":"no code at or after this line","verified":false}'
 BAD_ADDRESS = '{"message":"bad address","verified":false}'
+UNKNOWN_FUNCTION = '{"message":"unknown function","verified":false}'
 
 
 def breakpoints(*entries):
@@ -98,6 +99,10 @@ def instruction_break(index, wanted):
     return "instruction_break %d" % index, wanted
 
 
+def function_break(index, wanted):
+    return "function_break %d" % index, wanted
+
+
 def is_frame(index, wanted):
     return "frame %d" % index, wanted
 
@@ -115,13 +120,14 @@ ALL_TOLD = [
     sent(1, "launch", program=PATH), feed(success(1, "launch")),
     sent(2, "setBreakpoints", source={"path": PATH}, lines=[3]), feed(success(2, "setBreakpoints", breakpoints(verified(1, 0x10008, 3)))),
     sent(3, "setInstructionBreakpoints", breakpoints=[]), feed(success(3, "setInstructionBreakpoints", breakpoints(verified_at(2, 0x1000c)))),
+    sent(30, "setFunctionBreakpoints", breakpoints=[]), feed(success(30, "setFunctionBreakpoints", breakpoints(verified_at(3, 0x10004)))),
     feed(STOPPED),
     sent(4, "stackTrace", threadId=1), feed(success(4, "stackTrace", frames((1, 0x10008, "f+4")))),
     sent(5, "variables", variablesReference=2), feed(success(5, "variables", variables(("a0", 7)))),
     sent(6, "readMemory", memoryReference="0x00010000", count=1), feed(success(6, "readMemory", memory(0x10000, b"\x13"))),
 ]
-BREAKS_STAY = [source_break(0, "1 65544"), instruction_break(0, "2 65548")]
-BREAKS_GONE = [source_break(0, NONE), instruction_break(0, NONE)]
+BREAKS_STAY = [source_break(0, "1 65544"), instruction_break(0, "2 65548"), function_break(0, "3 65540")]
+BREAKS_GONE = [source_break(0, NONE), instruction_break(0, NONE), function_break(0, NONE)]
 SEEN = [is_frame(0, "1 65544 f+4"), register(10, "7"), byte(0x10000, "19")]
 UNSEEN = [is_frame(0, NONE), register(10, NONE), byte(0x10000, NONE)]
 KNOWN = [*BREAKS_STAY, *SEEN]
@@ -150,6 +156,7 @@ EVENTS = [
     keeps("a later code", feed(EXITED, event("exited", '{"exitCode":-1}')), state="Ended(Some(-1))"),
     keeps("what is printed, and that a connection may be configured", feed(
         event("output", '{"category":"stdout","output":"7\\n"}'), event("initialized"))),
+    keeps("what a logpoint says", feed(event("output", '{"category":"console","output":"back {a0}\\n"}'))),
     Row("events of a program of which nothing was told", [
         feed(event("initialized")), run("Unknown"), feed(event("output", '{"category":"stdout","output":"7\\n"}')), run("Unknown"),
         feed(TERMINATED), run("Ended(None)"), feed(STOPPED), run("Stopped"), feed(CONTINUED), run("Running"), feed(EXITED), run("Ended(Some(6))"),
@@ -213,6 +220,19 @@ BREAKPOINTS = [
         instruction_break(0, "1 65556"), instruction_break(1, "2 65560"), instruction_break(2, NONE), source_break(0, NONE),
         sent(2, "setInstructionBreakpoints", breakpoints=[]),
         feed(success(2, "setInstructionBreakpoints", breakpoints(verified_at(3, 0x10000)))), instruction_break(0, "3 65536"), instruction_break(1, NONE),
+        function_break(0, NONE),
+    ], RULES),
+    Row("a list of breakpoints at functions", [
+        sent(1, "setFunctionBreakpoints", breakpoints=[{"name": "f"}, {"name": "g"}, {"name": "h"}]),
+        feed(success(1, "setFunctionBreakpoints", breakpoints(verified_at(1, 0x1000c), UNKNOWN_FUNCTION, verified_at(2, 0x10000)))),
+        function_break(0, "1 65548"), function_break(1, "2 65536"), function_break(2, NONE), instruction_break(0, NONE), source_break(0, NONE),
+        # each of the lists is set by its own request alone
+        sent(2, "setInstructionBreakpoints", breakpoints=[]),
+        feed(success(2, "setInstructionBreakpoints", breakpoints(verified_at(3, 0x10004)))),
+        function_break(0, "1 65548"), function_break(1, "2 65536"), instruction_break(0, "3 65540"), instruction_break(1, NONE),
+        sent(3, "setFunctionBreakpoints", breakpoints=[]),
+        feed(success(3, "setFunctionBreakpoints", breakpoints(verified_at(4, 0x1000c)))),
+        function_break(0, "4 65548"), function_break(1, NONE), instruction_break(0, "3 65540"),
     ], RULES),
 ]
 
@@ -302,7 +322,9 @@ WHICH = [
           sent(13, "writeMemory", memoryReference="0x00010000", data="AQ=="), feed(success(13, "readMemory", memory(0x10000, b"\x01"))),
           sent(14, "evaluate", expression="a0"), feed(success(14, "setVariable", '{"value":"0x00000009"}')),
           sent(15, "setBreakpoints", source={"path": PATH}), feed(success(15, "setInstructionBreakpoints", breakpoints())),
-          sent(16, "setInstructionBreakpoints", breakpoints=[]), feed(success(16, "setBreakpoints", breakpoints()))),
+          sent(16, "setInstructionBreakpoints", breakpoints=[]), feed(success(16, "setBreakpoints", breakpoints())),
+          sent(17, "setInstructionBreakpoints", breakpoints=[]), feed(success(17, "setFunctionBreakpoints", breakpoints())),
+          sent(18, "setFunctionBreakpoints", breakpoints=[]), feed(success(18, "setInstructionBreakpoints", breakpoints()))),
     Row("of a number the first request counts", [
         sent(1, "setVariable", variablesReference=2, name="a0", value="1"), sent(1, "setVariable", variablesReference=2, name="a1", value="1"),
         feed(success(1, "setVariable", '{"value":"0x00000001"}')), register(10, "1"), register(11, NONE),
@@ -398,7 +420,7 @@ REFUSED = [
           [once(sent(7, "stackTrace", threadId=1, startFrame=1)), *alike(feed(TWO_FRAMES)), (*is_frame(2, "3 65540 g"), NONE),
            *alike(sent(7, "stackTrace", threadId=1, startFrame=1), feed(TWO_FRAMES), is_frame(2, "3 65540 g"))],
           alike(("new", "ok"), *ALL_TOLD, run("Stopped"), *KNOWN, sent(8, "setBreakpoints", source={"path": PATH}, lines=[3, 4])),
-          [once(feed(BREAKS_ANEW)), (*source_break(0, "3 65548"), "1 65544"), (*source_break(1, "4 65552"), NONE), *alike(instruction_break(0, "2 65548"), *SEEN),
+          [once(feed(BREAKS_ANEW)), (*source_break(0, "3 65548"), "1 65544"), (*source_break(1, "4 65552"), NONE), *alike(instruction_break(0, "2 65548"), function_break(0, "3 65540"), *SEEN),
            *alike(feed(BREAKS_ANEW), source_break(0, "3 65548"), source_break(1, "4 65552"))],
           [once(feed(CONTINUED, STOPPED, CONTINUED)), (*run("Running"), "Stopped"), *((command, NONE, answer) for command, answer in SEEN),
            *alike(feed(CONTINUED, STOPPED, CONTINUED), run("Running"), *UNSEEN)],

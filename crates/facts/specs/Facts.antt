@@ -18,6 +18,8 @@ pub record Facts : Type 0 where
   pub source : List ℕ → List BreakInfo
   -- the breakpoints that are set at instructions, in order
   pub instructions : List BreakInfo
+  -- the breakpoints that are set at functions, in order
+  pub functions : List BreakInfo
   -- the frames by index, the innermost is 0
   pub frame : ℕ → Option FrameInfo
   -- the values of the registers by number: 0 to 31, and 32 is pc
@@ -36,6 +38,7 @@ nothing_known = record {
   launched = false;
   source = λ path. [];
   instructions = [];
+  functions = [];
   frame = unknown;
   register = unknown;
   byte = unknown;

@@ -89,6 +89,7 @@ nothing_holds so = record {
   run = tt;
   source = λ path. unknown_holds (slice_get []) (slice_get (so.source path)) (λ _. refl);
   instructions = unknown_holds (slice_get []) (slice_get so.instructions) (λ _. refl);
+  functions = unknown_holds (slice_get []) (slice_get so.functions) (λ _. refl);
   frame = unknown_holds unknown so.frame (λ _. refl);
   register = unknown_holds unknown so.register (λ _. refl);
   byte = unknown_holds unknown so.byte (λ _. refl);
@@ -96,11 +97,13 @@ nothing_holds so = record {
 
 -- with nothing known of how it stands, what is known holds where the run and the breakpoints do
 pub holds_moving : (f so now : Facts) → KnowsNoStand f → Holds f so → HoldsRun f.run now.run
-    → ((path : List ℕ) → so.source path ≡ now.source path) → so.instructions ≡ now.instructions → Holds f now
-holds_moving f so now none h run source instructions = record {
+    → ((path : List ℕ) → so.source path ≡ now.source path) → so.instructions ≡ now.instructions → so.functions ≡ now.functions
+    → Holds f now
+holds_moving f so now none h run source instructions functions = record {
   run = run;
   source = λ path. subst (λ (l : _). HoldsAt (slice_get (f.source path)) (slice_get l)) (source path) (h.source path);
   instructions = subst (λ (l : _). HoldsAt (slice_get f.instructions) (slice_get l)) instructions h.instructions;
+  functions = subst (λ (l : _). HoldsAt (slice_get f.functions) (slice_get l)) functions h.functions;
   frame = unknown_holds f.frame now.frame none.frame;
   register = unknown_holds f.register now.register none.register;
   byte = unknown_holds f.byte now.byte none.byte;
@@ -108,11 +111,13 @@ holds_moving f so now none h run source instructions = record {
 
 -- the machine is now known to be in a state, and its breakpoints stay
 pub holds_in : (run : RunState) (f so now : Facts) → Holds f so → HoldsRun run now.run
-    → ((path : List ℕ) → so.source path ≡ now.source path) → so.instructions ≡ now.instructions → Holds (in_state run f) now
-holds_in run f so now h is source instructions = record {
+    → ((path : List ℕ) → so.source path ≡ now.source path) → so.instructions ≡ now.instructions → so.functions ≡ now.functions
+    → Holds (in_state run f) now
+holds_in run f so now h is source instructions functions = record {
   run = is;
   source = λ path. subst (λ (l : _). HoldsAt (slice_get (f.source path)) (slice_get l)) (source path) (h.source path);
   instructions = subst (λ (l : _). HoldsAt (slice_get f.instructions) (slice_get l)) instructions h.instructions;
+  functions = subst (λ (l : _). HoldsAt (slice_get f.functions) (slice_get l)) functions h.functions;
   frame = unknown_holds unknown now.frame (λ _. refl);
   register = unknown_holds unknown now.register (λ _. refl);
   byte = unknown_holds unknown now.byte (λ _. refl);

@@ -38,6 +38,7 @@ use Rattle.session.proofs.ByMove.{by_move}
 pub record SameBreaks (a b : Lists) : Type 0 where
   pub source : map info_of a.source ≡ map info_of b.source
   pub instructions : map info_of a.instructions ≡ map info_of b.instructions
+  pub functions : map info_of a.functions ≡ map info_of b.functions
 
 counted_info : (pc : ℕ) (hart : Hart) (memory : List ℕ) (b : Placed) → info_of b ≡ info_of (counted pc hart memory b)
 counted_info pc hart memory b =
@@ -52,21 +53,25 @@ all_counted pc hart memory (b ∷ list) =
 
 checked_same : (pc : ℕ) (hart : Hart) (memory : List ℕ) (lists : Lists) → SameBreaks lists (checked pc hart memory lists)
 checked_same pc hart memory lists =
-    record { source = all_counted pc hart memory lists.source; instructions = all_counted pc hart memory lists.instructions }
+    record {
+      source = all_counted pc hart memory lists.source;
+      instructions = all_counted pc hart memory lists.instructions;
+      functions = all_counted pc hart memory lists.functions;
+    }
 
 settled_same : (s : Stepped) (instr : Option Instr) (pc : ℕ) (d : Debugged) → SameBreaks d.lists (settled s instr pc d).lists
 settled_same stepped.Retired instr pc d = checked_same d.hart.pc d.hart d.memory d.lists
 settled_same (stepped.Printed number) instr pc d = checked_same d.hart.pc d.hart d.memory d.lists
 settled_same stepped.Break instr pc d = checked_same d.hart.pc d.hart d.memory d.lists
-settled_same (stepped.Exit code) instr pc d = record { source = refl; instructions = refl }
-settled_same (stepped.Trap cause) instr pc d = record { source = refl; instructions = refl }
+settled_same (stepped.Exit code) instr pc d = record { source = refl; instructions = refl; functions = refl }
+settled_same (stepped.Trap cause) instr pc d = record { source = refl; instructions = refl; functions = refl }
 
 answer_same : (s : Result Stepped AllocError) (before after : Debugged) (instr : Option Instr) (answer : Result Tick AllocError)
     → Settles before instr s answer after → SameBreaks before.lists after.lists
 answer_same (Ok s) before after instr answer e =
     subst (λ (d : Debugged). SameBreaks before.lists d.lists) (sym e.1) (settled_same s instr before.hart.pc (moved_as before after))
 answer_same (Err error) before after instr answer e =
-    subst (λ (d : Debugged). SameBreaks before.lists d.lists) (sym e.1) (record { source = refl; instructions = refl })
+    subst (λ (d : Debugged). SameBreaks before.lists d.lists) (sym e.1) (record { source = refl; instructions = refl; functions = refl })
 
 tick_same : (before after : Debugged) (answer : Result Tick AllocError) → IsTick before answer after → SameBreaks before.lists after.lists
 tick_same before after answer is = go before.check_due is where
@@ -82,6 +87,7 @@ breaks_same : (p : Program) (d : Debugged) → SameBreaks p.machine.lists d.list
 breaks_same p d same owed = record {
   source = λ numbers path. ap (λ (l : List BreakInfo). listed_at p.path l path) same.source;
   instructions = λ numbers. same.instructions;
+  functions = λ numbers. same.functions;
 }
 
 moved_same : (p : Program) → SameBut p (moved p)
@@ -103,7 +109,8 @@ module _ (terms : Terms) (numbers : Numbers) (f : Facts) where
       record {
         holds =
             holds_moving f (shown_of p numbers) (shown_of q numbers) none h.holds
-            (subst (λ (r : Run). HoldsRun f.run (state_of r)) (sym run) h.holds.run) (same.source numbers) (same.instructions numbers);
+            (subst (λ (r : Run). HoldsRun f.run (state_of r)) (sym run) h.holds.run) (same.source numbers) (same.instructions numbers)
+            (same.functions numbers);
         moving = λ _. none;
         numbered = h.numbered;
         phase = h.phase;

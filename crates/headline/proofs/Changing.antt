@@ -133,6 +133,7 @@ module _ (f : Facts) (p : Program) (numbers : Numbers) (terms : Terms) (active :
           run = h.holds.run;
           source = h.holds.source;
           instructions = h.holds.instructions;
+          functions = h.holds.functions;
           frame = h.holds.frame;
           register =
               subst (λ (x : Option ℕ). HoldsAt (valued x value f.register) (register_at (with_register hart (suc n) value))) (sym is.named)
@@ -243,6 +244,7 @@ module _ (f : Facts) (p : Program) (numbers : Numbers) (terms : Terms) (active :
           run = h.holds.run;
           source = h.holds.source;
           instructions = h.holds.instructions;
+          functions = h.holds.functions;
           frame = h.holds.frame;
           register = h.holds.register;
           byte =

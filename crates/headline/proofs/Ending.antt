@@ -41,9 +41,10 @@ module _ (now : Now) (terms : Terms) (f : Facts) (w : WhileConfiguring terms.lau
 
   in_agrees : (run : RunState) (p q : Program) → Agrees f (Some p) now.numbers terms → state_of q.run ≡ run → HoldsRun run (state_of q.run)
       → ((path : List ℕ) → (shown_of p now.numbers).source path ≡ (shown_of q now.numbers).source path)
-      → (shown_of p now.numbers).instructions ≡ (shown_of q now.numbers).instructions → Agrees (in_state run f) (Some q) now.numbers active
-  in_agrees run p q h e is source instructions = record {
-    holds = holds_in run f (shown_of p now.numbers) (shown_of q now.numbers) h.holds is source instructions;
+      → (shown_of p now.numbers).instructions ≡ (shown_of q now.numbers).instructions
+      → (shown_of p now.numbers).functions ≡ (shown_of q now.numbers).functions → Agrees (in_state run f) (Some q) now.numbers active
+  in_agrees run p q h e is source instructions functions = record {
+    holds = holds_in run f (shown_of p now.numbers) (shown_of q now.numbers) h.holds is source instructions functions;
     moving = λ _. no_stand_in run f;
     numbered = none_numbered now.numbers (in_state run f) (no_stand_in run f);
     phase = w.launched;
@@ -52,7 +53,7 @@ module _ (now : Now) (terms : Terms) (f : Facts) (w : WhileConfiguring terms.lau
   begins_leads : (program : Option Program) → has_none (run_of program) ≡ false → Agrees f program now.numbers terms
       → Agrees (in_state Running f) (on_program first_run program) now.numbers active
   begins_leads None there h = no_program there
-  begins_leads (Some p) there h = in_agrees Running p (first_run p) h refl refl (λ _. refl) refl
+  begins_leads (Some p) there h = in_agrees Running p (first_run p) h refl refl (λ _. refl) refl refl
 
   joins_lead : (program : Option Program) → has_none (run_of program) ≡ false → Agrees f program now.numbers terms
       → Holds f (shown_by program now.numbers) × Leads active now.numbers f program (map Tell (run_events (run_of program)))
@@ -62,10 +63,10 @@ module _ (now : Now) (terms : Terms) (f : Facts) (w : WhileConfiguring terms.lau
         → Holds f (shown_by (Some p) now.numbers) × Leads active now.numbers f (Some p) (map Tell (run_events (Some r)))
     by a_run.Running e =
         with_event f (in_state Running f) event.Continued (Some p) now.numbers active refl h.holds
-        (in_agrees Running p p h (ap state_of e) (ap state_of e) (λ _. refl) refl)
+        (in_agrees Running p p h (ap state_of e) (ap state_of e) (λ _. refl) refl refl)
     by (a_run.Stopped why) e =
         with_event f (in_state Stopped f) _ (Some p) now.numbers active refl h.holds
-        (in_agrees Stopped p p h (ap state_of e) (ap state_of e) (λ _. refl) refl)
+        (in_agrees Stopped p p h (ap state_of e) (ap state_of e) (λ _. refl) refl refl)
     by (a_run.Ended code) e =
         alone f (Some p) now.numbers active (record { holds = h.holds; moving = λ _. w.stand; numbered = h.numbered; phase = w.launched })
 
@@ -119,6 +120,7 @@ ended_agrees f p numbers terms taken h = record {
         run = tt;
         source = h.holds.source;
         instructions = h.holds.instructions;
+        functions = h.holds.functions;
         frame = h.holds.frame;
         register = h.holds.register;
         byte = h.holds.byte;

@@ -5,12 +5,13 @@ use mathlib.Core.Path.{fun_ext}
 use Rattle.debuggee.specs.Programs.{Program, entered, is_running, moved, next_tick, told, why_marked}
 use Rattle.debuggee.specs.declared.run.Mark.{Mark}
 use Rattle.debuggee.specs.declared.run.Why.TheVariants as why
+use Rattle.replies.specs.declared.event.Event.{Event}
 use Rattle.session_laws.proofs.Joined.{program_of}
 use Rattle.session.proofs.Reaching.{if_keeps, performed_append}
 use Rattle.session.specs.Acts.{Act, Now}
 use Rattle.session.specs.Effects.{after_beat, performed}
 use Rattle.session.specs.Sessions.{Session, Snapshot, histories, performed_on}
-use Rattle.session.specs.Slices.{Beat, beat, beat_by, beat_of, becomes, concludes, ending_of, ends, exits, goes, goes_unless, is_runnable_by, moves_by, prints, retires, stops, telling}
+use Rattle.session.specs.Slices.{Beat, beat, beat_by, beat_of, becomes, concludes, ending_of, ends, exits, goes, goes_unless, is_runnable_by, logged, moves_by, output_events, retires, stops, telling, tells}
 use Rattle.session.specs.declared.event.SliceEnd.{SliceEnd}
 use Rattle.session.specs.declared.event.SliceEnd.TheVariants as ending
 use Rattle.session.specs.declared.state.TheConstants.{FULL}
@@ -20,7 +21,8 @@ use Rattle.stepping.specs.declared.tick.Reason.TheVariants as met
 use Rattle.stepping.specs.declared.tick.Tick.{Tick}
 use Rattle.headline.proofs.Agreeing.{OwesOf, OwesRunning, never}
 use Rattle.headline.proofs.Beating.{entered_same}
-use Rattle.headline.proofs.Newly.{Printed, Same, became, became_first, exits_told, halts_told, just_told, nothing_newly, prints_printed, prints_snapshot}
+use Rattle.headline.proofs.Newly.{Printed, Same, became, became_first, exits_told, halts_told, just_told, nothing_newly, outputs_printed, tells_snapshot}
+use Rattle.headline.proofs.Outputs.{tick_is_output}
 use Rattle.facts.specs.declared.run.RunState.TheVariants.{Running}
 use Rattle.headline.specs.News.{IsFollowed, sight_by}
 use Rattle.session.specs.Shown.{shown_of}
@@ -39,8 +41,10 @@ checked_same p numbers =
     let same = entered_same p in
     let source = fun_ext (λ (path : List ℕ). same.source numbers path) in
     let instructions = same.instructions numbers in
+    let functions = same.functions numbers in
     λ i. record (sight_by (Some p) numbers) {
-      facts = record (shown_of p numbers) { run = Running; source = source i; instructions = instructions i };
+      facts =
+          record (shown_of p numbers) { run = Running; source = source i; instructions = instructions i; functions = functions i };
     }
 
 same_as : (a b c : Option Program) → a ≡ b → Same b c → Same a c
@@ -48,7 +52,7 @@ same_as a b c e same = subst (λ (x : Option Program). Same x c) (sym e) same
 
 -- ---- a beat
 
--- What a beat leaves: all that was queued fits. Where it goes on, that is what was printed.
+-- What a beat leaves: all that was queued fits. Where it goes on, that is what was printed, and what logpoints say.
 pub record Follows (s t : Session) (b : Beat) : Type 0 where
   pub told : IsFollowed s (after_beat histories b t)
   pub printed : b.ending ≡ None → Printed s (after_beat histories b t)
@@ -81,8 +85,11 @@ module _ (s t : Session) (p : Program) (tick : Tick) (is : program_of t ≡ Some
   first : Session
   first = performed_on (becomes t.now (told p)) t
 
+  abbrev output : List Event
+  output = output_events tick.printed (logged p.machine.lists)
+
   second : Session
-  second = performed histories (prints t.now tick.printed) first
+  second = performed histories (tells t.now output) first
 
   printed_first : Printed s first
   unfolding first
@@ -91,18 +98,19 @@ module _ (s t : Session) (p : Program) (tick : Tick) (is : program_of t ≡ Some
 
   printed_second : Printed s second
   unfolding first second
-  printed_second = prints_printed t.now (told p) tick.printed s first refl run printed_first
+  printed_second =
+      outputs_printed t.now output (told p) s first refl run (tick_is_output tick.printed (logged p.machine.lists)) printed_first
 
   program_second : program_of second ≡ Some (told p)
   unfolding first second
-  program_second = ap (λ (x : Snapshot). x.debuggee.program) (prints_snapshot t.now tick.printed first)
+  program_second = ap (λ (x : Snapshot). x.debuggee.program) (tells_snapshot t.now output first)
 
   concluded : (outcome : CameTo) → tick.outcome ≡ outcome
       → Follows s t (record { acts = telling t.now p tick; moved = 0; ending = ending_of tick.outcome })
   unfolding first second
   concluded outcome e =
       let acts : List Act = concludes t.now (told p) tick.outcome p.machine.lists.ids in
-      let parts = performed_append (prints t.now tick.printed) acts first in
+      let parts = performed_append (tells t.now output) acts first in
       let same = same_as (program_of second) (Some (told p)) (Some (told p)) program_second (itself (Some (told p))) in
       record {
         told = subst (IsFollowed s) (sym parts) (ends_so outcome e same);

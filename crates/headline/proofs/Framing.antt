@@ -166,6 +166,7 @@ module _ (arguments : StackTraceArguments) (p : Program) (numbers : Numbers) (vi
           run = i.holds.run;
           source = i.holds.source;
           instructions = i.holds.instructions;
+          functions = i.holds.functions;
           frame =
               over_all (λ index x. (shown_of p given).frame index ≡ Some x) arguments.start_frame told f.frame
               (λ j x e. (told_frame j x e).so) i.holds.frame;

@@ -11,19 +11,21 @@ use Rattle.mirror.specs.Folding.{happened, in_state}
 use Rattle.facts.specs.declared.run.RunState.{RunState}
 use Rattle.facts.specs.declared.run.RunState.TheVariants.{Unknown, Running, Stopped, Ended}
 use Rattle.replies.specs.declared.event.Event.{Event as Told}
+use Rattle.replies.specs.declared.event.Event.TheVariants as event
 use Rattle.handlers.specs.declared.phase.Phase.{Phase}
 use Rattle.handlers.specs.declared.phase.Phase.TheVariants.{Fresh, Initialized, Configuring, Active, Left}
 use Rattle.handlers.specs.declared.terms.Terms.{Terms}
 use Rattle.session.specs.Acts.{Act, Become, Now, Tell}
 use Rattle.handlers.specs.Phases.{is_active_in}
 use Rattle.session.specs.Phases.{is_active}
-use Rattle.session.specs.Slices.{concludes, exits, halts, prints, telling}
-use Rattle.handlers.specs.Telling.{exit_events, output_event, stop_event}
+use Rattle.session.specs.Slices.{concludes, exits, halts, logged, output_events, telling, tells}
+use Rattle.handlers.specs.Telling.{exit_events, stop_event}
 use Rattle.stepping.specs.declared.tick.Outcome.{Outcome as CameTo}
 use Rattle.stepping.specs.declared.tick.Outcome.TheVariants.{Went, Stopped as HasStopped, Ended as HasEnded}
 use Rattle.stepping.specs.declared.tick.Tick.{Tick}
 use Rattle.variables.specs.Numbers.{Numbers}
 use Rattle.headline.proofs.Agreeing.{Agrees, IsQuiet, SuitsPhase, holds_in, holds_moving, no_stand_in, none_numbered, nothing_holds}
+use Rattle.headline.proofs.Outputs.{AreOutput, IsOutput, tick_is_output}
 use Rattle.headline.specs.Holding.{HasEnded as HasEndedSo, Holds, HoldsRun}
 use Rattle.session.specs.Shown.{shown_by, shown_of, state_of}
 
@@ -68,6 +70,7 @@ quiet_holds (Ended (Some code)) so now q h e = absurd (let no : Ended (Some code
 pub record SameBut (p q : Program) : Type 0 where
   pub source : (numbers : Numbers) (path : List ℕ) → (shown_of p numbers).source path ≡ (shown_of q numbers).source path
   pub instructions : (numbers : Numbers) → (shown_of p numbers).instructions ≡ (shown_of q numbers).instructions
+  pub functions : (numbers : Numbers) → (shown_of p numbers).functions ≡ (shown_of q numbers).functions
 
 running_state : (run : Run) → is_running run ≡ true → state_of run ≡ Running
 running_state a_run.Running e = refl
@@ -85,7 +88,7 @@ silent f p q numbers terms Initialized suits other runs same h =
 silent f p q numbers terms Configuring suits other runs same h =
     holds_moving f (shown_of p numbers) (shown_of q numbers) suits.stand h
     (quiet_holds f.run (state_of p.run) (state_of q.run) suits.quiet h.run (running_state p.run runs)) (same.source numbers)
-    (same.instructions numbers)
+    (same.instructions numbers) (same.functions numbers)
 silent f p q numbers terms Active suits other runs same h = absurd (other refl)
 silent f p q numbers terms Left suits other runs same h =
     subst (λ (g : Facts). Holds g (shown_of q numbers)) (sym suits) (nothing_holds (shown_of q numbers))
@@ -118,7 +121,7 @@ module _ (terms : Terms) (numbers : Numbers) (f : Facts) where
   unfolding Leads
   stops_lead p why ids true e runs h =
       let so = shown_of p numbers in
-      let holds = holds_in Stopped f so (shown_of (stopped why p) numbers) h.holds refl (λ _. refl) refl in (
+      let holds = holds_in Stopped f so (shown_of (stopped why p) numbers) h.holds refl (λ _. refl) refl refl in (
         holds,
         record {
           holds = holds;
@@ -129,7 +132,7 @@ module _ (terms : Terms) (numbers : Numbers) (f : Facts) where
       )
   stops_lead p why ids false e runs h =
       silent_agrees f p (stopped why p) numbers terms (no_other terms.phase e) runs
-      (record { source = λ _ _. refl; instructions = λ _. refl }) h
+      (record { source = λ _ _. refl; instructions = λ _. refl; functions = λ _. refl }) h
 
   pub halts_lead : (now : Now) (p : Program) (why : Why) (ids : List ℕ) → is_active_in terms.phase ≡ is_active now.link
       → is_running p.run ≡ true → Agrees f (Some p) numbers terms
@@ -147,6 +150,7 @@ module _ (terms : Terms) (numbers : Numbers) (f : Facts) where
         run = refl;
         source = h.holds.source;
         instructions = h.holds.instructions;
+        functions = h.holds.functions;
         frame = h.holds.frame;
         register = h.holds.register;
         byte = h.holds.byte;
@@ -165,7 +169,7 @@ module _ (terms : Terms) (numbers : Numbers) (f : Facts) where
       )
   ends_lead p code false e runs h =
       silent_agrees f p (ended (Some code) p) numbers terms (no_other terms.phase e) runs
-      (record { source = λ _ _. refl; instructions = λ _. refl }) h
+      (record { source = λ _ _. refl; instructions = λ _. refl; functions = λ _. refl }) h
 
   pub exits_lead : (now : Now) (p : Program) (code : ℤ) → is_active_in terms.phase ≡ is_active now.link → is_running p.run ≡ true
       → Agrees f (Some p) numbers terms
@@ -181,13 +185,28 @@ module _ (terms : Terms) (numbers : Numbers) (f : Facts) where
   concludes_lead now p (HasStopped reason) ids e runs h = stops_lead p (why.Met reason) ids (is_active now.link) e runs h
   concludes_lead now p (HasEnded code) ids e runs h = ends_lead p code (is_active now.link) e runs h
 
-  prints_lead : (now : Now) (printed : Option ℤ) (program : Option Program) (acts : List Act) → Holds f (shown_by program numbers)
-      → Leads terms numbers f program acts → Leads terms numbers f program (prints now printed ++ acts)
+  -- output tells nothing that an editor would conclude from
+  output_leads : (event : Told) (program : Option Program) (acts : List Act) → IsOutput event → Holds f (shown_by program numbers)
+      → Leads terms numbers f program acts → Leads terms numbers f program (Tell event ∷ acts)
   unfolding Leads
-  prints_lead now None program acts h rest = rest
-  prints_lead now (Some number) program acts h rest = by (is_active now.link) where
-    by : (told : Bool) → Leads terms numbers f program (cond told (map Tell (output_event number ∷ [])) [] ++ acts)
-    by true = (h, rest)
+  output_leads (event.Output body) program acts is h rest = (h, rest)
+  output_leads event.Initialized program acts is h rest = absurd (let no : false ≡ true = is in cc)
+  output_leads (event.Stopped body) program acts is h rest = absurd (let no : false ≡ true = is in cc)
+  output_leads event.Continued program acts is h rest = absurd (let no : false ≡ true = is in cc)
+  output_leads (event.Exited body) program acts is h rest = absurd (let no : false ≡ true = is in cc)
+  output_leads event.Terminated program acts is h rest = absurd (let no : false ≡ true = is in cc)
+
+  all_output_leads : (events : List Told) (program : Option Program) (acts : List Act) → AreOutput events
+      → Holds f (shown_by program numbers) → Leads terms numbers f program acts → Leads terms numbers f program (map Tell events ++ acts)
+  all_output_leads [] program acts are h rest = rest
+  all_output_leads (e ∷ es) program acts are h rest =
+      output_leads e program (map Tell es ++ acts) are.0 h (all_output_leads es program acts are.1 h rest)
+
+  outputs_lead : (now : Now) (events : List Told) (program : Option Program) (acts : List Act) → AreOutput events
+      → Holds f (shown_by program numbers) → Leads terms numbers f program acts → Leads terms numbers f program (tells now events ++ acts)
+  outputs_lead now events program acts are h rest = by (is_active now.link) where
+    by : (told : Bool) → Leads terms numbers f program (cond told (map Tell events) [] ++ acts)
+    by true = all_output_leads events program acts are h rest
     by false = rest
 
   -- that of a program which told what it owed
@@ -200,5 +219,6 @@ module _ (terms : Terms) (numbers : Numbers) (f : Facts) where
   unfolding Leads
   telling_leads now p tick e runs h =
       let t = told_agrees p h in
-      prints_lead now tick.printed (Some (told p)) (concludes now (told p) tick.outcome p.machine.lists.ids) t.holds
-      (concludes_lead now (told p) tick.outcome p.machine.lists.ids e runs t)
+      let texts = logged p.machine.lists in
+      outputs_lead now (output_events tick.printed texts) (Some (told p)) (concludes now (told p) tick.outcome p.machine.lists.ids)
+      (tick_is_output tick.printed texts) t.holds (concludes_lead now (told p) tick.outcome p.machine.lists.ids e runs t)

@@ -5,7 +5,7 @@ use Rattle.numerals.specs.Words.{word_of}
 use Rattle.answers.specs.Targets.{target_of}
 use Rattle.answers.specs.declared.set_variable.Setting.{Setting}
 use Rattle.answers.specs.declared.write_memory.Writing.{Writing}
-use Rattle.debuggee.specs.Programs.{Program, ended, first_run, is_ended, is_running, left, marked, on_program, restarted, resumed, stopped, with_hart, with_instructions, with_source, written}
+use Rattle.debuggee.specs.Programs.{Program, ended, first_run, is_ended, is_running, left, marked, on_program, restarted, resumed, stopped, with_functions, with_hart, with_instructions, with_source, written}
 use Rattle.debuggee.specs.declared.run.Mark.TheVariants as mark
 use Rattle.debuggee.specs.declared.run.Why.TheVariants as why
 use Rattle.headline.proofs.Leading.{Leads, SameBut}
@@ -17,7 +17,7 @@ use Rattle.mirror.specs.Folding.{in_state, succeeded}
 use Rattle.mirror.specs.declared.asked.Asked.TheVariants as asks
 use Rattle.facts.specs.declared.run.RunState.TheVariants.{Running}
 use Rattle.protocol.specs.declared.command.Command.{Command}
-use Rattle.protocol.specs.declared.command.Command.TheVariants.{ConfigurationDone, Threads, Cancel, SetBreakpoints, SetInstructionBreakpoints, SetExceptionBreakpoints, Continue, Next, StepIn, StepOut, StackTrace, Variables, SetVariable, ReadMemory, WriteMemory}
+use Rattle.protocol.specs.declared.command.Command.TheVariants.{ConfigurationDone, Threads, Cancel, SetBreakpoints, SetFunctionBreakpoints, SetInstructionBreakpoints, SetExceptionBreakpoints, Continue, Next, StepIn, StepOut, StackTrace, Variables, SetVariable, ReadMemory, WriteMemory}
 use Rattle.replies.specs.declared.event.Event.TheVariants as event
 use Rattle.session.proofs.Orderly.{Orderly, OrderlyIn, OrderlyOf}
 use Rattle.session.proofs.Reaching.{if_keeps}
@@ -38,7 +38,7 @@ use Rattle.headline.proofs.Changing.{setting_so, writing_so}
 use Rattle.headline.proofs.Commands.{AnswerLeads, Comes, CommandsLead, CommandsOwe, OwesNothing, refusal_leads}
 use Rattle.headline.proofs.Ending.{done_leads, terminate_leads}
 use Rattle.headline.proofs.Framing.{frames_agree}
-use Rattle.headline.proofs.Listing.{instructions_set_so, source_set_so}
+use Rattle.headline.proofs.Listing.{functions_set_so, instructions_set_so, source_set_so}
 use Rattle.headline.proofs.Owing.{marked_owes}
 use Rattle.headline.proofs.Placing.{read_agrees}
 use Rattle.headline.proofs.Resuming.{alone, attach_leads, goes_on, initialize_agrees, launch_agrees, restarted_same, resumed_same, with_event}
@@ -84,6 +84,7 @@ Owes a = OwesOf a.debuggee.program
 
 listed_owes : (c : Command) (list : List Wanted) (p : Program) → p.owed ≡ None → OwesRunning (with_list c list p)
 listed_owes (SetBreakpoints arguments) list p e = nothing (with_source list p) e
+listed_owes (SetFunctionBreakpoints arguments) list p e = nothing (with_functions list p) e
 listed_owes (SetInstructionBreakpoints arguments) list p e = nothing (with_instructions list p) e
 listed_owes other list p e = nothing p e
 
@@ -193,6 +194,10 @@ module _ (now : Now) (terms : Terms) (f : Facts) (h : Agrees f now.debuggee.prog
       alone _ now.debuggee.program now.numbers terms (with_same now terms f h _ p is
       ((source_set_so f p now.numbers terms comes.taken (of now terms f h p is) arguments p.image.lines (view_of terms p)
       (now.debuggee.last_break + 1) refl b e).0 none))
+  none_set (SetFunctionBreakpoints arguments) kind comes p b is e none =
+      alone _ now.debuggee.program now.numbers terms (with_same now terms f h _ p is
+      ((functions_set_so f p now.numbers terms comes.taken (of now terms f h p is) arguments p.image.lines p.machine.size
+      (now.debuggee.last_break + 1) b e).0 none))
   none_set (SetInstructionBreakpoints arguments) kind comes p b is e none =
       alone _ now.debuggee.program now.numbers terms (with_same now terms f h _ p is
       ((instructions_set_so f p now.numbers terms comes.taken (of now terms f h p is) arguments p.machine.size
@@ -207,6 +212,11 @@ module _ (now : Now) (terms : Terms) (f : Facts) (h : Agrees f now.debuggee.prog
       alone _ (on_program (with_source list) now.debuggee.program) now.numbers terms (with_made now terms f h _ (with_source list) p is
       ((source_set_so f p now.numbers terms comes.taken (of now terms f h p is) arguments p.image.lines (view_of terms p)
       (now.debuggee.last_break + 1) refl b e).1 list some))
+  list_set (SetFunctionBreakpoints arguments) kind comes p b list is e some =
+      alone _ (on_program (with_functions list) now.debuggee.program) now.numbers terms
+      (with_made now terms f h _ (with_functions list) p is
+      ((functions_set_so f p now.numbers terms comes.taken (of now terms f h p is) arguments p.image.lines p.machine.size
+      (now.debuggee.last_break + 1) b e).1 list some))
   list_set (SetInstructionBreakpoints arguments) kind comes p b list is e some =
       alone _ (on_program (with_instructions list) now.debuggee.program) now.numbers terms
       (with_made now terms f h _ (with_instructions list) p is

@@ -2,6 +2,7 @@ pub mod Knowing
 pub mod Cutting
 pub mod Remembering
 pub mod Agreeing
+pub mod Outputs
 pub mod Leading
 pub mod Beating
 pub mod Owing

@@ -1,16 +1,19 @@
--- `setBreakpoints` and `setInstructionBreakpoints`: the breakpoints that their successes tell are those that are set.
+-- `setBreakpoints`, `setFunctionBreakpoints` and `setInstructionBreakpoints`: the breakpoints that their successes tell
+-- are those that are set.
 use Rattle.std.proofs.Common.{◌≡◌, ℕ, ◌+◌, Bool, true, false, cond, ltb, List, [], ◌∷◌, length, map, Option, Some, None, Result, Ok, Err, refl, sym, ap, ◌∙◌, subst}
 use Rattle.std.specs.Prelude.{slice_get, bytes_eq}
 use Rattle.std.specs.List.{cons_option, filter_map}
 use Rattle.std.proofs.lemmas.Slice.Eq.{bytes_eq-Decides}
 use Rattle.answers.specs.Breakpoints.{Answer, entries_of, followed_by, list_of, next_after}
 use Rattle.answers.specs.SetBreakpoints as source
-use Rattle.answers.specs.SetBreakpoints.{is_own, of_source, set_breakpoints}
+use Rattle.answers.specs.SetBreakpoints.{is_own, is_too_much, of_source, set_breakpoints}
+use Rattle.answers.specs.SetFunctionBreakpoints as function
+use Rattle.answers.specs.SetFunctionBreakpoints.{set_function_breakpoints}
 use Rattle.answers.specs.SetInstructionBreakpoints as instruction
-use Rattle.answers.specs.SetInstructionBreakpoints.{set_instruction_breakpoints}
+use Rattle.answers.specs.SetInstructionBreakpoints.{Place, set_instruction_breakpoints}
 use Rattle.answers.specs.declared.view.View.{View}
 use Rattle.breakpoints.specs.Stops.{Wanted, fresh}
-use Rattle.debuggee.specs.Programs.{Program, is_running, with_instructions, with_source}
+use Rattle.debuggee.specs.Programs.{Program, is_running, with_functions, with_instructions, with_source}
 use Rattle.image.specs.Lines.{Table}
 use Rattle.facts.specs.Facts.{Facts}
 use Rattle.mirror.specs.Folding.{listed, source_listed, succeeded, verified_at, verified_instruction}
@@ -20,8 +23,11 @@ use Rattle.facts.specs.declared.breakpoint.BreakInfo.{BreakInfo}
 use Rattle.protocol.specs.declared.refusal.Refusal.{Refusal}
 use Rattle.protocol.specs.declared.set_breakpoints.SetBreakpointsArguments.{SetBreakpointsArguments}
 use Rattle.protocol.specs.declared.set_breakpoints.SourceBreakpoint.{SourceBreakpoint}
+use Rattle.protocol.specs.declared.set_function_breakpoints.SetFunctionBreakpointsArguments.{SetFunctionBreakpointsArguments}
 use Rattle.protocol.specs.declared.set_instruction_breakpoints.SetInstructionBreakpointsArguments.{SetInstructionBreakpointsArguments}
 use Rattle.replies.specs.declared.response.ResponseBody.{ResponseBody}
+use Rattle.replies.specs.declared.response.ResponseBody.TheVariants as body
+use Rattle.replies.specs.declared.set_instruction_breakpoints.InstructionBreakpoint.{InstructionBreakpoint}
 use Rattle.handlers.specs.Phases.{is_debugging_in}
 use Rattle.handlers.specs.declared.phase.Phase.{Phase}
 use Rattle.handlers.specs.declared.phase.Phase.TheVariants.{Fresh, Initialized, Configuring, Active, Left}
@@ -80,11 +86,13 @@ none_told : (table : Table) (base next : ℕ) (asked : List SourceBreakpoint)
 none_told table base next [] = refl
 none_told table base next (a ∷ others) = none_told table base next others
 
-instructions_told : (size next : ℕ) (asked : List _)
-    → filter_map verified_instruction (entries_of (instruction.judged size) instruction.entry next asked) ≡ infos (list_of (instruction.judged size) instruction.wanted next asked)
+-- of those at addresses: at instructions, and at functions
+placed_told : {A : Type 0} (judged : A → Result Place _) (next : ℕ) (asked : List A)
+    → filter_map verified_instruction (entries_of judged instruction.entry next asked)
+    ≡ infos (list_of judged instruction.wanted next asked)
 unfolding info_wanted
-instructions_told size next asked =
-    told_list (instruction.judged size) instruction.entry instruction.wanted verified_instruction (λ _ _ _. refl) (λ _ _ _. refl) next asked
+placed_told judged next asked =
+    told_list judged instruction.entry instruction.wanted verified_instruction (λ _ _ _. refl) (λ _ _ _. refl) next asked
 
 -- ---- what is known then
 
@@ -118,16 +126,18 @@ breaks_agree : (f g : Facts) (p q : Program) (numbers : Numbers) (terms : Terms)
     → q.run ≡ p.run
     → ((path : List ℕ) → HoldsAt (slice_get (g.source path)) (slice_get ((shown_of q numbers).source path)))
     → HoldsAt (slice_get g.instructions) (slice_get (shown_of q numbers).instructions)
+    → HoldsAt (slice_get g.functions) (slice_get (shown_of q numbers).functions)
     → (shown_of q numbers).frame ≡ (shown_of p numbers).frame → (shown_of q numbers).register ≡ (shown_of p numbers).register
     → (shown_of q numbers).byte ≡ (shown_of p numbers).byte
     → Agrees f (Some p) numbers terms → Agrees g (Some q) numbers terms
-breaks_agree f g p q numbers terms taken same run source instructions frame register byte h = record {
+breaks_agree f g p q numbers terms taken same run source instructions functions frame register byte h = record {
   holds = record {
     run =
         subst (λ (x : RunState). HoldsRun x (state_of q.run)) (sym same.run)
         (subst (λ (r : Run). HoldsRun f.run (state_of r)) (sym run) h.holds.run);
     source = source;
     instructions = instructions;
+    functions = functions;
     frame = λ index x e. ap (λ (s : ℕ → Option _). s index) frame ∙ h.holds.frame index x (sym (same.frame index) ∙ e);
     register = λ number x e. ap (λ (s : ℕ → Option _). s number) register ∙ h.holds.register number x (sym (same.register number) ∙ e);
     byte = λ address x e. ap (λ (s : ℕ → Option _). s address) byte ∙ h.holds.byte address x (sym (same.byte address) ∙ e);
@@ -152,7 +162,7 @@ module _ (f : Facts) (p : Program) (numbers : Numbers) (terms : Terms) (taken : 
       (record { run = refl; launched = refl; frame = λ _. refl; register = λ _. refl; byte = λ _. refl }) refl
       (λ asked. if_keeps (λ (l : List BreakInfo). HoldsAt (slice_get l) (slice_get ((shown_of p numbers).source asked)))
       (bytes_eq path asked) [] (f.source asked) (λ _. no_breaks _) (λ _. h.holds.source asked))
-      h.holds.instructions refl refl refl h
+      h.holds.instructions h.holds.functions refl refl refl h
 
   -- the program's own has those that were set
   own_source : (list : List Wanted)
@@ -160,7 +170,7 @@ module _ (f : Facts) (p : Program) (numbers : Numbers) (terms : Terms) (taken : 
   own_source list =
       breaks_agree f (record f { source = listed p.path (infos list) f.source }) p (with_source list p) numbers terms taken
       (record { run = refl; launched = refl; frame = λ _. refl; register = λ _. refl; byte = λ _. refl }) refl
-      (λ asked. by asked (bytes_eq p.path asked) (h.holds.source asked)) h.holds.instructions refl refl refl h where
+      (λ asked. by asked (bytes_eq p.path asked) (h.holds.source asked)) h.holds.instructions h.holds.functions refl refl refl h where
         by : (asked : List ℕ) (b : Bool) → HoldsAt (slice_get (f.source asked)) (slice_get (cond b (map info_of p.machine.lists.source) []))
             → HoldsAt (slice_get (cond b (infos list) (f.source asked))) (slice_get (cond b (map info_of (map fresh list)) []))
         by asked true old =
@@ -172,7 +182,14 @@ module _ (f : Facts) (p : Program) (numbers : Numbers) (terms : Terms) (taken : 
       breaks_agree f (record f { instructions = infos list }) p (with_instructions list p) numbers terms taken
       (record { run = refl; launched = refl; frame = λ _. refl; register = λ _. refl; byte = λ _. refl }) refl
       h.holds.source (subst (λ (l : List BreakInfo). HoldsAt (slice_get (infos list)) (slice_get l)) (sym (fresh_infos list))
-      (λ place x e. e)) refl refl refl h
+      (λ place x e. e)) h.holds.functions refl refl refl h
+
+  functions_so : (list : List Wanted) → Agrees (record f { functions = infos list }) (Some (with_functions list p)) numbers terms
+  functions_so list =
+      breaks_agree f (record f { functions = infos list }) p (with_functions list p) numbers terms taken
+      (record { run = refl; launched = refl; frame = λ _. refl; register = λ _. refl; byte = λ _. refl }) refl
+      h.holds.source h.holds.instructions (subst (λ (l : List BreakInfo). HoldsAt (slice_get (infos list)) (slice_get l))
+      (sym (fresh_infos list)) (λ place x e. e)) refl refl refl h
 
   -- ---- the answers
 
@@ -234,10 +251,32 @@ module _ (f : Facts) (p : Program) (numbers : Numbers) (terms : Terms) (taken : 
       → Sets asked set (record { result = Err refusal; list = None })
   too_much asked set refusal = λ b e. no_body refusal b e
 
+  -- an answer that sets a list at addresses, where the facts with that list are these
+  sets_placed : {A : Type 0} (judged : A → Result Place _) (asked : Asked) (set : List Wanted → Program → Program)
+      (made : List InstructionBreakpoint → ResponseBody) (facts : List BreakInfo → Facts)
+      → ((entries : List InstructionBreakpoint) → succeeded (made entries) asked f ≡ facts (filter_map verified_instruction entries))
+      → ((list : List Wanted) → Agrees (facts (infos list)) (Some (set list p)) numbers terms) → (next : ℕ) (those : List A)
+      → Sets asked set (record {
+        result = Ok (made (entries_of judged instruction.entry next those));
+        list = Some (list_of judged instruction.wanted next those);
+      })
+  sets_placed judged asked set made facts tells so next those = λ b e.
+      let entries = entries_of judged instruction.entry next those in
+      let wanted = list_of judged instruction.wanted next those in (
+        λ none. absurd (cc),
+        λ list is.
+            that_body (λ (b : ResponseBody). Agrees (succeeded b asked f) (Some (set list p)) numbers terms) (made entries) b
+            (subst (λ (l : List Wanted). Agrees (succeeded (made entries) asked f) (Some (set l p)) numbers terms)
+            (let same : wanted ≡ list = cc in same)
+            (subst (λ (g : Facts). Agrees g (Some (set wanted p)) numbers terms) (sym (tells entries))
+            (subst (λ (l : List BreakInfo). Agrees (facts l) (Some (set wanted p)) numbers terms) (sym (placed_told judged next those))
+            (so wanted)))) e,
+      )
+
   pub source_set_so : (arguments : SetBreakpointsArguments) (table : Table) (view : View) (next : ℕ) → view.path ≡ p.path
       → Sets (asks.SetBreakpoints arguments.source.path) with_source (set_breakpoints table view next arguments)
   source_set_so arguments table view next same =
-      if_keeps (Sets (asks.SetBreakpoints arguments.source.path) with_source) (ltb 1024 (length arguments.breakpoints)) _ _
+      if_keeps (Sets (asks.SetBreakpoints arguments.source.path) with_source) (is_too_much arguments.breakpoints) _ _
       (λ _. too_much (asks.SetBreakpoints arguments.source.path) with_source _)
       (λ _. by_path arguments.source.path table view next arguments.breakpoints same)
 
@@ -246,20 +285,15 @@ module _ (f : Facts) (p : Program) (numbers : Numbers) (terms : Terms) (taken : 
   instructions_set_so arguments size next =
       if_keeps (Sets asks.SetInstructionBreakpoints with_instructions) (ltb 1024 (length arguments.breakpoints)) _ _
       (λ _. too_much asks.SetInstructionBreakpoints with_instructions _)
-      (λ _ b e. (
-        λ none. absurd (cc),
-        λ list is.
-            that_body (λ (b : ResponseBody). Agrees (succeeded b asks.SetInstructionBreakpoints f)
-            (Some (with_instructions list p)) numbers terms) _ b
-            (subst (λ (wanted : List Wanted). Agrees
-            (record f {
-              instructions = filter_map verified_instruction
-                  (entries_of (instruction.judged size) instruction.entry next arguments.breakpoints);
-            })
-            (Some (with_instructions wanted p)) numbers terms)
-            (let same : list_of (instruction.judged size) instruction.wanted next arguments.breakpoints ≡ list = cc in same)
-            (subst (λ (l : List BreakInfo). Agrees (record f { instructions = l })
-            (Some (with_instructions (list_of (instruction.judged size) instruction.wanted next arguments.breakpoints) p)) numbers terms)
-            (sym (instructions_told size next arguments.breakpoints))
-            (instructions_so (list_of (instruction.judged size) instruction.wanted next arguments.breakpoints)))) e,
-      ))
+      (λ _. sets_placed (instruction.judged size) asks.SetInstructionBreakpoints with_instructions
+      (λ entries. body.SetInstructionBreakpoints (record { breakpoints = entries })) (λ list. record f { instructions = list }) (λ _. refl)
+      instructions_so next arguments.breakpoints)
+
+  pub functions_set_so : (arguments : SetFunctionBreakpointsArguments) (table : Table) (size next : ℕ)
+      → Sets asks.SetFunctionBreakpoints with_functions (set_function_breakpoints table size next arguments)
+  functions_set_so arguments table size next =
+      if_keeps (Sets asks.SetFunctionBreakpoints with_functions) (ltb 1024 (length arguments.breakpoints)) _ _
+      (λ _. too_much asks.SetFunctionBreakpoints with_functions _)
+      (λ _. sets_placed (function.judged table size) asks.SetFunctionBreakpoints with_functions
+      (λ entries. body.SetFunctionBreakpoints (record { breakpoints = entries })) (λ list. record f { functions = list }) (λ _. refl)
+      functions_so next arguments.breakpoints)

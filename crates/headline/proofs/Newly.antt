@@ -1,7 +1,7 @@
 -- The messages that are queued from one time to another, and what there is to see at the end.
 --
 -- What there was to see when a message was queued is what there is to see then, with one exception: what the program
--- printed was told while it ran, and it may have stopped since.
+-- printed, and what its logpoints say, was told while it ran, and it may have stopped since.
 use Rattle.std.proofs.Common.{◌≡◌, ℕ, ℤ, Bool, true, false, ltb, List, [], ◌∷◌, ◌++◌, map, Option, Some, None, is_some, refl, sym, ap, ◌∙◌, subst, append-nil, append_assoc}
 use Rattle.std.specs.Prelude.{All}
 use Rattle.std.proofs.lemmas.List.Elements.{All-cons, All-head, All-nil, All-push, All-tail}
@@ -19,16 +19,17 @@ use Rattle.session.proofs.Reaching.{if_keeps}
 use Rattle.session.specs.Acts.{Act, Become, Now, Tell}
 use Rattle.session.specs.Effects.{performed}
 use Rattle.session.specs.Phases.{is_active}
-use Rattle.session.specs.Sessions.{Life, Said, Session, histories, performed_on, said_next, said_on, snapshot_of}
-use Rattle.session.specs.Slices.{becomes, exits, halts, prints, tells}
-use Rattle.handlers.specs.Telling.{exit_events, output_event, stop_event}
+use Rattle.session.specs.Sessions.{Life, Said, Session, Snapshot, histories, performed_on, said_next, said_on, snapshot_of}
+use Rattle.session.specs.Slices.{becomes, exits, halts, tells}
+use Rattle.handlers.specs.Telling.{exit_events, stop_event}
 use Rattle.session.specs.declared.link.Link.{Link}
 use Rattle.session.specs.declared.pending.Pending.{Pending}
 use Rattle.variables.specs.Numbers.{Numbers}
+use Rattle.headline.proofs.Outputs.{AreOutput, IsOutput}
 use Rattle.headline.specs.News.{Fits, IsFollowed, Newly, Sight, as_running, says_output, seen_at, seen_now, sight, sight_by}
 use Rattle.session.specs.Shown.{shown_of, state_of}
 
--- all that was queued is what the program printed
+-- all that was queued is what the program printed, and what its logpoints say
 pub record Printed (s t : Session) : Type 0 where
   pub news : List Said
   pub newly : Newly s t news
@@ -148,21 +149,28 @@ seen_running : (p : Program) (numbers : Numbers) → is_running p.run ≡ true
 seen_running p numbers e =
     let is = running_state p.run e in λ i. record (sight_by (Some p) numbers) { facts = record (shown_of p numbers) { run = is i } }
 
--- what was printed is told while it runs
-pub prints_printed : (now : Now) (p : Program) (printed : Option ℤ) (s t : Session) → t.now.debuggee.program ≡ Some p
-    → is_running p.run ≡ true → Printed s t → Printed s (performed histories (prints now printed) t)
-prints_printed now p None s t is runs h = h
-prints_printed now p (Some number) s t is runs h =
-    if_keeps (λ (acts : List Act). Printed s (performed histories acts t)) (is_active now.link) _ []
-    (λ _. said_printed s t t.now.link (IsEvent (output_event number)) t.now.arrivals.pending refl
-    (subst (λ (x : Option Program). sight_by x t.now.numbers ≡ as_running (sight_by x t.now.numbers)) (sym is)
-    (seen_running p t.now.numbers runs)) h)
-    (λ _. h)
+-- of a program that runs there is to see what there was at each output
+output_sayable : (p : Program) (e : Event) (t : Session) → t.now.debuggee.program ≡ Some p → is_running p.run ≡ true → IsOutput e
+    → Sayable t (IsEvent e)
+output_sayable p e t is runs output =
+    subst (λ (x : Option Program). sight_by x t.now.numbers ≡ as_running (sight_by x t.now.numbers)) (sym is)
+    (seen_running p t.now.numbers runs)
+    ∙ ap (λ (b : Bool). seen_at b (seen_now t)) (sym output)
 
-pub prints_snapshot : (now : Now) (printed : Option ℤ) (t : Session)
-    → snapshot_of (performed histories (prints now printed) t).now ≡ snapshot_of t.now
-prints_snapshot now None t = refl
-prints_snapshot now (Some number) t = tells_snapshot now (output_event number ∷ []) t
+output_told : (events : List Event) (p : Program) (s t : Session) → t.now.debuggee.program ≡ Some p → is_running p.run ≡ true
+    → AreOutput events → Printed s t → Printed s (performed histories (map Tell events) t)
+output_told [] p s t is runs output h = h
+output_told (e ∷ es) p s t is runs output h =
+    let stays = said_snapshot t.now.link (IsEvent e) t.now.arrivals.pending t in
+    output_told es p s (performed_on (Tell e) t) (ap (λ (x : Snapshot). x.debuggee.program) stays ∙ is) runs output.1
+    (said_printed s t t.now.link (IsEvent e) t.now.arrivals.pending output.0 (output_sayable p e t is runs output.0) h)
+
+-- output is told while it runs
+pub outputs_printed : (now : Now) (events : List Event) (p : Program) (s t : Session) → t.now.debuggee.program ≡ Some p
+    → is_running p.run ≡ true → AreOutput events → Printed s t → Printed s (performed histories (tells now events) t)
+outputs_printed now events p s t is runs output h =
+    if_keeps (λ (acts : List Act). Printed s (performed histories acts t)) (is_active now.link) _ []
+    (λ _. output_told events p s t is runs output h) (λ _. h)
 
 -- ---- the program changes
 

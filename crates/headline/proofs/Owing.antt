@@ -11,8 +11,8 @@ use Rattle.replies.specs.declared.event.Event.{Event as Told}
 use Rattle.session.proofs.Reaching.{if_keeps}
 use Rattle.session.specs.Acts.{Act, Become, Now, Seen, Tell}
 use Rattle.session.specs.Phases.{is_active, is_configuring}
-use Rattle.session.specs.Slices.{Beat, beat_by, beat_of, concludes, exits, goes, goes_unless, halts, is_runnable_by, moves_by, prints, telling}
-use Rattle.handlers.specs.Telling.{exit_events, output_event, stop_event}
+use Rattle.session.specs.Slices.{Beat, beat_by, beat_of, concludes, exits, goes, goes_unless, halts, is_runnable_by, logged, moves_by, output_events, telling}
+use Rattle.handlers.specs.Telling.{exit_events, stop_event}
 use Rattle.session.specs.declared.state.TheConstants.{FULL}
 use Rattle.stepping.specs.declared.tick.Outcome.{Outcome as CameTo}
 use Rattle.stepping.specs.declared.tick.Outcome.TheVariants.{Went, Stopped as HasStopped, Ended as HasEnded}
@@ -59,14 +59,13 @@ concludes_owe now p Went ids e = tt
 concludes_owe now p (HasStopped reason) ids e = halts_owe now p (why.Met reason) ids e
 concludes_owe now p (HasEnded code) ids e = exits_owe now p code e
 
-prints_owe : (now : Now) (printed : Option ℤ) (acts : List Act) → AllOwe acts → AllOwe (prints now printed ++ acts)
-prints_owe now None acts h = h
-prints_owe now (Some number) acts h = tells_owe (is_active now.link) (output_event number ∷ []) acts h
-
 pub telling_owes : (now : Now) (p : Program) (tick : Tick) → AllOwe (telling now p tick)
 unfolding AllOwe
 telling_owes now p tick =
-    (nothing_owed (told p) refl, prints_owe now tick.printed _ (concludes_owe now (told p) tick.outcome p.machine.lists.ids refl))
+    let output : List Told = output_events tick.printed (logged p.machine.lists) in (
+      nothing_owed (told p) refl,
+      tells_owe (is_active now.link) output _ (concludes_owe now (told p) tick.outcome p.machine.lists.ids refl),
+    )
 
 moves_owe : (now : Now) (p : Program) (outcome : CameTo) → p.owed ≡ None → is_running p.run ≡ true → AllOwe (moves_by now p outcome).acts
 unfolding AllOwe

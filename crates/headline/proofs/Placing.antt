@@ -74,6 +74,7 @@ bytes_agree f p numbers terms count address active still begins h =
         run = h.holds.run;
         source = h.holds.source;
         instructions = h.holds.instructions;
+        functions = h.holds.functions;
         frame = h.holds.frame;
         register = h.holds.register;
         byte = over_all (λ place x. byte_at memory place ≡ Some x) address bytes f.byte (bytes_so memory count address begins) h.holds.byte;

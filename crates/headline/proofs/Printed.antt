@@ -1,4 +1,5 @@
--- What is printed is told while the program runs: only what is owed is told so, and a program that owes something runs.
+-- What is printed, and what a logpoint says, is told while the program runs: only what is owed is told so, and a program
+-- that owes something runs.
 use Rattle.std.proofs.Common.{◌≡◌, ℕ, ℤ, zero, suc, Bool, true, false, eqb, leb, ltb, List, [], ◌∷◌, ◌++◌, length, map, Option, Some, None, refl, sym, ◌∙◌, subst}
 use Rattle.std.specs.Prelude.{All, ⊤, not}
 use Rattle.std.proofs.lemmas.List.Elements.{All-push, All-nil}
@@ -26,8 +27,8 @@ use Rattle.session.specs.Outcomes.{Outcome, answering, answers_next, closing, ne
 use Rattle.session.specs.Phases.{is_active}
 use Rattle.session.specs.Refusals.{answer_to, response_to}
 use Rattle.session.specs.Sessions.{After, Beginning, Effect, Life, Said, Session, histories, hung_on, performed_on, said_next, said_on, waiting_of}
-use Rattle.session.specs.Slices.{Beat, beat, beat_by, beat_of, concludes, exits, goes, goes_unless, halts, is_runnable_by, moves_by, prints, telling, tells}
-use Rattle.handlers.specs.Telling.{exit_events, output_event, stop_event}
+use Rattle.session.specs.Slices.{Beat, beat, beat_by, beat_of, concludes, exits, goes, goes_unless, halts, is_runnable_by, logged, moves_by, output_events, telling, tells}
+use Rattle.handlers.specs.Telling.{exit_events, stop_event}
 use Rattle.session.specs.declared.event.SliceEnd.{SliceEnd}
 use Rattle.session.specs.declared.event.Event.{Event}
 use Rattle.session.specs.declared.event.Event.TheVariants.{Connect, Recv, Turn, Slice, Hold, Sent, DropConnection}
@@ -126,13 +127,25 @@ tells_print now d events h = if_keeps (AllPrint d) (is_active now.link) _ [] (λ
 abbrev Goes : Debuggee → Type 0
 Goes d = RunsAs (λ run. is_running run ≡ true) d
 
-prints_print : (now : Now) (d : Debuggee) (printed : Option ℤ) (acts : List Act) → Goes d → AllPrint d acts
-    → AllPrint d (prints now printed ++ acts)
+-- whatever is told of a program that runs
+runs_print : (e : Told) (d : Debuggee) → Goes d → PrintsRunning (IsEvent e) d
+runs_print (event.Output output) d runs = runs
+runs_print (event.Stopped stop) d runs = tt
+runs_print event.Continued d runs = tt
+runs_print (event.Exited exit) d runs = tt
+runs_print event.Terminated d runs = tt
+runs_print event.Initialized d runs = tt
+
+all_run_print : (d : Debuggee) (events : List Told) (acts : List Act) → Goes d → AllPrint d acts → AllPrint d (map Tell events ++ acts)
 unfolding AllPrint
-prints_print now d None acts runs h = h
-prints_print now d (Some number) acts runs h =
-    if_keeps (λ (x : List Act). AllPrint d (x ++ acts)) (is_active now.link) (map Tell (output_event number ∷ [])) [] (λ _. (runs, h))
-    (λ _. h)
+all_run_print d [] acts runs h = h
+all_run_print d (e ∷ es) acts runs h = (runs_print e d runs, all_run_print d es acts runs h)
+
+running_tells_print : (now : Now) (d : Debuggee) (events : List Told) (acts : List Act) → Goes d → AllPrint d acts
+    → AllPrint d (tells now events ++ acts)
+running_tells_print now d events acts runs h =
+    if_keeps (λ (x : List Act). AllPrint d (x ++ acts)) (is_active now.link) (map Tell events) []
+    (λ _. all_run_print d events acts runs h) (λ _. h)
 
 -- the program that is debugged, if it is this
 abbrev debugging : Now → Program → Debuggee
@@ -156,7 +169,8 @@ telling_prints : (now : Now) (d : Debuggee) (p : Program) (tick : Tick) → is_r
 unfolding AllPrint
 telling_prints now d p tick runs =
     let after = debugging now (told p) in
-    prints_print now after tick.printed _ runs (concludes_print now after (told p) tick.outcome p.machine.lists.ids)
+    running_tells_print now after (output_events tick.printed (logged p.machine.lists)) _ runs
+    (concludes_print now after (told p) tick.outcome p.machine.lists.ids)
 
 -- ---- beats
 

@@ -42,7 +42,7 @@ goes_on now terms f numbers makes active runs same there h = by now.debuggee.pro
   by (Some p) there h = record {
     holds =
         holds_in Running f (shown_of p now.numbers) (shown_of (makes p) numbers) h.holds (ap state_of (runs p))
-        ((same p).source now.numbers) ((same p).instructions now.numbers);
+        ((same p).source now.numbers) ((same p).instructions now.numbers) ((same p).functions now.numbers);
     moving = λ _. no_stand_in Running f;
     numbered = none_numbered numbers (in_state Running f) (no_stand_in Running f);
     phase = suits_as terms.phase terms.launched f (in_state Running f) active refl h.phase;
@@ -56,13 +56,14 @@ pub restarted_same : (p : Program) → SameBut p (first_run (restarted p))
 restarted_same p = record {
   source = λ numbers path. ap (λ (l : List BreakInfo). listed_at p.path l path) (reset_info p.machine.lists.source);
   instructions = λ numbers. reset_info p.machine.lists.instructions;
+  functions = λ numbers. reset_info p.machine.lists.functions;
 }
 
 pub resumed_same : (goal : _) (p : Program) → SameBut p (resumed goal p)
-resumed_same goal p = record { source = λ _ _. refl; instructions = λ _. refl }
+resumed_same goal p = record { source = λ _ _. refl; instructions = λ _. refl; functions = λ _. refl }
 
 pub first_same : (p : Program) → SameBut p (first_run p)
-first_same p = record { source = λ _ _. refl; instructions = λ _. refl }
+first_same p = record { source = λ _ _. refl; instructions = λ _. refl; functions = λ _. refl }
 
 -- ---- `initialize`, `launch`, `attach`
 
@@ -100,7 +101,16 @@ only_agrees launched program numbers terms =
     let f : Facts = record nothing_known { launched = launched } in
     let stand : KnowsNoStand f = record { frame = λ _. refl; register = λ _. refl; byte = λ _. refl } in
     record {
-      holds = record { run = tt; source = n.source; instructions = n.instructions; frame = n.frame; register = n.register; byte = n.byte };
+      holds =
+          record {
+            run = tt;
+            source = n.source;
+            instructions = n.instructions;
+            functions = n.functions;
+            frame = n.frame;
+            register = n.register;
+            byte = n.byte;
+          };
       moving = moves program stand;
       numbered = none_numbered numbers f stand;
       phase = record { launched = refl; quiet = tt; stand = stand };

@@ -80,6 +80,7 @@ issued_agrees f p numbers targets terms h = record {
     run = h.holds.run;
     source = h.holds.source;
     instructions = h.holds.instructions;
+    functions = h.holds.functions;
     frame = frames_stay p numbers targets f h.numbered h.holds.frame;
     register = h.holds.register;
     byte = h.holds.byte;

@@ -175,6 +175,7 @@ list_agrees f p numbers terms list active still all h =
             run = h.holds.run;
             source = h.holds.source;
             instructions = h.holds.instructions;
+            functions = h.holds.functions;
             frame = h.holds.frame;
             register = after_variables_hold p.machine.hart list f.register all h.holds.register;
             byte = h.holds.byte;

@@ -32,6 +32,7 @@ pub record Holds (known so : Facts) : Type 0 where
   pub run : HoldsRun known.run so.run
   pub source : (path : List ℕ) → HoldsAt (slice_get (known.source path)) (slice_get (so.source path))
   pub instructions : HoldsAt (slice_get known.instructions) (slice_get so.instructions)
+  pub functions : HoldsAt (slice_get known.functions) (slice_get so.functions)
   pub frame : HoldsAt known.frame so.frame
   pub register : HoldsAt known.register so.register
   pub byte : HoldsAt known.byte so.byte

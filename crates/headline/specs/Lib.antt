@@ -12,7 +12,7 @@ pub mod Editors
 pub mod Headline
 -- its second half: a reference is answered only in the stop and on the connection that issued it
 pub mod References
--- when it is told what the program printed
+-- when it is told what the program printed, and what its logpoints say
 pub mod Printed
 -- what an event queues, and what there is to see once it is done
 pub mod News

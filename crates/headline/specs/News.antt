@@ -2,8 +2,8 @@
 --
 -- A message comes with what there was to see when it was queued. Whoever replays a session event by event sees it between
 -- events only. That is enough: after a turn, and after a slice that makes no move, or one move where nothing is left to
--- be told before it, there is to see what there was at each message that it queued. There is one exception: what the
--- program printed is told while it runs, and it may have stopped since.
+-- be told before it, there is to see what there was at each message that it queued. There is one exception: output,
+-- which is what the program printed and what its logpoints say, is told while it runs, and it may have stopped since.
 use Rattle.std.specs.Prelude.{◌≡◌, ℕ, Bool, true, false, List, [], ◌++◌, All, is_some, Option, option_map}
 use Rattle.debuggee.specs.Programs.{Program}
 use Rattle.facts.specs.Facts.{Facts}
@@ -38,7 +38,7 @@ seen_now s = sight (snapshot_of s.now)
 abbrev pub as_running : Sight → Sight
 as_running s = record s { facts = record s.facts { run = Running } }
 
--- whether a message says what the program printed
+-- whether a message says what the program printed, or what a logpoint says
 abbrev pub says_output : Message → Bool
 says_output (IsResponse r) = false
 says_output (IsEvent (event.Output o)) = true

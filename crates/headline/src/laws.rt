@@ -32,13 +32,13 @@ pub fn what_an_editor_knows_was_so()
         → WhatIsKnownWasSo (After from events) connection count }
 {}
 
-/// Whatever happens, what the program prints is told while it runs, also where it stops with it.
+/// Whatever happens, what the program prints is told while it runs, also where it stops with it; and so is what a logpoint says.
 pub fn what_is_printed_runs()
     ensures { (from : ABeginning) (events : List AnEvent) → WhatIsPrintedRuns (After from events) }
 {}
 
 /// Whatever happened, after a turn, and after a slice that makes no move, or one where nothing is left to be told before it, there is to see
-/// what there was at each message that it queued; of what the program printed, while the program ran.
+/// what there was at each message that it queued; of what the program printed or a logpoint says, while the program ran.
 pub fn what_was_seen_is_seen_after()
     ensures { (from : ABeginning) (events : List AnEvent) → IsSeenAfter (After from events) }
 {}

@@ -24,14 +24,15 @@ use Rattle.facts.specs.Facts.{Facts, nothing_known, unknown}
 use Rattle.mirror.specs.Requests.{register_of}
 use Rattle.mirror.specs.declared.asked.Asked.{Asked}
 use Rattle.mirror.specs.declared.asked.Asked.TheVariants.{Continue, Resume, ConfigurationDone, Launch, Terminate, Disconnect}
-use Rattle.mirror.specs.declared.asked.Asked.TheVariants.{SetBreakpoints, SetInstructionBreakpoints, StackTrace, Variables}
-use Rattle.mirror.specs.declared.asked.Asked.TheVariants.{SetVariable, ReadMemory, WriteMemory}
+use Rattle.mirror.specs.declared.asked.Asked.TheVariants.{SetBreakpoints, SetFunctionBreakpoints, SetInstructionBreakpoints}
+use Rattle.mirror.specs.declared.asked.Asked.TheVariants.{StackTrace, Variables, SetVariable, ReadMemory, WriteMemory}
 use Rattle.facts.specs.declared.breakpoint.BreakInfo.{BreakInfo}
 use Rattle.facts.specs.declared.frame.FrameInfo.{FrameInfo}
 use Rattle.facts.specs.declared.run.RunState.{RunState}
 use Rattle.facts.specs.declared.run.RunState.TheVariants.{Unknown, Running, Stopped, Ended}
 use Rattle.replies.specs.declared.response.ResponseBody.TheVariants.{Initialize, Threads, Scopes, Evaluate, Disassemble, Empty}
 use Rattle.replies.specs.declared.response.ResponseBody.TheVariants.{Continue as GoesOn, SetBreakpoints as SourceList}
+use Rattle.replies.specs.declared.response.ResponseBody.TheVariants.{SetFunctionBreakpoints as FunctionList}
 use Rattle.replies.specs.declared.response.ResponseBody.TheVariants.{SetInstructionBreakpoints as InstructionList}
 use Rattle.replies.specs.declared.response.ResponseBody.TheVariants.{StackTrace as Frames, Variables as Values}
 use Rattle.replies.specs.declared.response.ResponseBody.TheVariants.{SetVariable as NewValue, ReadMemory as Bytes}
@@ -57,7 +58,7 @@ abbrev pub verified_at : SourceBreakpoint → Option BreakInfo
 verified_at (Verified id address line) = Some (record { id = id; address = address })
 verified_at (Unverified line message) = None
 
--- the same of an entry for an instruction
+-- the same of an entry for an instruction, or for a function
 abbrev pub verified_instruction : InstructionBreakpoint → Option BreakInfo
 verified_instruction (VerifiedAt id address) = Some (record { id = id; address = address })
 verified_instruction (UnverifiedAt message) = None
@@ -126,6 +127,11 @@ abbrev pub source_set : List SourceBreakpoint → Asked → Facts → Facts
 source_set entries (SetBreakpoints path) f = source_listed path (filter_map verified_at entries) f
 source_set entries _ f = f
 
+-- a success of `setFunctionBreakpoints`
+abbrev pub functions_set : List InstructionBreakpoint → Asked → Facts → Facts
+functions_set entries SetFunctionBreakpoints f = record f { functions = filter_map verified_instruction entries }
+functions_set entries _ f = f
+
 -- a success of `setInstructionBreakpoints`
 abbrev pub instructions_set : List InstructionBreakpoint → Asked → Facts → Facts
 instructions_set entries SetInstructionBreakpoints f = record f { instructions = filter_map verified_instruction entries }
@@ -161,6 +167,7 @@ abbrev pub succeeded : ResponseBody → Asked → Facts → Facts
 succeeded Empty asked f = acknowledged asked f
 succeeded GoesOn asked f = gone_on asked f
 succeeded (SourceList b) asked f = source_set b.breakpoints asked f
+succeeded (FunctionList b) asked f = functions_set b.breakpoints asked f
 succeeded (InstructionList b) asked f = instructions_set b.breakpoints asked f
 succeeded (Frames b) asked f = frames_told b.stack_frames asked f
 succeeded (Values b) asked f = variables_told b.variables asked f

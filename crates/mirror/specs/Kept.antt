@@ -40,6 +40,7 @@ facts_of known = record {
   launched = known.launched;
   source = source_in known.sources;
   instructions = known.instructions;
+  functions = known.functions;
   frame = at known.frames;
   register = register_in known.registers;
   byte = at known.bytes;

@@ -14,6 +14,7 @@ use Rattle.protocol.specs.declared.command.Command.TheVariants.{ConfigurationDon
 use Rattle.protocol.specs.declared.command.Command.TheVariants.{Terminate as AskTerminate}
 use Rattle.protocol.specs.declared.command.Command.TheVariants.{Disconnect as AskDisconnect}
 use Rattle.protocol.specs.declared.command.Command.TheVariants.{SetBreakpoints as AskSetBreakpoints}
+use Rattle.protocol.specs.declared.command.Command.TheVariants.{SetFunctionBreakpoints as AskSetFunctionBreakpoints}
 use Rattle.protocol.specs.declared.command.Command.TheVariants.{SetInstructionBreakpoints as AskSetInstructionBreakpoints}
 use Rattle.protocol.specs.declared.command.Command.TheVariants.{Continue as AskContinue}
 use Rattle.protocol.specs.declared.command.Command.TheVariants.{StackTrace as AskStackTrace}
@@ -24,8 +25,8 @@ use Rattle.protocol.specs.declared.command.Command.TheVariants.{WriteMemory as A
 use Rattle.rv32i.specs.Names.{number_named}
 use Rattle.mirror.specs.declared.asked.Asked.{Asked}
 use Rattle.mirror.specs.declared.asked.Asked.TheVariants.{Continue, Resume, ConfigurationDone, Launch, Terminate, Disconnect}
-use Rattle.mirror.specs.declared.asked.Asked.TheVariants.{SetBreakpoints, SetInstructionBreakpoints, StackTrace, Variables}
-use Rattle.mirror.specs.declared.asked.Asked.TheVariants.{SetVariable, ReadMemory, WriteMemory, Other}
+use Rattle.mirror.specs.declared.asked.Asked.TheVariants.{SetBreakpoints, SetFunctionBreakpoints, SetInstructionBreakpoints}
+use Rattle.mirror.specs.declared.asked.Asked.TheVariants.{StackTrace, Variables, SetVariable, ReadMemory, WriteMemory, Other}
 
 -- ---- registers by name
 
@@ -58,6 +59,7 @@ asked_of Restart = Resume
 asked_of AskTerminate = Terminate
 asked_of (AskDisconnect arguments) = Disconnect
 asked_of (AskSetBreakpoints arguments) = SetBreakpoints arguments.source.path
+asked_of (AskSetFunctionBreakpoints arguments) = SetFunctionBreakpoints
 asked_of (AskSetInstructionBreakpoints arguments) = SetInstructionBreakpoints
 asked_of SetExceptionBreakpoints = Other
 asked_of (AskContinue arguments) = Continue

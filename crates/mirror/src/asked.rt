@@ -27,6 +27,8 @@ pub(crate) enum Asked {
     Disconnect,
     /// `setBreakpoints`, with the path of the source if it has one.
     SetBreakpoints(Option<Bytes>),
+    /// `setFunctionBreakpoints`.
+    SetFunctionBreakpoints,
     /// `setInstructionBreakpoints`.
     SetInstructionBreakpoints,
     /// `stackTrace`, from the frame of this index on.
@@ -59,6 +61,7 @@ impl Asked {
             Command::Terminate => Ok(Asked::Terminate),
             Command::Disconnect(_) => Ok(Asked::Disconnect),
             Command::SetBreakpoints(arguments) => source(alloc, arguments),
+            Command::SetFunctionBreakpoints(_) => Ok(Asked::SetFunctionBreakpoints),
             Command::SetInstructionBreakpoints(_) => Ok(Asked::SetInstructionBreakpoints),
             Command::SetExceptionBreakpoints => Ok(Asked::Other),
             Command::Continue(_) => Ok(Asked::Continue),

@@ -65,7 +65,7 @@ impl Breaks {
         })
     }
 
-    /// Those at instructions that are set. It fails where no memory is left.
+    /// Those at instructions, or at functions, that are set. It fails where no memory is left.
     pub(crate) fn at_instructions(
         alloc: Global,
         entries: &[InstructionBreakpoint],
@@ -98,7 +98,7 @@ fn verified_at(entry: &SourceBreakpoint) -> Option<BreakInfo>
     }
 }
 
-// The breakpoint that an entry for an instruction tells, if it is set.
+// The breakpoint that an entry for an instruction or a function tells, if it is set.
 fn verified_instruction(entry: &InstructionBreakpoint) -> Option<BreakInfo>
     ensures { result ≡ verified_instruction entry.now }
 {

@@ -21,6 +21,8 @@ pub(crate) struct Known {
     pub sources: Sources,
     /// The breakpoints at instructions.
     pub instructions: Breaks,
+    /// The breakpoints at functions.
+    pub functions: Breaks,
     /// The frames.
     pub frames: Frames,
     /// The registers.
@@ -42,6 +44,7 @@ impl Known {
             launched: false,
             sources: Sources::new(alloc),
             instructions: Breaks::new(alloc),
+            functions: Breaks::new(alloc),
             frames: Frames::new(alloc),
             registers: Registers::new(),
             bytes: Memory::new(alloc),
@@ -57,6 +60,7 @@ impl Known {
             launched: self.launched,
             sources: self.sources.copied(alloc)?,
             instructions: self.instructions.copied(alloc)?,
+            functions: self.functions.copied(alloc)?,
             frames: self.frames.copied()?,
             registers: self.registers.copied(),
             bytes: self.bytes.copied()?,

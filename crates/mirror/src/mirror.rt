@@ -147,6 +147,13 @@ impl Mirror {
         self.known.instructions.get(index)
     }
 
+    /// The breakpoint at an index, from 0, of those that are set at functions (`SetFunctionBreakpointsResponse`).
+    pub fn function_break(&self, index: usize) -> Option<BreakInfo>
+        ensures { result ≡ slice_get (facts_of self.now.known).functions index }
+    {
+        self.known.functions.get(index)
+    }
+
     /// The frame at an index, lent; the innermost is 0 (`StackTraceResponse`).
     pub fn frame(&self, index: u32) -> Option<&FrameInfo>
         ensures { option_copied result ≡ (facts_of self.now.known).frame index }

@@ -33,6 +33,9 @@ pub(crate) fn succeed(
         ResponseBody::SetBreakpoints(b) => {
             set_source(alloc, known, asked, b.breakpoints.as_slice())
         }
+        ResponseBody::SetFunctionBreakpoints(b) => {
+            set_functions(alloc, known, asked, b.breakpoints.as_slice())
+        }
         ResponseBody::SetInstructionBreakpoints(b) => {
             set_instructions(alloc, known, asked, b.breakpoints.as_slice())
         }
@@ -95,6 +98,22 @@ fn set_source(
     if let Asked::SetBreakpoints(Some(path)) = asked {
         let breaks = Breaks::of_source(alloc, entries)?;
         known.sources.tell(alloc, path.as_slice(), breaks)?;
+    }
+    Ok(())
+}
+
+// A success of `setFunctionBreakpoints`.
+fn set_functions(
+    alloc: Global,
+    known: &mut Known,
+    asked: &Asked,
+    entries: &[InstructionBreakpoint],
+) -> Result<(), AllocError>
+    ensures { OnOk result (facts_of known.new
+        ≡ spec.functions_set entries.now asked.now (facts_of known.old)) }
+{
+    if let Asked::SetFunctionBreakpoints = asked {
+        known.functions = Breaks::at_instructions(alloc, entries)?;
     }
     Ok(())
 }

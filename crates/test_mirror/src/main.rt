@@ -73,6 +73,9 @@ impl Watcher {
             ["instruction_break", index] => {
                 break_of(alloc, self.mirror.instruction_break(parsed(index)?))
             }
+            ["function_break", index] => {
+                break_of(alloc, self.mirror.function_break(parsed(index)?))
+            }
             ["frame", index] => frame_of(alloc, self.mirror.frame(parsed(index)?)),
             ["register", number] => value_of(alloc, self.mirror.register(parsed(number)?)),
             ["byte", address] => {
