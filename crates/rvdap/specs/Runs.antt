@@ -24,6 +24,7 @@ status_of (Stopped (why.Exception cause)) = 123
 status_of (Stopped why.Ebreak) = 122
 status_of (Stopped why.Source) = 122
 status_of (Stopped why.Instruction) = 122
+status_of (Stopped why.Function) = 122
 status_of (Stopped why.Goal) = 122
 
 -- what the line on standard error says, if there is one
@@ -34,6 +35,7 @@ reason_of (Stopped (why.Exception cause)) = Some (cause_text cause)
 reason_of (Stopped why.Ebreak) = Some (codes "ebreak")
 reason_of (Stopped why.Source) = Some (codes "ebreak")
 reason_of (Stopped why.Instruction) = Some (codes "ebreak")
+reason_of (Stopped why.Function) = Some (codes "ebreak")
 reason_of (Stopped why.Goal) = Some (codes "ebreak")
 
 -- where the instruction is that stopped it: an EBREAK retires, so pc is 4 above it then
@@ -42,6 +44,7 @@ place_of (Stopped why.Ebreak) pc = (pc + (2 ^ 32 - 4)) % 2 ^ 32
 place_of (Stopped (why.Exception cause)) pc = pc
 place_of (Stopped why.Source) pc = pc
 place_of (Stopped why.Instruction) pc = pc
+place_of (Stopped why.Function) pc = pc
 place_of (Stopped why.Goal) pc = pc
 place_of (Ended code) pc = pc
 place_of Limit pc = pc

@@ -37,6 +37,10 @@ fn compare(mirror: &Mirror, seen: Option<&Snapshot>) -> Result<u32, &'static str
             mirror.instruction_break(index),
             seen.and_then(|s| s.instruction_break(index)),
         )?);
+        count = count.saturating_add(is_so_of_break(
+            mirror.function_break(index),
+            seen.and_then(|s| s.function_break(index)),
+        )?);
         count = count.saturating_add(is_so_of_frame(
             mirror.frame(place),
             seen.and_then(|s| s.frame(place)),

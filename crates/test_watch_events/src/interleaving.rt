@@ -37,14 +37,22 @@ impl Editor {
         }
     }
 
-    /// The mirror once all events were done.
-    pub(crate) fn into_mirror(self) -> Mirror {
+    /// The mirror once the session has done the events.
+    pub(crate) fn mirror(
+        mut self,
+        mut session: Session,
+        events: &[Event],
+    ) -> Result<Mirror, Fault> {
+        let played = self.play(&mut session, events);
         let Editor { mirror, .. } = self;
-        mirror
+        match played {
+            Ok(()) => Ok(mirror),
+            Err(fault) => Err(fault),
+        }
     }
 
-    /// Does the events in the session. One that is refused is passed over.
-    pub(crate) fn play(&mut self, session: &mut Session, events: &[Event]) -> Result<(), Fault> {
+    // Does the events in the session. One that is refused is passed over.
+    fn play(&mut self, session: &mut Session, events: &[Event]) -> Result<(), Fault> {
         let mut current = 0;
         for event in events {
             let before = match event {
@@ -120,6 +128,8 @@ fn count_alike(one: &Mirror, other: &Mirror) -> Result<u32, &'static str> {
         let at = (one.instruction_break(index), other.instruction_break(index));
         count = count.saturating_add(both_breaks(source.0, source.1)?);
         count = count.saturating_add(both_breaks(at.0, at.1)?);
+        let of_functions = (one.function_break(index), other.function_break(index));
+        count = count.saturating_add(both_breaks(of_functions.0, of_functions.1)?);
         count = count.saturating_add(both_frames(one.frame(place), other.frame(place))?);
         count = count.saturating_add(both_numbers(one.register(place), other.register(place))?);
     }

@@ -124,12 +124,13 @@ impl Events {
         count: usize,
         size: usize,
     ) -> Result<Mirror, Fault> {
-        let Ok(mut session) = Session::new(alloc, self.config(alloc)?, Limits::greatest()) else {
-            return Err(Fault::NoMemoryInCall);
-        };
-        let mut editor = Editor::new(alloc, connection, count, size);
-        editor.play(&mut session, &self.events)?;
-        Ok(editor.into_mirror())
+        match Session::new(alloc, self.config(alloc)?, Limits::greatest()) {
+            Ok(session) => Editor::new(alloc, connection, count, size).mirror(
+                session,
+                &self.events,
+            ),
+            Err(_) => Err(Fault::NoMemoryInCall),
+        }
     }
 
     fn config(&self, alloc: Global) -> Result<Config, Fault>

@@ -20,8 +20,8 @@ const BREAKS: usize = 1_024;
 const FIRST_ADDRESS: u32 = 65_536;
 
 /// All that is known, a line for each fact: its value, and the value that there was to see, or `-` where there was nothing. First how the
-/// machine runs; then the breakpoints of the program's source and those at instructions, the frames, the registers, and the bytes of a
-/// memory of this size, each in the order of their places.
+/// machine runs; then the breakpoints of the program's source, those at instructions and those at functions, the frames, the registers,
+/// and the bytes of a memory of this size, each in the order of their places.
 pub(crate) fn lines_of(
     alloc: Global,
     watched: &Watched,
@@ -32,6 +32,7 @@ pub(crate) fn lines_of(
     add_run(&mut text, mirror.run(), seen.map(Snapshot::run))?;
     add_source_breaks(&mut text, mirror, seen)?;
     add_instruction_breaks(&mut text, mirror, seen)?;
+    add_function_breaks(&mut text, mirror, seen)?;
     add_frames(&mut text, mirror, seen)?;
     add_registers(&mut text, mirror, seen)?;
     add_bytes(&mut text, mirror, seen, memory_size)?;
@@ -92,6 +93,21 @@ fn add_instruction_breaks(
         };
         let there = seen.and_then(|s| s.instruction_break(index));
         add_break(text, "ibreak", index, known, there)?;
+    }
+    Ok(())
+}
+
+fn add_function_breaks(
+    text: &mut String,
+    mirror: &Mirror,
+    seen: Option<&Snapshot>,
+) -> Result<(), AllocError> {
+    for index in 0..BREAKS {
+        let Some(known) = mirror.function_break(index) else {
+            return Ok(());
+        };
+        let there = seen.and_then(|s| s.function_break(index));
+        add_break(text, "fbreak", index, known, there)?;
     }
     Ok(())
 }

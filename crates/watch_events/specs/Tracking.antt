@@ -94,7 +94,7 @@ abbrev pub last_from : {A : Type 0} → Option A → List A → Option A
 last_from before [] = before
 last_from before (x ∷ xs) = last_from (Some x) xs
 
--- where a body is a message, this is whether it says what the program printed
+-- where a body is a message, this is whether it says what the program printed, or what a logpoint says
 abbrev pub SaidBy : Result Message MessageError → Bool → Type 0
 SaidBy (Ok m) says = says ≡ says_output m
 SaidBy (Err why) says = ⊤

@@ -12,8 +12,8 @@ use std::alloc::{AllocError, Global};
 /// The most bytes that a body may have.
 pub(crate) const BODY_LIMIT: u32 = 4_294_967_295;
 
-/// Whether the last message that is whole in these bytes of messages says what the program printed; `None` where none is whole. It fails
-/// where no memory is left.
+/// Whether the last message that is whole in these bytes of messages says what the program printed, or what a logpoint says; `None` where
+/// none is whole. It fails where no memory is left.
 pub(crate) fn last_message(alloc: Global, bytes: &[u8]) -> Result<Option<bool>, AllocError>
     ensures { stream_fault bytes.now ≡ None → IfOk result
         (λ last. last ≡ option_map spec.says_output (last_from None (messages_so_far bytes.now))) }
@@ -26,7 +26,7 @@ pub(crate) fn last_message(alloc: Global, bytes: &[u8]) -> Result<Option<bool>, 
     Ok(last)
 }
 
-// Whether the message that a body is says what the program printed.
+// Whether the message that a body is says what the program printed, or what a logpoint says.
 fn says_output_in(alloc: Global, body: &[u8]) -> Result<bool, AllocError>
     ensures { IfOk result (λ says. SaidBy (message_of body.now) says) }
 {
@@ -37,7 +37,7 @@ fn says_output_in(alloc: Global, body: &[u8]) -> Result<bool, AllocError>
     }
 }
 
-// Whether a message says what the program printed.
+// Whether a message says what the program printed, or what a logpoint says.
 fn says_output(message: &Message) -> bool
     ensures { result ≡ spec.says_output message.now }
 {
