@@ -76,9 +76,9 @@ def of_instructions(body):
 
 
 BODIES = {
-    "initialize": of_initialize, "setBreakpoints": of_breakpoints, "setInstructionBreakpoints": of_breakpoints, "stackTrace": of_frames,
-    "scopes": of_scopes, "variables": of_variables, "readMemory": of_memory, "disassemble": of_instructions,
-    "evaluate": lambda body: [body["result"]], "setVariable": lambda body: [body["value"]],
+    "initialize": of_initialize, "setBreakpoints": of_breakpoints, "setFunctionBreakpoints": of_breakpoints,
+    "setInstructionBreakpoints": of_breakpoints, "stackTrace": of_frames, "scopes": of_scopes, "variables": of_variables,
+    "readMemory": of_memory, "disassemble": of_instructions, "evaluate": lambda body: [body["result"]], "setVariable": lambda body: [body["value"]],
     "writeMemory": lambda body: ["%d bytes written" % body["bytesWritten"]],
 }
 
@@ -88,10 +88,14 @@ def of_stop(body):
     return "stopped: %s%s%s" % (body["reason"], hit, ": " + body["text"] if "text" in body else "")
 
 
+def of_output(body):
+    """What a logpoint says is told apart from what the program prints."""
+    return "%s: %s" % ({"console": "logged", "stdout": "printed"}[body["category"]], body["output"].rstrip("\n"))
+
+
 EVENTS = {
     "initialized": lambda body: "ready for breakpoints (initialized)", "stopped": of_stop, "continued": lambda body: "it runs",
-    "output": lambda body: "printed: " + body["output"].rstrip("\n"), "exited": lambda body: "exited with %d" % body["exitCode"],
-    "terminated": lambda body: "the program has ended",
+    "output": of_output, "exited": lambda body: "exited with %d" % body["exitCode"], "terminated": lambda body: "the program has ended",
 }
 
 

@@ -1,6 +1,6 @@
 """The built program, as an editor meets it that sets breakpoints: what it says of them, and where they stop a program."""
 from support.allocations import ends_well_without_memory
-from support.breaks import ADDRESS, CONDITION, NO_CODE, UNKNOWN, at, body_of, is_not, is_set, on
+from support.breaks import ADDRESS, CONDITION, FUNCTION, LONGEST_LOG, NO_CODE, UNKNOWN, at, body_of, is_not, is_set, named, on
 from support.files import file_of
 from support.launches import (CONTINUED, DONE, EXITED, INITIALIZED, PRINTED, STOPPED, TERMINATED, expect_all, frames, is_told,
                               is_told_however_cut)
@@ -10,6 +10,7 @@ from support.texts import CAPABILITIES, DISCONNECTED, FIRST, FIRST_ANSWER, refus
 
 # Texts of docs/PROTOCOL.md, sections 4 and 5.
 SET = '{"body":%s,"command":"%s","request_seq":%d,"seq":%d,"success":true,"type":"response"}'
+LOGGED = '{"body":{"category":"console","output":"%s\\n"},"event":"output","seq":%d,"type":"event"}'
 HIT = '{"body":{"allThreadsStopped":true,"hitBreakpointIds":[%s],"reason":"%s","threadId":1},"event":"stopped","seq":%d,"type":"event"}'
 
 # Prints 1, 2 and 3, and ends with the code 3. The function stands on the lines 9 to 12.
@@ -37,6 +38,10 @@ def lines(seq, path, *asked):
 
 def addresses(seq, *asked):
     return request(seq, "setInstructionBreakpoints", breakpoints=asked)
+
+
+def functions(seq, *asked):
+    return request(seq, "setFunctionBreakpoints", breakpoints=asked)
 
 
 def said(command, request_seq, seq, *entries):
@@ -75,6 +80,30 @@ def debugged(path):
         (lines(15, path, at(1)), said_of_lines(15, 27, is_set(5, 0x10000, 2))),
         (request(16, "disconnect"), frame(DISCONNECTED % (16, 28))),
     ]
+
+
+def logged(path):
+    """A session with a function breakpoint from its second call on, and a logpoint after what is printed."""
+    second = dict(reason="function breakpoint")
+    return [
+        launched(path),
+        (functions(3, named(" count ", None, "2"), named("printed")), said("setFunctionBreakpoints", 3, 4, is_set(1, COUNT), is_not(FUNCTION))),
+        (lines(4, path, at(12, log="printed {a0}")), said_of_lines(4, 5, is_set(2, RETURN, 12))),
+        (request(5, "configurationDone"), frames(DONE % ("configurationDone", 5, 6), PRINTED % (1, 7), LOGGED % ("printed {a0}", 8)) + hit(9, 1, **second)),
+        (request(6, "continue", **ONE), frames(CONTINUED % (6, 10), PRINTED % (2, 11), LOGGED % ("printed {a0}", 12)) + hit(13, 1, **second)),
+        (functions(7) + lines(8, path, at(12, log="x" * (LONGEST_LOG + 1))),
+         said("setFunctionBreakpoints", 7, 14) + refused("tooMuch", 15, "setBreakpoints", 8, 15)),
+        (request(9, "continue", **ONE), frames(CONTINUED % (9, 16), PRINTED % (3, 17), LOGGED % ("printed {a0}", 18), EXITED % (3, 19), TERMINATED % 20)),
+        (request(10, "disconnect"), frame(DISCONNECTED % (10, 21))),
+    ]
+
+
+def function_breakpoints_stop_and_logpoints_speak():
+    is_told(COUNTS, logged)
+
+
+def logpoints_are_the_same_however_their_requests_are_cut():
+    is_told_however_cut(COUNTS, logged)
 
 
 def breakpoints_are_set_met_and_replaced():
@@ -157,15 +186,6 @@ def breakpoints_that_are_refused_change_nothing():
         expect_all(talk, b"", "the rest")
 
 
-def a_log_message_is_ignored():
-    with file_of(COUNTS) as path, Talk() as talk:
-        sent, told = launched(path)
-        sent += lines(3, path, {"line": 9, "logMessage": "counts {a0}"}) + request(4, "configurationDone")
-        told += said_of_lines(3, 4, is_set(1, COUNT, 9)) + frame(DONE % ("configurationDone", 4, 5)) + hit(6, 1)
-        expect(talk.answers(sent, told), told, "the stop at a breakpoint with a log message")
-        expect_all(talk, b"", "the rest")
-
-
 def a_breakpoint_stops_a_long_run_at_its_hit():
     """Two million rounds of one instruction; the program is not held before."""
     with file_of(CIRCLES) as path, Talk() as talk:
@@ -187,6 +207,15 @@ def a_session_with_breakpoints_ends_well_without_memory():
         ends_well_without_memory(lambda environment: answered(sent, told, environment=environment), told)
 
 
+def a_session_with_logpoints_ends_well_without_memory():
+    with file_of(COUNTS) as path:
+        sent, told = launched(path)
+        sent += functions(3, named("count", "a0 == 1", "1"), named("f")) + lines(4, path, at(12, log="here")) + request(5, "configurationDone")
+        told += said("setFunctionBreakpoints", 3, 4, is_set(1, COUNT), is_not(FUNCTION)) + said_of_lines(4, 5, is_set(2, RETURN, 12))
+        told += frames(DONE % ("configurationDone", 5, 6), PRINTED % (1, 7), LOGGED % ("here", 8)) + hit(9, 1, reason="function breakpoint")
+        ends_well_without_memory(lambda environment: answered(sent, told, environment=environment), told)
+
+
 def checks():
     """Each check with its name."""
     return [(check.__name__.replace("_", " "), check) for check in (
@@ -197,7 +226,9 @@ def checks():
         a_source_is_named_as_the_launch_named_it,
         lines_are_counted_as_the_editor_counts_them,
         breakpoints_that_are_refused_change_nothing,
-        a_log_message_is_ignored,
+        function_breakpoints_stop_and_logpoints_speak,
+        logpoints_are_the_same_however_their_requests_are_cut,
         a_breakpoint_stops_a_long_run_at_its_hit,
         a_session_with_breakpoints_ends_well_without_memory,
+        a_session_with_logpoints_ends_well_without_memory,
     )]

@@ -40,11 +40,11 @@ def the_session_with_a_program_is_as_it_is_shown():
         expect(talk.end(), (0, b""), "the end")
 
 
-def function_breakpoints_are_an_unknown_command():
+def data_breakpoints_are_an_unknown_command():
     with Talk() as talk:
         expect(talk.answers(FIRST, FIRST_ANSWER), FIRST_ANSWER, "the first answer")
-        wanted = refused("unknownCommand", 1, "setFunctionBreakpoints", 2, 2)
-        expect(talk.answers(request(2, "setFunctionBreakpoints", breakpoints=[{"name": "f"}]), wanted), wanted, "the refusal")
+        wanted = refused("unknownCommand", 1, "setDataBreakpoints", 2, 2)
+        expect(talk.answers(request(2, "setDataBreakpoints", breakpoints=[{"dataId": "a0"}]), wanted), wanted, "the refusal")
 
 
 def memory_is_looked_at_before_the_rule_on_listening():
@@ -58,6 +58,6 @@ def checks():
     """Each check with its name."""
     return [(check.__name__.replace("_", " "), check) for check in (
         the_session_with_a_program_is_as_it_is_shown,
-        function_breakpoints_are_an_unknown_command,
+        data_breakpoints_are_an_unknown_command,
         memory_is_looked_at_before_the_rule_on_listening,
     )]

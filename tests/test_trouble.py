@@ -122,6 +122,9 @@ def breakpoints_that_are_not_set_say_why():
         expect(editor.entry(os.path.basename(path), 3)["message"], "unknown source", "another text of the path")
         expect(editor.entry(path, 5)["message"], "no code at or after this line", "a line of data")
         expect((editor.entry(path, 1)["line"], editor.entry(path, 1)["verified"]), (3, True), "a comment")
+        named = editor.ask("setFunctionBreakpoints", breakpoints=[{"name": "_Start"}, {"name": "_start"}])["body"]["breakpoints"]
+        expect((named[0]["message"], named[1]["verified"]), ("unknown function", True), "another name, and that of a label")
+        expect(run(b"", ("labels", path))[0].split(), [b"00010000", b"code", b"3", b"_start"], "the names")
     with_editor(DATA_AFTER_CODE, act)
 
 

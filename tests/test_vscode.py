@@ -313,13 +313,14 @@ def source(path):
     return {"name": os.path.basename(path), "path": path}
 
 
-def configured(editor, path, lines):
-    """Sends the breakpoints as VS Code does: those of each file, and none at instructions, without waiting between them."""
+def configured(editor, path, lines, functions=()):
+    """Sends the breakpoints as VS Code does: those of each file, those of functions, and none at instructions, without waiting between them."""
     editor.event("initialized")
     sent = [editor.send("setBreakpoints", source=source(path), lines=[it["line"] for it in lines], breakpoints=lines, sourceModified=False),
-            editor.send("setInstructionBreakpoints", breakpoints=[])]
+            editor.send("setFunctionBreakpoints", breakpoints=list(functions)), editor.send("setInstructionBreakpoints", breakpoints=[])]
     answers = [editor.answer(number) for number in sent]
-    expect([it["success"] for it in answers], [True, True], "the breakpoints: %s" % answers)
+    expect([it["success"] for it in answers], [True, True, True], "the breakpoints: %s" % answers)
+    expect([it["verified"] for it in answers[1]["body"]["breakpoints"]], [True] * len(functions), "those of functions")
     editor.body("configurationDone")
     editor.body("threads")
     return answers[0]["body"]["breakpoints"]
@@ -406,6 +407,32 @@ def an_instruction_breakpoint_of_the_disassembly_stops():
         editor.body("disconnect", terminateDebuggee=False)
 
 
+def outputs(editor, category):
+    """What came of this category, and was not asked for before."""
+    found = [it for it in editor.events if it["event"] == "output" and it["body"]["category"] == category]
+    editor.events = [it for it in editor.events if it not in found]
+    return [it["body"]["output"] for it in found]
+
+
+def a_logpoint_speaks_and_a_function_breakpoint_stops():
+    """Each of the three calls of `least` finds one word that is smaller than the one before it."""
+    with client() as editor:
+        editor.body("initialize", **FLAGS)
+        launched(editor, SORT)
+        [logpoint] = configured(editor, SORT, [{"line": 59, "logMessage": "a smaller word"}], [{"name": "least", "hitCondition": "3"}])
+        expect((logpoint["verified"], logpoint["line"]), (True, 59), "the logpoint")
+        expect(refreshed(editor)[0], "entry", "the entry")
+        editor.body("continue", threadId=1)
+        reason, frames, _, _ = refreshed(editor)
+        expect((reason, [it["name"] for it in frames]), ("function breakpoint", ["least", "sort+28", "sort+68", "sort+68", "_start+48"]), "the stop")
+        expect(outputs(editor, "console"), ["a smaller word\n"] * 2, "what was said before the third call")
+        editor.body("continue", threadId=1)
+        expect(editor.event("exited"), {"exitCode": 0}, "the exit")
+        expect((outputs(editor, "console"), outputs(editor, "stdout")), (["a smaller word\n"], ["10\n", "20\n", "30\n", "40\n"]), "the rest")
+        editor.event("terminated")
+        editor.body("disconnect", terminateDebuggee=False)
+
+
 def a_program_with_an_error_is_told_with_its_line():
     with client() as editor:
         editor.body("initialize", **FLAGS)
@@ -447,5 +474,6 @@ def checks():
         the_manifest_has_what_it_needs, languages_and_files_are_there, the_debugger_says_what_one_may, configurations_fit_their_attributes,
         the_problem_matcher_finds_the_line, configurations_of_the_readme_fit, each_line_of_the_examples_is_coloured,
         the_grammar_has_the_words_of_the_language, a_program_is_debugged_in_the_order_of_vs_code,
-        an_instruction_breakpoint_of_the_disassembly_stops, a_program_with_an_error_is_told_with_its_line,
+        an_instruction_breakpoint_of_the_disassembly_stops, a_logpoint_speaks_and_a_function_breakpoint_stops,
+        a_program_with_an_error_is_told_with_its_line,
         a_program_at_a_port_is_joined_and_left)]

@@ -16,6 +16,10 @@ CUTS = 8
 BASE = 0x10000
 PROGRAMS = (CALLS, PRINTS, RECURS, COUNTS, CIRCLES, b"j x\n")
 THREAD = {"threadId": 1}
+# What more a breakpoint at a line is asked to do: some of them are logpoints.
+LOGS = ({}, {}, {"logMessage": "here"}, {"logMessage": "a0 is {a0}\n", "hitCondition": "2"})
+# Labels of the programs, and a name that none of them has.
+LABELS = ("_start", "f", "g", "d", "e", "nowhere")
 
 
 class Walk:
@@ -68,8 +72,10 @@ class Walk:
 
     def breakpoints(self):
         if self.chance.random() < 0.6:
-            lines = [{"line": self.chance.randrange(1, 14)} for _ in range(self.chance.randrange(4))]
+            lines = [{"line": self.chance.randrange(1, 14), **self.chance.choice(LOGS)} for _ in range(self.chance.randrange(4))]
             self.request("setBreakpoints", source={"path": self.chance.choice((PATH, PATH, "/w/q.s"))}, breakpoints=lines)
+        elif self.chance.random() < 0.5:
+            self.request("setFunctionBreakpoints", breakpoints=[{"name": self.chance.choice(LABELS)} for _ in range(self.chance.randrange(3))])
         else:
             places = [{"instructionReference": "0x%x" % (BASE + self.chance.randrange(60))} for _ in range(self.chance.randrange(3))]
             self.request("setInstructionBreakpoints", breakpoints=places)

@@ -8,7 +8,7 @@ import tempfile
 from support.allocations import each_refusal
 from support.debugging import PATH
 from support.machine import REGISTERS
-from support.program import PROGRAM, TOP, expect
+from support.program import PROGRAM, TOP, expect, frame
 from support.programs import CALLS, CIRCLES, PRINTS, RECURS
 
 NAME = "script"
@@ -65,6 +65,8 @@ def expect_watched(name, lines, program, wanted, **watch):
 # ---- the program that prints and stops
 
 PRINTING = [*launched(BEGINS), "slice 100"]
+# How many bytes its editor gets, up to the stop.
+STOPS = 1197
 LOOKS = [sends(4, "stackTrace", **THREAD), "turn", *REGISTERS_OF_FRAME_0]
 
 
@@ -75,18 +77,34 @@ def known_registers(pc, sp=0x110000, **values):
 
 def what_was_printed_is_told_while_the_program_runs():
     """It prints and then stops: up to the last byte of the stop it is known to run."""
-    expect_watched("through the output", PRINTING, PRINTS, ["run running running"], cut=1003)
-    expect_watched("a byte before the stop", PRINTING, PRINTS, ["run running running"], cut=1136)
-    expect_watched("the stop", PRINTING, PRINTS, ["run stopped stopped"], cut=1137)
+    expect_watched("through the output", PRINTING, PRINTS, ["run running running"], cut=1063)
+    expect_watched("a byte before the stop", PRINTING, PRINTS, ["run running running"], cut=1196)
+    expect_watched("the stop", PRINTING, PRINTS, ["run stopped stopped"], cut=STOPS)
     expect_watched("all", PRINTING, PRINTS, ["run stopped stopped"])
     expect_watched("all, and then a look", PRINTING + LOOKS, PRINTS, ["run stopped stopped", "frame 0 0x00010010 0x00010010", *known_registers(0x10010, a0=7, a7=1)])
-    expect_watched("the stop, though more came", PRINTING + LOOKS, PRINTS, ["run stopped stopped"], cut=1137)
+    expect_watched("the stop, though more came", PRINTING + LOOKS, PRINTS, ["run stopped stopped"], cut=STOPS)
+
+
+def what_a_logpoint_says_is_told_while_the_program_runs():
+    """There is one at the ebreak, the next instruction, after which the program stops: its text comes after the number, and before the stop."""
+    entry = {"line": 4, "logMessage": "stops"}
+    lines = [*launched(BEGINS, ("setBreakpoints", {"source": {"path": PATH}, "breakpoints": [entry]})), "slice 100"]
+    answer = ('{"body":{"breakpoints":[{"id":1,"instructionReference":"0x0001000c","line":4,"verified":true}]},"command":"setBreakpoints",'
+              '"request_seq":3,"seq":4,"success":true,"type":"response"}')
+    says = '{"body":{"category":"console","output":"stops\\n"},"event":"output","seq":7,"type":"event"}'
+    stop = '{"body":{"allThreadsStopped":true,"reason":"breakpoint","threadId":1},"event":"stopped","seq":8,"type":"event"}'
+    length = STOPS + len(frame(answer)) + len(frame(says))
+    expect(watched_length(lines, PRINTS), length, "the bytes up to the stop")
+    breaks = ["break 0 1 0x0001000c 0x0001000c"]
+    expect_watched("through what it says", lines, PRINTS, ["run running running", *breaks], cut=length - len(frame(stop)))
+    expect_watched("a byte before the stop", lines, PRINTS, ["run running running", *breaks], cut=length - 1)
+    expect_watched("the stop", lines, PRINTS, ["run stopped stopped", *breaks], cut=length)
 
 
 def before_a_message_is_whole_nothing_is_known():
     expect_watched("no byte", PRINTING, PRINTS, ["run unknown -"], cut=0)
-    expect_watched("a byte before the first message's end", PRINTING, PRINTS, ["run unknown -"], cut=618)
-    expect_watched("the first message", PRINTING, PRINTS, ["run unknown unknown"], cut=619)
+    expect_watched("a byte before the first message's end", PRINTING, PRINTS, ["run unknown -"], cut=678)
+    expect_watched("the first message", PRINTING, PRINTS, ["run unknown unknown"], cut=679)
 
 
 def what_was_not_asked_for_is_not_known():
@@ -131,6 +149,11 @@ TABLE = [
     ("setBreakpoints of another source", launched(BEGINS, ("setBreakpoints", {"source": {"path": "/w/q.s"}, "breakpoints": [{"line": 5}]})), CALLS, RAN),
     ("setInstructionBreakpoints", launched(BEGINS, ("setInstructionBreakpoints", {"breakpoints": [{"instructionReference": "0x10010", "offset": 4}]})), CALLS,
      ["run running running", "ibreak 0 1 0x00010014 0x00010014"]),
+    ("setFunctionBreakpoints", launched(BEGINS, ("setFunctionBreakpoints", {"breakpoints": [{"name": "g"}, {"name": "f"}, {"name": "_start"}]})), CALLS,
+     ["run running running", "fbreak 0 1 0x00010014 0x00010014", "fbreak 1 2 0x00010000 0x00010000"]),
+    ("one breakpoint of each kind", launched(BEGINS, ("setFunctionBreakpoints", {"breakpoints": [{"name": "f"}]}), ONE_BREAK,
+                                             ("setInstructionBreakpoints", {"breakpoints": [{"instructionReference": "0x10010"}]})), CALLS,
+     ["run running running", "break 0 2 0x00010014 0x00010014", "ibreak 0 3 0x00010010 0x00010010", "fbreak 0 1 0x00010014 0x00010014"]),
     ("readMemory", told(ENTERED, ("readMemory", {"memoryReference": "0x10000", "count": 4})), CALLS,
      ["run stopped stopped", "byte 0x00010000 13 13", "byte 0x00010001 05 05", "byte 0x00010002 50 50", "byte 0x00010003 00 00"]),
     ("readMemory past the end", told(ENTERED, ("readMemory", {"memoryReference": "0x10ffff", "count": 4})), CALLS, ["run stopped stopped", "byte 0x0010ffff 00 00"]),
@@ -190,7 +213,7 @@ def a_refused_event_is_passed_over():
 
 
 def bytes_that_were_sent_are_watched_too():
-    expect_watched("after all were sent", [*PRINTING, "sent 1137"], PRINTS, ["run stopped stopped"], cut=1137)
+    expect_watched("after all were sent", [*PRINTING, "sent %d" % STOPS], PRINTS, ["run stopped stopped"], cut=STOPS)
 
 
 def a_piece_may_be_cut_anywhere():
@@ -231,7 +254,7 @@ def the_first_wrong_line_is_said():
     expect_fault(["connect", "turn ", "bogus"], 2)
     expect_fault(["connect", "slice x"], 2)
     expect_fault(["watch 1 all"], 1)
-    expect_fault(PRINTING, None, cut=1138)
+    expect_fault(PRINTING, None, cut=STOPS + 1)
     expect_fault(PRINTING, None, connection=2)
     expect_fault(PRINTING, None, connection=0)
     expect_fault(PRINTING, None, cut="18446744073709551615")
@@ -288,8 +311,9 @@ def the_example_shows_what_the_document_says():
 
 
 def checks():
-    found = (what_was_printed_is_told_while_the_program_runs, before_a_message_is_whole_nothing_is_known, what_was_not_asked_for_is_not_known,
-             each_line_of_the_table_of_facts, an_end_is_known_by_the_answer, each_connection_has_facts_of_its_own, a_refused_event_is_passed_over,
+    found = (what_was_printed_is_told_while_the_program_runs, what_a_logpoint_says_is_told_while_the_program_runs,
+             before_a_message_is_whole_nothing_is_known, what_was_not_asked_for_is_not_known, each_line_of_the_table_of_facts,
+             an_end_is_known_by_the_answer, each_connection_has_facts_of_its_own, a_refused_event_is_passed_over,
              bytes_that_were_sent_are_watched_too, a_piece_may_be_cut_anywhere, a_held_program_stops, a_file_that_cannot_be_read_refuses_a_launch,
              a_slice_is_as_its_moves, the_first_wrong_line_is_said, a_script_that_cannot_be_read_is_said, other_words_are_a_fault_of_usage,
              an_output_that_is_not_taken_is_said, it_ends_well_without_memory, the_example_shows_what_the_document_says)

@@ -6,7 +6,8 @@ from support.players import Row
 PLAYER = "test_assembler"
 IMAGE = LineTable("image")
 TAKES_NONE = {"LineTable::line_of": "image line_of", "LineTable::address_of": "image address_of", "LineTable::bind": "image bind",
-              "LineTable::starts": "image starts", "LineTable::label_at": "image label_at"}
+              "LineTable::starts": "image starts", "LineTable::label_at": "image label_at",
+              "LineTable::label_address": "image label_address"}
 # The line table is made by the call that assembles.
 ALSO_MADE = {"LineTable::new": "assemble"}
 BASE = 0x10000
@@ -356,6 +357,7 @@ ROWS = [
     Row("assemble of a call", [
         assemble(text_of(ADDS_ONE)), entry(0x10000), has_bytes(bytes_of(ADDS_ONE)), IMAGE.line_of(0x10010, 4), IMAGE.line_of(0x1001c, "none"),
         IMAGE.address_of(5, 0x10014), IMAGE.address_of(7, "none"), IMAGE.bind(0, 1, 0x10000), IMAGE.label_at(0x10018, "f", 4),
+        IMAGE.label_address("f", 0x10014), IMAGE.label_address("g", "none"),
         IMAGE.asks("starts %d" % 0x10014, "true"), IMAGE.asks("starts %d" % 0x10008, "false"),
     ], ASSEMBLER, refused=True),
     Row("assemble of calls within calls", [assemble(text_of(COUNTS_DOWN)), entry(0x10000), has_bytes(bytes_of(COUNTS_DOWN))], ASSEMBLER,

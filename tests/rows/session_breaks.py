@@ -374,10 +374,10 @@ def lines_from_0():
     return script.sets([at(2), at(9)], [back(2), is_not(NO_CODE, 9)]).asks("configurationDone").slices(9, 4, "Stopped", at_lines(2))
 
 
-def a_log_message():
-    """It is not looked at: the breakpoint stops the program as any other."""
+def a_column_and_a_mode():
+    """They are not looked at."""
     script = launched(COUNTS).asks("setBreakpoints", body=body_of([back(1)]), source={"path": PATH},
-                                   breakpoints=[{**at(2), "logMessage": "back {a0}", "column": 3, "mode": "x"}])
+                                   breakpoints=[{**at(2), "column": 3, "mode": "x"}])
     return script.asks("configurationDone").slices(99, 4, "Stopped", at_lines(1))
 
 
@@ -565,7 +565,7 @@ ROWS = [
     Row("lines beside breakpoints", lines_beside_breakpoints().steps, PROFILE),
     Row("breakpoints at lines without code", lines_without_code().steps, PROFILE),
     Row("lines that count from 0", lines_from_0().steps, PROFILE),
-    Row("a log message", a_log_message().steps, PROFILE),
+    Row("a column and a mode", a_column_and_a_mode().steps, PROFILE),
     Row("breakpoints of another program", another_program().steps, PROFILE),
     Row("breakpoints of a program that has ended", of_an_ended_program().steps, PROFILE),
     Row("breakpoints of a program that was ended before it ran", of_a_program_that_was_ended_early().steps, PROFILE),

@@ -7,23 +7,30 @@ CONDITION = "bad condition"
 HIT = "bad hit condition"
 NO_CODE = "no code at or after this line"
 ADDRESS = "bad address"
+FUNCTION = "unknown function"
 
-# How many a request may ask for.
+# How many a request may ask for, and how many bytes a log message may have.
 MOST = 1024
+LONGEST_LOG = 1024
 
 
 def terms(condition, hits):
     return {**({} if condition is None else {"condition": condition}), **({} if hits is None else {"hitCondition": hits})}
 
 
-def at(line, condition=None, hits=None):
-    """A breakpoint at a line, as it is asked for."""
-    return {"line": line, **terms(condition, hits)}
+def at(line, condition=None, hits=None, log=None):
+    """A breakpoint at a line, as it is asked for; log: it is a logpoint, which says this."""
+    return {"line": line, **terms(condition, hits), **({} if log is None else {"logMessage": log})}
 
 
 def on(reference, offset=None, condition=None, hits=None):
     """A breakpoint at an address, as it is asked for."""
     return {"instructionReference": reference, **({} if offset is None else {"offset": offset}), **terms(condition, hits)}
+
+
+def named(name, condition=None, hits=None):
+    """A breakpoint of a function, as it is asked for."""
+    return {"name": name, **terms(condition, hits)}
 
 
 def is_set(number, address, line=None):

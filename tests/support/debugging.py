@@ -45,6 +45,11 @@ def printed(number):
     return "output", '{"category":"stdout","output":"%d\\n"}' % number
 
 
+def logged(text):
+    """What a logpoint says; the text has no character that JSON escapes."""
+    return "output", '{"category":"console","output":"%s\\n"}' % text
+
+
 def exits(code):
     """The events of an exit."""
     return ("exited", '{"exitCode":%d}' % code), TERMINATED
@@ -142,6 +147,9 @@ class Debugging:
 
     def sets_at_instructions(self, asked, entries):
         return self.asks("setInstructionBreakpoints", body=body_of(entries), breakpoints=asked)
+
+    def sets_at_functions(self, asked, entries):
+        return self.asks("setFunctionBreakpoints", body=body_of(entries), breakpoints=asked)
 
     def slices(self, moves, moved, ending, *events):
         """A slice of so many moves, and what it tells is taken."""

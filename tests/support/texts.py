@@ -5,8 +5,9 @@ INITIALIZE = '{"seq":1,"type":"request","command":"initialize","arguments":{"ada
 CAPABILITIES = (
     '{"body":{"supportSuspendDebuggee":true,"supportTerminateDebuggee":true,"supportsCancelRequest":true,'
     '"supportsConditionalBreakpoints":true,"supportsConfigurationDoneRequest":true,"supportsDisassembleRequest":true,'
-    '"supportsEvaluateForHovers":true,"supportsHitConditionalBreakpoints":true,"supportsInstructionBreakpoints":true,'
-    '"supportsReadMemoryRequest":true,"supportsRestartRequest":true,"supportsSetVariable":true,'
+    '"supportsEvaluateForHovers":true,"supportsFunctionBreakpoints":true,"supportsHitConditionalBreakpoints":true,'
+    '"supportsInstructionBreakpoints":true,"supportsLogPoints":true,"supportsReadMemoryRequest":true,'
+    '"supportsRestartRequest":true,"supportsSetVariable":true,'
     '"supportsSteppingGranularity":true,"supportsTerminateRequest":true,"supportsWriteMemoryRequest":true},'
     '"command":"initialize","request_seq":%d,"seq":%d,"success":true,"type":"response"}'
 )
