@@ -41,4 +41,7 @@
  "rvdap-attach"
  (list :type "rvdap" :request "attach" :name "rvdap-attach" :debugServer 4711))
 
+;; What a logpoint says is of the category console, which dap-mode does not show by itself.
+(add-to-list 'dap-output-buffer-filter "console" t)
+
 (dap-mode 1)
