@@ -62,6 +62,16 @@ number_inside ps addr index offset n d w l h some fits a =
     (no_fault_in_page ps addr index offset n n w l h some fits a)
     ∙ ap (λ b. Ok (little_endian b)) reads
 
+-- and the bytes of which it is made
+pub bytes_inside : (ps : Pages) (addr index offset n : ℕ) (d : Vec ℕ Global) → AreWhole ps → Lies addr index offset → index < length ps
+    → 1 ≤ n → offset + n ≤ 4096 → addr % n ≡ 0
+    → unless_fault (fault_at (flat ps) n addr n) (bytes_at (flat ps) addr n)
+    ≡ Ok (take n (drop offset (page_bytes (get_or ps index d).items)))
+bytes_inside ps addr index offset n d w l h some fits a =
+    let reads = ap (λ k. take n (drop k (flat ps))) l.place ∙ part ps index offset n d w.each h fits in
+    ap (λ (f : Option MemFault). unless_fault f (bytes_at (flat ps) addr n)) (no_fault_in_page ps addr index offset n n w l h some fits a)
+    ∙ ap (λ b. Ok b) reads
+
 -- a page that was made, and one that was not
 pub has_all : (p : List ℕ) (o n : ℕ) → o + suc n ≤ length p → page_bytes p ≡ p
 has_all [] o n h = absurd (omega arith)

@@ -30,7 +30,7 @@ ghost use Rattle.image.specs.Memory.{
 };
 
 use crate::page::{self, PAGE};
-use crate::words::{halfword_at_index, word_at_index};
+use crate::words::{bytes_at_index, halfword_at_index};
 use crate::{MemFault, table};
 use std::alloc::{AllocError, Global};
 use std::marker::Model;
@@ -130,6 +130,18 @@ impl Memory {
     pub fn word(&self, addr: u32) -> Result<u32, MemFault>
         ensures { result ≡ word_at self.now addr }
     {
+        match self.word_bytes(addr) {
+            Ok(bytes) => Ok(u32::from_le_bytes(bytes)),
+            Err(fault) => Err(fault),
+        }
+    }
+
+    /// The four bytes of the word at an address, in the order of their addresses. `Misaligned`: the
+    /// address is no multiple of 4; else `Outside`: one of them is not there.
+    #[inline]
+    pub fn word_bytes(&self, addr: u32) -> Result<[u8; 4], MemFault>
+        ensures { result ≡ unless_fault (fault_at self.now 4 addr 4) (bytes_at self.now addr 4) }
+    {
         if addr % 4 != 0 {
             return Err(MemFault::Misaligned);
         }
@@ -141,9 +153,9 @@ impl Memory {
         let page = &self.pages[index];
         let offset = place % PAGE;
         if offset + 4 <= page.len() {
-            Ok(word_at_index(page, offset))
+            Ok(bytes_at_index(page, offset))
         } else {
-            Ok(0)
+            Ok([0; 4])
         }
     }
 
