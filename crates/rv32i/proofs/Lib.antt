@@ -13,3 +13,5 @@ pub mod Candidates
 pub mod Moving
 pub mod Codes
 pub mod Following
+pub mod Undoing
+pub mod Zero

@@ -1,5 +1,5 @@
 -- What an instruction does is the move, since the word has no other instruction.
-use Rattle.std.proofs.Common.{◌≡◌, ℕ, ◌%◌, Some, Ok, Err, Result, refl, sym, ap, ◌∙◌, subst}
+use Rattle.std.proofs.Common.{◌≡◌, ℕ, ◌%◌, Some, Ok, Err, Result, sym, ap, ◌∙◌}
 use Rattle.std.specs.Prelude.{OnErr, OnOk}
 use Rattle.std.specs.declared.alloc.AllocError.{AllocError}
 use Rattle.image.specs.Memory.{word_at}

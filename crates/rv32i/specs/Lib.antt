@@ -8,6 +8,8 @@ pub mod Encoding
 pub mod Words
 -- what each instruction does to pc, the registers and memory; the move of a machine, and traps
 pub mod Machine
+-- what is kept of a move, and undoes it
+pub mod Undoing
 -- the names of exceptions
 pub mod Causes
 -- the names of the registers

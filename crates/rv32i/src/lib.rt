@@ -1,4 +1,4 @@
-//! RV32I (RISC-V Unprivileged ISA 20191213, chapter 2): its words, their disassembly, and a hart that steps.
+//! RV32I (RISC-V Unprivileged ISA 20191213, chapter 2): its words, their disassembly, and a hart that steps, and steps back.
 #![tactic(auto)]
 
 mod access;
@@ -13,6 +13,7 @@ mod parts;
 mod performing;
 mod stepped;
 mod text;
+mod undo;
 mod word_text;
 
 pub use decoding::decode;
@@ -24,4 +25,5 @@ pub use names::{reg_name, reg_named, reg_of};
 pub use performing::{Halt, perform};
 pub use stepped::{Cause, Stepped};
 pub use text::{push_digits, text_of};
+pub use undo::{Undo, destination, undo_at, undo_of};
 pub use word_text::text_of_word;

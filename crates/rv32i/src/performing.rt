@@ -98,7 +98,7 @@ fn linked_jump(target: u32, reg: Reg, x: &mut [u32; 32], next: u32) -> Result<u3
 /// of the next one; x0 is 0 before and after. `Err`: there is none, and nothing has changed: it traps, or
 /// finds no memory for the page that it is the first to store into, or is ECALL or EBREAK, which
 /// `Hart::settle` carries out.
-#[inline]
+#[inline(always)]
 pub fn perform(x: &mut [u32; 32], pc: u32, instr: &Instr, memory: &mut Memory) -> Result<u32, Halt>
     requires { slice_index x.old 0 ≡ 0 }
     ensures performs { Performs instr.now

@@ -1,4 +1,4 @@
-//! Plays the machine: memory, a line table, words with their disassembly, and a hart that steps.
+//! Plays the machine: memory, a line table, words with their disassembly, and a hart that steps, and steps back.
 //!
 //! The first argument of a command is the part that it is for; each part's file has its commands.
 #![tactic(auto)]
@@ -12,10 +12,9 @@ mod words;
 use image::Memory;
 use memories::{answer_memory, new_memory};
 use names::answer_register;
-use rv32i::Hart;
 use std::alloc::Global;
 use std::process::ExitCode;
-use steps::answer_hart;
+use steps::Stepper;
 use tables::Tables;
 use testing::{Fault, Player, play};
 use words::answer_word;
@@ -24,7 +23,7 @@ use words::answer_word;
 #[derive(Drop)]
 struct Machine {
     memory: Memory,
-    hart: Hart,
+    stepper: Stepper,
     tables: Tables,
 }
 
@@ -36,7 +35,7 @@ impl Player for Machine {
                 Ok(String::from_str(alloc, "ok")?)
             }
             ["memory", rest @ ..] => answer_memory(alloc, &mut self.memory, rest),
-            ["hart", rest @ ..] => answer_hart(alloc, &mut self.hart, &mut self.memory, rest),
+            ["hart", rest @ ..] => self.stepper.answer(alloc, &mut self.memory, rest),
             ["lines", rest @ ..] => self.tables.answer(alloc, rest),
             ["word", rest @ ..] => answer_word(alloc, rest),
             ["register", rest @ ..] => answer_register(alloc, rest),
@@ -56,7 +55,7 @@ fn main(rt: HostRuntime) -> ExitCode {
 fn new_machine(alloc: Global) -> Result<Machine, Fault> {
     Ok(Machine {
         memory: Memory::new(alloc, 65536, 4096)?,
-        hart: Hart::new(65536, 0),
+        stepper: Stepper::new(65536, 0),
         tables: Tables::new(alloc),
     })
 }

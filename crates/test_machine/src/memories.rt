@@ -2,6 +2,7 @@
 //!
 //! - `new SIZE`: memory of so many bytes.
 //! - `byte ADDRESS`, `half ADDRESS`, `word ADDRESS`: the value; `none` or a fault.
+//! - `word_bytes ADDRESS`: the bytes of the word, or a fault.
 //! - `read ADDRESS BYTES`: what came of it, and what the bytes then are that are read into.
 //! - `write_byte ADDRESS VALUE`, `write_half`, `write_word`; `write ADDRESS BYTES`.
 //! - `once COMMAND`: the same, and not made again where it found no memory.
@@ -41,6 +42,7 @@ fn asked(alloc: Global, memory: &mut Memory, arguments: &[&str]) -> Result<Strin
         ["byte", address] => found(alloc, memory.byte(parsed(address)?)),
         ["half", address] => value(alloc, memory.half(parsed(address)?)),
         ["word", address] => value(alloc, memory.word(parsed(address)?)),
+        ["word_bytes", address] => word_bytes(alloc, memory, parsed(address)?),
         ["read", address, bytes] => read(alloc, memory, parsed(address)?, bytes),
         ["write_byte", address, value] => {
             done(alloc, memory.write_byte(parsed(address)?, parsed(value)?))
@@ -78,6 +80,13 @@ fn failed(alloc: Global, fault: MemFault) -> Result<String, Fault> {
         MemFault::Misaligned => shown(alloc, "Misaligned"),
         MemFault::Outside => shown(alloc, "Outside"),
         MemFault::NoMemory => Err(Fault::NoMemoryInCall),
+    }
+}
+
+fn word_bytes(alloc: Global, memory: &Memory, address: u32) -> Result<String, Fault> {
+    match memory.word_bytes(address) {
+        Ok(bytes) => hexadecimal(alloc, &bytes),
+        Err(fault) => failed(alloc, fault),
     }
 }
 

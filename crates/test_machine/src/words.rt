@@ -1,11 +1,11 @@
 //! Words of instructions, and their disassembly.
 //!
 //! - `decode WORD`: the instruction, or `none`.
-//! - `encode WORD`: the word of that instruction, or `none`.
+//! - `encode WORD`: the word of that instruction, or `none`; `destination WORD`: the number of the register that it writes, or `none`.
 //! - `text WORD ADDRESS`: that instruction's disassembly at an address, or `none`; `word_text WORD ADDRESS`: any word's.
 //! - `digits TEXT WORD`: the text with the word's digits after it.
 
-use rv32i::{decode, encode, push_digits, text_of, text_of_word};
+use rv32i::{decode, destination, encode, push_digits, text_of, text_of_word};
 use std::alloc::Global;
 use testing::{Fault, called, parsed, shown};
 
@@ -14,6 +14,7 @@ pub(crate) fn answer_word(alloc: Global, arguments: &[&str]) -> Result<String, F
     match arguments {
         ["decode", word] => decoded(alloc, parsed(word)?),
         ["encode", word] => encoded(alloc, parsed(word)?),
+        ["destination", word] => written(alloc, parsed(word)?),
         ["text", word, address] => text(alloc, parsed(word)?, parsed(address)?),
         ["word_text", word, address] => {
             called(text_of_word(alloc, parsed(word)?, parsed(address)?))
@@ -37,6 +38,13 @@ fn decoded(alloc: Global, word: u32) -> Result<String, Fault> {
 fn encoded(alloc: Global, word: u32) -> Result<String, Fault> {
     match decode(word) {
         Some(instr) => shown(alloc, encode(instr)),
+        None => shown(alloc, "none"),
+    }
+}
+
+fn written(alloc: Global, word: u32) -> Result<String, Fault> {
+    match decode(word) {
+        Some(instr) => shown(alloc, destination(&instr).number()),
         None => shown(alloc, "none"),
     }
 }
