@@ -4,4 +4,8 @@ pub mod Standing
 pub mod Returning
 pub mod Others
 pub mod Remembering
+pub mod Calling
 pub mod Moving
+pub mod Making
+pub mod Coursing
+pub mod Logging

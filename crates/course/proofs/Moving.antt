@@ -112,7 +112,7 @@ hart_of pc x fact = record { pc = pc; x = x; zero = fact }
 abbrev Equal : ℕ → List ℕ → (h : Hart) → Type 0
 Equal pc x h = (fact : slice_index x 0 ≡ 0) → h ≡ hart_of pc x fact
 
-harts_equal : (h g : Hart) → h.pc ≡ g.pc → h.x ≡ g.x → h ≡ g
+pub harts_equal : (h g : Hart) → h.pc ≡ g.pc → h.x ≡ g.x → h ≡ g
 harts_equal h g p x =
     let same : Equal h.pc h.x h = λ fact. ap (hart_of h.pc h.x) (ℕ_set (slice_index h.x 0) 0 h.zero fact) in
     let registers : Equal h.pc g.x h = subst (λ (l : List ℕ). Equal h.pc l h) x same in
@@ -201,11 +201,10 @@ jumped kept (Jalr rd rs1 imm) pc = by (is_link rd) (is_link rs1) (eqb rd rs1) wh
   by false false c = refl
 jumped kept i pc = refl
 
-pub marked : (kept mid after : Kept) (e : Entry) (memory : List ℕ) (pc : ℕ) → Knows memory e → mid ≡ with_mark_if e.pops Pop kept
-    → after ≡ with_mark_if e.pushes (Push pc) mid → after ≡ noted kept e.instr pc
-marked kept mid after e memory pc n pops pushes =
-    pushes
-    ∙ ap (λ (k : Kept). with_mark_if e.pushes (Push pc) k) pops
+pub marked : (kept after : Kept) (e : Entry) (memory : List ℕ) (pc : ℕ) → Knows memory e
+    → after ≡ with_mark_if e.pushes (Push pc) (with_mark_if e.pops Pop kept) → after ≡ noted kept e.instr pc
+marked kept after e memory pc n marks =
+    marks
     ∙ ap (λ (b : Bool). with_mark_if b (Push pc) (with_mark_if e.pops Pop kept)) n.pushes
     ∙ ap (λ (b : Bool). with_mark_if (pushes_in e.instr) (Push pc) (with_mark_if b Pop kept)) n.pops
     ∙ jumped kept e.instr pc

@@ -4,8 +4,8 @@
 -- adds one to it, a pop takes one away, and a pop at depth 0 counts nothing, since what it returns from was called
 -- before the start. A push is *open* as long as the depth stays above what it was before that push. A call that lies
 -- too deep is forgotten: a push is *kept* if it is open and the depth has never since been more than 256 above what it
--- was before that push. What is forgotten is gone for good, so of 257 calls none is kept once the newest 256 have
--- returned, though the depth is 1.
+-- was before that push. What is forgotten does not come back with a return, so of 257 calls none is kept once the
+-- newest 256 have returned, though the depth is 1.
 --
 -- The *calls* of the program are the addresses of the kept pushes, newest first.
 use Rattle.std.specs.Prelude.{◌≡◌, ℕ, ◌+◌, ◌-◌, Bool, nat_lt, nat_le, ◌&&◌, if◌then◌else◌, List, [], ◌∷◌, ◌++◌}

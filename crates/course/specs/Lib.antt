@@ -10,3 +10,5 @@ pub mod Laws
 pub mod Positions
 -- What follows is cited by private clauses alone: words that are remembered decoded.
 pub mod Words
+-- what undoes a move
+pub mod Moves

@@ -5,7 +5,12 @@
 -- environment, or it is the first to store into a page for which no memory was left.
 --
 -- Where a program runs, the hart's own pc is not looked at: the address is told, and the next one is answered.
-use Rattle.std.specs.Prelude.{◌≡◌, ℕ, ◌%◌, List, Option, Some, None, Result, Ok, Err, MatchResult}
+--
+-- A *course* is such a position with its past: those at which the last instructions were that retired, the newest
+-- first. 65,536 are kept at most, so that a debugger can go back.
+use Rattle.std.specs.Prelude.{◌≡◌, ℕ, ◌%◌, if◌then◌else◌, List, [], ◌∷◌, take, Option, Some, None, Result, Ok, Err}
+use Rattle.std.specs.Prelude.{MatchResult}
+use Rattle.std.specs.declared.alloc.AllocError.{AllocError}
 use Rattle.image.specs.Memory.{word_at}
 use Rattle.rv32i.specs.Encoding.{IsDecoding}
 use Rattle.rv32i.specs.Machine.{IsDecodedAtPc, IsMove, Machine, MoveNeedsPage, effect_of, trapped}
@@ -14,7 +19,9 @@ use Rattle.rv32i.specs.declared.instr.Instr.{Instr}
 use Rattle.rv32i.specs.declared.instr.Instr.TheVariants.{Ecall, Ebreak}
 use Rattle.rv32i.specs.declared.performing.Halt.{Halt}
 use Rattle.rv32i.specs.declared.performing.Halt.TheVariants.{Stopped, NoMemory, Calls, Breaks}
+use Rattle.rv32i.specs.declared.stepped.Stepped.{Stepped}
 use Rattle.rv32i.specs.declared.stepped.Stepped.TheVariants.{Retired}
+use Rattle.rv32i.specs.Undoing.{retires}
 use Rattle.course.specs.Calls.{Kept, noted, nothing_kept}
 
 -- a hart, memory, and the calls of the program that are kept
@@ -23,9 +30,21 @@ pub record Position : Type 0 where
   pub memory : List ℕ
   pub calls : Kept
 
+-- a position, and those before the moves that are recorded, the newest first
+pub record Course : Type 0 where
+  pub now : Position
+  pub past : List Position
+
 -- before the first instruction
-abbrev pub start_of : Hart → List ℕ → Position
-start_of hart memory = record { hart = hart; memory = memory; calls = nothing_kept }
+abbrev pub begun : Hart → List ℕ → Position
+begun hart memory = record { hart = hart; memory = memory; calls = nothing_kept }
+
+abbrev pub start_of : Hart → List ℕ → Course
+start_of hart memory = record { now = begun hart memory; past = [] }
+
+-- with another pc
+abbrev pub position_at : ℕ → Position → Position
+position_at pc p = record p { hart = record p.hart { pc = pc } }
 
 -- the machine that stands there, but for its pc
 abbrev pub machine_at : ℕ → Position → Machine
@@ -69,3 +88,31 @@ pub record Halts (at : ℕ) (halt : Halt) (p : Position) : Type 0 where
 abbrev pub Goes : ℕ → Position → Result ℕ Halt → Position → Type 0
 Goes at before (Ok next) after = Retires at next before after
 Goes at before (Err halt) after = Halts at halt before × (after ≡ before)
+
+-- ---- with the past
+
+-- the past with a move more, of the instruction at an address
+abbrev pub recorded : ℕ → Course → List Position
+recorded at c = take 65536 (position_at at c.now ∷ c.past)
+
+-- what comes of the instruction at an address: its move is recorded, if it retires
+abbrev pub GoesOn : ℕ → Course → Result ℕ Halt → Course → Type 0
+GoesOn at before (Ok next) after = Retires at next before.now after.now × (after.past ≡ recorded at before)
+GoesOn at before (Err halt) after = Halts at halt before.now × (after ≡ before)
+
+-- the past after a move of which the hart answers this
+abbrev pub past_after : Result Stepped AllocError → Course → List Position
+past_after answer c = if retires answer then recorded c.now.hart.pc c else c.past
+
+-- the past after bytes were to be written: it is given up where they were
+abbrev pub past_left : {A : Type 0} {E : Type 0} → Result A E → List Position → List Position
+past_left (Ok value) past = []
+past_left (Err error) past = past
+
+-- the newest of the recorded moves is undone, if there is one
+abbrev pub undone_to : List Position → Course → Course
+undone_to [] c = c
+undone_to (before ∷ past) c = record { now = before; past = past }
+
+abbrev pub gone_back : Course → Course
+gone_back c = undone_to c.past c

@@ -9,6 +9,7 @@ use Rattle.std.specs.Prelude.{Ok, Err}
 use Rattle.image.specs.Memory.{word_at}
 use Rattle.rv32i.specs.Encoding.{Encodes}
 use Rattle.rv32i.specs.Machine.{IsMove, sum, trapped}
+use Rattle.rv32i.specs.Undoing.{destination}
 use Rattle.rv32i.specs.declared.instr.Instr.{Instr}
 use Rattle.rv32i.specs.declared.instr.Instr.TheVariants.{Sb, Sh, Sw, Jal, Jalr, Ecall}
 use Rattle.rv32i.specs.declared.stepped.Cause.{Cause}
@@ -61,7 +62,7 @@ stored_at instr x = 0
 
 -- what is remembered of an instruction at an address
 abbrev pub entry_of : ℕ → Instr → Entry
-entry_of at instr = record { pc = at; is_plain = is_plain instr; stores = stores_in instr; pops = pops_in instr; pushes = pushes_in instr; instr = instr }
+entry_of at instr = record { pc = at; is_plain = is_plain instr; stores = stores_in instr; pops = pops_in instr; pushes = pushes_in instr; destination = destination instr; instr = instr }
 
 -- at this place nothing is remembered: the address is one of the next place
 abbrev pub elsewhere : ℕ → ℕ
@@ -79,6 +80,7 @@ pub record Knows (memory : List ℕ) (entry : Entry) : Type 0 where
   pub stores : entry.stores ≡ stores_in entry.instr
   pub pops : entry.pops ≡ pops_in entry.instr
   pub pushes : entry.pushes ≡ pushes_in entry.instr
+  pub destination_is : entry.destination ≡ destination entry.instr
 
 -- the address is none of those from one on up to another
 abbrev pub Spares : ℕ → ℕ → ℕ → Type 0

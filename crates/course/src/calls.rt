@@ -1,6 +1,7 @@
 //! The calls of a running program.
 
 ghost use Rattle.std.specs.Prelude.{◌≡◌, ◌-◌, ◌^◌, ◌<◌, ◌≤◌, ◌==◌, List, [], length, slice_get, IfOk};
+ghost use Rattle.course.specs.Moves.{CanBeKept, popped, pushed, swapped, unnoted};
 ghost use Rattle.course.specs.Marks.{Retired, is_link, jalr_marks};
 ghost use Rattle.course.specs.Marks.Mark.{Pop, Push};
 ghost use Rattle.course.specs.Words.{with_mark_if};
@@ -34,7 +35,62 @@ impl Model for Calls {
 
     ghost view = { λ c. record { depth = c.depth; calls = c.addresses.items } };
 
-    ghost invariant = { λ c. (c.addresses.capacity ≡ KEPT) × (length c.addresses.items ≤ c.depth) };
+    ghost invariant = { λ c. (c.addresses.capacity ≡ KEPT)
+        × (length c.addresses.items ≤ c.depth) × (length c.addresses.items ≤ 256) };
+}
+
+/// What an instruction did to the calls.
+#[derive(Clone, Copy, Debug, PartialEq, Eq)]
+pub(crate) enum Called {
+    /// It neither called nor returned, or it returned where no call was open.
+    Nothing,
+    /// It called.
+    Pushed,
+    /// It called, and this call, the oldest, is kept no longer.
+    PushedOut(u32),
+    /// It returned from a call that was not kept.
+    Popped,
+    /// It returned from this call.
+    PoppedFrom(u32),
+    /// It returned from a call that was not kept, and called.
+    Swapped,
+    /// It returned from this call, and called.
+    SwappedFrom(u32),
+}
+
+impl Called {
+    // A call, by the one that is kept no longer.
+    #[inline(always)]
+    fn pushed(oldest: Option<u32>) -> Called
+        ensures { result ≡ pushed oldest }
+    {
+        match oldest {
+            Some(oldest) => Called::PushedOut(oldest),
+            None => Called::Pushed,
+        }
+    }
+
+    // A return from a call that was open, by what was kept of it.
+    #[inline(always)]
+    fn popped(newest: Option<u32>) -> Called
+        ensures { result ≡ popped newest }
+    {
+        match newest {
+            Some(newest) => Called::PoppedFrom(newest),
+            None => Called::Popped,
+        }
+    }
+
+    // The same, and a call.
+    #[inline(always)]
+    fn swapped(newest: Option<u32>) -> Called
+        ensures { result ≡ swapped newest }
+    {
+        match newest {
+            Some(newest) => Called::SwappedFrom(newest),
+            None => Called::Swapped,
+        }
+    }
 }
 
 impl Calls {
@@ -83,7 +139,9 @@ impl Calls {
         ensures { self.new ≡ noted self.old instr.now pc }
     {
         match *instr {
-            Instr::Jal { rd, .. } if is_link(rd) => self.push(pc),
+            Instr::Jal { rd, .. } if is_link(rd) => {
+                self.push(pc);
+            }
             Instr::Jalr { rd, rs1, .. } => self.note_jalr(rd, rs1, pc),
             _ => {}
         }
@@ -97,51 +155,101 @@ impl Calls {
     {
         match (is_link(rd), is_link(rs1)) {
             (false, false) => {}
-            (false, true) => self.pop(),
-            (true, true) if rd != rs1 => {
+            (false, true) => {
                 self.pop();
+            }
+            (true, true) if rd != rs1 => {
+                self.swap(pc);
+            }
+            _ => {
                 self.push(pc);
             }
-            _ => self.push(pc),
         }
     }
 
-    /// A return, if it is one.
+    /// Notes a jump that returns, or calls, or does both, in this order, and answers what undoes that.
     #[inline(always)]
-    pub(crate) fn pop_if(&mut self, pops: bool)
-        ensures { self.new ≡ with_mark_if pops Pop self.old }
-    {
-        if pops {
-            self.pop();
-        }
-    }
-
-    /// A call from an address, if it is one.
-    #[inline(always)]
-    pub(crate) fn push_if(&mut self, pushes: bool, pc: u32)
+    pub(crate) fn jump(&mut self, pops: bool, pushes: bool, pc: u32) -> Called
         requires { self.old.depth < 2 ^ 64 - 1 }
-        ensures { self.new ≡ with_mark_if pushes (Push pc) self.old }
+        ensures marks { self.new ≡ with_mark_if pushes (Push pc) (with_mark_if pops Pop self.old) }
+        ensures back { unnoted result self.new ≡ self.old }
     {
-        if pushes {
-            self.push(pc);
+        match (pops, pushes) {
+            (false, false) => Called::Nothing,
+            (true, false) => self.pop(),
+            (false, true) => self.push(pc),
+            (true, true) => self.swap(pc),
         }
     }
 
     // A call from an address.
-    fn push(&mut self, pc: u32)
+    #[inline(always)]
+    fn push(&mut self, pc: u32) -> Called
         requires { self.old.depth < 2 ^ 64 - 1 }
-        ensures { self.new ≡ with_mark self.old (Push pc) }
+        ensures mark { self.new ≡ with_mark self.old (Push pc) }
+        ensures back { unnoted result self.new ≡ self.old }
     {
         self.depth += 1;
-        self.addresses.push_front(pc);
+        Called::pushed(self.addresses.push_front(pc))
     }
 
     // A return.
-    fn pop(&mut self)
-        ensures { self.new ≡ with_mark self.old Pop }
+    #[inline(always)]
+    fn pop(&mut self) -> Called
+        ensures mark { self.new ≡ with_mark self.old Pop }
+        ensures back { unnoted result self.new ≡ self.old }
     {
-        self.depth = self.depth.saturating_sub(1);
-        self.addresses.pop_front();
+        if self.depth == 0 {
+            return Called::Nothing;
+        }
+        self.depth -= 1;
+        Called::popped(self.addresses.pop_front())
+    }
+
+    // A return, and a call.
+    #[inline(always)]
+    fn swap(&mut self, pc: u32) -> Called
+        requires { self.old.depth < 2 ^ 64 - 1 }
+        ensures marks { self.new ≡ with_mark (with_mark self.old Pop) (Push pc) }
+        ensures back { unnoted result self.new ≡ self.old }
+    {
+        if self.depth == 0 {
+            return self.push(pc);
+        }
+        let returned = self.addresses.pop_front();
+        self.addresses.push_front(pc);
+        Called::swapped(returned)
+    }
+
+    /// Undoes what was noted.
+    pub(crate) fn unnote(&mut self, called: &Called)
+        requires { CanBeKept (unnoted called.now self.old) }
+        ensures { self.new ≡ unnoted called.now self.old }
+    {
+        match *called {
+            Called::Nothing => {}
+            Called::Pushed => {
+                self.depth = self.depth.saturating_sub(1);
+                self.addresses.pop_front();
+            }
+            Called::PushedOut(oldest) => {
+                self.depth = self.depth.saturating_sub(1);
+                self.addresses.pop_front();
+                self.addresses.push_back(oldest);
+            }
+            Called::Popped => self.depth += 1,
+            Called::PoppedFrom(newest) => {
+                self.depth += 1;
+                self.addresses.push_front(newest);
+            }
+            Called::Swapped => {
+                self.addresses.pop_front();
+            }
+            Called::SwappedFrom(newest) => {
+                self.addresses.pop_front();
+                self.addresses.push_front(newest);
+            }
+        }
     }
 
     /// How many calls have not returned, kept or not.

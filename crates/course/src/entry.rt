@@ -1,11 +1,15 @@
 //! A word that is remembered decoded.
 
-ghost use Rattle.std.specs.Prelude.{◌≡◌, slice_index};
+ghost use Rattle.std.specs.Prelude.{◌≡◌, slice_index, true};
 ghost use Rattle.rv32i.specs.Machine.{sum};
-ghost use Rattle.course.specs.Words.{entry_of, is_plain, pops_in, pushes_in, stored_at, stores_in};
+ghost use Rattle.rv32i.specs.Undoing as undoing;
+ghost use Rattle.rv32i.specs.Undoing.{stored};
+ghost use Rattle.course.specs.Moves.{AreOver, IsOver};
+ghost use Rattle.course.specs.Words.{Knows, entry_of, is_plain, pops_in, pushes_in, stored_at, stores_in};
 
 use crate::calls::is_link;
-use rv32i::{Imm, Instr, Reg};
+use image::Memory;
+use rv32i::{Imm, Instr, Reg, destination, undo_at};
 
 /// A word that is remembered decoded, with what is asked of it after each move. It names its own
 /// address: the words of other pages have the same place.
@@ -20,6 +24,8 @@ pub(crate) struct Entry {
     /// Whether it returns, and whether it calls; it may do both, in this order.
     pub pops: bool,
     pub pushes: bool,
+    /// The register that it writes; x0 where it writes none.
+    pub destination: Reg,
     pub instr: Instr,
 }
 
@@ -33,6 +39,7 @@ pub(crate) fn entry_of(pc: u32, instr: Instr) -> Entry
         stores: stores(&instr),
         pops: pops(&instr),
         pushes: pushes(&instr),
+        destination: destination(&instr),
         instr,
     }
 }
@@ -77,6 +84,52 @@ fn is_plain(instr: &Instr) -> bool
         Instr::Jal { rd, .. } => !is_link(rd),
         Instr::Jalr { rd, rs1, .. } => !is_link(rd) && !is_link(rs1),
         _ => true,
+    }
+}
+
+impl Entry {
+    /// What the instruction writes over: the value of its register, or the bytes that are there, the first one lowest; where it
+    /// traps, anything.
+    #[inline(always)]
+    pub fn overwritten(&self, x: &[u32; 32], memory: &Memory) -> u32
+        requires { Knows memory.now self.now }
+        ensures { IsOver result self.now.instr x.now memory.now }
+    {
+        if self.stores {
+            return bytes_over(x, &self.instr, memory);
+        }
+        x[self.destination.number()]
+    }
+}
+
+// The bytes over which an instruction stores, the first one lowest; where it traps, anything.
+#[inline(never)]
+fn bytes_over(x: &[u32; 32], instr: &Instr, memory: &Memory) -> u32
+    requires { stores_in instr.now ≡ true }
+    ensures { IsOver result instr.now x.now memory.now }
+{
+    u32::from_le_bytes(four_over(x, instr, memory))
+}
+
+// The same as four bytes, of which as many count as it stores. Most stores are of words.
+#[inline(always)]
+fn four_over(x: &[u32; 32], instr: &Instr, memory: &Memory) -> [u8; 4]
+    ensures { AreOver result (stored instr.now x.now).address (stored instr.now x.now).count memory.now }
+{
+    match *instr {
+        Instr::Sw { rs1, imm, .. } => word_over(memory, address(x, rs1, imm)),
+        _ => undo_at(x, 0, instr, memory).bytes,
+    }
+}
+
+// The bytes of the word at an address, where it can be stored to.
+#[inline(always)]
+fn word_over(memory: &Memory, at: u32) -> [u8; 4]
+    ensures { AreOver result at 4 memory.now }
+{
+    match memory.word_bytes(at) {
+        Ok(bytes) => bytes,
+        Err(_) => [0; 4],
     }
 }
 

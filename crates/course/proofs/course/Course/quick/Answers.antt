@@ -1,99 +1,12 @@
-use Rattle.std.proofs.Common.{◌≡◌, ◌∙◌, ℕ, ◌*◌, ◌/◌, List, ap, subst, refl, sym, arith}
-use Rattle.rv32i.specs.declared.performing.Halt.TheVariants.{Stopped}
-use Rattle.course.specs.Positions.{Halts, Position, machine_at}
-use Rattle.course.specs.Words.{AreKnown, forgotten, stored_at}
-use Rattle.course.specs.declared.entry.Entry.{Entry}
-use Rattle.course.proofs.Moving.{found, halts, kept, known_stored, marked, plain, retires, same_position, stored, traps, unmarked_store}
+use Rattle.course.proofs.Coursing.{gone}
 use Rattle.course.proofs.course.Course.quick.Goals as goal
 
-pub returns-in-Err : goal.returns-in-Err
-returns-in-Err c =
-    let p : Position = record { hart = c.self.inside.hart; memory = c.self.inside.memory; calls = c.self.inside.calls } in
-    let t = traps p c.args.pc c.in-Err.cause c.in-Err.ensures.ready.0 in
-    (subst (λ (q : Position). Halts c.args.pc (Stopped c.in-Err.cause) q) c.self.view_is t, c.self.view_is)
+pub invariant_of-self : goal.invariant_of-self
+invariant_of-self c =
+    (gone c.args.pc c.self.inside.machine c.quick.new.self c.args.self.now c.self.inside.log c.quick.new.log c.quick.result
+    c.self.view_is c.self.invariant c.quick.ensures).kept
 
-pub invariant_of-self-in-Err-perform : goal.invariant_of-self-in-Err-perform
-invariant_of-self-in-Err-perform c =
-    let p : Position = record { hart = c.self.inside.hart; memory = c.self.inside.memory; calls = c.self.inside.calls } in
-    let e : Entry = c.index-entry.result.now in
-    let f = found p c.args.pc _ c.ready.new.entries.items e c.self.invariant.known c.in-Ok.ensures.ready c.index-entry.ensures in
-    let s = halts p c.args.pc e c.in-Err-perform.halt _ _ f.knows f.named c.in-Err-perform.ensures.performs in
-    record {
-      known = subst (λ (m : List ℕ). AreKnown m 0 0 c.ready.new.entries.items) (sym s.1.bytes) f.known;
-      roomy = omega (arith, c.in-Ok.ensures.room, c.self.invariant.roomy);
-    }
-
-pub returns-in-Err-perform : goal.returns-in-Err-perform
-returns-in-Err-perform c =
-    let p : Position = record { hart = c.self.inside.hart; memory = c.self.inside.memory; calls = c.self.inside.calls } in
-    let e : Entry = c.index-entry.result.now in
-    let f = found p c.args.pc _ c.ready.new.entries.items e c.self.invariant.known c.in-Ok.ensures.ready c.index-entry.ensures in
-    let s = halts p c.args.pc e c.in-Err-perform.halt _ _ f.knows f.named c.in-Err-perform.ensures.performs in (
-      subst (λ (q : Position). Halts c.args.pc c.in-Err-perform.halt q) c.self.view_is s.0,
-      same_position p c.args.self.now _ c.perform.new.memory c.self.view_is refl s.1.registers s.1.bytes,
-    )
-
--- a plain instruction
-pub invariant_of-self-then-entry : goal.invariant_of-self-then-entry
-invariant_of-self-then-entry c =
-    let p : Position = record { hart = c.self.inside.hart; memory = c.self.inside.memory; calls = c.self.inside.calls } in
-    let e : Entry = c.index-entry.result.now in
-    let f = found p c.args.pc _ c.ready.new.entries.items e c.self.invariant.known c.in-Ok.ensures.ready c.index-entry.ensures in
-    let n = plain p.calls e.instr c.args.pc (sym f.knows.plain ∙ c.if-entry.true) in
-    let same = kept e.instr (machine_at c.args.pc p) _ _ _ n.stores c.in-Ok-perform.ensures.performs in
-    record {
-      known = subst (λ (m : List ℕ). AreKnown m 0 0 c.ready.new.entries.items) (sym same) f.known;
-      roomy = omega (arith, c.in-Ok.ensures.room, c.self.invariant.roomy);
-    }
-
-pub returns-then-entry : goal.returns-then-entry
-returns-then-entry c =
-    let p : Position = record { hart = c.self.inside.hart; memory = c.self.inside.memory; calls = c.self.inside.calls } in
-    let e : Entry = c.index-entry.result.now in
-    let f = found p c.args.pc _ c.ready.new.entries.items e c.self.invariant.known c.in-Ok.ensures.ready c.index-entry.ensures in
-    let n = plain p.calls e.instr c.args.pc (sym f.knows.plain ∙ c.if-entry.true) in
-    retires p c.args.self.now _ c.args.pc _ e c.self.view_is f.knows f.named c.in-Ok-perform.ensures.performs n.calls refl
-
--- a store
-pub invariant_of-self-then-entry-2 : goal.invariant_of-self-then-entry-2
-invariant_of-self-then-entry-2 c =
-    let p : Position = record { hart = c.self.inside.hart; memory = c.self.inside.memory; calls = c.self.inside.calls } in
-    let e : Entry = c.index-entry.result.now in
-    let f = found p c.args.pc _ c.ready.new.entries.items e c.self.invariant.known c.in-Ok.ensures.ready c.index-entry.ensures in
-    let s = stored e.instr (machine_at c.args.pc p) _ _ _ (sym f.knows.stores ∙ c.if-entry-2.true) c.in-Ok-perform.ensures.performs in
-    let at : c.stored_at-at.result ≡ stored_at e.instr p.hart.x = c.stored_at-at.ensures ∙ ap (stored_at e.instr) s.same in
-    let forgets = c.forget.ensures.forgets ∙ ap (λ (a : ℕ). forgotten (a / 4 * 4) c.ready.new.entries.items) at in
-    record {
-      known = subst (λ (es : List Entry). AreKnown c.perform.new.memory 0 0 es) (sym forgets)
-          (known_stored _ p.hart.x c.perform.new.x p.memory c.perform.new.memory c.ready.new.entries.items s f.known);
-      roomy = omega (arith, c.forget.ensures.room, c.in-Ok.ensures.room, c.self.invariant.roomy);
-    }
-
-pub returns-then-entry-2 : goal.returns-then-entry-2
-returns-then-entry-2 c =
-    let p : Position = record { hart = c.self.inside.hart; memory = c.self.inside.memory; calls = c.self.inside.calls } in
-    let e : Entry = c.index-entry.result.now in
-    let f = found p c.args.pc _ c.ready.new.entries.items e c.self.invariant.known c.in-Ok.ensures.ready c.index-entry.ensures in
-    let n = unmarked_store p.calls e.instr c.args.pc (sym f.knows.stores ∙ c.if-entry-2.true) in
-    retires p c.args.self.now _ c.args.pc _ e c.self.view_is f.knows f.named c.in-Ok-perform.ensures.performs n refl
-
--- a jump
-pub invariant_of-self-else-entry-2 : goal.invariant_of-self-else-entry-2
-invariant_of-self-else-entry-2 c =
-    let p : Position = record { hart = c.self.inside.hart; memory = c.self.inside.memory; calls = c.self.inside.calls } in
-    let e : Entry = c.index-entry.result.now in
-    let f = found p c.args.pc _ c.ready.new.entries.items e c.self.invariant.known c.in-Ok.ensures.ready c.index-entry.ensures in
-    let stores = sym f.knows.stores ∙ c.if-entry-2.false in
-    let same = kept e.instr (machine_at c.args.pc p) _ _ _ stores c.in-Ok-perform.ensures.performs in
-    record {
-      known = subst (λ (m : List ℕ). AreKnown m 0 0 c.ready.new.entries.items) (sym same) f.known;
-      roomy = omega (arith, c.in-Ok.ensures.room, c.self.invariant.roomy);
-    }
-
-pub returns-else-entry-2 : goal.returns-else-entry-2
-returns-else-entry-2 c =
-    let p : Position = record { hart = c.self.inside.hart; memory = c.self.inside.memory; calls = c.self.inside.calls } in
-    let e : Entry = c.index-entry.result.now in
-    let f = found p c.args.pc _ c.ready.new.entries.items e c.self.invariant.known c.in-Ok.ensures.ready c.index-entry.ensures in
-    let n = marked p.calls _ _ e p.memory c.args.pc f.knows c.pop_if.ensures c.push_if.ensures in
-    retires p c.args.self.now _ c.args.pc _ e c.self.view_is f.knows f.named c.in-Ok-perform.ensures.performs n refl
+pub returns : goal.returns
+returns c =
+    (gone c.args.pc c.self.inside.machine c.quick.new.self c.args.self.now c.self.inside.log c.quick.new.log c.quick.result
+    c.self.view_is c.self.invariant c.quick.ensures).goes

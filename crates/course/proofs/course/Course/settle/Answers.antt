@@ -1,8 +1,74 @@
-use Rattle.course.specs.Positions.{Position}
-use Rattle.course.proofs.Moving.{with_pc}
+use Rattle.std.proofs.Common.{◌≡◌, ◌∙◌, Ok, Bool, true, false, cond, ap, sym, subst}
+use Rattle.rv32i.specs.Undoing.{retires}
+use Rattle.course.specs.Positions.{Course, Position, position_at, recorded}
+use Rattle.course.specs.Moves.{AllCanBeKept, course_of, kept_of_pc, past_of, unmade}
+use Rattle.course.specs.declared.moves.Move.{Move}
+use Rattle.course.proofs.Coursing.{all_kept, same_past, settled, stepped_back, went}
 use Rattle.course.proofs.course.Course.settle.Goals as goal
 
-pub returns-clause-rest : goal.returns-clause-rest
-returns-clause-rest c =
-    let p : Position = record { hart = c.self.inside.hart; memory = c.self.inside.memory; calls = c.self.inside.calls } in
-    with_pc p c.args.self.now c.settle.new.self c.self.view_is c.settle.ensures.x
+pub invariant_of-self : goal.invariant_of-self
+invariant_of-self c =
+    let p = c.self.inside.machine in
+    let moves = c.self.inside.log in
+    let next = c.settle.new.self.hart.pc in
+    subst (λ (q : Position). AllCanBeKept (past_of moves q)) (sym c.settle.ensures.rest)
+    (subst AllCanBeKept (sym (same_past moves next p)) c.self.invariant)
+
+pub returns-in-Err-clause-rest : goal.returns-in-Err-clause-rest
+returns-in-Err-clause-rest c =
+    let p = c.self.inside.machine in
+    let moves = c.self.inside.log in
+    ap (λ (q : Position). course_of q moves) c.settle.ensures.rest
+    ∙ settled p moves c.settle.new.self.hart.pc
+    ∙ ap (λ (x : Course). record { now = position_at c.settle.new.self.hart.pc x.now; past = x.past }) c.self.view_is
+
+pub invariant_of-self-then-has_retired : goal.invariant_of-self-then-has_retired
+invariant_of-self-then-has_retired c =
+    let p = c.self.inside.machine in
+    let moves = c.self.inside.log in
+    let next = c.settle.new.self.hart.pc in
+    let made : Move = c.of_pc.result in
+    let is : made ≡ kept_of_pc p.hart.pc = c.of_pc.ensures ∙ ap (λ (h : _). kept_of_pc h.pc) c.hart.ensures in
+    let back : unmade made c.settle.new.self ≡ position_at p.hart.pc p = (λ j. unmade (is j) (c.settle.ensures.rest j))
+    ∙ stepped_back next p in
+    all_kept moves c.push.new.self made p c.settle.new.self p.hart.pc c.push.ensures back c.settle.ensures.kept c.self.invariant
+
+pub returns-then-has_retired-clause-rest : goal.returns-then-has_retired-clause-rest
+returns-then-has_retired-clause-rest c =
+    let p = c.self.inside.machine in
+    let moves = c.self.inside.log in
+    let next = c.settle.new.self.hart.pc in
+    let made : Move = c.of_pc.result in
+    let is : made ≡ kept_of_pc p.hart.pc = c.of_pc.ensures ∙ ap (λ (h : _). kept_of_pc h.pc) c.hart.ensures in
+    let back : unmade made c.settle.new.self ≡ position_at p.hart.pc p = (λ j. unmade (is j) (c.settle.ensures.rest j))
+    ∙ stepped_back next p in
+    let past = went moves c.push.new.self made p c.settle.new.self p.hart.pc c.push.ensures back in
+    let retired : retires (Ok c.in-Ok.stepped) ≡ true = sym c.has_retired.ensures ∙ c.if-has_retired.true in
+    (λ j. record { now = c.settle.ensures.rest j; past = past j })
+    ∙ ap (λ (x : Course). record { now = position_at next x.now; past = recorded x.now.hart.pc x }) c.self.view_is
+    ∙ ap (λ (b : Bool). record {
+      now = position_at next c.args.self.now.now;
+      past = cond b (recorded c.args.self.now.now.hart.pc c.args.self.now) c.args.self.now.past;
+    }) (sym retired)
+
+pub invariant_of-self-else-has_retired : goal.invariant_of-self-else-has_retired
+invariant_of-self-else-has_retired c =
+    let p = c.self.inside.machine in
+    let moves = c.self.inside.log in
+    let next = c.settle.new.self.hart.pc in
+    subst (λ (q : Position). AllCanBeKept (past_of moves q)) (sym c.settle.ensures.rest)
+    (subst AllCanBeKept (sym (same_past moves next p)) c.self.invariant)
+
+pub returns-else-has_retired-clause-rest : goal.returns-else-has_retired-clause-rest
+returns-else-has_retired-clause-rest c =
+    let p = c.self.inside.machine in
+    let moves = c.self.inside.log in
+    let next = c.settle.new.self.hart.pc in
+    let stayed : retires (Ok c.in-Ok.stepped) ≡ false = sym c.has_retired.ensures ∙ c.if-has_retired.false in
+    ap (λ (q : Position). course_of q moves) c.settle.ensures.rest
+    ∙ settled p moves next
+    ∙ ap (λ (x : Course). record { now = position_at next x.now; past = x.past }) c.self.view_is
+    ∙ ap (λ (b : Bool). record {
+      now = position_at next c.args.self.now.now;
+      past = cond b (recorded c.args.self.now.now.hart.pc c.args.self.now) c.args.self.now.past;
+    }) (sym stayed)

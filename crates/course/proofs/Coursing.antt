@@ -1,0 +1,122 @@
+-- A position and its past, after a move and after one that is undone.
+use Rattle.std.proofs.Common.{◌≡◌, ℕ, suc, zero, List, [], ◌∷◌, length, take, drop, Some, None, Result, Ok, Err, refl, sym, ap, ◌∙◌, subst}
+use Rattle.std.specs.Prelude.{slice_get}
+use Rattle.image.specs.Memory.{fault_at, memory_after, with_bytes}
+use Rattle.rv32i.specs.Machine.{Machine, with_register}
+use Rattle.rv32i.specs.Undoing.{undone}
+use Rattle.rv32i.specs.declared.hart.Hart.{Hart}
+use Rattle.rv32i.specs.declared.performing.Halt.{Halt}
+use Rattle.rv32i.specs.declared.undo.Undo.{Undo}
+use Rattle.course.specs.Moves.{AllCanBeKept, CanBeKept, CanBeUnmade, GoesBy, course_of, kept_of_pc, machine_in, past_of, undo_in, unmade}
+use Rattle.course.specs.Positions.{Course, GoesOn, Halts, Position, gone_back, position_at, recorded}
+use Rattle.course.specs.declared.moves.Move.{Move}
+use Rattle.course.proofs.Making.{unmade_is}
+use Rattle.course.proofs.Moving.{harts_equal}
+
+-- ---- the past of moves
+
+pub length_past : (moves : List Move) (p : Position) → length (past_of moves p) ≡ length moves
+length_past [] p = refl
+length_past (move ∷ moves) p = ap suc (length_past moves (unmade move p))
+
+past_take : (n : ℕ) (moves : List Move) (p : Position) → past_of (take n moves) p ≡ take n (past_of moves p)
+past_take zero moves p = refl
+past_take (suc n) [] p = refl
+past_take (suc n) (move ∷ moves) p = ap (λ (l : List Position). unmade move p ∷ l) (past_take n moves (unmade move p))
+
+all_take : (n : ℕ) (past : List Position) → AllCanBeKept past → AllCanBeKept (take n past)
+all_take zero past h = tt
+all_take (suc n) [] h = tt
+all_take (suc n) (p ∷ past) h = (h.0, all_take n past h.1)
+
+-- it does not depend on the pc now
+unmade_at : (move : Move) (pc : ℕ) (p : Position) → unmade move (position_at pc p) ≡ unmade move p
+unmade_at move pc p =
+    let hart : (unmade move (position_at pc p)).hart ≡ (unmade move p).hart = harts_equal _ _ refl refl in
+    ap (λ (h : Hart). record (unmade move p) { hart = h }) hart
+
+pub same_past : (moves : List Move) (pc : ℕ) (p : Position) → past_of moves (position_at pc p) ≡ past_of moves p
+same_past [] pc p = refl
+same_past (move ∷ moves) pc p = ap (λ (q : Position). q ∷ past_of moves q) (unmade_at move pc p)
+
+-- ---- a move more
+
+pub went : (moves more : List Move) (move : Move) (before after : Position) (at : ℕ) → more ≡ take 65536 (move ∷ moves)
+    → unmade move after ≡ position_at at before → past_of more after ≡ recorded at (course_of before moves)
+went moves more move before after at e u =
+    ap (λ (l : List Move). past_of l after) e
+    ∙ past_take 65536 (move ∷ moves) after
+    ∙ ap (λ (p : Position). take 65536 (p ∷ past_of moves p)) u
+    ∙ ap (λ (l : List Position). take 65536 (position_at at before ∷ l)) (same_past moves at before)
+
+pub all_kept : (moves more : List Move) (move : Move) (before after : Position) (at : ℕ) → more ≡ take 65536 (move ∷ moves)
+    → unmade move after ≡ position_at at before → CanBeKept before.calls → AllCanBeKept (past_of moves before)
+    → AllCanBeKept (past_of more after)
+all_kept moves more move before after at e u fits all =
+    subst AllCanBeKept (sym (went moves more move before after at e u))
+    (all_take 65536 (position_at at before ∷ past_of moves before) (fits, all))
+
+-- ---- a move that changes pc alone
+
+only_pc : (u : Undo) (m : Machine) → u.register ≡ 0 → u.address ≡ 0 → u.count ≡ 0 → undone u m ≡ record m { pc = u.pc }
+only_pc u m r a n = λ j. record {
+  pc = u.pc;
+  x = with_register (r j) u.value m.x;
+  memory = memory_after (fault_at m.memory 1 (a j) (length (take (n j) u.bytes)))
+      (with_bytes m.memory (a j) (take (n j) u.bytes)) m.memory;
+}
+
+pub stepped_back : (next : ℕ) (p : Position) → unmade (kept_of_pc p.hart.pc) (position_at next p) ≡ position_at p.hart.pc p
+stepped_back next p =
+    unmade_is (kept_of_pc p.hart.pc) p (position_at next p) p.hart.pc
+    (only_pc (undo_in (kept_of_pc p.hart.pc)) (machine_in (position_at next p)) refl refl refl) refl
+
+-- ---- the newest move is undone
+
+first_is : (l : List Move) (x : Move) → slice_get l 0 ≡ Some x → l ≡ x ∷ drop 1 l
+first_is [] x e = absurd (cc)
+first_is (y ∷ l) x e = let same : y ≡ x = cc in ap (λ (z : Move). z ∷ l) same
+
+pub record Newest (moves : List Move) (move : Move) (now : Position) : Type 0 where
+  pub fits : CanBeUnmade move now
+  pub rest : AllCanBeKept (past_of (drop 1 moves) (unmade move now))
+  pub back : gone_back (course_of now moves) ≡ course_of (unmade move now) (drop 1 moves)
+
+pub newest : (moves : List Move) (move : Move) (now : Position) → slice_get moves 0 ≡ Some move → AllCanBeKept (past_of moves now)
+    → Newest moves move now
+newest moves move now e h =
+    let is = first_is moves move e in
+    let all : AllCanBeKept (past_of (move ∷ drop 1 moves) now) = subst (λ (l : List Move). AllCanBeKept (past_of l now)) is h in
+    subst (λ (l : List Move). Newest l move now) (sym is) (record { fits = all.0; rest = all.1; back = refl })
+
+pub none_back : (moves : List Move) (now : Position) → slice_get moves 0 ≡ None → course_of now moves ≡ gone_back (course_of now moves)
+none_back [] now e = refl
+none_back (move ∷ moves) now e = absurd (cc)
+
+-- ---- another pc
+
+pub settled : (p : Position) (moves : List Move) (pc : ℕ)
+    → course_of (position_at pc p) moves ≡ record { now = position_at pc p; past = past_of moves p }
+settled p moves pc = ap (λ (l : List Position). record { now = position_at pc p; past = l }) (same_past moves pc p)
+
+-- ---- an instruction goes by what is recorded
+
+-- it leaves all that can be undone, and the past is as it is to be
+pub record Gone (at : ℕ) (now : Course) (result : Result ℕ Halt) (after : Position) (more : List Move) : Type 0 where
+  pub kept : AllCanBeKept (past_of more after)
+  pub goes : GoesOn at now result (course_of after more)
+
+pub gone : (at : ℕ) (before after : Position) (now : Course) (moves more : List Move) (result : Result ℕ Halt)
+    → course_of before moves ≡ now → AllCanBeKept (past_of moves before) → GoesBy at before moves result after more
+    → Gone at now result after more
+gone at before after now moves more (Ok next) is k g = record {
+  kept = all_kept moves more g.0 before after at g.1.1 g.1.0.undoes g.1.0.kept k;
+  goes = subst (λ (x : Course). GoesOn at x (Ok next) (course_of after more)) is
+      (g.1.0.retires, went moves more g.0 before after at g.1.1 g.1.0.undoes);
+}
+gone at before after now moves more (Err halt) is k g =
+    let same : course_of after more ≡ course_of before moves = λ j. course_of (g.1.0 j) (g.1.1 j) in
+    record {
+      kept = subst (λ (x : Course). AllCanBeKept x.past) (sym same) k;
+      goes = subst (λ (x : Course). Halts at halt x.now × (course_of after more ≡ x)) is (g.0, same);
+    }

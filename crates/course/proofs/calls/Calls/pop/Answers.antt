@@ -1,0 +1,18 @@
+use Rattle.std.proofs.Common.{◌≡◌, ◌∙◌, ℕ, ◌-◌, ◌≤◌, ap, drop, arith}
+use Rattle.std.specs.Prelude.{slice_get}
+use Rattle.circular_buffer.specs.Buffer.{Buffer}
+use Rattle.course.specs.Calls.{Kept}
+use Rattle.course.specs.Moves.{popped, unnoted}
+use Rattle.course.proofs.Calling.{pop_back}
+use Rattle.course.proofs.calls.Calls.pop.Goals as goal
+
+pub returns-clause-back : goal.returns-clause-back
+returns-clause-back c =
+    let old = c.self.inside.addresses in
+    let k : Kept = record { depth = c.self.inside.depth; calls = old.items } in
+    let items : c.pop_front.new.self.items ≡ drop 1 old.items = ap (λ (b : Buffer ℕ). b.items) c.pop_front.ensures.items in
+    let result : c.popped.result ≡ popped (slice_get old.items 0) = c.popped.ensures ∙ ap popped c.pop_front.ensures.value in
+    let some : 1 ≤ c.self.inside.depth = omega (arith, c.if-self-eq0.false) in
+    (λ j. unnoted (result j) (record { depth = c.self.inside.depth - 1; calls = items j }))
+    ∙ pop_back k c.self.invariant.2 some
+    ∙ c.self.view_is

@@ -1,0 +1,9 @@
+use Rattle.std.proofs.Common.{refl}
+use Rattle.course.specs.Positions.{Position}
+use Rattle.course.proofs.Moving.{with_pc}
+use Rattle.course.proofs.machine.Machine.set_pc.Goals as goal
+
+pub returns : goal.returns
+returns c =
+    let p : Position = record { hart = c.self.inside.hart; memory = c.self.inside.memory; calls = c.self.inside.calls } in
+    with_pc p c.args.self.now _ c.self.view_is refl

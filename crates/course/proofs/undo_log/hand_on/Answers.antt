@@ -1,0 +1,12 @@
+use Rattle.std.proofs.Common.{◌∙◌, ◌++◌, ap, List}
+use Rattle.circular_buffer.specs.Buffer.{buffer, keep_last}
+use Rattle.course.specs.declared.moves.Move.{Move}
+use Rattle.course.proofs.Logging.{handed_on}
+use Rattle.course.proofs.undo_log.hand_on.Goals as goal
+
+pub returns-clause-ring : goal.returns-clause-ring
+returns-clause-ring c =
+    let ring = c.args.ring.now in
+    handed_on ring c.extend_from_slice.new.self c.args.newest.now.items c.clear.new.self.items c.requires
+    (c.extend_from_slice.ensures
+    ∙ ap (λ (l : List Move). buffer (keep_last ring.capacity (ring.items ++ l)) ring.capacity) c.as_slice.ensures.value) c.clear.ensures.items
