@@ -7,7 +7,7 @@ use Rattle.std.proofs.lemmas.List.Elements.{filter_more}
 use Rattle.rv32i.specs.declared.hart.Hart.{Hart}
 use Rattle.std.proofs.lemmas.List.Folds.{list_any-append}
 use Rattle.breakpoints.specs.Places.{Covers, IsKept, SamePlaces, has_place, is_among, is_at}
-use Rattle.breakpoints.specs.Stops.{checked, counted, hit_in, is_hit, Lists, logging_from, logs, Placed, reset, stopping_ids, stops, with_hit}
+use Rattle.breakpoints.specs.Stops.{checked, counted, hit_in, hit_where, ids_where, is_hit, Lists, logging_from, logs, looked, Placed, reset, standing_in, stands, stopping_ids, stops, with_hit}
 
 -- ---- the addresses stay
 
@@ -56,6 +56,9 @@ none_counted pc hart memory b h = rw h refl
 none_stops : (pc : ℕ) (hart : Hart) (memory : List ℕ) (b : Placed) → is_at pc b ≡ false → stops pc hart memory b ≡ false
 none_stops pc hart memory b h = rw h refl
 
+none_stands : (pc : ℕ) (hart : Hart) (memory : List ℕ) (b : Placed) → is_at pc b ≡ false → stands pc hart memory b ≡ false
+none_stands pc hart memory b h = rw h refl
+
 none_logs : (pc : ℕ) (hart : Hart) (memory : List ℕ) (b : Placed) → is_at pc b ≡ false → logs pc hart memory b ≡ false
 none_logs pc hart memory b h = rw h refl
 
@@ -73,19 +76,22 @@ unchanged pc hart memory (b ∷ list) h =
     let parts = or_parts (is_at pc b) (list_any (is_at pc) list) h in
     rw (none_counted pc hart memory b parts.0) (ap (λ (x : List Placed). b ∷ x) (unchanged pc hart memory list parts.1))
 
-pub no_ids : (pc : ℕ) (hart : Hart) (memory : List ℕ) (list : List Placed) → list_any (is_at pc) list ≡ false
-    → stopping_ids pc hart memory list ≡ []
-no_ids pc hart memory [] h = refl
-no_ids pc hart memory (b ∷ list) h =
-    let parts = or_parts (is_at pc b) (list_any (is_at pc) list) h in
-    rw (none_stops pc hart memory b parts.0) (no_ids pc hart memory list parts.1)
+-- this is so of breakpoints at pc alone
+abbrev AtPc : ℕ → (Placed → Bool) → Type 0
+AtPc pc test = (b : Placed) → is_at pc b ≡ false → test b ≡ false
 
-pub no_stop : (pc : ℕ) (hart : Hart) (memory : List ℕ) (list : List Placed) → list_any (is_at pc) list ≡ false
-    → list_any (stops pc hart memory) list ≡ false
-no_stop pc hart memory [] h = refl
-no_stop pc hart memory (b ∷ list) h =
+no_ids : (pc : ℕ) (test : Placed → Bool) → AtPc pc test → (list : List Placed) → list_any (is_at pc) list ≡ false → ids_where test list ≡ []
+no_ids pc test at [] h = refl
+no_ids pc test at (b ∷ list) h =
     let parts = or_parts (is_at pc b) (list_any (is_at pc) list) h in
-    rw (none_stops pc hart memory b parts.0) (no_stop pc hart memory list parts.1)
+    rw (at b parts.0) (no_ids pc test at list parts.1)
+
+no_stop : (pc : ℕ) (test : Placed → Bool) → AtPc pc test → (list : List Placed) → list_any (is_at pc) list ≡ false
+    → list_any test list ≡ false
+no_stop pc test at [] h = refl
+no_stop pc test at (b ∷ list) h =
+    let parts = or_parts (is_at pc b) (list_any (is_at pc) list) h in
+    rw (at b parts.0) (no_stop pc test at list parts.1)
 
 -- ---- one more breakpoint
 
@@ -151,6 +157,24 @@ none_at pc lists h =
     let inner = or_parts (list_any (is_at pc) lists.source) (list_any (is_at pc) lists.instructions) outer.0 in
     record { source = inner.0; instructions = inner.1; functions = outer.1 }
 
+-- the ids of all lists
+abbrev all_ids : (Placed → Bool) → Lists → List ℕ
+all_ids test lists = ids_where test lists.source ++ ids_where test lists.instructions ++ ids_where test lists.functions
+
+no_ids_in : (pc : ℕ) (test : Placed → Bool) → AtPc pc test → (lists : Lists) → NoneAt pc lists → all_ids test lists ≡ []
+no_ids_in pc test at lists n =
+    λ j. (no_ids pc test at lists.source n.source j) ++ (no_ids pc test at lists.instructions n.instructions j) ++
+    (no_ids pc test at lists.functions n.functions j)
+
+no_hit_in : (pc : ℕ) (test : Placed → Bool) → AtPc pc test → (lists : Lists) → NoneAt pc lists
+    → hit_where test lists ≡ record { source = false; instruction = false; function = false }
+no_hit_in pc test at lists n =
+    λ j. record {
+      source = no_stop pc test at lists.source n.source j;
+      instruction = no_stop pc test at lists.instructions n.instructions j;
+      function = no_stop pc test at lists.functions n.functions j;
+    }
+
 pub no_check : (pc : ℕ) (hart : Hart) (memory : List ℕ) (lists : Lists)
     → is_among pc lists.source lists.instructions lists.functions ≡ false
     → checked pc hart memory lists ≡ record lists { ids = []; logs = [] }
@@ -160,21 +184,26 @@ no_check pc hart memory lists h =
       source = unchanged pc hart memory lists.source n.source j;
       instructions = unchanged pc hart memory lists.instructions n.instructions j;
       functions = unchanged pc hart memory lists.functions n.functions j;
-      ids =
-          (no_ids pc hart memory lists.source n.source j) ++ (no_ids pc hart memory lists.instructions n.instructions j) ++
-          (no_ids pc hart memory lists.functions n.functions j);
+      ids = no_ids_in pc (stops pc hart memory) (none_stops pc hart memory) lists n j;
       logs = no_logs pc hart memory 0 lists.source n.source j;
     }
 
 pub no_hit : (pc : ℕ) (hart : Hart) (memory : List ℕ) (lists : Lists) → is_among pc lists.source lists.instructions lists.functions ≡ false
     → hit_in pc hart memory lists ≡ record { source = false; instruction = false; function = false }
-no_hit pc hart memory lists h =
-    let n = none_at pc lists h in
-    λ j. record {
-      source = no_stop pc hart memory lists.source n.source j;
-      instruction = no_stop pc hart memory lists.instructions n.instructions j;
-      function = no_stop pc hart memory lists.functions n.functions j;
-    }
+no_hit pc hart memory lists h = no_hit_in pc (stops pc hart memory) (none_stops pc hart memory) lists (none_at pc lists h)
+
+-- ---- and a look finds none
+
+pub no_look : (pc : ℕ) (hart : Hart) (memory : List ℕ) (lists : Lists)
+    → is_among pc lists.source lists.instructions lists.functions ≡ false
+    → looked pc hart memory lists ≡ record lists { ids = []; logs = [] }
+no_look pc hart memory lists h =
+    λ j. record lists { ids = no_ids_in pc (stands pc hart memory) (none_stands pc hart memory) lists (none_at pc lists h) j; logs = [] }
+
+pub none_standing : (pc : ℕ) (hart : Hart) (memory : List ℕ) (lists : Lists)
+    → is_among pc lists.source lists.instructions lists.functions ≡ false
+    → standing_in pc hart memory lists ≡ record { source = false; instruction = false; function = false }
+none_standing pc hart memory lists h = no_hit_in pc (stands pc hart memory) (none_stands pc hart memory) lists (none_at pc lists h)
 
 pub or_true : (t : Bool) → (t || true) ≡ true
 or_true true = refl

@@ -6,6 +6,9 @@
 -- or has no value: then its count goes up by one, and stays at 4,294,967,295. Where it is hit and its count, this hit
 -- among it, has reached the number that it was set with, it stops; but a logpoint (`logMessage`) never stops, and says
 -- its text there. A logpoint is a breakpoint of the source list: only there is a text looked for.
+--
+-- Where a program goes back, a breakpoint at the new pc *stands* there where it is no logpoint and a check would count a
+-- hit, however often it was hit. Then no hit counts, and nothing is said.
 use Rattle.std.specs.Prelude.{ℕ, ◌+◌, ◌≤◌, Bool, true, ◌==◌, nat_le, ◌&&◌, not, if◌then◌else◌, min, List, [], ◌∷◌, ◌++◌, length}
 use Rattle.std.specs.Prelude.{map, filter, All, Option, Some, None, Ok, Err, option_map, is_some, slice_get}
 use Rattle.std.specs.List.{list_any}
@@ -44,8 +47,8 @@ pub record Placed : Type 0 where
   pub log : Option (List ℕ)
   pub hits : ℕ
 
--- the three lists; the ids of those that stopped at the last check, the source list's first and those of functions
--- last; and the places in the source list of the logpoints that had something to say there
+-- the three lists; the ids of those that stopped at the last check, or stood at the last look, the source list's first
+-- and those of functions last; and the places in the source list of the logpoints that had something to say at a check
 pub record Lists : Type 0 where
   pub source : List Placed
   pub instructions : List Placed
@@ -96,9 +99,17 @@ stops pc hart memory b = is_reached pc hart memory b && not (is_some b.log)
 abbrev pub logs : ℕ → Hart → List ℕ → Placed → Bool
 logs pc hart memory b = is_reached pc hart memory b && is_some b.log
 
--- the ids of those that stop, in order
+-- it stands here, however often it was hit; a logpoint never does
+abbrev pub stands : ℕ → Hart → List ℕ → Placed → Bool
+stands pc hart memory b = is_hit pc hart memory b && not (is_some b.log)
+
+-- the ids of those of which this is so, in order
+abbrev pub ids_where : (Placed → Bool) → List Placed → List ℕ
+ids_where test list = map (λ b. b.id) (filter test list)
+
+-- the ids of those that stop
 abbrev pub stopping_ids : ℕ → Hart → List ℕ → List Placed → List ℕ
-stopping_ids pc hart memory list = map (λ b. b.id) (filter (stops pc hart memory) list)
+stopping_ids pc hart memory list = ids_where (stops pc hart memory) list
 
 -- the places of the logpoints that say their text, counted on from this one
 abbrev pub logging_from : ℕ → Hart → List ℕ → ℕ → List Placed → List ℕ
@@ -118,12 +129,28 @@ checked pc hart memory lists = record {
   logs = logging_from pc hart memory 0 lists.source;
 }
 
-abbrev pub hit_in : ℕ → Hart → List ℕ → Lists → Hit
-hit_in pc hart memory lists = record {
-  source = list_any (stops pc hart memory) lists.source;
-  instruction = list_any (stops pc hart memory) lists.instructions;
-  function = list_any (stops pc hart memory) lists.functions;
+-- the kinds of those of which this is so
+abbrev pub hit_where : (Placed → Bool) → Lists → Hit
+hit_where test lists = record {
+  source = list_any test lists.source;
+  instruction = list_any test lists.instructions;
+  function = list_any test lists.functions;
 }
+
+abbrev pub hit_in : ℕ → Hart → List ℕ → Lists → Hit
+hit_in pc hart memory lists = hit_where (stops pc hart memory) lists
+
+-- the lists after a look, at which no hit counts and nothing is said, and what it answers
+abbrev pub looked : ℕ → Hart → List ℕ → Lists → Lists
+looked pc hart memory lists = record lists {
+  ids = ids_where (stands pc hart memory) lists.source
+      ++ ids_where (stands pc hart memory) lists.instructions
+      ++ ids_where (stands pc hart memory) lists.functions;
+  logs = [];
+}
+
+abbrev pub standing_in : ℕ → Hart → List ℕ → Lists → Hit
+standing_in pc hart memory lists = hit_where (stands pc hart memory) lists
 
 -- the text of the logpoint at a place of the source list, if there is one
 abbrev pub log_of : Option Placed → Option (List ℕ)

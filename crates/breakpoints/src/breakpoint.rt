@@ -1,7 +1,7 @@
 //! A breakpoint.
 
 ghost use Rattle.std.specs.Prelude.{◌≡◌};
-ghost use Rattle.breakpoints.specs.Stops.{counted, fresh, holds, logs, reset, stops, wanted_by};
+ghost use Rattle.breakpoints.specs.Stops.{counted, fresh, holds, logs, reset, stands, stops, wanted_by};
 
 use crate::log_text::LogText;
 use expressions::Expr;
@@ -64,7 +64,7 @@ impl Model for Breakpoint {
     } };
 }
 
-/// Which kinds of breakpoints stop.
+/// Which kinds of breakpoints stop, or stand.
 #[derive(Clone, Copy, Debug, PartialEq, Eq)]
 pub struct Hit {
     /// A breakpoint of a source line does.
@@ -110,6 +110,13 @@ impl Breakpoint {
             return false;
         }
         self.hits.saturating_add(1) >= self.hit && self.log.is_some()
+    }
+
+    /// Whether it stands here, however often it was hit.
+    pub(crate) fn stands(&self, pc: u32, hart: &Hart, memory: &Memory) -> bool
+        ensures { result ≡ stands pc hart.now memory.now self.now }
+    {
+        self.address == pc && self.holds(hart, memory) && self.log.is_none()
     }
 
     /// It was not hit yet.

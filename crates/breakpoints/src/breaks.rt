@@ -4,7 +4,7 @@ ghost use Rattle.std.specs.Prelude.{◌≡◌, ◌+◌, ◌<◌, ◌≤◌, ◌^
 ghost use Rattle.std.specs.Bool.{OnFalse};
 ghost use Rattle.std.specs.List.{list_any};
 ghost use Rattle.breakpoints.specs.Places.{is_among, Covers};
-ghost use Rattle.breakpoints.specs.Stops.{CanBeSet, checked, counted, fresh, hit_in, log_at, logging_from, reset, stopping_ids, stops, wanted_by};
+ghost use Rattle.breakpoints.specs.Stops.{CanBeSet, checked, counted, fresh, hit_in, ids_where, log_at, logging_from, looked, reset, standing_in, stands, stopping_ids, stops, wanted_by};
 
 use crate::breakpoint::{BreakSpec, Breakpoint, Hit};
 use crate::places::Places;
@@ -13,9 +13,9 @@ use rv32i::Hart;
 use std::alloc::{AllocError, Global};
 use std::marker::Model;
 
-/// The breakpoints of source lines, of instructions and of functions, which of them stopped at the last check, and which logpoints had
-/// something to say there. A contract sees the three lists, the ids of those that stopped, the source list's first and those of functions
-/// last, and the places in the source list of the logpoints.
+/// The breakpoints of source lines, of instructions and of functions, which of them stopped at the last check or stood at the last look,
+/// and which logpoints had something to say at a check. A contract sees the three lists, the ids of those that stopped or stood, the
+/// source list's first and those of functions last, and the places in the source list of the logpoints.
 #[derive(Drop)]
 pub struct Breaks {
     alloc: Global,
@@ -196,8 +196,29 @@ impl Breaks {
         }
     }
 
-    /// Forgets which breakpoints stopped at the last check, and which logpoints had something to say there: no ids and no places are lent
-    /// until the next one.
+    /// Looks at the breakpoints at pc where a program goes back, and says which kinds of them stand there, however often they were hit. No
+    /// hit counts, and no logpoint stands or has something to say. It takes no memory.
+    pub fn look(&mut self, pc: u32, hart: &Hart, memory: &Memory) -> Hit
+        ensures lists { self.new ≡ looked pc hart.now memory.now self.old }
+        ensures hit { result ≡ standing_in pc hart.now memory.now self.old }
+    {
+        self.ids.clear();
+        self.logs.clear();
+        if !self.has(pc) {
+            return NO_HIT;
+        }
+        let source = look_at(&self.source, &mut self.ids, pc, hart, memory);
+        let instruction = look_at(&self.instructions, &mut self.ids, pc, hart, memory);
+        let function = look_at(&self.functions, &mut self.ids, pc, hart, memory);
+        Hit {
+            source,
+            instruction,
+            function,
+        }
+    }
+
+    /// Forgets which breakpoints stopped at the last check or stood at the last look, and which logpoints had something to say: no ids and
+    /// no places are lent until the next one.
     pub fn forget_ids(&mut self)
         ensures { self.new ≡ record self.old { ids = []; logs = [] } }
     {
@@ -226,14 +247,15 @@ impl Breaks {
         &self.functions
     }
 
-    /// The ids of the breakpoints that stopped at the last check, those of the source list first and those of functions last.
+    /// The ids of the breakpoints that stopped at the last check, or stood at the last look if that came later: those of the source list
+    /// first and those of functions last.
     pub fn ids(&self) -> &[u32]
         ensures { result.now ≡ self.now.ids }
     {
         &self.ids
     }
 
-    /// The places in the source list of the logpoints that had something to say at the last check, in the list's order.
+    /// The places in the source list of the logpoints that had something to say at the last check, in the list's order; none after a look.
     pub fn logs(&self) -> &[u32]
         ensures { result.now ≡ self.now.logs }
     {
@@ -254,7 +276,7 @@ impl Breaks {
     }
 }
 
-// None stops.
+// None stops, and none stands.
 const NO_HIT: Hit = Hit {
     source: false,
     instruction: false,
@@ -333,6 +355,25 @@ fn check_list(
         }
     }
     any
+}
+
+// Looks at one list: appends the ids of those that stand here, and says whether there is one.
+fn look_at(list: &[Breakpoint], ids: &mut Vec<u32>, pc: u32, hart: &Hart, memory: &Memory) -> bool
+    requires { vec_len ids.old + length list.now ≤ vec_capacity ids.old }
+    ensures ids { ids.new.items
+        ≡ ids.old.items ++ ids_where (stands pc hart.now memory.now) list.now }
+    ensures room { vec_capacity ids.old ≤ vec_capacity ids.new }
+    ensures count { vec_len ids.new ≤ vec_len ids.old + length list.now }
+    ensures stands { result ≡ list_any (stands pc hart.now memory.now) list.now }
+{
+    let mut found = false;
+    for breakpoint in list {
+        if breakpoint.stands(pc, hart, memory) {
+            push_within(ids, breakpoint.id);
+            found = true;
+        }
+    }
+    found
 }
 
 // Appends the places of the logpoints of the source list that say their text.

@@ -4,16 +4,16 @@
 //! - `source BREAKPOINT..`, `instructions BREAKPOINT..`, `functions BREAKPOINT..`: sets a list, as `lists` says. `once` before it: it is not
 //!   made again where it found no memory, which is its answer then.
 //! - `check`: looks at the breakpoints at pc: whether those of source lines stop, whether those of instructions do, whether those of
-//!   functions do, and the ids of those that do.
-//! - `ids`: the ids of those that stopped at the last check; `logs`: the places of the logpoints that had something to say; `forget`:
-//!   forgets both. `text PLACE`: the text of the logpoint there, or `none`.
+//!   functions do, and the ids of those that do. `look`: the same of those that stand there, for a program that goes back.
+//! - `ids`: the ids of those that stopped at the last check, or stood at the last look; `logs`: the places of the logpoints that had
+//!   something to say; `forget`: forgets both. `text PLACE`: the text of the logpoint there, or `none`.
 //! - `has ADDRESS`: whether a breakpoint is there.
 //! - `clear`, `reset`: takes all breakpoints away; takes their hits away.
 #![tactic(auto)]
 
 mod lists;
 
-use breakpoints::Breaks;
+use breakpoints::{Breaks, Hit};
 use lists::list_of;
 use std::alloc::Global;
 use std::process::ExitCode;
@@ -69,6 +69,7 @@ impl Watched {
     fn call(&mut self, alloc: Global, name: &str) -> Result<String, Fault> {
         match name {
             "check" => self.check(alloc),
+            "look" => self.look(alloc),
             "ids" => with_numbers(shown(alloc, "ids")?, alloc, self.breaks.ids()),
             "logs" => with_numbers(shown(alloc, "logs")?, alloc, self.breaks.logs()),
             "forget" => {
@@ -90,6 +91,17 @@ impl Watched {
     fn check(&mut self, alloc: Global) -> Result<String, Fault> {
         let Machine { hart, memory } = &self.machine;
         let hit = self.breaks.check(hart.pc, hart, memory);
+        self.hit_shown(alloc, hit)
+    }
+
+    fn look(&mut self, alloc: Global) -> Result<String, Fault> {
+        let Machine { hart, memory } = &self.machine;
+        let hit = self.breaks.look(hart.pc, hart, memory);
+        self.hit_shown(alloc, hit)
+    }
+
+    /// Which kinds of breakpoints a check or a look has found, and their ids.
+    fn hit_shown(&self, alloc: Global, hit: Hit) -> Result<String, Fault> {
         let answer = format!(in alloc; "{} {} {}", hit.source, hit.instruction, hit.function)?;
         with_numbers(answer, alloc, self.breaks.ids())
     }
