@@ -14,6 +14,7 @@ use Rattle.rv32i.specs.declared.stepped.Stepped.{Stepped}
 use Rattle.rv32i.specs.declared.stepped.Stepped.TheVariants.{Retired, Printed, Break as Breakpoint, Exit, Trap}
 use Rattle.rv32i.proofs.Keeps.{step_answers, step_keeps}
 use Rattle.rv32i.proofs.OneMove.{one_move}
+use Rattle.stepping.specs.Goals.{turns_back}
 use Rattle.stepping.specs.RunLaws.{EachTickAnswers}
 use Rattle.stepping.specs.Stopping.{Advances, After, Answers, entered, has_retired}
 use Rattle.course.specs.Positions.{IsFetched}
@@ -62,13 +63,13 @@ move_answers m e i = go (word_at m.memory m.pc) refl i where
       absurd (no_fetch_lacks_memory (nat_eq (m.pc % 4) 0) (has_bytes m.memory m.pc 4) (little_endian (bytes_at m.memory m.pc 4)) w)
 
 pub each_tick_answers : EachTickAnswers
-each_tick_answers before after answer t = by_tick before after answer t (λ due a b. ap is_ok a) answers where
+each_tick_answers before after answer t = by_tick before after answer t (λ due h. ap is_ok h.0) (λ due turns h. ap is_ok h.0) answers where
   moved : (s : Result Stepped AllocError) (instr : Option Instr) → is_ok s ≡ true → Settles before instr s answer after → IsOk answer
   moved (Ok s) instr o h = ap is_ok h.0
   moved (Err error) instr o h = let never : false ≡ true = o in cc
 
-  answers : before.check_due ≡ false → Moves before answer after → IsOk answer
-  answers due h =
+  answers : before.check_due ≡ false → turns_back before.goal ≡ false → Moves before answer after → IsOk answer
+  answers due forward h =
       moved h.stepped h.instr
       (move_answers (machine_of before.hart before.memory)
       (record { answer = h.stepped; machine = machine_of after.hart after.memory }) h.moved) h.settles
@@ -76,8 +77,8 @@ each_tick_answers before after answer t = by_tick before after answer t (λ due 
 -- ---- one move more is one tick
 
 retires_settled : (s : Stepped) (instr : Instr) (before after : Debugged) → IsTrue (has_retired s)
-    → after ≡ gone_on (Some instr) before.hart.pc (moved_as before after)
-    → after ≡ settled s (Some instr) before.hart.pc (moved_as before after)
+    → after ≡ gone_on (Some instr) before (moved_as before after)
+    → after ≡ settled s (Some instr) before (moved_as before after)
 retires_settled Retired instr before after r e = e
 retires_settled (Printed number) instr before after r e = e
 retires_settled Breakpoint instr before after r e = e
@@ -118,8 +119,8 @@ fetched_is_decoded m instr f = go (word_at m.memory m.pc) refl f where
   go (Err fault) e h = absurd (cc)
 
 settled_retires : (s : Stepped) (instr : Instr) (before after : Debugged) → IsTrue (has_retired s)
-    → after ≡ settled s (Some instr) before.hart.pc (moved_as before after)
-    → after ≡ gone_on (Some instr) before.hart.pc (moved_as before after)
+    → after ≡ settled s (Some instr) before (moved_as before after)
+    → after ≡ gone_on (Some instr) before (moved_as before after)
 settled_retires Retired instr before after r e = e
 settled_retires (Printed number) instr before after r e = e
 settled_retires Breakpoint instr before after r e = e
@@ -128,7 +129,7 @@ settled_retires (Trap cause) instr before after r e = let never : false ≡ true
 
 pub advances_so : (before after : Debugged) (instr : Option Instr) (s : Stepped) → IsFetched (machine_of before.hart before.memory) instr
     → IsMove (machine_of before.hart before.memory) (record { answer = Ok s; machine = machine_of after.hart after.memory })
-    → IsTrue (has_retired s) → after ≡ settled s instr before.hart.pc (moved_as before after)
+    → IsTrue (has_retired s) → after ≡ settled s instr before (moved_as before after)
     → (i : Instr) × ((instr ≡ Some i) × Advances before after)
 advances_so before after None s f m r e =
     absurd (retired_goes_not s r
@@ -209,6 +210,15 @@ entered_if start false e = rw e refl
 pub after_ready : (n : ℕ) (start after : Debugged) → After n start after → after.check_due ≡ false
 after_ready zero start after a = ap (λ (d : Debugged). d.check_due) a ∙ entered_if start start.check_due refl
 after_ready (suc n) start after a = ap (λ (d : Debugged). d.check_due) a.1.1.leaves ∙ after_ready n start a.0 a.1.0
+
+-- they keep the goal
+entered_goal : (start : Debugged) (due : Bool) → start.check_due ≡ due → (entered start).goal ≡ start.goal
+entered_goal start true e = rw e refl
+entered_goal start false e = rw e refl
+
+pub after_goal : (n : ℕ) (start after : Debugged) → After n start after → after.goal ≡ start.goal
+after_goal zero start after a = ap (λ (d : Debugged). d.goal) a ∙ entered_goal start start.check_due refl
+after_goal (suc n) start after a = ap (λ (d : Debugged). d.goal) a.1.1.leaves ∙ after_goal n start a.0 a.1.0
 
 pub after_equal : (n : ℕ) (start after other : Debugged) → After n start after → After n start other → after ≡ other
 after_equal zero start after other a b = a ∙ sym b

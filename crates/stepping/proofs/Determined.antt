@@ -18,7 +18,7 @@ use Rattle.course.specs.Positions.{IsFetched}
 use Rattle.stepping.specs.Ticks.{Debugged, Moves, Settles, moved_as, settled, tick_of}
 use Rattle.stepping.specs.RunLaws.{TickIsDeterministic}
 use Rattle.stepping.specs.declared.tick.Tick.{Tick}
-use Rattle.stepping.proofs.Cases.{by_tick, entry_of, move_of}
+use Rattle.stepping.proofs.Cases.{back_of, by_tick, entry_of, move_of}
 
 -- ---- harts with the same pc and registers are equal: that x0 is 0 is a fact
 
@@ -61,7 +61,7 @@ settle_equal : (before after other : Debugged) (instr : Option Instr) (s : Resul
     → (answer ≡ another) × (after ≡ other)
 settle_equal before after other instr (Ok s) answer another e a b = (
   a.0 ∙ ap (λ (d : Debugged). Ok (tick_of s instr before.hart.pc d)) e ∙ sym b.0,
-  a.1 ∙ ap (λ (d : Debugged). settled s instr before.hart.pc d) e ∙ sym b.1,
+  a.1 ∙ ap (λ (d : Debugged). settled s instr before d) e ∙ sym b.1,
 )
 settle_equal before after other instr (Err error) answer another e a b = (a.0 ∙ sym b.0, a.1 ∙ sym b.1)
 
@@ -89,5 +89,6 @@ one_settled before after other answer another a b =
 pub tick_is_deterministic : TickIsDeterministic
 tick_is_deterministic before after other answer another a b =
     by_tick before after answer a
-    (λ due x y. (let also = entry_of before other another due b in (x ∙ sym also.0, y ∙ sym also.1)))
-    (λ due x. one_settled before after other answer another x (move_of before other another due b))
+    (λ due x. (let also = entry_of before other another due b in (x.0 ∙ sym also.0, x.1 ∙ sym also.1)))
+    (λ due turns x. (let also = back_of before other another due turns b in (x.0 ∙ sym also.0, x.1 ∙ sym also.1)))
+    (λ due forward x. one_settled before after other answer another x (move_of before other another due forward b))

@@ -13,9 +13,10 @@ use Rattle.rv32i.specs.declared.stepped.Stepped.TheVariants.{Retired, Printed, B
 use Rattle.rv32i.proofs.Moving.{the_decoding, the_move}
 use Rattle.stepping.specs.RunLaws.{HasTick}
 use Rattle.course.specs.Positions.{IsFetched}
-use Rattle.stepping.specs.Ticks.{Debugged, entry_checked, entry_tick, moved_as, settled, tick_of}
+use Rattle.stepping.specs.Goals.{turns_back}
+use Rattle.stepping.specs.Ticks.{Debugged, back_tick, entry_checked, entry_tick, gone_back, moved_as, settled, tick_of}
 use Rattle.stepping.proofs.Advancing.{move_answers}
-use Rattle.stepping.proofs.Cases.{tick_of_entry, tick_of_move}
+use Rattle.stepping.proofs.Cases.{tick_of_back, tick_of_entry, tick_of_move}
 
 -- what it fetches
 record Fetches (m : Machine) : Type 0 where
@@ -29,13 +30,13 @@ fetches m = by_word (word_at m.memory m.pc) refl where
   by_word (Err fault) e = record { instr = None; is = rw e refl }
 
 -- what settles changes neither hart nor memory
-same_machine : (stepped : Stepped) (instr : Option Instr) (before middle : Debugged) (pc : ℕ) → moved_as before middle ≡ middle
-    → moved_as before (settled stepped instr pc middle) ≡ middle
-same_machine Retired instr before middle pc e = e
-same_machine (Printed number) instr before middle pc e = e
-same_machine Break instr before middle pc e = e
-same_machine (Exit code) instr before middle pc e = e
-same_machine (Trap cause) instr before middle pc e = e
+same_machine : (stepped : Stepped) (instr : Option Instr) (before middle : Debugged) → moved_as before middle ≡ middle
+    → moved_as before (settled stepped instr before middle) ≡ middle
+same_machine Retired instr before middle e = e
+same_machine (Printed number) instr before middle e = e
+same_machine Break instr before middle e = e
+same_machine (Exit code) instr before middle e = e
+same_machine (Trap cause) instr before middle e = e
 
 abbrev effect_with : Result Stepped AllocError → Machine → Effect
 effect_with answer machine = record { answer = answer; machine = machine }
@@ -44,8 +45,8 @@ effect_with answer machine = record { answer = answer; machine = machine }
 abbrev moved_to : Debugged → Machine → Hart → Debugged
 moved_to d m hart = record d { hart = hart; memory = m.memory }
 
-moves : (d : Debugged) → d.check_due ≡ false → HasMove (machine_of d.hart d.memory) → HasTick d
-moves d due move = by_answer move.effect.answer refl (move_answers (machine_of d.hart d.memory) move.effect move.is) where
+moves : (d : Debugged) → d.check_due ≡ false → turns_back d.goal ≡ false → HasMove (machine_of d.hart d.memory) → HasTick d
+moves d due forward move = by_answer move.effect.answer refl (move_answers (machine_of d.hart d.memory) move.effect move.is) where
   m : Machine
   m = move.effect.machine
 
@@ -59,12 +60,12 @@ moves d due move = by_answer move.effect.answer refl (move_answers (machine_of d
   by_answer (Err error) e h = absurd (cc)
   by_answer (Ok stepped) e h =
       let middle = moved_to d m hart in
-      let after = settled stepped f.instr d.hart.pc middle in
-      let same : moved_as d after ≡ middle = same_machine stepped f.instr d middle d.hart.pc refl in
+      let after = settled stepped f.instr d middle in
+      let same : moved_as d after ≡ middle = same_machine stepped f.instr d middle refl in
       record {
         tick = tick_of stepped f.instr d.hart.pc middle;
         after = after;
-        is = tick_of_move d after (Ok (tick_of stepped f.instr d.hart.pc middle)) due (record {
+        is = tick_of_move d after (Ok (tick_of stepped f.instr d.hart.pc middle)) due forward (record {
           instr = f.instr;
           stepped = Ok stepped;
           fetched = f.is;
@@ -72,14 +73,16 @@ moves d due move = by_answer move.effect.answer refl (move_answers (machine_of d
               subst (IsMove (machine_of d.hart d.memory))
               (ap (λ (a : Result Stepped AllocError). effect_with a m) e
               ∙ ap (λ (x : Debugged). effect_with (Ok stepped) (machine_of x.hart x.memory)) (sym same)) move.is;
-          settles = (ap (λ x. Ok (tick_of stepped f.instr d.hart.pc x)) (sym same), ap (settled stepped f.instr d.hart.pc) (sym same));
+          settles = (ap (λ x. Ok (tick_of stepped f.instr d.hart.pc x)) (sym same), ap (settled stepped f.instr d) (sym same));
         });
       }
 
-by_check : (d : Debugged) (due : Bool) → d.check_due ≡ due → HasTick d
-by_check d true due =
+by_check : (d : Debugged) (due turns : Bool) → d.check_due ≡ due → turns_back d.goal ≡ turns → HasTick d
+by_check d true turns due way =
     record { tick = entry_tick d; after = entry_checked d; is = tick_of_entry d (entry_checked d) (Ok (entry_tick d)) due (refl, refl) }
-by_check d false due = moves d due (the_move (machine_of d.hart d.memory))
+by_check d false true due way =
+    record { tick = back_tick d; after = gone_back d; is = tick_of_back d (gone_back d) (Ok (back_tick d)) due way (refl, refl) }
+by_check d false false due way = moves d due way (the_move (machine_of d.hart d.memory))
 
 pub the_tick : (d : Debugged) → HasTick d
-the_tick d = by_check d d.check_due refl
+the_tick d = by_check d d.check_due (turns_back d.goal) refl refl

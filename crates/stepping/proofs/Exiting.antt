@@ -1,6 +1,7 @@
 -- A program ends with a code of 32 bits.
-use Rattle.std.proofs.Common.{◌≡◌, ℕ, Bool, true, false, Option, Result, Ok, Err, sym, subst}
+use Rattle.std.proofs.Common.{◌≡◌, ℕ, Bool, true, false, List, [], ◌∷◌, Option, Result, Ok, Err, sym, subst}
 use Rattle.std.specs.declared.alloc.AllocError.{AllocError}
+use Rattle.breakpoints.specs.Stops.{standing_in}
 use Rattle.breakpoints.specs.declared.breakpoint.Hit.{Hit}
 use Rattle.rv32i.specs.Laws.{HasCode}
 use Rattle.rv32i.specs.Machine.{machine_of}
@@ -8,20 +9,44 @@ use Rattle.rv32i.specs.declared.instr.Instr.{Instr}
 use Rattle.rv32i.specs.declared.stepped.Stepped.{Stepped}
 use Rattle.rv32i.specs.declared.stepped.Stepped.TheVariants.{Retired, Printed, Break, Exit, Trap}
 use Rattle.rv32i.proofs.Codes.{exit_codes_are_words}
+use Rattle.course.specs.Positions.{Position}
+use Rattle.stepping.specs.Goals.{turns_back}
 use Rattle.stepping.specs.RunLaws.{EndsWithCodes, HasSignedCode}
-use Rattle.stepping.specs.Ticks.{Debugged, Moves, Settles, entry_checked, entry_tick, hit_at_pc, moved_as, outcome_of, tick_of}
+use Rattle.stepping.specs.Ticks.{Debugged, Moves, Settles, back_outcome, back_tick, entry_tick, hit_at_pc, moved_as, outcome_of, outcome_or, tick_of, undone, unless_start}
+use Rattle.stepping.specs.declared.goal.Goal.{Goal}
+use Rattle.stepping.specs.declared.goal.Goal.TheVariants.{Go, In, Over, Out, Back, ReverseGo}
+use Rattle.stepping.specs.declared.tick.Outcome.{Outcome}
+use Rattle.stepping.specs.declared.tick.Outcome.TheVariants.{Went, Stopped}
+use Rattle.stepping.specs.declared.tick.Reason.TheVariants as why
 use Rattle.stepping.specs.declared.tick.Tick.{Tick}
-use Rattle.stepping.proofs.Cases.{by_tick}
+use Rattle.stepping.proofs.Cases.{Enters, GoesBack, by_tick}
+
+-- no reason of a breakpoint is an end
+no_end_or : (hit : Hit) (other : Outcome) → HasSignedCode other → HasSignedCode (outcome_or hit other)
+no_end_or hit other h = by hit.source hit.instruction hit.function where
+  by : (source instruction function : Bool)
+      → HasSignedCode (outcome_or (record { source = source; instruction = instruction; function = function }) other)
+  by true instruction function = tt
+  by false true function = tt
+  by false false true = tt
+  by false false false = h
 
 pub no_end : (hit : Hit) (met : Bool) → HasSignedCode (outcome_of hit met)
-no_end hit met = by hit.source hit.instruction hit.function met where
-  by : (source instruction function met : Bool)
-      → HasSignedCode (outcome_of (record { source = source; instruction = instruction; function = function }) met)
-  by true instruction function met = tt
-  by false true function met = tt
-  by false false true met = tt
-  by false false false true = tt
-  by false false false false = tt
+no_end hit true = no_end_or hit (Stopped why.Goal) tt
+no_end hit false = no_end_or hit Went tt
+
+-- nor is where a run goes back
+none_left : (past : List Position) → HasSignedCode (unless_start past)
+none_left [] = tt
+none_left (before ∷ past) = tt
+
+no_end_back : (g : Goal) (d : Debugged) → HasSignedCode (back_outcome g d)
+no_end_back Go d = tt
+no_end_back (In granularity) d = tt
+no_end_back (Over granularity) d = tt
+no_end_back (Out granularity) d = tt
+no_end_back Back d = tt
+no_end_back ReverseGo d = no_end_or (standing_in d.hart.pc d.hart d.memory d.lists) (unless_start d.past) (none_left d.past)
 
 of_stepped : (stepped : Stepped) (instr : Option Instr) (pc : ℕ) (d : Debugged) → HasCode (Ok stepped)
     → HasSignedCode (tick_of stepped instr pc d).outcome
@@ -46,13 +71,17 @@ of_answer (Ok stepped) before after instr tick h s =
 of_answer (Err error) before after instr tick h s = absurd (let e : Ok tick ≡ Err error = s.0 in cc)
 
 pub ends_with_codes : EndsWithCodes
-ends_with_codes before after tick t = by_tick before after (Ok tick) t entry moved where
-  entry : before.check_due ≡ true → IsAnswer (Ok tick) (entry_tick before) → after ≡ entry_checked before → HasSignedCode tick.outcome
-  entry due h a =
-      subst (λ (t : Tick). HasSignedCode t.outcome) (sym (one_tick tick (entry_tick before) h)) (no_end (hit_at_pc before) false)
+ends_with_codes before after tick t = by_tick before after (Ok tick) t entry back moved where
+  entry : before.check_due ≡ true → Enters before (Ok tick) after → HasSignedCode tick.outcome
+  entry due h =
+      subst (λ (t : Tick). HasSignedCode t.outcome) (sym (one_tick tick (entry_tick before) h.0)) (no_end (hit_at_pc before) false)
 
-  moved : before.check_due ≡ false → Moves before (Ok tick) after → HasSignedCode tick.outcome
-  moved due h =
+  back : before.check_due ≡ false → turns_back before.goal ≡ true → GoesBack before (Ok tick) after → HasSignedCode tick.outcome
+  back due turns h =
+      subst (λ (t : Tick). HasSignedCode t.outcome) (sym (one_tick tick (back_tick before) h.0)) (no_end_back before.goal (undone before))
+
+  moved : before.check_due ≡ false → turns_back before.goal ≡ false → Moves before (Ok tick) after → HasSignedCode tick.outcome
+  moved due forward h =
       of_answer h.stepped before after h.instr tick
       (exit_codes_are_words (machine_of before.hart before.memory)
       (record { answer = h.stepped; machine = machine_of after.hart after.memory }) h.moved) h.settles

@@ -1,13 +1,16 @@
 -- The ticks of a run, and how it ends with one.
-use Rattle.std.proofs.Common.{◌≡◌, ℕ, zero, suc, ◌+◌, ◌-◌, ◌<◌, ◌≤◌, true, Option, Some, None, Result, Ok, Err, refl, sym, ap, subst, ◌∙◌, arith, add-one}
+use Rattle.std.proofs.Common.{◌≡◌, ℕ, zero, suc, ◌+◌, ◌-◌, ◌<◌, ◌≤◌, true, List, [], ◌∷◌, Option, Some, None, Result, Ok, Err, refl, sym, ap, subst, ◌∙◌, arith, add-one}
 use Rattle.std.specs.declared.alloc.AllocError.{AllocError}
 use Rattle.rv32i.specs.declared.stepped.Stepped.{Stepped}
 use Rattle.rv32i.specs.declared.stepped.Stepped.TheVariants.{Retired, Printed, Break, Exit, Trap}
+use Rattle.course.specs.Positions.{Position}
 use Rattle.stepping.specs.Bursts.{EndsHalted, stretch_of}
 use Rattle.stepping.specs.Plain.{plain_tick}
 use Rattle.stepping.specs.Running.{IsEnding, Stretches}
-use Rattle.stepping.specs.Runs.{EndsRun, Goes, HasMoved, IsRun, TickNeedsPage}
-use Rattle.stepping.specs.Ticks.{Debugged, IsTick, Moves, Settles, entry_checked, entry_tick, seen, with_check}
+use Rattle.stepping.specs.Runs.{EndsRun, Goes, HasMoved, IsRun, MayLackMemory}
+use Rattle.stepping.specs.Ticks.{Debugged, IsTick, Moves, Settles, entry_checked, entry_tick, gone_back, looked_at, seen, undone_by, with_check}
+use Rattle.stepping.specs.declared.goal.Goal.{Goal}
+use Rattle.stepping.specs.declared.goal.Goal.TheVariants.{Go, In, Over, Out, Back, ReverseGo}
 use Rattle.stepping.specs.declared.tick.Ran.{Ran}
 use Rattle.stepping.specs.declared.tick.RunEnd.{RunEnd}
 use Rattle.stepping.specs.declared.tick.RunEnd.TheVariants.{Spent, Ticked, NoMemory}
@@ -16,20 +19,58 @@ use Rattle.stepping.proofs.Cases.{by_tick}
 
 -- ---- how many instructions retire
 
--- at most one in a tick
+-- at most one in a tick; and the goal stays
+record HasTicked (before after : Debugged) : Type 0 where
+  retires : after.retired ≤ before.retired + 1
+  goal : after.goal ≡ before.goal
+
+undone_less : (g : Goal) (past : List Position) (d : Debugged) → HasTicked d (looked_at g (undone_by past d))
+undone_less g past d = go g past where
+  go : (g : Goal) (past : List Position) → HasTicked d (looked_at g (undone_by past d))
+  go Go [] = record { retires = omega arith; goal = refl }
+  go Go (p ∷ past) = record { retires = omega arith; goal = refl }
+  go (In granularity) [] = record { retires = omega arith; goal = refl }
+  go (In granularity) (p ∷ past) = record { retires = omega arith; goal = refl }
+  go (Over granularity) [] = record { retires = omega arith; goal = refl }
+  go (Over granularity) (p ∷ past) = record { retires = omega arith; goal = refl }
+  go (Out granularity) [] = record { retires = omega arith; goal = refl }
+  go (Out granularity) (p ∷ past) = record { retires = omega arith; goal = refl }
+  go Back [] = record { retires = omega arith; goal = refl }
+  go Back (p ∷ past) = record { retires = omega arith; goal = refl }
+  go ReverseGo [] = record { retires = omega arith; goal = refl }
+  go ReverseGo (p ∷ past) = record { retires = omega arith; goal = refl }
+
+ticked : (before after : Debugged) (answer : Result Tick AllocError) → IsTick before answer after → HasTicked before after
+ticked before after answer h =
+    by_tick before after answer h (λ due e. so (entry_checked before) (record { retires = omega arith; goal = refl }) e.1)
+    (λ due turns e. so (gone_back before) (undone_less before.goal before.past before) e.1)
+    (λ due forward m. by_stepped m m.stepped m.settles)
+  where
+    so : (left : Debugged) → HasTicked before left → after ≡ left → HasTicked before after
+    so left t e = subst (λ (d : Debugged). HasTicked before d) (sym e) t
+
+    by_stepped : (m : Moves before answer after) (s : Result Stepped AllocError) → Settles before m.instr s answer after
+        → HasTicked before after
+    by_stepped m (Ok Retired) e =
+        record { retires = omega (arith, ap (λ (d : Debugged). d.retired) e.1); goal = ap (λ (d : Debugged). d.goal) e.1 }
+    by_stepped m (Ok (Printed number)) e =
+        record { retires = omega (arith, ap (λ (d : Debugged). d.retired) e.1); goal = ap (λ (d : Debugged). d.goal) e.1 }
+    by_stepped m (Ok Break) e =
+        record { retires = omega (arith, ap (λ (d : Debugged). d.retired) e.1); goal = ap (λ (d : Debugged). d.goal) e.1 }
+    by_stepped m (Ok (Exit code)) e =
+        record { retires = omega (arith, ap (λ (d : Debugged). d.retired) e.1); goal = ap (λ (d : Debugged). d.goal) e.1 }
+    by_stepped m (Ok (Trap cause)) e =
+        record { retires = omega (arith, ap (λ (d : Debugged). d.retired) e.1); goal = ap (λ (d : Debugged). d.goal) e.1 }
+    by_stepped m (Err error) e =
+        record { retires = omega (arith, ap (λ (d : Debugged). d.retired) e.1); goal = ap (λ (d : Debugged). d.goal) e.1 }
+
 pub tick_retires : (before after : Debugged) (answer : Result Tick AllocError) → IsTick before answer after
     → after.retired ≤ before.retired + 1
-tick_retires before after answer h =
-    by_tick before after answer h (λ due a e. omega (arith, ap (λ (d : Debugged). d.retired) e)) (λ due m. by_stepped m m.stepped m.settles)
-  where
-    by_stepped : (m : Moves before answer after) (s : Result Stepped AllocError) → Settles before m.instr s answer after
-        → after.retired ≤ before.retired + 1
-    by_stepped m (Ok Retired) e = omega (arith, ap (λ (d : Debugged). d.retired) e.1)
-    by_stepped m (Ok (Printed number)) e = omega (arith, ap (λ (d : Debugged). d.retired) e.1)
-    by_stepped m (Ok Break) e = omega (arith, ap (λ (d : Debugged). d.retired) e.1)
-    by_stepped m (Ok (Exit code)) e = omega (arith, ap (λ (d : Debugged). d.retired) e.1)
-    by_stepped m (Ok (Trap cause)) e = omega (arith, ap (λ (d : Debugged). d.retired) e.1)
-    by_stepped m (Err error) e = omega (arith, ap (λ (d : Debugged). d.retired) e.1)
+tick_retires before after answer h = (ticked before after answer h).retires
+
+pub goes_goal : (n : ℕ) (before after : Debugged) → Goes n before after → after.goal ≡ before.goal
+goes_goal zero before after g = ap (λ (d : Debugged). d.goal) g
+goes_goal (suc n) before after g = (ticked g.0 after (Ok plain_tick) g.1.1.0).goal ∙ goes_goal n before g.0 g.1.0
 
 pub goes_retire : (n : ℕ) (before after : Debugged) → Goes n before after → after.retired ≤ before.retired + n
 goes_retire zero before after g = omega (arith, ap (λ (d : Debugged). d.retired) g)
@@ -151,12 +192,12 @@ one_ticked before after ran tick e h =
 
 -- that needs a page for which no memory was left
 pub one_lacks : (before after : Debugged) (ran : Ran) → ran.ending ≡ NoMemory → IsRun 1 before ran after
-    → (after ≡ before) × TickNeedsPage before
+    → (after ≡ before) × MayLackMemory before
 one_lacks before after ran e h =
     let ends : EndsRun 1 ran.went NoMemory h.middle after = subst (λ (x : RunEnd). EndsRun 1 ran.went x h.middle after) e h.ends in
     let none : ran.went ≡ 0 = omega (arith, ends.0) in
     let at : h.middle ≡ before = subst (λ (k : ℕ). Goes k before h.middle) none h.goes in
-    (ends.1.0 ∙ at, subst TickNeedsPage at ends.1.1)
+    (ends.1.0 ∙ at, subst MayLackMemory at ends.1.1)
 
 -- that goes on
 pub one_spent : (before after : Debugged) (ran : Ran) → ran.ending ≡ Spent → IsRun 1 before ran after → IsTick before (Ok plain_tick) after

@@ -1,5 +1,5 @@
 -- An instruction that halts ends a run.
-use Rattle.std.proofs.Common.{◌≡◌, ◌≢◌, ℕ, Bool, true, false, cond, eqb, List, [], Some, None, Result, Ok, Err, refl, sym, ap, subst, ◌∙◌}
+use Rattle.std.proofs.Common.{◌≡◌, ◌≢◌, ℕ, ◌+◌, Bool, true, false, cond, eqb, List, [], Some, None, Result, Ok, Err, refl, sym, ap, subst, ◌∙◌, arith}
 use Rattle.std.specs.Prelude.{alloc_error}
 use Rattle.std.specs.declared.alloc.AllocError.{AllocError}
 use Rattle.rv32i.specs.Machine.{Effect, IsMove, Machine, calls, machine_of, signed, sum, trapped, value}
@@ -10,10 +10,12 @@ use Rattle.rv32i.specs.declared.performing.Halt.TheVariants.{Stopped, NoMemory, 
 use Rattle.rv32i.specs.declared.stepped.Cause.TheVariants.{UnknownCall}
 use Rattle.rv32i.specs.declared.stepped.Stepped.{Stepped}
 use Rattle.rv32i.specs.declared.stepped.Stepped.TheVariants.{Retired, Printed, Break, Exit, Trap}
-use Rattle.course.specs.Positions.{Halts, IsFetched}
+use Rattle.course.specs.Positions.{Halts, IsFetched, past_after}
+use Rattle.stepping.specs.Goals.{turns_back}
 use Rattle.stepping.specs.Plain.{plain_tick}
-use Rattle.stepping.specs.Runs.{TickNeedsPage}
-use Rattle.stepping.specs.Ticks.{Debugged, IsTick, position_of, settled, tick_of}
+use Rattle.stepping.specs.Runs.{MayLackMemory}
+use Rattle.stepping.specs.Running.{counted_by, left_by}
+use Rattle.stepping.specs.Ticks.{Debugged, IsTick, course_of, position_of, settled, stayed, tick_of}
 use Rattle.stepping.specs.declared.tick.Tick.{Tick}
 use Rattle.stepping.proofs.Cases.{tick_of_move}
 use Rattle.stepping.proofs.Moving.{settled_moves}
@@ -24,7 +26,27 @@ at_pc d pc = record d { hart = record d.hart { pc = pc } }
 
 -- what it ends with is no plain tick, and the machine's
 abbrev Ticks : Debugged → Debugged → Stepped → Type 0
-Ticks d moved s = (tick_of s None 0 moved ≢ plain_tick) × IsTick d (Ok (tick_of s None 0 moved)) (settled s None 0 moved)
+Ticks d moved s = (tick_of s None 0 moved ≢ plain_tick) × IsTick d (Ok (tick_of s None 0 moved)) (settled s None d moved)
+
+-- what is left to be done once its move was recorded and counted
+abbrev pub counted_at : Stepped → Debugged → ℕ → Debugged
+counted_at s d pc = record (at_pc d pc) { past = past_after (Ok s) (course_of d); retired = d.retired + counted_by s }
+
+pub left_settled : (s : Stepped) (d : Debugged) (pc : ℕ) → left_by s (counted_at s d pc) ≡ settled s None d (at_pc d pc)
+left_settled Retired d pc = refl
+left_settled (Printed number) d pc = refl
+left_settled Break d pc = refl
+left_settled (Exit code) d pc =
+    ap (λ (n : ℕ). stayed (record (at_pc d pc) { retired = n })) (let e : d.retired + 0 ≡ d.retired = omega arith in e)
+left_settled (Trap cause) d pc =
+    ap (λ (n : ℕ). stayed (record (at_pc d pc) { retired = n })) (let e : d.retired + 0 ≡ d.retired = omega arith in e)
+
+pub tick_counted : (s : Stepped) (d : Debugged) (pc : ℕ) → tick_of s None 0 (counted_at s d pc) ≡ tick_of s None 0 (at_pc d pc)
+tick_counted Retired d pc = refl
+tick_counted (Printed number) d pc = refl
+tick_counted Break d pc = refl
+tick_counted (Exit code) d pc = refl
+tick_counted (Trap cause) d pc = refl
 
 -- ---- an environment call
 
@@ -73,28 +95,29 @@ call_effect : (answer : Result Stepped AllocError) (next pc : ℕ) (x memory : L
 unfolding with_memory
 call_effect answer next pc x memory s = ap (with_memory memory) s ∙ calls_so pc x memory
 
-ecall_ticks : (d : Debugged) (pc : ℕ) (s : Stepped) → d.check_due ≡ false → IsFetched (machine_of d.hart d.memory) (Some Ecall)
+ecall_ticks : (d : Debugged) (pc : ℕ) (s : Stepped) → d.check_due ≡ false → turns_back d.goal ≡ false
+    → IsFetched (machine_of d.hart d.memory) (Some Ecall)
     → IsMove (machine_of d.hart d.memory) (record { answer = Ok s; machine = machine_of (record d.hart { pc = pc }) d.memory })
     → (s ≡ Retired → ⊥) → Ticks d (at_pc d pc) s
-ecall_ticks d pc Retired due f m never = absurd (never refl)
-ecall_ticks d pc (Printed number) due f m never = (
+ecall_ticks d pc Retired due forward f m never = absurd (never refl)
+ecall_ticks d pc (Printed number) due forward f m never = (
   λ e. (let differs = ap (λ (t : Tick). t.printed) e in cc),
-  tick_of_move d _ _ due
+  tick_of_move d _ _ due forward
       (settled_moves d (record d.hart { pc = pc }) d.memory (Some Ecall) (Printed number) f m),
 )
-ecall_ticks d pc Break due f m never = (
+ecall_ticks d pc Break due forward f m never = (
   λ e. (let differs = ap (λ (t : Tick). t.outcome) e in cc),
-  tick_of_move d _ _ due
+  tick_of_move d _ _ due forward
       (settled_moves d (record d.hart { pc = pc }) d.memory (Some Ecall) Break f m),
 )
-ecall_ticks d pc (Exit code) due f m never = (
+ecall_ticks d pc (Exit code) due forward f m never = (
   λ e. (let differs = ap (λ (t : Tick). t.outcome) e in cc),
-  tick_of_move d _ _ due
+  tick_of_move d _ _ due forward
       (settled_moves d (record d.hart { pc = pc }) d.memory (Some Ecall) (Exit code) f m),
 )
-ecall_ticks d pc (Trap cause) due f m never = (
+ecall_ticks d pc (Trap cause) due forward f m never = (
   λ e. (let differs = ap (λ (t : Tick). t.outcome) e in cc),
-  tick_of_move d _ _ due
+  tick_of_move d _ _ due forward
       (settled_moves d (record d.hart { pc = pc }) d.memory (Some Ecall) (Trap cause) f m),
 )
 
@@ -103,18 +126,19 @@ ecall_ticks d pc (Trap cause) due f m never = (
 -- what is settled of a halt
 pub record Settled (d : Debugged) (answer : Result Stepped AllocError) (moved : Debugged) : Type 0 where
   pub ticks : (s : Stepped) → answer ≡ Ok s → Ticks d moved s
-  pub lacks : (error : AllocError) → answer ≡ Err error → (moved ≡ d) × TickNeedsPage d
+  pub lacks : (error : AllocError) → answer ≡ Err error → (moved ≡ d) × MayLackMemory d
 
 pub halt_settles : (d : Debugged) (halt : Halt) (answer : Result Stepped AllocError) (pc : ℕ) → d.check_due ≡ false
+    → turns_back d.goal ≡ false
     → Halts d.hart.pc halt (position_of d) → settles halt d.hart.pc d.hart.x answer pc → Settled d answer (at_pc d pc)
-halt_settles d (Stopped cause) answer pc due h s =
+halt_settles d (Stopped cause) answer pc due forward h s =
     let m : Machine = machine_of d.hart d.memory in
     let stays : IsMove m (record { answer = Ok (Trap cause); machine = machine_of (record d.hart { pc = pc }) d.memory }) =
     subst (λ (n : ℕ). IsMove m (record { answer = Ok (Trap cause); machine = machine_of (record d.hart { pc = n }) d.memory }))
     (sym s.1) h.says in
     let trap : Ticks d (at_pc d pc) (Trap cause) = (
       λ e. (let differs = ap (λ (t : Tick). t.outcome) e in cc),
-      tick_of_move d _ _ due (settled_moves d (record d.hart { pc = pc }) d.memory h.instr (Trap cause) h.fetched stays),
+      tick_of_move d _ _ due forward (settled_moves d (record d.hart { pc = pc }) d.memory h.instr (Trap cause) h.fetched stays),
     ) in
     record {
       ticks =
@@ -122,24 +146,24 @@ halt_settles d (Stopped cause) answer pc due h s =
           subst (Ticks d (at_pc d pc)) same trap);
       lacks = λ error e. absurd (let never : Ok (Trap cause) ≡ Err error = sym s.0 ∙ e in cc);
     }
-halt_settles d NoMemory answer pc due h s = record {
+halt_settles d NoMemory answer pc due forward h s = record {
   ticks = λ t e. absurd (let never : Err alloc_error ≡ Ok t = sym s.0 ∙ e in cc);
-  lacks = λ error e. (ap (at_pc d) s.1, record { moves = due; needs = h.says });
+  lacks = λ error e. (ap (at_pc d) s.1, record { moves = due; needs = λ f. h.says });
 }
-halt_settles d Calls answer pc due h s =
+halt_settles d Calls answer pc due forward h s =
     let m : Machine = machine_of d.hart d.memory in
     let f : IsFetched m (Some Ecall) = subst (IsFetched m) h.says.0 h.fetched in
     let effect : ((let e : Effect = record { answer = answer; machine = machine_of (record d.hart { pc = pc }) d.memory } in e) ≡ calls m) =
     call_effect answer pc d.hart.pc d.hart.x d.memory s in
     let move = subst (IsMove m) (sym effect) h.says.1 in
     record {
-      ticks = λ t e. ecall_ticks d pc t due f
+      ticks = λ t e. ecall_ticks d pc t due forward f
           (subst (λ (a : Result Stepped AllocError). IsMove m
           (record { answer = a; machine = machine_of (record d.hart { pc = pc }) d.memory })) e move)
           (λ r. calls_answer m (ap (λ (x : Effect). x.answer) (sym effect) ∙ e ∙ ap (λ (x : Stepped). Ok x) r));
       lacks = λ error e. absurd (calls_no_error m error (ap (λ (x : Effect). x.answer) (sym effect) ∙ e));
     }
-halt_settles d Breaks answer pc due h s =
+halt_settles d Breaks answer pc due forward h s =
     let m : Machine = machine_of d.hart d.memory in
     let f : IsFetched m (Some Ebreak) = subst (IsFetched m) h.says.0 h.fetched in
     let move : IsMove m (record { answer = Ok Break; machine = machine_of (record d.hart { pc = pc }) d.memory }) =
@@ -147,7 +171,7 @@ halt_settles d Breaks answer pc due h s =
     (sym s.1) h.says.1 in
     let break : Ticks d (at_pc d pc) Break = (
       λ e. (let differs = ap (λ (t : Tick). t.outcome) e in cc),
-      tick_of_move d _ _ due (settled_moves d (record d.hart { pc = pc }) d.memory (Some Ebreak) Break f move),
+      tick_of_move d _ _ due forward (settled_moves d (record d.hart { pc = pc }) d.memory (Some Ebreak) Break f move),
     ) in
     record {
       ticks = λ t e. (let same : Break ≡ t = (let both : Ok Break ≡ Ok t = sym s.0 ∙ e in cc) in subst (Ticks d (at_pc d pc)) same break);

@@ -3,6 +3,7 @@ pub mod Cases
 pub mod Quiet
 pub mod Going
 pub mod Bursting
+pub mod Counting
 pub mod Halting
 pub mod Remembering
 pub mod Determined
@@ -13,3 +14,6 @@ pub mod Ticking
 pub mod Existing
 pub mod Loading
 pub mod Exiting
+pub mod Leading
+pub mod Turning
+pub mod Reversing

@@ -18,7 +18,7 @@ decoded_is_fetched m instr h = rw h.1.0 h.1.1
 pub settled_moves : (before : Debugged) (hart : Hart) (memory : List ℕ) (instr : Option Instr) (s : Stepped)
     → IsFetched (machine_of before.hart before.memory) instr
     → IsMove (machine_of before.hart before.memory) (record { answer = Ok s; machine = machine_of hart memory })
-    → Moves before (Ok (tick_of s instr before.hart.pc (with_machine before hart memory))) (settled s instr before.hart.pc (with_machine before hart memory))
+    → Moves before (Ok (tick_of s instr before.hart.pc (with_machine before hart memory))) (settled s instr before (with_machine before hart memory))
 settled_moves before hart memory instr stepped.Retired f m =
     record { instr = instr; stepped = Ok stepped.Retired; fetched = f; moved = m; settles = (refl, refl) }
 settled_moves before hart memory instr (stepped.Printed number) f m =

@@ -11,7 +11,7 @@ use Rattle.stepping.specs.Stopping.{Advances, Answers, Applies, MeetsFunction, M
 use Rattle.stepping.specs.Ticks.{Debugged, Moves, Settles, gone_on, meets_goal, moved_as, outcome_of, settled, stayed, went_on}
 use Rattle.stepping.specs.declared.tick.Outcome.{Outcome}
 use Rattle.stepping.specs.declared.tick.Outcome.TheVariants.{Went, Stopped, Ended}
-use Rattle.stepping.specs.declared.tick.Reason.TheVariants.{Exception, Ebreak, Source, Instruction, Function, Goal}
+use Rattle.stepping.specs.declared.tick.Reason.TheVariants.{Exception, Ebreak, Source, Instruction, Function, Goal, Start}
 use Rattle.stepping.specs.declared.tick.Tick.{Tick}
 use Rattle.stepping.proofs.Advancing.{advance_answers, advance_equal, advances_so, answers_equal, stays_so}
 
@@ -30,6 +30,7 @@ SaysOnce (Stopped Source) before after = IsFirst (Stopped Source) before × Adva
 SaysOnce (Stopped Instruction) before after = IsFirst (Stopped Instruction) before × Advances before after
 SaysOnce (Stopped Function) before after = IsFirst (Stopped Function) before × Advances before after
 SaysOnce (Stopped Goal) before after = IsFirst (Stopped Goal) before × Advances before after
+SaysOnce (Stopped Start) before after = ⊥
 
 -- ---- the reasons that an answer of the hart leaves
 
@@ -41,6 +42,7 @@ Leads s (Stopped Source) = IsTrue (has_retired s)
 Leads s (Stopped Instruction) = IsTrue (has_retired s)
 Leads s (Stopped Function) = IsTrue (has_retired s)
 Leads s (Stopped Goal) = IsTrue (has_retired s)
+Leads s (Stopped Start) = ⊥
 Leads s Went = ⊥
 
 advanced : (before after : Debugged) (s : Stepped) → Answers before s → Advances before after → IsTrue (has_retired s)
@@ -54,6 +56,7 @@ leads before s (Stopped Source) a x = advanced before x.0 s a x.1.0
 leads before s (Stopped Instruction) a x = advanced before x.0 s a x.1.0
 leads before s (Stopped Function) a x = advanced before x.0 s a x.1.0
 leads before s (Stopped Goal) a x = advanced before x.0 s a x.1.0
+leads before s (Stopped Start) a x = x
 leads before s Went a x = x
 
 -- the least place of a reason that it leaves
@@ -72,6 +75,7 @@ at_least (Trap cause) (Stopped Instruction) h = omega arith
 at_least (Trap cause) (Stopped Function) h = omega arith
 at_least (Trap cause) (Stopped Goal) h = omega arith
 at_least (Trap cause) (Ended code) h = omega arith
+at_least (Trap cause) (Stopped Start) h = absurd h
 at_least (Trap cause) Went h = absurd h
 at_least (Exit code) (Stopped (Exception c)) h = cc
 at_least (Exit code) (Stopped Ebreak) h = omega arith
@@ -80,6 +84,7 @@ at_least (Exit code) (Stopped Instruction) h = omega arith
 at_least (Exit code) (Stopped Function) h = omega arith
 at_least (Exit code) (Stopped Goal) h = omega arith
 at_least (Exit code) (Ended c) h = omega arith
+at_least (Exit code) (Stopped Start) h = absurd h
 at_least (Exit code) Went h = absurd h
 at_least Break (Stopped (Exception c)) h = cc
 at_least Break (Stopped Ebreak) h = omega arith
@@ -88,6 +93,7 @@ at_least Break (Stopped Instruction) h = omega arith
 at_least Break (Stopped Function) h = omega arith
 at_least Break (Stopped Goal) h = omega arith
 at_least Break (Ended c) h = cc
+at_least Break (Stopped Start) h = absurd h
 at_least Break Went h = absurd h
 at_least Retired (Stopped (Exception c)) h = cc
 at_least Retired (Stopped Ebreak) h = cc
@@ -96,6 +102,7 @@ at_least Retired (Stopped Instruction) h = omega arith
 at_least Retired (Stopped Function) h = omega arith
 at_least Retired (Stopped Goal) h = omega arith
 at_least Retired (Ended c) h = cc
+at_least Retired (Stopped Start) h = absurd h
 at_least Retired Went h = absurd h
 at_least (Printed number) (Stopped (Exception c)) h = cc
 at_least (Printed number) (Stopped Ebreak) h = cc
@@ -104,6 +111,7 @@ at_least (Printed number) (Stopped Instruction) h = omega arith
 at_least (Printed number) (Stopped Function) h = omega arith
 at_least (Printed number) (Stopped Goal) h = omega arith
 at_least (Printed number) (Ended c) h = cc
+at_least (Printed number) (Stopped Start) h = absurd h
 at_least (Printed number) Went h = absurd h
 
 above : (before : Debugged) (s : Stepped) → Answers before s → (other : Outcome) → Applies other before → lowest s ≤ place other
@@ -120,6 +128,7 @@ past_source before (Stopped Source) x l none = absurd (none x)
 past_source before (Stopped Instruction) x l none = omega (arith, l)
 past_source before (Stopped Function) x l none = omega (arith, l)
 past_source before (Stopped Goal) x l none = omega (arith, l)
+past_source before (Stopped Start) x l none = absurd x
 past_source before Went x l none = absurd x
 
 past_instructions : (before : Debugged) (other : Outcome) → Applies other before → 5 ≤ place other → (MeetsInstruction before → ⊥)
@@ -131,6 +140,7 @@ past_instructions before (Stopped Source) x l none = omega (arith, l)
 past_instructions before (Stopped Instruction) x l none = absurd (none x)
 past_instructions before (Stopped Function) x l none = omega (arith, l)
 past_instructions before (Stopped Goal) x l none = omega (arith, l)
+past_instructions before (Stopped Start) x l none = absurd x
 past_instructions before Went x l none = absurd x
 
 past_functions : (before : Debugged) (other : Outcome) → Applies other before → 6 ≤ place other → (MeetsFunction before → ⊥)
@@ -142,6 +152,7 @@ past_functions before (Stopped Source) x l none = omega (arith, l)
 past_functions before (Stopped Instruction) x l none = omega (arith, l)
 past_functions before (Stopped Function) x l none = absurd (none x)
 past_functions before (Stopped Goal) x l none = omega (arith, l)
+past_functions before (Stopped Start) x l none = absurd x
 past_functions before Went x l none = absurd x
 
 past_goal : (before : Debugged) (other : Outcome) → Applies other before → 7 ≤ place other → (MeetsGoal before → ⊥) → ⊥
@@ -152,6 +163,7 @@ past_goal before (Stopped Source) x l none = absurd (omega (arith, l))
 past_goal before (Stopped Instruction) x l none = absurd (omega (arith, l))
 past_goal before (Stopped Function) x l none = absurd (omega (arith, l))
 past_goal before (Stopped Goal) x l none = none x
+past_goal before (Stopped Start) x l none = x
 past_goal before Went x l none = x
 
 module _ (before after : Debugged) (moves : Advances before after) where
@@ -231,7 +243,7 @@ one_says before after tick m = go m.stepped m.moved m.settles where
 
   went : (s : Stepped) → IsTrue (has_retired s) → lowest s ≡ 4
       → IsMove (machine_of before.hart before.memory) (record { answer = Ok s; machine = machine_of after.hart after.memory })
-      → after ≡ settled s m.instr before.hart.pc (moved_as before after) → after ≡ gone_on m.instr before.hart.pc (moved_as before after)
+      → after ≡ settled s m.instr before (moved_as before after) → after ≡ gone_on m.instr before (moved_as before after)
       → SaysOnce (went_on m.instr before.hart.pc (moved_as before after)) before after
   went s r l i e g =
       let moves : Advances before after = (advances_so before after m.instr s m.fetched i r e).1.1 in

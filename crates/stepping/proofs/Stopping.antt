@@ -10,7 +10,7 @@ use Rattle.stepping.specs.RunLaws.{CountsAnew, MovesEnd, StopIsUnique}
 use Rattle.stepping.specs.declared.tick.Outcome.{Outcome}
 use Rattle.stepping.specs.declared.tick.Outcome.TheVariants.{Went, Stopped, Ended}
 use Rattle.stepping.specs.declared.tick.Reason.{Reason}
-use Rattle.stepping.specs.declared.tick.Reason.TheVariants.{Exception, Ebreak, Source, Instruction, Function, Goal}
+use Rattle.stepping.specs.declared.tick.Reason.TheVariants.{Exception, Ebreak, Source, Instruction, Function, Goal, Start}
 use Rattle.stepping.proofs.Advancing.{Made, advance_answers, after_equal, after_lower, after_ready, answers_equal}
 
 -- what applies at the next instruction, at another machine after as many moves
@@ -20,13 +20,14 @@ applies_here k start before outcome a x = subst (λ (d : Debugged). Applies outc
 
 -- ---- one number and one reason
 
-other_place : (reason : Reason) → (place (Stopped reason) ≢ 2) × (place (Stopped reason) ≢ 8)
+other_place : (reason : Reason) → (place (Stopped reason) ≢ 2) × (place (Stopped reason) ≢ 9)
 other_place (Exception c) = (λ e. omega (arith, e), λ e. omega (arith, e))
 other_place Ebreak = (λ e. omega (arith, e), λ e. omega (arith, e))
 other_place Source = (λ e. omega (arith, e), λ e. omega (arith, e))
 other_place Instruction = (λ e. omega (arith, e), λ e. omega (arith, e))
 other_place Function = (λ e. omega (arith, e), λ e. omega (arith, e))
 other_place Goal = (λ e. omega (arith, e), λ e. omega (arith, e))
+other_place Start = (λ e. omega (arith, e), λ e. omega (arith, e))
 
 same_reason : (o p : Outcome) → place o ≡ place p → ((c d : Cause) → o ≡ Stopped (Exception c) → p ≡ Stopped (Exception d) → c ≡ d)
     → ((c d : ℤ) → o ≡ Ended c → p ≡ Ended d → c ≡ d) → o ≡ p
@@ -38,6 +39,7 @@ same_reason (Stopped Source) (Stopped Source) e causes codes = refl
 same_reason (Stopped Instruction) (Stopped Instruction) e causes codes = refl
 same_reason (Stopped Function) (Stopped Function) e causes codes = refl
 same_reason (Stopped Goal) (Stopped Goal) e causes codes = refl
+same_reason (Stopped Start) (Stopped Start) e causes codes = refl
 same_reason Went Went e causes codes = refl
 same_reason (Ended c) (Stopped reason) e causes codes = absurd ((other_place reason).0 (sym e))
 same_reason Went (Stopped reason) e causes codes = absurd ((other_place reason).1 (sym e))
@@ -79,6 +81,7 @@ apart before after (Stopped Source) l x m = omega (arith, l)
 apart before after (Stopped Instruction) l x m = omega (arith, l)
 apart before after (Stopped Function) l x m = omega (arith, l)
 apart before after (Stopped Goal) l x m = omega (arith, l)
+apart before after (Stopped Start) l x m = x
 apart before after Went l x m = x
 
 pub moves_end : MovesEnd

@@ -5,6 +5,7 @@ use Rattle.std.specs.List.{list_any}
 use Rattle.std.specs.declared.alloc.AllocError.{AllocError}
 use Rattle.std.proofs.lemmas.Bool.Decides.{Decides-eqb, not_from_Decides}
 use Rattle.breakpoints.specs.Stops.{Placed, stops}
+use Rattle.stepping.specs.Goals.{turns_back}
 use Rattle.stepping.specs.Plain.{plain_tick}
 use Rattle.stepping.specs.Runs.{EndsRun, Goes}
 use Rattle.stepping.specs.Stopping.{After, Applies, AppliesAt, AppliesAtEntry, NoneBelow, StopsAt, place}
@@ -14,9 +15,9 @@ use Rattle.stepping.specs.declared.tick.RunEnd.{RunEnd}
 use Rattle.stepping.specs.declared.tick.RunEnd.TheVariants.{Spent, Ticked, NoMemory}
 use Rattle.stepping.specs.declared.tick.Outcome.{Outcome}
 use Rattle.stepping.specs.declared.tick.Outcome.TheVariants.{Went, Stopped, Ended}
-use Rattle.stepping.specs.declared.tick.Reason.TheVariants.{Exception, Ebreak, Source, Instruction, Function, Goal}
+use Rattle.stepping.specs.declared.tick.Reason.TheVariants.{Exception, Ebreak, Source, Instruction, Function, Goal, Start}
 use Rattle.stepping.specs.declared.tick.Tick.{Tick}
-use Rattle.stepping.proofs.Advancing.{after_ready, each_tick_answers}
+use Rattle.stepping.proofs.Advancing.{after_goal, after_ready, each_tick_answers}
 use Rattle.stepping.proofs.Cases.{entry_of, move_of}
 use Rattle.stepping.proofs.Reasons.{SaysOnce, one_says}
 use Rattle.stepping.proofs.Stopping.{applies_here, stop_is_unique}
@@ -60,12 +61,14 @@ next_says k start before after (Stopped Function) r s =
     (stops_there k start before (Stopped Function) r s.0.applies s.0.first, (before, (r.1, s.1)))
 next_says k start before after (Stopped Goal) r s =
     (stops_there k start before (Stopped Goal) r s.0.applies s.0.first, (before, (r.1, s.1)))
+next_says k start before after (Stopped Start) r s = absurd s
 
-tick_says : (k : ℕ) (start before after : Debugged) (tick : Tick) → Ready k start before → IsTick before (Ok tick) after
-    → Says (suc k) tick.outcome start after
-tick_says k start before after tick r t =
+tick_says : (k : ℕ) (start before after : Debugged) (tick : Tick) → turns_back start.goal ≡ false → Ready k start before
+    → IsTick before (Ok tick) after → Says (suc k) tick.outcome start after
+tick_says k start before after tick f r t =
     next_says k start before after tick.outcome r
-    (one_says before after tick (move_of before after (Ok tick) (after_ready k start before r.1) t))
+    (one_says before after tick
+    (move_of before after (Ok tick) (after_ready k start before r.1) (ap turns_back (after_goal k start before r.1) ∙ f) t))
 
 -- ---- the check at the entry
 
@@ -89,6 +92,7 @@ no_source start e (Stopped (Exception c)) x = absurd x
 no_source start e (Stopped Ebreak) x = absurd x
 no_source start e (Stopped Goal) x = absurd x
 no_source start e (Ended c) x = absurd x
+no_source start e (Stopped Start) x = absurd x
 no_source start e Went x = absurd x
 
 no_instruction : (start : Debugged) → stops_in start start.lists.source ≡ false → stops_in start start.lists.instructions ≡ false
@@ -100,6 +104,7 @@ no_instruction start e f (Stopped (Exception c)) x = absurd x
 no_instruction start e f (Stopped Ebreak) x = absurd x
 no_instruction start e f (Stopped Goal) x = absurd x
 no_instruction start e f (Ended c) x = absurd x
+no_instruction start e f (Stopped Start) x = absurd x
 no_instruction start e f Went x = absurd x
 
 nothing : (start : Debugged) → stops_in start start.lists.source ≡ false → stops_in start start.lists.instructions ≡ false
@@ -111,6 +116,7 @@ nothing start e f g (Stopped (Exception c)) x = x
 nothing start e f g (Stopped Ebreak) x = x
 nothing start e f g (Stopped Goal) x = x
 nothing start e f g (Ended c) x = x
+nothing start e f g (Stopped Start) x = x
 nothing start e f g Went x = x
 
 at_entry : (start : Debugged) (other : Outcome) → AppliesAtEntry other start → 4 ≤ place other
@@ -121,6 +127,7 @@ at_entry start (Stopped (Exception c)) x = absurd x
 at_entry start (Stopped Ebreak) x = absurd x
 at_entry start (Stopped Goal) x = absurd x
 at_entry start (Ended c) x = absurd x
+at_entry start (Stopped Start) x = absurd x
 at_entry start Went x = absurd x
 
 none_lower : (start : Debugged) → NoneBelow 0 start
@@ -162,29 +169,29 @@ ReadyFor true zero start before = before ≡ start
 ReadyFor true (suc k) start before = Ready k start before
 ReadyFor false ticks start before = Ready ticks start before
 
-numbered : (due : Bool) (ticks : ℕ) (start before after : Debugged) (tick : Tick) → start.check_due ≡ due → ReadyFor due ticks start before
-    → IsTick before (Ok tick) after → Says (if due then ticks else suc ticks) tick.outcome start after
-numbered true zero start before after tick e r t = entry_says start after tick e (subst (λ (d : Debugged). IsTick d (Ok tick) after) r t)
-numbered true (suc k) start before after tick e r t = tick_says k start before after tick r t
-numbered false ticks start before after tick e r t = tick_says ticks start before after tick r t
+numbered : (due : Bool) (ticks : ℕ) (start before after : Debugged) (tick : Tick) → turns_back start.goal ≡ false → start.check_due ≡ due
+    → ReadyFor due ticks start before → IsTick before (Ok tick) after → Says (if due then ticks else suc ticks) tick.outcome start after
+numbered true zero start before after tick f e r t = entry_says start after tick e (subst (λ (d : Debugged). IsTick d (Ok tick) after) r t)
+numbered true (suc k) start before after tick f e r t = tick_says k start before after tick f r t
+numbered false ticks start before after tick f e r t = tick_says ticks start before after tick f r t
 
 abbrev went_with : Option ℤ → Tick
 went_with printed = record { printed = printed; outcome = Went }
 
-ready_after : (due : Bool) (ticks : ℕ) (start before : Debugged) → start.check_due ≡ due → GoOn ticks start before
-    → ReadyFor due ticks start before
-ready_after true zero start before e g = g
-ready_after false zero start before e g = subst (λ (d : Debugged). Ready 0 start d) (sym g) (ready_at_start start e)
-ready_after true (suc k) start before e g =
+ready_after : (due : Bool) (ticks : ℕ) (start before : Debugged) → turns_back start.goal ≡ false → start.check_due ≡ due
+    → GoOn ticks start before → ReadyFor due ticks start before
+ready_after true zero start before f e g = g
+ready_after false zero start before f e g = subst (λ (d : Debugged). Ready 0 start d) (sym g) (ready_at_start start e)
+ready_after true (suc k) start before f e g =
     let went : IsTick g.0 (Ok (went_with g.2.1.0)) before = subst (λ a. IsTick g.0 a before) g.2.1.1 g.2.2 in
-    numbered true k start g.0 before (went_with g.2.1.0) e (ready_after true k start g.0 e g.2.0) went
-ready_after false (suc k) start before e g =
+    numbered true k start g.0 before (went_with g.2.1.0) f e (ready_after true k start g.0 f e g.2.0) went
+ready_after false (suc k) start before f e g =
     let went : IsTick g.0 (Ok (went_with g.2.1.0)) before = subst (λ a. IsTick g.0 a before) g.2.1.1 g.2.2 in
-    numbered false k start g.0 before (went_with g.2.1.0) e (ready_after false k start g.0 e g.2.0) went
+    numbered false k start g.0 before (went_with g.2.1.0) f e (ready_after false k start g.0 f e g.2.0) went
 
 pub ticks_say_where : TicksSayWhere
-ticks_say_where ticks start before after tick g t =
-    numbered start.check_due ticks start before after tick refl (ready_after start.check_due ticks start before refl g) t
+ticks_say_where ticks start before after tick f g t =
+    numbered start.check_due ticks start before after tick f refl (ready_after start.check_due ticks start before f refl g) t
 
 -- ---- a tick up to the number at which a run stops
 
@@ -208,12 +215,12 @@ says_so k n outcome (Ended code) start after tick answer a e stop s =
     inr (same.0, (tick.printed, a ∙ ap (λ (o : Outcome). Ok (record { printed = tick.printed; outcome = o })) (e ∙ same.1)))
 
 pub runs_stop_there : RunsStopThere
-runs_stop_there ticks n outcome start before after answer stop g t =
-    let ready = ready_after start.check_due ticks start before refl g in
+runs_stop_there ticks n outcome start before after answer f stop g t =
+    let ready = ready_after start.check_due ticks start before f refl g in
     let ok = answered answer (each_tick_answers before after answer t) in
     let tick : IsTick before (Ok ok.0) after = subst (λ a. IsTick before a after) ok.1 t in
     says_so (number_after ticks start) n outcome ok.0.outcome start after ok.0 answer ok.1 refl stop
-    (numbered start.check_due ticks start before after ok.0 refl ready tick)
+    (numbered start.check_due ticks start before after ok.0 f refl ready tick)
 
 -- ---- many ticks in one call
 
@@ -228,14 +235,15 @@ none_so_far true (suc k) start before e r = r.0
 none_so_far false ticks start before e r = r.0
 
 pub runs_say_where : RunsSayWhere
-runs_say_where most ran start after run = go ran.ending run.ends where
+runs_say_where most ran start after f run = go ran.ending run.ends where
   went : GoOn ran.went start run.middle
   went = plain_ticks_go_on ran.went start run.middle run.goes
 
   none : NoneBelow (number_after ran.went start) start
-  none = none_so_far start.check_due ran.went start run.middle refl (ready_after start.check_due ran.went start run.middle refl went)
+  none =
+      none_so_far start.check_due ran.went start run.middle refl (ready_after start.check_due ran.went start run.middle f refl went)
 
   go : (ending : RunEnd) → EndsRun most ran.went ending run.middle after → EndingSays ran.went ending start after
   go Spent e = none
   go NoMemory e = none
-  go (Ticked tick) e = ticks_say_where ran.went start run.middle after tick went e.1.1
+  go (Ticked tick) e = ticks_say_where ran.went start run.middle after tick f went e.1.1

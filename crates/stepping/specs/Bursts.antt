@@ -2,12 +2,12 @@
 --
 -- Where the addresses of breakpoints are far and the goal is out of reach, nothing has to be looked at: a run then goes
 -- from one address to the next, and the hart's pc and the count of instructions are set where it ends.
-use Rattle.std.specs.Prelude.{◌≡◌, ◌≢◌, ℕ, zero, suc, ◌+◌, ◌<◌, ◌≤◌, false, Option, Some, None, Ok}
+use Rattle.std.specs.Prelude.{◌≡◌, ◌≢◌, ℕ, zero, suc, ◌+◌, ◌<◌, ◌≤◌, false, Option, Some, None, Ok, Err}
 use Rattle.breakpoints.specs.Places.{is_among}
 use Rattle.breakpoints.specs.Stops.{Lists}
-use Rattle.course.specs.Positions.{Halts, Position, Retires}
+use Rattle.course.specs.Positions.{Course, GoesOn, Halts}
 use Rattle.stepping.specs.Plain.{plain_tick}
-use Rattle.stepping.specs.Runs.{Goes, HasMoved, TickNeedsPage}
+use Rattle.stepping.specs.Runs.{Goes, HasMoved, MayLackMemory}
 use Rattle.stepping.specs.Ticks.{Debugged, IsTick, position_of}
 use Rattle.stepping.specs.declared.running.Stretch.{Stretch}
 use Rattle.stepping.specs.declared.tick.RunEnd.{RunEnd}
@@ -22,18 +22,19 @@ pub record IsFar (lists : Lists) (reach pc depth : ℕ) : Type 0 where
   pub deep : reach ≤ depth
 
 -- so many instructions retire one after the other, and each leads to where there is nothing to see
-abbrev pub Retire : ℕ → Lists → ℕ → ℕ → Position → ℕ → Position → Type 0
+abbrev pub Retire : ℕ → Lists → ℕ → ℕ → Course → ℕ → Course → Type 0
 Retire zero lists reach at before next after = (next ≡ at) × (after ≡ before)
-Retire (suc n) lists reach at before next after = (pc : ℕ) × (middle : Position)
-    × (Retire n lists reach at before pc middle × Retires pc next middle after × IsFar lists reach next after.calls.depth)
+Retire (suc n) lists reach at before next after = (pc : ℕ) × (middle : Course)
+    × (Retire n lists reach at before pc middle × GoesOn pc middle (Ok next) after
+    × IsFar lists reach next after.now.calls.depth)
 
 -- what ended them: as many as were asked for retired; one more retired, and led to where there may be something to see;
 -- or the next one halts
-abbrev pub EndsBurst : ℕ → ℕ → BurstEnd → ℕ → Position → ℕ → Position → Type 0
+abbrev pub EndsBurst : ℕ → ℕ → BurstEnd → ℕ → Course → ℕ → Course → Type 0
 EndsBurst most went Spent pc middle next after = (went ≡ most) × ((next ≡ pc) × (after ≡ middle))
-EndsBurst most went Near pc middle next after = (went < most) × Retires pc next middle after
+EndsBurst most went Near pc middle next after = (went < most) × GoesOn pc middle (Ok next) after
 EndsBurst most went (Halted halt) pc middle next after =
-    (went < most) × (Halts pc halt middle × ((next ≡ pc) × (after ≡ middle)))
+    (went < most) × (GoesOn pc middle (Err halt) after × (next ≡ pc))
 
 -- how many retired
 abbrev pub moved_by : ℕ → BurstEnd → ℕ
@@ -41,12 +42,12 @@ moved_by went Spent = went
 moved_by went Near = went + 1
 moved_by went (Halted halt) = went
 
-pub record Bursts (most : ℕ) (lists : Lists) (reach : ℕ) (before : Position) (burst : Burst) (after : Position) : Type 0 where
+pub record Bursts (most : ℕ) (lists : Lists) (reach : ℕ) (before : Course) (burst : Burst) (after : Course) : Type 0 where
   pub pc : ℕ
-  pub middle : Position
-  pub retire : Retire burst.went lists reach before.hart.pc before pc middle
+  pub middle : Course
+  pub retire : Retire burst.went lists reach before.now.hart.pc before pc middle
   pub ends : EndsBurst most burst.went burst.ending pc middle burst.pc after
-  pub stays : after.hart.pc ≡ before.hart.pc
+  pub stays : after.now.hart.pc ≡ before.now.hart.pc
 
 -- ---- of a machine
 
@@ -54,7 +55,7 @@ pub record Bursts (most : ℕ) (lists : Lists) (reach : ℕ) (before : Position)
 abbrev pub EndsHalted : Debugged → RunEnd → Debugged → Type 0
 EndsHalted before run.Spent after = ⊥
 EndsHalted before (run.Ticked tick) after = (tick ≢ plain_tick) × IsTick before (Ok tick) after
-EndsHalted before run.NoMemory after = (after ≡ before) × TickNeedsPage before
+EndsHalted before run.NoMemory after = (after ≡ before) × MayLackMemory before
 
 -- the same as ticks: nothing was to report of them, and the machine is where they ended
 abbrev pub Ends : ℕ → ℕ → BurstEnd → Debugged → Debugged → Type 0

@@ -11,10 +11,14 @@ pub mod Runs
 pub mod Stopping
 -- what holds of every run: ticks stop there
 pub mod RunLaws
+-- where a run that goes back stops
+pub mod StoppingBack
 -- a machine into which a program was just loaded
 pub mod Loading
 -- what a machine keeps of its past
 pub mod Past
+-- what it has recorded of its past: a run that leads to where it is
+pub mod Leading
 -- a machine that has lent its breakpoints
 pub mod Lending
 -- What follows is cited by private clauses alone: what holds of every machine that is debugged.

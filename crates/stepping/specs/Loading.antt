@@ -17,7 +17,7 @@ pub record CanBeLoaded (image : Image) (size : ℕ) : Type 0 where
   pub aligned : image.entry % 4 ≡ 0
 
 -- The machine is as the image says: pc at the entry, sp at the end of memory, all other registers and all other bytes
--- 0. No instruction has retired, and it goes on without a goal.
+-- 0. No instruction has retired, no move is recorded, and it goes on without a goal.
 pub record IsLoaded (image : Image) (size : ℕ) (lists : Lists) (d : Debugged) : Type 0 where
   pub pc : d.hart.pc ≡ image.entry
   pub x : d.hart.x ≡ slice_set (replicate 32 0) 2 (first_address + size)
@@ -26,6 +26,7 @@ pub record IsLoaded (image : Image) (size : ℕ) (lists : Lists) (d : Debugged) 
   pub calls : d.calls ≡ nothing_kept
   pub lists_are : d.lists ≡ lists
   pub retired : d.retired ≡ 0
+  pub past : d.past ≡ []
   pub goal : d.goal ≡ Go
   pub start : d.start ≡ 0
   pub check_due : d.check_due ≡ false
@@ -58,6 +59,7 @@ loaded image size lists = record {
   calls = nothing_kept;
   lists = lists;
   retired = 0;
+  past = [];
   goal = Go;
   start = 0;
   check_due = false;

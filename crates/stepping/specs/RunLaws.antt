@@ -3,10 +3,12 @@
 -- Ticks stop where a run stops. Each tick stands for one number of its run: in a first run the first tick for 0, which
 -- is the check at the entry, and in any other for 1. A tick goes on where no reason to stop applies at its number or at
 -- a lower one. It stops, or says that the program has ended, exactly at the least number at which one applies, and for
--- the first reason there.
-use Rattle.std.specs.Prelude.{◌≡◌, ℕ, ℤ, zero, suc, ◌+◌, ◌<◌, ◌≤◌, ◌⊎◌, ◌↔◌, if◌then◌else◌, Option, Result, Ok, IsOk, ⊤}
+-- the first reason there. Ticks of a run that goes back have laws of their own (`StoppingBack`).
+use Rattle.std.specs.Prelude.{◌≡◌, ℕ, ℤ, zero, suc, ◌+◌, ◌<◌, ◌≤◌, ◌⊎◌, ◌↔◌, false, if◌then◌else◌, Option}
+use Rattle.std.specs.Prelude.{Result, Ok, IsOk, ⊤}
 use Rattle.std.specs.declared.alloc.AllocError.{AllocError}
 use Rattle.rv32i.specs.Laws.{IsSignedWord}
+use Rattle.stepping.specs.Goals.{turns_back}
 use Rattle.stepping.specs.Runs.{IsRun}
 use Rattle.stepping.specs.Stopping.{After, AppliesAt, Leaves, NoneBelow, StopsAt, place}
 use Rattle.stepping.specs.Ticks.{Debugged, IsTick}
@@ -88,13 +90,13 @@ Says n (Ended code) start after = StopsAt n (Ended code) start × Leaves n (Ende
 
 -- What a tick says is so.
 abbrev pub TicksSayWhere : Type 0
-TicksSayWhere = (ticks : ℕ) (start before after : Debugged) (tick : Tick) → GoOn ticks start before →
-    IsTick before (Ok tick) after → Says (number_after ticks start) tick.outcome start after
+TicksSayWhere = (ticks : ℕ) (start before after : Debugged) (tick : Tick) → turns_back start.goal ≡ false →
+    GoOn ticks start before → IsTick before (Ok tick) after → Says (number_after ticks start) tick.outcome start after
 
 -- Ticks say all of it: where a run stops at a number, those before it go on, and the one at it gives the reason.
 abbrev pub RunsStopThere : Type 0
 RunsStopThere = (ticks n : ℕ) (outcome : Outcome) (start before after : Debugged) (answer : Result Tick AllocError) →
-    StopsAt n outcome start → GoOn ticks start before → IsTick before answer after →
+    turns_back start.goal ≡ false → StopsAt n outcome start → GoOn ticks start before → IsTick before answer after →
     ((number_after ticks start < n) × AnswersWith Went answer)
     ⊎ ((number_after ticks start ≡ n) × AnswersWith outcome answer)
 
@@ -108,5 +110,5 @@ EndingSays went NoMemory start after = NoneBelow (number_after went start) start
 
 -- What they say is so.
 abbrev pub RunsSayWhere : Type 0
-RunsSayWhere = (most : ℕ) (ran : Ran) (start after : Debugged) → IsRun most start ran after →
-    EndingSays ran.went ran.ending start after
+RunsSayWhere = (most : ℕ) (ran : Ran) (start after : Debugged) → turns_back start.goal ≡ false →
+    IsRun most start ran after → EndingSays ran.went ran.ending start after

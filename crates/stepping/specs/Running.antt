@@ -1,6 +1,9 @@
 -- What holds of every machine that is debugged, and how a run goes on or ends: cited by private clauses alone.
-use Rattle.std.specs.Prelude.{◌≡◌, ℕ, ◌%◌, ◌^◌, ◌<◌, ◌≤◌, true, false, Option, Some, None}
+use Rattle.std.specs.Prelude.{◌≡◌, ℕ, ◌+◌, ◌%◌, ◌^◌, ◌<◌, ◌≤◌, true, false, ◌∷◌, Option, Some, None, slice_get}
 use Rattle.image.specs.Lines.{Table}
+use Rattle.rv32i.specs.declared.stepped.Stepped.{Stepped}
+use Rattle.rv32i.specs.declared.stepped.Stepped.TheVariants.{Retired, Printed, Break, Exit, Trap}
+use Rattle.course.specs.Positions.{Course, Position}
 use Rattle.stepping.specs.Goals.{is_met, may_end}
 use Rattle.stepping.specs.Plain.{IsPlain}
 use Rattle.stepping.specs.Runs.{Goes, IsRun}
@@ -23,13 +26,19 @@ abbrev pub IsInReach : ℕ → Goal → ℕ → Type 0
 IsInReach from goal start = (table : Table) (pc depth : ℕ) → depth < from → may_end goal table pc ≡ true
     → is_met goal start table pc depth ≡ true
 
--- its memory has a size that memory can have, no more calls are open than instructions have retired, and it is known
--- from where on the goal is out of reach
-pub record IsSound (size depth retired out_of_reach : ℕ) (goal : Goal) (start : ℕ) : Type 0 where
+-- No more calls are open than instructions have retired; and before each of the recorded moves no more were than had
+-- retired then. So no more moves are recorded than instructions have retired.
+abbrev pub AreCounted : Course → ℕ → Type 0
+AreCounted course retired =
+    (k : ℕ) (p : Position) → slice_get (course.now ∷ course.past) k ≡ Some p → p.calls.depth + k ≤ retired
+
+-- its memory has a size that memory can have, its instructions are counted, and it is known from where on the goal is
+-- out of reach
+pub record IsSound (size : ℕ) (course : Course) (retired out_of_reach : ℕ) (goal : Goal) (start : ℕ) : Type 0 where
   pub whole : size % 4096 ≡ 0
   pub some : 4096 ≤ size
   pub few : size ≤ 16777216
-  pub called : depth ≤ retired
+  pub called : AreCounted course retired
   pub unmet : IsOutOfReach out_of_reach goal start
 
 -- ---- after a move
@@ -38,6 +47,23 @@ pub record IsSound (size depth retired out_of_reach : ℕ) (goal : Goal) (start 
 pub record IsQuiet (d : Debugged) : Type 0 where
   pub went : seen d ≡ Went
   pub checked : with_check d ≡ stayed d
+
+-- how many instructions retired in a move, by what the hart answers to it
+abbrev pub counted_by : Stepped → ℕ
+counted_by Retired = 1
+counted_by (Printed number) = 1
+counted_by Break = 1
+counted_by (Exit code) = 0
+counted_by (Trap cause) = 0
+
+-- what is left to be done once a move was made, by an instruction that is no jump, recorded and counted: pc is looked
+-- at, if it retired
+abbrev pub left_by : Stepped → Debugged → Debugged
+left_by Retired d = with_check d
+left_by (Printed number) d = with_check d
+left_by Break d = with_check d
+left_by (Exit code) d = stayed d
+left_by (Trap cause) d = stayed d
 
 -- ---- a tick of a run
 

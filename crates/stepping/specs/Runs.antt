@@ -1,6 +1,7 @@
 -- Runs: many ticks.
-use Rattle.std.specs.Prelude.{◌≡◌, ℕ, zero, suc, ◌<◌, false, [], None, Ok}
+use Rattle.std.specs.Prelude.{◌≡◌, ℕ, zero, suc, ◌+◌, ◌^◌, ◌<◌, ◌≤◌, false, [], None, Ok}
 use Rattle.rv32i.specs.Machine.{MoveNeedsPage, machine_of}
+use Rattle.stepping.specs.Goals.{turns_back}
 use Rattle.stepping.specs.Plain.{IsPlain, plain_tick}
 use Rattle.stepping.specs.Ticks.{Debugged, IsTick, seen, with_check}
 use Rattle.stepping.specs.declared.tick.RunEnd.{RunEnd}
@@ -18,18 +19,23 @@ pub record HasMoved (before after : Debugged) : Type 0 where
   pub due : before.check_due ≡ false
   pub tick : IsTick before (Ok (record { printed = None; outcome = seen after })) (with_check after)
 
--- Memory is made for a tick only where it is a move that needs a page.
-pub record TickNeedsPage (d : Debugged) : Type 0 where
+-- It may make so many ticks: fewer than 2^62 instructions will have retired before each. One that goes back counts none.
+abbrev pub MayGo : ℕ → Debugged → Type 0
+MayGo most d = turns_back d.goal ≡ false → d.retired + most ≤ 2 ^ 62
+
+-- Memory may be lacking for a tick only where it is a move that needs a page. Of one that goes back no more is said than
+-- that nothing has changed.
+pub record MayLackMemory (d : Debugged) : Type 0 where
   pub moves : d.check_due ≡ false
-  pub needs : MoveNeedsPage (machine_of d.hart d.memory)
+  pub needs : turns_back d.goal ≡ false → MoveNeedsPage (machine_of d.hart d.memory)
 
 -- and what ended them: that these were as many as were asked for, a tick of which there is something to report, or
--- one more needs a page for which no memory was left, and was not made
+-- that no memory was left for one more, which was not made
 abbrev pub EndsRun : ℕ → ℕ → RunEnd → Debugged → Debugged → Type 0
 EndsRun most went Spent middle after = (went ≡ most) × (after ≡ middle)
 EndsRun most went (Ticked tick) middle after =
     (went < most) × ((IsPlain tick after → ⊥) × IsTick middle (Ok tick) after)
-EndsRun most went NoMemory middle after = (went < most) × ((after ≡ middle) × TickNeedsPage middle)
+EndsRun most went NoMemory middle after = (went < most) × ((after ≡ middle) × MayLackMemory middle)
 
 -- a run of so many ticks at most
 pub record IsRun (most : ℕ) (before : Debugged) (ran : Ran) (after : Debugged) : Type 0 where

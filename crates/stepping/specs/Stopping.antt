@@ -10,10 +10,14 @@
 --
 --   1. the n-th instruction traps, with its cause;     4. after it a breakpoint of a source line stops,
 --   2. it ends the program, with its code;             5. or one of an instruction,
---   3. it is EBREAK, which retires;                    6. or the goal of the run is met.
+--   3. it is EBREAK, which retires;                    6. or one of a function,
+--                                                      7. or the goal of the run is met.
 --
 -- A first run, of a program that was just loaded, may stop at 0, before the first move: the breakpoints at the entry
--- are looked at, and one of a source line or of an instruction is the only reason there.
+-- are looked at, and one of a source line, of an instruction or of a function is the only reason there. A logpoint
+-- counts its hits as any breakpoint does, and is no reason to stop.
+--
+-- Where a run that goes back stops is said in `StoppingBack`.
 --
 -- Each move meets what the moves before it left: registers and memory, the breakpoints and their hits. Where something
 -- else changes one of these between two moves, the run goes on from the machine as it is then, and its moves are
@@ -31,12 +35,13 @@ use Rattle.rv32i.specs.declared.stepped.Cause.{Cause}
 use Rattle.rv32i.specs.declared.stepped.Stepped.{Stepped}
 use Rattle.rv32i.specs.declared.stepped.Stepped.TheVariants.{Retired, Printed, Break, Exit, Trap}
 use Rattle.course.specs.Calls.{noted, nothing_kept}
+use Rattle.course.specs.Positions.{recorded}
 use Rattle.stepping.specs.Goals.{is_met}
-use Rattle.stepping.specs.Ticks.{Debugged}
+use Rattle.stepping.specs.Ticks.{Debugged, course_of}
 use Rattle.stepping.specs.declared.goal.Goal.TheVariants.{Go}
 use Rattle.stepping.specs.declared.tick.Outcome.{Outcome}
 use Rattle.stepping.specs.declared.tick.Outcome.TheVariants.{Went, Stopped, Ended}
-use Rattle.stepping.specs.declared.tick.Reason.TheVariants.{Exception, Ebreak, Source, Instruction, Function, Goal}
+use Rattle.stepping.specs.declared.tick.Reason.TheVariants.{Exception, Ebreak, Source, Instruction, Function, Goal, Start}
 
 -- ---- the moves, whatever would stop
 
@@ -49,7 +54,7 @@ has_retired (Exit code) = false
 has_retired (Trap cause) = false
 
 -- One move: the instruction at pc retires. The calls take its marks, each breakpoint at the new pc is looked at, one
--- more instruction has retired, and all else is as it was.
+-- more instruction has retired, the move is recorded, and all else is as it was.
 pub record Advances (before after : Debugged) : Type 0 where
   pub instr : Instr
   pub answer : Stepped
@@ -63,6 +68,7 @@ pub record Advances (before after : Debugged) : Type 0 where
     calls = noted before.calls instr before.hart.pc;
     lists = checked after.hart.pc after.hart after.memory before.lists;
     retired = before.retired + 1;
+    past = recorded before.hart.pc (course_of before);
   }
 
 -- the machine before its first move: where a check is due, it has looked at the breakpoints at the entry
@@ -126,6 +132,7 @@ Applies (Stopped Source) before = MeetsSource before
 Applies (Stopped Instruction) before = MeetsInstruction before
 Applies (Stopped Function) before = MeetsFunction before
 Applies (Stopped Goal) before = MeetsGoal before
+Applies (Stopped Start) before = ⊥
 Applies Went before = ⊥
 
 -- the reason applies at the entry
@@ -157,6 +164,7 @@ first_run hit = record {
     logs = [];
   };
   retired = 0;
+  past = [];
   goal = Go;
   start = 0;
   check_due = true;
@@ -181,7 +189,8 @@ place (Stopped Source) = 4
 place (Stopped Instruction) = 5
 place (Stopped Function) = 6
 place (Stopped Goal) = 7
-place Went = 8
+place (Stopped Start) = 8
+place Went = 9
 
 -- no reason applies at a lower number
 abbrev pub NoneBelow : ℕ → Debugged → Type 0

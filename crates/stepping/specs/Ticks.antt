@@ -7,10 +7,15 @@
 --
 -- A first run, of a program that was just loaded, begins with a tick of its own: the breakpoints at the entry are
 -- looked at, and nothing moves.
-use Rattle.std.specs.Prelude.{◌≡◌, ℕ, ◌+◌, Bool, false, if◌then◌else◌, List, [], Option, Some, None, Result, Ok, Err}
-use Rattle.std.specs.Prelude.{MatchBool}
+--
+-- The last 65,536 moves at which an instruction retired are recorded. Where a run goes back, a tick undoes the newest of
+-- them: hart, memory and calls are as they were before it, and the instruction is no longer counted. Breakpoints stay
+-- as they are, with their hits. A step back ends with that; a run back goes on until a breakpoint stands at pc, or
+-- nothing is recorded any more. Where nothing is recorded, such a tick undoes nothing.
+use Rattle.std.specs.Prelude.{◌≡◌, ℕ, ◌+◌, ◌-◌, Bool, false, if◌then◌else◌, List, [], ◌∷◌, Option, Some, None}
+use Rattle.std.specs.Prelude.{Result, Ok, Err, MatchBool}
 use Rattle.std.specs.declared.alloc.AllocError.{AllocError}
-use Rattle.breakpoints.specs.Stops.{Lists, checked, hit_in}
+use Rattle.breakpoints.specs.Stops.{Lists, checked, hit_in, looked, standing_in}
 use Rattle.breakpoints.specs.declared.breakpoint.Hit.{Hit}
 use Rattle.image.specs.Lines.{Table}
 use Rattle.rv32i.specs.Machine.{IsMove, machine_of}
@@ -19,17 +24,18 @@ use Rattle.rv32i.specs.declared.instr.Instr.{Instr}
 use Rattle.rv32i.specs.declared.stepped.Stepped.{Stepped}
 use Rattle.rv32i.specs.declared.stepped.Stepped.TheVariants as stepped
 use Rattle.course.specs.Calls.{Kept}
-use Rattle.course.specs.Positions.{IsFetched, Position, noted_if}
-use Rattle.stepping.specs.Goals.{is_met}
+use Rattle.course.specs.Positions.{Course, IsFetched, Position, noted_if, recorded}
+use Rattle.stepping.specs.Goals.{is_met, turns_back}
 use Rattle.stepping.specs.declared.goal.Goal.{Goal}
+use Rattle.stepping.specs.declared.goal.Goal.TheVariants as goal
 use Rattle.stepping.specs.declared.tick.Outcome.{Outcome}
 use Rattle.stepping.specs.declared.tick.Outcome.TheVariants.{Went, Stopped, Ended}
 use Rattle.stepping.specs.declared.tick.Reason.TheVariants as why
 use Rattle.stepping.specs.declared.tick.Tick.{Tick}
 
 -- A debugged machine: hart, memory and its size; the calls kept; breakpoints; how many instructions have retired
--- since it was loaded; the goal of its run and the depth at the start of that; whether the check at the entry is due;
--- and its line table.
+-- since it was loaded; where it was before the recorded moves, the newest first; the goal of its run and the depth at
+-- the start of that; whether the check at the entry is due; and its line table.
 pub record Debugged : Type 0 where
   pub hart : Hart
   pub memory : List ℕ
@@ -37,6 +43,7 @@ pub record Debugged : Type 0 where
   pub calls : Kept
   pub lists : Lists
   pub retired : ℕ
+  pub past : List Position
   pub goal : Goal
   pub start : ℕ
   pub check_due : Bool
@@ -46,14 +53,21 @@ pub record Debugged : Type 0 where
 abbrev pub position_of : Debugged → Position
 position_of d = record { hart = d.hart; memory = d.memory; calls = d.calls }
 
--- what the breakpoints come to, and then the goal
-abbrev pub outcome_of : Hit → Bool → Outcome
-outcome_of hit goal_met =
+-- and where it stood before the recorded moves
+abbrev pub course_of : Debugged → Course
+course_of d = record { now = position_of d; past = d.past }
+
+-- what the breakpoints come to, or else this
+abbrev pub outcome_or : Hit → Outcome → Outcome
+outcome_or hit other =
     if hit.source then Stopped why.Source
     else if hit.instruction then Stopped why.Instruction
     else if hit.function then Stopped why.Function
-    else if goal_met then Stopped why.Goal
-    else Went
+    else other
+
+-- what the breakpoints come to, and then the goal
+abbrev pub outcome_of : Hit → Bool → Outcome
+outcome_of hit goal_met = outcome_or hit (if goal_met then Stopped why.Goal else Went)
 
 -- the breakpoints that stop at pc
 abbrev pub hit_at_pc : Debugged → Hit
@@ -77,9 +91,14 @@ entry_checked d = with_check (record d { check_due = false })
 
 -- ---- after a move
 
--- An instruction, which was at this pc, has retired: its marks, and the breakpoints at the new pc.
-abbrev pub gone_on : Option Instr → ℕ → Debugged → Debugged
-gone_on instr pc d = with_check (record d { calls = noted_if d.calls instr pc; retired = d.retired + 1 })
+-- An instruction, which was at the pc of the machine before, has retired: its marks, one more that has retired, its move
+-- among those recorded, and the breakpoints at the new pc.
+abbrev pub gone_on : Option Instr → Debugged → Debugged → Debugged
+gone_on instr before d = with_check (record d {
+  calls = noted_if d.calls instr before.hart.pc;
+  retired = d.retired + 1;
+  past = recorded before.hart.pc (course_of before);
+})
 
 -- whether the goal is met after it
 abbrev pub meets_goal : Option Instr → ℕ → Debugged → Bool
@@ -101,12 +120,54 @@ tick_of stepped.Break instr pc d = record { printed = None; outcome = Stopped wh
 tick_of (stepped.Exit code) instr pc d = record { printed = None; outcome = Ended code }
 tick_of (stepped.Trap cause) instr pc d = record { printed = None; outcome = Stopped (why.Exception cause) }
 
-abbrev pub settled : Stepped → Option Instr → ℕ → Debugged → Debugged
-settled stepped.Retired instr pc d = gone_on instr pc d
-settled (stepped.Printed number) instr pc d = gone_on instr pc d
-settled stepped.Break instr pc d = gone_on instr pc d
-settled (stepped.Exit code) instr pc d = stayed d
-settled (stepped.Trap cause) instr pc d = stayed d
+abbrev pub settled : Stepped → Option Instr → Debugged → Debugged → Debugged
+settled stepped.Retired instr before d = gone_on instr before d
+settled (stepped.Printed number) instr before d = gone_on instr before d
+settled stepped.Break instr before d = gone_on instr before d
+settled (stepped.Exit code) instr before d = stayed d
+settled (stepped.Trap cause) instr before d = stayed d
+
+-- ---- a move is undone
+
+-- the machine before the newest of the recorded moves, or as it is where none is recorded; its breakpoints, their hits
+-- and its run stay
+abbrev pub undone_by : List Position → Debugged → Debugged
+undone_by [] d = d
+undone_by (before ∷ past) d = record d {
+  hart = before.hart;
+  memory = before.memory;
+  calls = before.calls;
+  retired = d.retired - 1;
+  past = past;
+}
+
+abbrev pub undone : Debugged → Debugged
+undone d = undone_by d.past d
+
+-- a run back goes on, unless nothing is recorded any more
+abbrev pub unless_start : List Position → Outcome
+unless_start [] = Stopped why.Start
+unless_start (before ∷ past) = Went
+
+-- what it comes to, by the machine that is left: a run back ends where a breakpoint stands, or where nothing is recorded
+-- any more, and a step back ends with one move
+abbrev pub back_outcome : Goal → Debugged → Outcome
+back_outcome goal.ReverseGo d =
+    outcome_or (standing_in d.hart.pc d.hart d.memory d.lists) (unless_start d.past)
+back_outcome other d = Stopped why.Goal
+
+-- which breakpoints are named: those that stand at pc, where a run back ends; no hit counts, and no logpoint has
+-- something to say
+abbrev pub looked_at : Goal → Debugged → Debugged
+looked_at goal.ReverseGo d = record d { lists = looked d.hart.pc d.hart d.memory d.lists }
+looked_at other d = stayed d
+
+-- what a tick that goes back answers, and leaves
+abbrev pub back_tick : Debugged → Tick
+back_tick d = record { printed = None; outcome = back_outcome d.goal (undone d) }
+
+abbrev pub gone_back : Debugged → Debugged
+gone_back d = looked_at d.goal (undone d)
 
 -- ---- the tick
 
@@ -118,7 +179,7 @@ moved_as before after = record before { hart = after.hart; memory = after.memory
 abbrev pub Settles : Debugged → Option Instr → Result Stepped AllocError → Result Tick AllocError → Debugged → Type 0
 Settles before instr (Ok stepped) answer after =
     (answer ≡ Ok (tick_of stepped instr before.hart.pc (moved_as before after)))
-    × (after ≡ settled stepped instr before.hart.pc (moved_as before after))
+    × (after ≡ settled stepped instr before (moved_as before after))
 Settles before instr (Err error) answer after = (answer ≡ Err error) × (after ≡ before)
 
 -- the hart moves
@@ -130,8 +191,13 @@ pub record Moves (before : Debugged) (answer : Result Tick AllocError) (after : 
       (record { answer = stepped; machine = machine_of after.hart after.memory })
   pub settles : Settles before instr stepped answer after
 
--- one tick
+-- it answers this, and leaves this
+abbrev pub Comes : Tick → Debugged → Result Tick AllocError → Debugged → Type 0
+Comes tick left answer after = (answer ≡ Ok tick) × (after ≡ left)
+
+-- one tick: the check that is due at the entry; or, where the run goes back, a move that is undone; or a move
 abbrev pub IsTick : Debugged → Result Tick AllocError → Debugged → Type 0
 IsTick before answer after =
-    MatchBool before.check_due ((answer ≡ Ok (entry_tick before)) × (after ≡ entry_checked before))
-    (Moves before answer after)
+    MatchBool before.check_due (Comes (entry_tick before) (entry_checked before) answer after)
+    (MatchBool (turns_back before.goal) (Comes (back_tick before) (gone_back before) answer after)
+    (Moves before answer after))

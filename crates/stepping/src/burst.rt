@@ -49,7 +49,7 @@ impl Burst {
 /// look for is decided once.
 #[inline(never)]
 pub(crate) fn retire(course: &mut Course, breaks: &Breaks, reach: u64, most: u32) -> Burst
-    requires { course.old.calls.depth + most ≤ 2 ^ 62 }
+    requires { course.old.now.calls.depth + most ≤ 2 ^ 62 }
     ensures { Bursts most breaks.now reach course.old result course.new }
 {
     let watches = watches(breaks, reach);

@@ -1,12 +1,13 @@
 //! Where a run is meant to stop.
 
 ghost use Rattle.std.specs.Prelude.{◌≡◌};
-ghost use Rattle.stepping.specs.Goals.{is_met, is_place};
+ghost use Rattle.stepping.specs.Goals.{is_met, is_place, turns_back};
 ghost use Rattle.stepping.specs.Running.{IsInReach, IsOutOfReach};
 
 use image::LineTable;
 
-/// Where a run is meant to stop (Debug Adapter Protocol, requests `continue`, `stepIn`, `next`, `stepOut`).
+/// Where a run is meant to stop, and which way it goes (Debug Adapter Protocol, requests `continue`, `stepIn`, `next`, `stepOut`, `stepBack`,
+/// `reverseContinue`).
 #[derive(Clone, Copy, Debug, PartialEq, Eq)]
 pub enum Goal {
     /// Nowhere: the run goes on.
@@ -17,6 +18,10 @@ pub enum Goal {
     Over(Granularity),
     /// Wherever fewer calls are open than at the start of the run.
     Out(Granularity),
+    /// One move back.
+    Back,
+    /// Back, up to where a breakpoint stands or nothing is recorded any more.
+    ReverseGo,
 }
 
 /// What a step is (Debug Adapter Protocol, `SteppingGranularity`; a statement is a line).
@@ -29,6 +34,13 @@ pub enum Granularity {
 }
 
 impl Goal {
+    /// Whether the run goes back: each of its ticks undoes a move.
+    pub fn turns_back(self) -> bool
+        ensures { result ≡ turns_back self }
+    {
+        matches!(self, Goal::Back | Goal::ReverseGo)
+    }
+
     /// Whether the goal is met at pc, by the depth at the start of the run and the depth now.
     pub(crate) fn is_met(self, start: u64, lines: &LineTable, pc: u32, depth: u64) -> bool
         ensures { result ≡ is_met self start lines.now pc depth }
@@ -38,6 +50,7 @@ impl Goal {
             Goal::In(granularity) => granularity.is_place(lines, pc),
             Goal::Over(granularity) => depth <= start && granularity.is_place(lines, pc),
             Goal::Out(_) => depth < start,
+            Goal::Back | Goal::ReverseGo => false,
         }
     }
 
@@ -47,7 +60,7 @@ impl Goal {
         ensures below { IsInReach result self start }
     {
         match self {
-            Goal::Go => 0,
+            Goal::Go | Goal::Back | Goal::ReverseGo => 0,
             Goal::In(_) => u64::MAX,
             Goal::Over(_) => start.saturating_add(1),
             Goal::Out(_) => start,

@@ -1,6 +1,7 @@
 //! What a debugger keeps of a running RISC-V program while it steps (RISC-V Unprivileged ISA 20191213).
 #![tactic(auto)]
 
+mod backwards;
 mod burst;
 mod goal;
 pub mod laws;

@@ -1,9 +1,11 @@
 //! A debugged machine, which goes tick by tick.
 
-ghost use Rattle.std.specs.Prelude.{◌≡◌, ◌+◌, ◌^◌, ◌<◌, ◌≤◌, IfOk, OnErr, OnOk, length, replicate};
+ghost use Rattle.std.specs.Prelude.{◌≡◌, ◌+◌, ◌^◌, ◌<◌, ◌≤◌, [], true, IfOk, OnErr, OnOk, length, replicate};
 ghost use Rattle.image.specs.Memory.{first_address, with_bytes, WritesOrLacks};
 ghost use Rattle.stepping.specs.Loading.{CanBeLoaded, IsLoaded, no_breakpoints, not_hit};
-ghost use Rattle.stepping.specs.Runs.{IsRun, TickNeedsPage};
+ghost use Rattle.course.specs.Positions.{past_left};
+ghost use Rattle.stepping.specs.Goals.{turns_back};
+ghost use Rattle.stepping.specs.Runs.{IsRun, MayGo, MayLackMemory};
 ghost use Rattle.stepping.specs.Ticks.{IsTick};
 
 use crate::goal::Goal;
@@ -15,8 +17,8 @@ use rv32i::Hart;
 use std::alloc::{AllocError, Global};
 use std::marker::Model;
 
-/// A debugged machine: hart, memory and the calls of the running program, breakpoints, and the goal of the run. A contract sees
-/// it as a debugger does.
+/// A debugged machine: hart, memory and the calls of the running program, its last moves, breakpoints, and the goal of the run. A
+/// contract sees it as a debugger does.
 #[derive(Drop)]
 pub struct Runner {
     alloc: Global,
@@ -43,20 +45,20 @@ impl Model for Runner {
     ghost coded = { Prim.hlevel (codes, coded_tree) };
 
     ghost view = { λ r. record {
-      hart = r.course.hart;
-      memory = r.course.memory;
+      hart = r.course.now.hart;
+      memory = r.course.now.memory;
       size = r.size;
-      calls = r.course.calls;
+      calls = r.course.now.calls;
       lists = r.breaks;
       retired = r.retired;
+      past = r.course.past;
       goal = r.goal;
       start = r.start;
       check_due = r.check_due;
       table = r.lines;
     } };
 
-    ghost invariant = { λ r. IsSound r.size r.course.calls.depth r.retired r.out_of_reach r.goal
-        r.start };
+    ghost invariant = { λ r. IsSound r.size r.course r.retired r.out_of_reach r.goal r.start };
 }
 
 impl Runner {
@@ -85,8 +87,8 @@ impl Runner {
         })
     }
 
-    /// Loads an image anew: memory, hart and calls are as after `new`, the breakpoints stay, and none of them was hit yet. The image
-    /// has to fit into the memory that there is, and its entry is at a multiple of 4. `Err`: no memory was left, and nothing changes.
+    /// Loads an image anew: memory, hart and calls are as after `new`, no move is recorded, the breakpoints stay, and none of them was hit
+    /// yet. The image has to fit into the memory that there is, and its entry is at a multiple of 4. `Err`: no memory was left, and nothing changes.
     pub fn reload(&mut self, image: &Image) -> Result<(), AllocError>
         requires { CanBeLoaded image.now self.old.size }
         ensures ok { OnOk result
@@ -108,7 +110,7 @@ impl Runner {
     }
 
     /// Begins a run with a goal, from the depth that the program has now. A first run, of a program that was just loaded, begins with a
-    /// check of the breakpoints at pc.
+    /// check of the breakpoints at pc. A run that goes back ends after a move that is undone: so one is to be recorded (`recorded`).
     pub fn begin(&mut self, goal: Goal, first: bool)
         ensures { self.new ≡ record self.old
             { goal = goal; start = self.old.calls.depth; check_due = first } }
@@ -119,16 +121,18 @@ impl Runner {
         self.check_due = first;
     }
 
-    /// One tick: the check that is due at the entry, or one move and what it comes to. `Err`: no memory was left for the page that
-    /// the move is the first to store into, and nothing changes. Fewer than 2^62 instructions have retired before it.
+    /// One tick: the check that is due at the entry; or, where the run goes back, the newest of the recorded moves is undone, if there is
+    /// one; or one move and what it comes to. `Err`: no memory was left, as for the page that the move is the first to store into, and
+    /// nothing changes. Fewer than 2^62 instructions have retired before one that does not go back.
     pub fn tick(&mut self) -> Result<Tick, AllocError>
-        requires { self.old.retired < 2 ^ 62 }
+        requires { MayGo 1 self.old }
         ensures tick { OnOk result (IsTick self.old result self.new) }
         ensures err { OnErr result (self.new ≡ self.old) }
-        ensures lacks { OnErr result (TickNeedsPage self.old) }
+        ensures lacks { OnErr result (MayLackMemory self.old) }
         ensures retired { self.new.retired ≤ self.old.retired + 1 }
+        ensures back { turns_back self.old.goal ≡ true → self.new.retired ≤ self.old.retired }
     {
-        match self.go(1).ending {
+        match self.run(1).ending {
             RunEnd::Spent => Ok(Tick::PLAIN),
             RunEnd::Ticked(tick) => Ok(tick),
             RunEnd::NoMemory => Err(AllocError),
@@ -137,27 +141,33 @@ impl Runner {
 
     /// Makes so many ticks at most, and ends with the first that prints a number, stops the machine or ends the program, after which a
     /// logpoint has something to say, or for which no memory is left: it answers and leaves what so many calls of `tick` do. Fewer
-    /// than 2^62 instructions will have retired before each.
+    /// than 2^62 instructions will have retired before each, unless the run goes back.
     pub fn run(&mut self, most: u32) -> Ran
-        requires { self.old.retired + most ≤ 2 ^ 62 }
+        requires { MayGo most self.old }
         ensures run { IsRun most self.old result self.new }
         ensures retired { self.new.retired ≤ self.old.retired + most }
+        ensures back { turns_back self.old.goal ≡ true → self.new.retired ≤ self.old.retired }
     {
-        self.go(most)
+        if self.goal.turns_back() {
+            self.go_back(most)
+        } else {
+            self.go(most)
+        }
     }
 
-    /// Writes bytes to memory. `Outside`: one of the addresses has no byte; `NoMemory`: no memory was left for a page that is written
-    /// first. Then nothing is written.
+    /// Writes bytes to memory, and gives up the recorded moves. `Outside`: one of the addresses has no byte; `NoMemory`: no memory was
+    /// left for a page that is written first. Then nothing is written, and the moves stay recorded.
     pub fn write(&mut self, addr: u32, bytes: &[u8]) -> Result<(), MemFault>
         ensures writes { WritesOrLacks 1 self.old.memory addr bytes.now result self.new.memory }
-        ensures rest { self.new ≡ record self.old { memory = self.new.memory } }
+        ensures rest { self.new ≡ record self.old
+            { memory = self.new.memory; past = past_left result self.old.past } }
     {
         self.course.write(addr, bytes)
     }
 
-    /// Gives the hart other registers and another pc.
+    /// Gives the hart other registers and another pc, and gives up the recorded moves.
     pub fn set_hart(&mut self, hart: Hart)
-        ensures { self.new ≡ record self.old { hart = hart } }
+        ensures { self.new ≡ record self.old { hart = hart; past = [] } }
     {
         self.course.set_hart(hart);
     }
@@ -202,6 +212,20 @@ impl Runner {
         ensures { result ≡ self.now.retired }
     {
         self.retired
+    }
+
+    /// How many moves are recorded, which a run that goes back can undo. It takes no memory.
+    pub fn recorded(&self) -> usize
+        ensures { result ≡ length self.now.past }
+    {
+        self.course.recorded()
+    }
+
+    /// Whether the run goes back: each of its ticks undoes a move.
+    pub fn turns_back(&self) -> bool
+        ensures { result ≡ turns_back self.now.goal }
+    {
+        self.goal.turns_back()
     }
 
     /// Whether the check at the entry is due.

@@ -1,11 +1,13 @@
-//! The ticks of a run. After most moves there is nothing to report: no breakpoint is at the new pc, and the goal is out of reach.
+//! The ticks of a run that does not go back. After most moves there is nothing to report: no breakpoint is at the new pc, and the goal is
+//! out of reach.
 
 ghost use Rattle.std.specs.Prelude.{◌≡◌, ◌+◌, ◌^◌, ◌<◌, ◌≤◌, ◌-◌, None, false, true};
 ghost use Rattle.course.specs.Positions.{Halts};
 ghost use Rattle.stepping.specs.Bursts.{Ends, EndsHalted, stretch_of};
-ghost use Rattle.stepping.specs.Running.{IsEnding, Stretches};
+ghost use Rattle.stepping.specs.Goals.{turns_back};
+ghost use Rattle.stepping.specs.Running.{counted_by, IsEnding, left_by, Stretches};
 ghost use Rattle.stepping.specs.Runs.{IsRun};
-ghost use Rattle.stepping.specs.Ticks.{entry_checked, entry_tick, gone_on, hit_at_pc, outcome_of, position_of, seen, settled, tick_of, went_on, with_check};
+ghost use Rattle.stepping.specs.Ticks.{entry_checked, entry_tick, hit_at_pc, outcome_of, outcome_or, position_of, seen, tick_of, with_check};
 
 use crate::burst::{BurstEnd, retire};
 use crate::runner::Runner;
@@ -25,7 +27,8 @@ pub(crate) struct Stretch {
 impl Runner {
     /// Makes so many ticks at most, and ends with the first of which there is something to report.
     pub(crate) fn go(&mut self, most: u32) -> Ran
-        requires { self.old.retired + most ≤ 2 ^ 62 }
+        requires forward { turns_back self.old.goal ≡ false }
+        requires few { self.old.retired + most ≤ 2 ^ 62 }
         ensures run { IsRun most self.old result self.new }
         ensures retired { self.new.retired ≤ self.old.retired + most }
     {
@@ -46,6 +49,7 @@ impl Runner {
     // Some ticks of a run, which are so many at most: those up to the first that has to be looked at, and that one.
     fn stretch(&mut self, most: u32) -> Stretch
         requires some { 0 < most }
+        requires forward { turns_back self.old.goal ≡ false }
         requires few { self.old.retired + most ≤ 2 ^ 62 }
         ensures { Stretches most self.old result.went result.ending self.new }
     {
@@ -66,6 +70,7 @@ impl Runner {
     // Instructions in a row, so many at most: how many went, and what ended them.
     fn advance(&mut self, most: u32) -> (u32, BurstEnd)
         requires due { self.old.check_due ≡ false }
+        requires forward { turns_back self.old.goal ≡ false }
         requires few { self.old.retired + most ≤ 2 ^ 62 }
         ensures { Ends most result.0 result.1 self.old self.new }
     {
@@ -84,12 +89,16 @@ impl Runner {
     #[inline(never)]
     fn halted(&mut self, halt: Halt) -> RunEnd
         requires due { self.old.check_due ≡ false }
+        requires forward { turns_back self.old.goal ≡ false }
         requires few { self.old.retired < 2 ^ 62 }
         requires halts { Halts self.old.hart.pc halt (position_of self.old) }
         ensures { EndsHalted self.old result self.new }
     {
         match self.course.settle(halt) {
-            Ok(stepped) => RunEnd::Ticked(self.tick_after(stepped)),
+            Ok(stepped) => {
+                self.retired += counted_by(stepped);
+                RunEnd::Ticked(self.tick_after(stepped))
+            }
             Err(_) => RunEnd::NoMemory,
         }
     }
@@ -120,23 +129,22 @@ impl Runner {
         self.ending_of(tick)
     }
 
-    // The tick of a move that was made, by an instruction that is no jump, where it retired.
+    // The tick of a move that was made, recorded and counted, by an instruction that is no jump, where it retired.
     fn tick_after(&mut self, stepped: Stepped) -> Tick
-        requires { self.old.retired < 2 ^ 62 }
         ensures tick { result ≡ tick_of stepped None 0 self.old }
-        ensures state { self.new ≡ settled stepped None 0 self.old }
+        ensures state { self.new ≡ left_by stepped self.old }
     {
         match stepped {
             Stepped::Retired => Tick {
                 printed: None,
-                outcome: self.go_on(),
+                outcome: self.look(),
             },
             Stepped::Printed(number) => Tick {
                 printed: Some(number),
-                outcome: self.go_on(),
+                outcome: self.look(),
             },
             Stepped::Break => {
-                self.go_on();
+                self.look();
                 Tick {
                     printed: None,
                     outcome: Outcome::Stopped(Reason::Ebreak),
@@ -157,16 +165,6 @@ impl Runner {
                 }
             }
         }
-    }
-
-    // An instruction that is no jump has retired.
-    fn go_on(&mut self) -> Outcome
-        requires { self.old.retired < 2 ^ 62 }
-        ensures outcome { result ≡ went_on None 0 self.old }
-        ensures state { self.new ≡ gone_on None 0 self.old }
-    {
-        self.retired += 1;
-        self.look()
     }
 
     // What there is to see at pc, and how a run ends with it.
@@ -214,8 +212,8 @@ impl Runner {
         self.breaks.check(hart.pc, hart, self.course.memory())
     }
 
-    // How a run ends by the tick that led here; `None`: it goes on.
-    fn ending_of(&self, tick: Tick) -> Option<RunEnd>
+    /// How a run ends by the tick that led here; `None`: it goes on.
+    pub(crate) fn ending_of(&self, tick: Tick) -> Option<RunEnd>
         ensures { IsEnding tick self.now result }
     {
         if tick.is_plain() && self.breaks.logs().is_empty() {
@@ -223,6 +221,16 @@ impl Runner {
         } else {
             Some(RunEnd::Ticked(tick))
         }
+    }
+}
+
+// How many instructions retired in a move.
+fn counted_by(stepped: Stepped) -> u64
+    ensures { result ≡ counted_by stepped }
+{
+    match stepped {
+        Stepped::Retired | Stepped::Printed(_) | Stepped::Break => 1,
+        Stepped::Exit(_) | Stepped::Trap(_) => 0,
     }
 }
 
@@ -244,15 +252,25 @@ fn stretch_of(went: u32, ending: Option<RunEnd>) -> Stretch
 fn outcome_of(hit: Hit, goal_met: bool) -> Outcome
     ensures { result ≡ outcome_of hit goal_met }
 {
+    let other = if goal_met {
+        Outcome::Stopped(Reason::Goal)
+    } else {
+        Outcome::Went
+    };
+    outcome_or(hit, other)
+}
+
+/// What the breakpoints come to, or else this.
+pub(crate) fn outcome_or(hit: Hit, other: Outcome) -> Outcome
+    ensures { result ≡ outcome_or hit other }
+{
     if hit.source {
         Outcome::Stopped(Reason::Source)
     } else if hit.instruction {
         Outcome::Stopped(Reason::Instruction)
     } else if hit.function {
         Outcome::Stopped(Reason::Function)
-    } else if goal_met {
-        Outcome::Stopped(Reason::Goal)
     } else {
-        Outcome::Went
+        other
     }
 }

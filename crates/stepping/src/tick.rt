@@ -40,6 +40,8 @@ pub enum Reason {
     Function,
     /// The goal of the run.
     Goal,
+    /// The run went back, and no move is recorded any more.
+    Start,
 }
 
 impl Tick {

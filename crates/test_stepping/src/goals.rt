@@ -1,4 +1,4 @@
-//! Goals as arguments: `go`, and `in`, `over` or `out` with `line` or `instruction`.
+//! Goals as arguments: `go`, `in`, `over` or `out` with `line` or `instruction`, and those that go back, `back` and `reverse`.
 
 use stepping::{Goal, Granularity};
 use testing::Fault;
@@ -10,6 +10,8 @@ pub(crate) fn goal_of(arguments: &[&str]) -> Result<Goal, Fault> {
         ["in", granularity] => Ok(Goal::In(granularity_of(granularity)?)),
         ["over", granularity] => Ok(Goal::Over(granularity_of(granularity)?)),
         ["out", granularity] => Ok(Goal::Out(granularity_of(granularity)?)),
+        ["back"] => Ok(Goal::Back),
+        ["reverse"] => Ok(Goal::ReverseGo),
         _ => Err(Fault::NoCommand),
     }
 }

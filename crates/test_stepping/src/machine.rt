@@ -5,7 +5,8 @@
 //! - `tick`: what it printed, if it did, and the outcome; `run COUNT`: how many ticks went, and what ended them.
 //! - `source LIST`, `instructions LIST`, `functions LIST`: sets breakpoints; `breaks.rt` has the lists. `clear`: takes all away. `ids`: which
 //!   stopped; `logs`: the places of the logpoints that have something to say.
-//! - `pc`; `x NUMBER`; `word ADDRESS`; `depth`; `kept`; `entry NUMBER`; `retired`: what there is.
+//! - `pc`; `x NUMBER`; `word ADDRESS`; `depth`; `kept`; `entry NUMBER`; `retired`; `recorded`: what there is. `turns_back`: whether
+//!   the run goes back.
 //! - `set NUMBER VALUE`: sets a register, 1 to 31; `write ADDRESS BYTES`: writes memory.
 
 ghost use Rattle.std.specs.Bool.{OnTrue};
@@ -141,6 +142,8 @@ impl Machine {
                 Ok(format!(in alloc; "{entry:?}")?)
             }
             ["retired"] => shown(alloc, self.runner.retired()),
+            ["recorded"] => shown(alloc, self.runner.recorded()),
+            ["turns_back"] => shown(alloc, self.runner.turns_back()),
             ["ids"] => {
                 let ids = self.runner.breaks().ids();
                 Ok(format!(in alloc; "{ids:?}")?)

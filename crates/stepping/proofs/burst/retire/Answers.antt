@@ -11,7 +11,7 @@ returns-then-is_near c = record {
   middle = c.loop-went.course;
   retire = c.loop-went.invariant.retire;
   ends = (c.loop-went-test.true, c.in-Ok.ensures);
-  stays = c.in-Ok.ensures.pc ∙ c.loop-went.invariant.stays;
+  stays = c.in-Ok.ensures.0.pc ∙ c.loop-went.invariant.stays;
 }
 
 pub returns-in-Err : goal.returns-in-Err
@@ -19,23 +19,23 @@ returns-in-Err c = record {
   pc = c.loop-went.pc;
   middle = c.loop-went.course;
   retire = c.loop-went.invariant.retire;
-  ends = (c.loop-went-test.true, (c.in-Err.ensures.0, (refl, c.in-Err.ensures.1)));
-  stays = ap (λ p. p.hart.pc) c.in-Err.ensures.1 ∙ c.loop-went.invariant.stays;
+  ends = (c.loop-went-test.true, (c.in-Err.ensures, refl));
+  stays = ap (λ p. p.now.hart.pc) c.in-Err.ensures.1 ∙ c.loop-went.invariant.stays;
 }
 
 pub loop-went-preserved : goal.loop-went-preserved
 loop-went-preserved c =
-    let far : IsFar c.args.breaks.now c.args.reach c.in-Ok.next c.quick.new.self.calls.depth = elim c.else-watches.branch [
+    let far : IsFar c.args.breaks.now c.args.reach c.in-Ok.next c.quick.new.self.now.calls.depth = elim c.else-watches.branch [
       | else-watches-via-then-watches+else-is_near w ↦
           subst (λ (k : Kept). IsFar c.args.breaks.now c.args.reach c.in-Ok.next k.depth) w.calls.ensures w.if-is_near.ensures
-      | else-watches-via-else-watches w ↦ w.if-watches.ensures c.in-Ok.next c.quick.new.self.calls.depth
+      | else-watches-via-else-watches w ↦ w.if-watches.ensures c.in-Ok.next c.quick.new.self.now.calls.depth
     ] in
     record {
       retire =
           retire_more c.loop-went.went _ _ _ c.loop-went.pc c.in-Ok.next _ c.loop-went.course c.quick.new.self c.loop-went.invariant.retire c.in-Ok.ensures far;
       deep =
-          omega (arith, c.loop-went.invariant.deep, retires_deeper c.loop-went.pc c.in-Ok.next c.loop-went.course c.quick.new.self c.in-Ok.ensures);
-      stays = c.in-Ok.ensures.pc ∙ c.loop-went.invariant.stays;
+          omega (arith, c.loop-went.invariant.deep, retires_deeper c.loop-went.pc c.in-Ok.next c.loop-went.course.now c.quick.new.self.now c.in-Ok.ensures.0);
+      stays = c.in-Ok.ensures.0.pc ∙ c.loop-went.invariant.stays;
     }
 
 pub returns : goal.returns
@@ -45,7 +45,7 @@ returns c =
       pc = c.loop-went.pc;
       middle = c.loop-went.course;
       retire =
-          subst (λ (n : ℕ). Retire n c.args.breaks.now c.args.reach c.args.course.now.hart.pc c.args.course.now c.loop-went.pc c.loop-went.course) all
+          subst (λ (n : ℕ). Retire n c.args.breaks.now c.args.reach c.args.course.now.now.hart.pc c.args.course.now c.loop-went.pc c.loop-went.course) all
           c.loop-went.invariant.retire;
       ends = (refl, (refl, refl));
       stays = c.loop-went.invariant.stays;

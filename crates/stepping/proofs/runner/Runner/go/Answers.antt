@@ -1,12 +1,17 @@
-use Rattle.std.proofs.Common.{◌-◌, Option, subst, arith}
+use Rattle.std.proofs.Common.{◌-◌, Option, ap, ◌∙◌, subst, arith}
+use Rattle.stepping.specs.Goals.{turns_back}
 use Rattle.stepping.specs.Running.{Stretches}
 use Rattle.stepping.specs.declared.tick.RunEnd.{RunEnd}
-use Rattle.stepping.proofs.Going.{all_went, ends_run, goes_on, goes_retire, run_retires}
+use Rattle.stepping.proofs.Going.{all_went, ends_run, goes_goal, goes_on, goes_retire, run_retires}
 use Rattle.stepping.proofs.runner.Runner.go.Goals as goal
 
 pub stretch-stretch-requires-clause-few : goal.stretch-stretch-requires-clause-few
 stretch-stretch-requires-clause-few c =
-    omega (arith, goes_retire c.loop-went.went c.args.self.now c.loop-went.self c.loop-went.invariant.goes, c.loop-went.invariant.few, c.requires)
+    omega (arith, goes_retire c.loop-went.went c.args.self.now c.loop-went.self c.loop-went.invariant.goes, c.loop-went.invariant.few, c.requires.few)
+
+pub stretch-stretch-requires-clause-forward : goal.stretch-stretch-requires-clause-forward
+stretch-stretch-requires-clause-forward c =
+    ap turns_back (goes_goal c.loop-went.went c.args.self.now c.loop-went.self c.loop-went.invariant.goes) ∙ c.requires.forward
 
 pub returns-in-Some : goal.returns-in-Some
 returns-in-Some c =

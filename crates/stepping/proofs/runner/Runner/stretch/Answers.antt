@@ -1,10 +1,11 @@
-use Rattle.std.proofs.Common.{◌≡◌, true, sym, subst, arith}
+use Rattle.std.proofs.Common.{◌≡◌, true, sym, ap, ◌∙◌, subst, arith}
 use Rattle.stepping.specs.Bursts.{Ends}
+use Rattle.stepping.specs.Goals.{turns_back}
 use Rattle.stepping.specs.Running.{Stretches}
 use Rattle.stepping.specs.Ticks.{Debugged}
 use Rattle.stepping.specs.declared.burst.BurstEnd.{BurstEnd}
 use Rattle.stepping.specs.declared.running.Stretch.{Stretch}
-use Rattle.stepping.proofs.Going.{entry_stretches, goes_retire, halted_stretches, moved_stretches}
+use Rattle.stepping.proofs.Going.{entry_stretches, goes_goal, goes_retire, halted_stretches, moved_stretches}
 use Rattle.stepping.proofs.runner.Runner.stretch.Goals as goal
 
 pub returns-then-self : goal.returns-then-self
@@ -19,6 +20,12 @@ halted-requires-clause-few c =
     let ends = subst (λ (e : BurstEnd). Ends c.args.most c.advance-went.result.0 e c.args.self.now c.advance-went.new.self) c.in-Halted.is
     c.advance-went.ensures in
     omega (arith, ends.0, goes_retire c.advance-went.result.0 c.args.self.now c.advance-went.new.self ends.1.0, c.requires.few)
+
+pub halted-requires-clause-forward : goal.halted-requires-clause-forward
+halted-requires-clause-forward c =
+    let ends = subst (λ (e : BurstEnd). Ends c.args.most c.advance-went.result.0 e c.args.self.now c.advance-went.new.self) c.in-Halted.is
+    c.advance-went.ensures in
+    ap turns_back (goes_goal c.advance-went.result.0 c.args.self.now c.advance-went.new.self ends.1.0) ∙ c.requires.forward
 
 pub returns-in-Near : goal.returns-in-Near
 returns-in-Near c =
