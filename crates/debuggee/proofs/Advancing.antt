@@ -1,26 +1,31 @@
 -- Many moves, and the check at the entry.
-use Rattle.std.proofs.Common.{◌≡◌, ℕ, zero, suc, ◌+◌, Bool, true, false, [], Option, Some, None, Result, Ok, Err, refl, sym, ap, ◌∙◌, subst, arith}
+use Rattle.std.proofs.Common.{◌≡◌, ℕ, zero, suc, ◌+◌, Bool, true, false, List, [], ◌∷◌, Option, Some, None, Result, Ok, Err, refl, sym, ap, ◌∙◌, subst, arith}
 use Rattle.std.specs.declared.alloc.AllocError.{AllocError}
 use Rattle.rv32i.specs.Machine.{IsMove, machine_of}
 use Rattle.rv32i.specs.declared.instr.Instr.{Instr}
 use Rattle.rv32i.specs.declared.stepped.Stepped.{Stepped}
 use Rattle.rv32i.specs.declared.stepped.Stepped.TheVariants.{Retired, Printed, Break, Exit, Trap}
 use Rattle.stepping.specs.Plain.{plain_tick}
-use Rattle.stepping.specs.Runs.{Goes, IsRun, EndsRun, TickNeedsPage}
-use Rattle.stepping.specs.Ticks.{Debugged, IsTick, Moves, Settles, entry_checked, entry_tick, hit_at_pc, moved_as, outcome_of, meets_goal, settled, stayed, tick_of}
+use Rattle.stepping.specs.Runs.{Goes, IsRun, EndsRun, MayLackMemory}
+use Rattle.stepping.specs.Goals.{turns_back}
+use Rattle.stepping.specs.Ticks.{Debugged, IsTick, Moves, Settles, back_outcome, back_tick, entry_checked, entry_tick, gone_back, hit_at_pc, looked_at, meets_goal, moved_as, outcome_of, outcome_or, settled, stayed, tick_of, undone, undone_by, unless_start, went_on}
+use Rattle.stepping.specs.declared.goal.Goal.{Goal}
+use Rattle.stepping.specs.declared.goal.Goal.TheVariants.{Go, In, Over, Out, Back, ReverseGo}
 use Rattle.stepping.specs.declared.tick.RunEnd.{RunEnd}
 use Rattle.stepping.specs.declared.tick.RunEnd.TheVariants as ending
 use Rattle.stepping.specs.declared.tick.Outcome.TheVariants.{Went}
 use Rattle.stepping.specs.declared.tick.Ran.{Ran}
 use Rattle.stepping.specs.declared.tick.Tick.{Tick}
+use Rattle.breakpoints.specs.Stops.{standing_in}
 use Rattle.breakpoints.specs.declared.breakpoint.Hit.{Hit}
+use Rattle.course.specs.Positions.{Position}
 use Rattle.stepping.proofs.Advancing.{stays_so}
-use Rattle.stepping.proofs.Cases.{by_tick, move_of}
+use Rattle.stepping.proofs.Cases.{Enters, GoesBack, by_tick}
 use Rattle.stepping.proofs.Determined.{tick_is_deterministic}
 use Rattle.stepping.proofs.Existing.{the_tick}
 use Rattle.debuggee.specs.Programs.{Program, Advances, GoesQuietly, NamesNone, moved, next_tick, owing, stays}
 use Rattle.debuggee.specs.declared.program.Advanced.TheVariants.{Owes, Meets, Lacks}
-use Rattle.debuggee.proofs.Naming.{looks_name_none, owes_it, owing_none, plain_owes_none}
+use Rattle.debuggee.proofs.Naming.{looks_name_none, owes_it, owing_none, plain_owes_none, undone_names_none}
 
 -- ---- one tick
 
@@ -37,34 +42,38 @@ the_one d after tick h =
 
 -- ---- what a tick that goes on leaves
 
-went_names_none : (s : Stepped) (instr : Option Instr) (pc : ℕ) (d : Debugged) → (tick_of s instr pc d).outcome ≡ Went
-    → (settled s instr pc d).lists.ids ≡ []
-went_names_none Retired instr pc d e = looks_name_none d (meets_goal instr pc d) e
-went_names_none (Printed number) instr pc d e = looks_name_none d (meets_goal instr pc d) e
-went_names_none Break instr pc d e = absurd (cc)
-went_names_none (Exit code) instr pc d e = refl
-went_names_none (Trap cause) instr pc d e = refl
+went_names_none : (s : Stepped) (instr : Option Instr) (before d : Debugged) → (tick_of s instr before.hart.pc d).outcome ≡ Went
+    → (settled s instr before d).lists.ids ≡ []
+went_names_none Retired instr before d e = looks_name_none d (meets_goal instr before.hart.pc d) e
+went_names_none (Printed number) instr before d e = looks_name_none d (meets_goal instr before.hart.pc d) e
+went_names_none Break instr before d e = absurd (cc)
+went_names_none (Exit code) instr before d e = refl
+went_names_none (Trap cause) instr before d e = refl
 
 settles_none : (before after : Debugged) (instr : Option Instr) (s : Result Stepped AllocError) (tick : Tick) → tick.outcome ≡ Went
     → Settles before instr s (Ok tick) after → after.lists.ids ≡ []
 settles_none before after instr (Ok s) tick e h =
     let same : tick ≡ tick_of s instr before.hart.pc (moved_as before after) = cc in
     ap (λ (d : Debugged). d.lists.ids) h.1
-    ∙ went_names_none s instr before.hart.pc (moved_as before after) (sym (ap (λ (t : Tick). t.outcome) same) ∙ e)
+    ∙ went_names_none s instr before (moved_as before after) (sym (ap (λ (t : Tick). t.outcome) same) ∙ e)
 settles_none before after instr (Err error) tick e h = absurd (cc)
-
-abbrev Answers : Result Tick AllocError → Tick → Type 0
-Answers answer tick = answer ≡ Ok tick
 
 pub going_names_none : (d after : Debugged) (tick : Tick) → tick.outcome ≡ Went → IsTick d (Ok tick) after → after.lists.ids ≡ []
 going_names_none d after tick e h =
-    by_tick d after (Ok tick) h entry (λ due m. settles_none d after m.instr m.stepped tick e m.settles)
+    by_tick d after (Ok tick) h entry back (λ due forward m. settles_none d after m.instr m.stepped tick e m.settles)
   where
-    entry : d.check_due ≡ true → Answers (Ok tick) (entry_tick d) → after ≡ entry_checked d → after.lists.ids ≡ []
-    entry due a b =
+    entry : d.check_due ≡ true → Enters d (Ok tick) after → after.lists.ids ≡ []
+    entry due x =
+        let said = x.0 in
         let same : tick ≡ entry_tick d = cc in
-        ap (λ (x : Debugged). x.lists.ids) b
+        ap (λ (x : Debugged). x.lists.ids) x.1
         ∙ looks_name_none (record d { check_due = false }) false (sym (ap (λ (t : Tick). t.outcome) same) ∙ e)
+
+    back : d.check_due ≡ false → turns_back d.goal ≡ true → GoesBack d (Ok tick) after → after.lists.ids ≡ []
+    back due turns x =
+        let said = x.0 in
+        let same : tick ≡ back_tick d = cc in
+        ap (λ (x : Debugged). x.lists.ids) x.1 ∙ undone_names_none d (sym (ap (λ (t : Tick). t.outcome) same) ∙ e)
 
 -- ---- an instruction that stays
 
@@ -78,19 +87,39 @@ looks_on hit goal = by hit.source hit.instruction hit.function goal where
   by false false false true = refl
   by false false false false = refl
 
-stays_put : (before after : Debugged) (s : Stepped) (instr : Option Instr) (pc : ℕ)
-    → stays (tick_of s instr pc (moved_as before after)).outcome ≡ true
+goes_so : (before after : Debugged) (instr : Option Instr)
+    → stays (went_on instr before.hart.pc (moved_as before after)) ≡ true → false ≡ true
+goes_so before after instr e =
+    sym (looks_on (hit_at_pc (moved_as before after)) (meets_goal instr before.hart.pc (moved_as before after))) ∙ e
+
+-- a move that is undone never does
+backs_or : (hit : Hit) (past : List Position) → stays (outcome_or hit (unless_start past)) ≡ false
+backs_or hit past = by hit.source hit.instruction hit.function past where
+  by : (source instruction function : Bool) (past : List Position)
+      → stays (outcome_or (record { source = source; instruction = instruction; function = function }) (unless_start past)) ≡ false
+  by true instruction function past = refl
+  by false true function past = refl
+  by false false true past = refl
+  by false false false [] = refl
+  by false false false (p ∷ past) = refl
+
+backs_on : (g : Goal) (d : Debugged) → stays (back_outcome g d) ≡ false
+backs_on ReverseGo d = backs_or (standing_in d.hart.pc d.hart d.memory d.lists) d.past
+backs_on Go d = refl
+backs_on (In granularity) d = refl
+backs_on (Over granularity) d = refl
+backs_on (Out granularity) d = refl
+backs_on Back d = refl
+
+stays_put : (before after : Debugged) (s : Stepped) (instr : Option Instr) → let pc = before.hart.pc in
+    stays (tick_of s instr pc (moved_as before after)).outcome ≡ true
     → IsMove (machine_of before.hart before.memory) (record { answer = Ok s; machine = machine_of after.hart after.memory })
-    → after ≡ settled s instr pc (moved_as before after) → after ≡ stayed before
-stays_put before after Retired instr pc e m h =
-    absurd (let never : false ≡ true = sym (looks_on (hit_at_pc (moved_as before after)) (meets_goal instr pc (moved_as before after)))
-    ∙ e in cc)
-stays_put before after (Printed number) instr pc e m h =
-    absurd (let never : false ≡ true = sym (looks_on (hit_at_pc (moved_as before after)) (meets_goal instr pc (moved_as before after)))
-    ∙ e in cc)
-stays_put before after Break instr pc e m h = absurd (let never : false ≡ true = e in cc)
-stays_put before after (Exit code) instr pc e m h = stays_so before after (Exit code) refl m h
-stays_put before after (Trap cause) instr pc e m h = stays_so before after (Trap cause) refl m h
+    → after ≡ settled s instr before (moved_as before after) → after ≡ stayed before
+stays_put before after Retired instr e m h = absurd (let never = goes_so before after instr e in cc)
+stays_put before after (Printed number) instr e m h = absurd (let never = goes_so before after instr e in cc)
+stays_put before after Break instr e m h = absurd (let never : false ≡ true = e in cc)
+stays_put before after (Exit code) instr e m h = stays_so before after (Exit code) refl m h
+stays_put before after (Trap cause) instr e m h = stays_so before after (Trap cause) refl m h
 
 settles_put : (before after : Debugged) (tick : Tick) → (m : Moves before (Ok tick) after) → stays tick.outcome ≡ true
     → after ≡ stayed before
@@ -98,7 +127,7 @@ settles_put before after tick m e = by m.stepped refl m.settles where
   by : (s : Result Stepped AllocError) → m.stepped ≡ s → Settles before m.instr s (Ok tick) after → after ≡ stayed before
   by (Ok s) is h =
       let same : tick ≡ tick_of s m.instr before.hart.pc (moved_as before after) = cc in
-      stays_put before after s m.instr before.hart.pc (sym (ap (λ (t : Tick). stays t.outcome) same) ∙ e)
+      stays_put before after s m.instr (sym (ap (λ (t : Tick). stays t.outcome) same) ∙ e)
       (subst (λ (x : Result Stepped AllocError). IsMove (machine_of before.hart before.memory)
       (record { answer = x; machine = machine_of after.hart after.memory })) is m.moved) h.1
   by (Err error) is h = absurd (cc)
@@ -107,8 +136,15 @@ settles_put before after tick m e = by m.stepped refl m.settles where
 pub stays_there : (before after : Debugged) (tick : Tick) → before.check_due ≡ false → NamesNone before → IsTick before (Ok tick) after
     → stays tick.outcome ≡ true → after ≡ before
 stays_there before after tick due none h e =
-    settles_put before after tick (move_of before after (Ok tick) due h) e
-    ∙ sym (λ j. record before { lists = record before.lists { ids = none.0 j; logs = none.1 j } })
+    by_tick before after (Ok tick) h (λ d x. absurd (let never : true ≡ false = sym d ∙ due in cc)) back
+    (λ d forward m. settles_put before after tick m e
+    ∙ sym (λ j. record before { lists = record before.lists { ids = none.0 j; logs = none.1 j } }))
+  where
+    back : before.check_due ≡ false → turns_back before.goal ≡ true → GoesBack before (Ok tick) after → after ≡ before
+    back d turns x =
+        let said = x.0 in
+        let same : tick ≡ back_tick before = cc in
+        absurd (let never : false ≡ true = sym (backs_on before.goal (undone before)) ∙ ap (λ (t : Tick). stays t.outcome) (sym same) ∙ e in cc)
 
 -- ---- so many ticks of which there is nothing to tell
 
@@ -116,23 +152,40 @@ none_named_after : (n : ℕ) (before middle : Debugged) → NamesNone before →
 none_named_after zero before middle none g = subst NamesNone (sym g) none
 none_named_after (suc n) before middle none g = (going_names_none g.0 middle plain_tick refl g.1.1.0, g.1.1.1)
 
-settles_due : (before after : Debugged) (s : Stepped) (instr : Option Instr) (pc : ℕ) → after ≡ settled s instr pc (moved_as before after)
+settles_due : (before after : Debugged) (s : Stepped) (instr : Option Instr) → after ≡ settled s instr before (moved_as before after)
     → after.check_due ≡ before.check_due
-settles_due before after Retired instr pc h = ap (λ (d : Debugged). d.check_due) h
-settles_due before after (Printed number) instr pc h = ap (λ (d : Debugged). d.check_due) h
-settles_due before after Break instr pc h = ap (λ (d : Debugged). d.check_due) h
-settles_due before after (Exit code) instr pc h = ap (λ (d : Debugged). d.check_due) h
-settles_due before after (Trap cause) instr pc h = ap (λ (d : Debugged). d.check_due) h
+settles_due before after Retired instr h = ap (λ (d : Debugged). d.check_due) h
+settles_due before after (Printed number) instr h = ap (λ (d : Debugged). d.check_due) h
+settles_due before after Break instr h = ap (λ (d : Debugged). d.check_due) h
+settles_due before after (Exit code) instr h = ap (λ (d : Debugged). d.check_due) h
+settles_due before after (Trap cause) instr h = ap (λ (d : Debugged). d.check_due) h
 
 moves_due : (before after : Debugged) (tick : Tick) (m : Moves before (Ok tick) after) → after.check_due ≡ before.check_due
 moves_due before after tick m = by m.stepped m.settles where
   by : (s : Result Stepped AllocError) → Settles before m.instr s (Ok tick) after → after.check_due ≡ before.check_due
-  by (Ok s) h = settles_due before after s m.instr before.hart.pc h.1
+  by (Ok s) h = settles_due before after s m.instr h.1
   by (Err error) h = absurd (cc)
+
+looked_due : (g : Goal) (d : Debugged) → (looked_at g d).check_due ≡ d.check_due
+looked_due ReverseGo d = refl
+looked_due Go d = refl
+looked_due (In granularity) d = refl
+looked_due (Over granularity) d = refl
+looked_due (Out granularity) d = refl
+looked_due Back d = refl
+
+undone_due : (past : List Position) (d : Debugged) → (undone_by past d).check_due ≡ d.check_due
+undone_due [] d = refl
+undone_due (p ∷ past) d = refl
+
+gone_due : (d : Debugged) → (gone_back d).check_due ≡ d.check_due
+gone_due d = looked_due d.goal (undone d) ∙ undone_due d.past d
 
 pub tick_not_due : (before after : Debugged) (tick : Tick) → before.check_due ≡ false → IsTick before (Ok tick) after
     → after.check_due ≡ false
-tick_not_due before after tick due h = moves_due before after tick (move_of before after (Ok tick) due h) ∙ due
+tick_not_due before after tick due h =
+    by_tick before after (Ok tick) h (λ d x. ap (λ (x : Debugged). x.check_due) x.1)
+    (λ d turns x. ap (λ (x : Debugged). x.check_due) x.1 ∙ gone_due before ∙ due) (λ d forward m. moves_due before after tick m ∙ due)
 
 still_not_due : (n : ℕ) (before middle : Debugged) → before.check_due ≡ false → Goes n before middle → middle.check_due ≡ false
 still_not_due zero before middle due g = ap (λ (d : Debugged). d.check_due) g ∙ due
@@ -184,7 +237,7 @@ run_lacks most p ran after none e h =
       ends.0,
       (
         subst (λ (d : Debugged). GoesQuietly ran.went p (with_machine p d)) (sym ends.1.0) (goes_quietly ran.went p h.middle none h.goes),
-        subst TickNeedsPage (sym ends.1.0) ends.1.1,
+        subst MayLackMemory (sym ends.1.0) ends.1.1,
       ),
     )
 

@@ -1,5 +1,5 @@
 -- A program that was just loaded, or is loaded anew.
-use Rattle.std.proofs.Common.{◌≡◌, ℕ, zero, suc, Option, Result, Ok, Err, OnOk, ap, sym, ◌∙◌, subst}
+use Rattle.std.proofs.Common.{◌≡◌, ℕ, zero, suc, List, [], ◌∷◌, Option, Result, Ok, Err, OnOk, refl, ap, sym, ◌∙◌, subst}
 use Rattle.image.specs.declared.Image.{Image}
 use Rattle.stepping.specs.Loading.{CanBeLoaded, IsLoaded, loaded, no_breakpoints, not_hit, reloaded}
 use Rattle.std.specs.declared.alloc.AllocError.{AllocError}
@@ -8,7 +8,10 @@ use Rattle.rv32i.specs.declared.stepped.Stepped.{Stepped}
 use Rattle.rv32i.specs.declared.stepped.Stepped.TheVariants.{Retired, Printed, Break, Exit, Trap}
 use Rattle.stepping.specs.Plain.{plain_tick}
 use Rattle.stepping.specs.Runs.{EndsRun, Goes, IsRun}
-use Rattle.stepping.specs.Ticks.{Debugged, IsTick, Settles, moved_as, settled}
+use Rattle.course.specs.Positions.{Position}
+use Rattle.stepping.specs.Ticks.{Debugged, IsTick, Settles, gone_back, looked_at, moved_as, settled, undone, undone_by}
+use Rattle.stepping.specs.declared.goal.Goal.{Goal}
+use Rattle.stepping.specs.declared.goal.Goal.TheVariants.{Go, In, Over, Out, Back, ReverseGo}
 use Rattle.stepping.specs.declared.tick.RunEnd.{RunEnd}
 use Rattle.stepping.specs.declared.tick.RunEnd.TheVariants.{Spent, Ticked, NoMemory}
 use Rattle.stepping.specs.declared.tick.Ran.{Ran}
@@ -25,20 +28,36 @@ anew_is image before after h = (one_is_reloaded image before after).0 h
 
 -- ---- moves keep the size of memory
 
-settled_size : (before after : Debugged) (s : Stepped) (instr : Option Instr) (pc : ℕ) → after ≡ settled s instr pc (moved_as before after)
+settled_size : (before after : Debugged) (s : Stepped) (instr : Option Instr) → after ≡ settled s instr before (moved_as before after)
     → after.size ≡ before.size
-settled_size before after Retired instr pc h = ap (λ (d : Debugged). d.size) h
-settled_size before after (Printed number) instr pc h = ap (λ (d : Debugged). d.size) h
-settled_size before after Break instr pc h = ap (λ (d : Debugged). d.size) h
-settled_size before after (Exit code) instr pc h = ap (λ (d : Debugged). d.size) h
-settled_size before after (Trap cause) instr pc h = ap (λ (d : Debugged). d.size) h
+settled_size before after Retired instr h = ap (λ (d : Debugged). d.size) h
+settled_size before after (Printed number) instr h = ap (λ (d : Debugged). d.size) h
+settled_size before after Break instr h = ap (λ (d : Debugged). d.size) h
+settled_size before after (Exit code) instr h = ap (λ (d : Debugged). d.size) h
+settled_size before after (Trap cause) instr h = ap (λ (d : Debugged). d.size) h
+
+looked_size : (g : Goal) (d : Debugged) → (looked_at g d).size ≡ d.size
+looked_size ReverseGo d = refl
+looked_size Go d = refl
+looked_size (In granularity) d = refl
+looked_size (Over granularity) d = refl
+looked_size (Out granularity) d = refl
+looked_size Back d = refl
+
+undone_size : (past : List Position) (d : Debugged) → (undone_by past d).size ≡ d.size
+undone_size [] d = refl
+undone_size (p ∷ past) d = refl
+
+gone_size : (d : Debugged) → (gone_back d).size ≡ d.size
+gone_size d = looked_size d.goal (undone d) ∙ undone_size d.past d
 
 tick_size : (before after : Debugged) (answer : Result Tick AllocError) → IsTick before answer after → after.size ≡ before.size
 tick_size before after answer h =
-    by_tick before after answer h (λ due a e. ap (λ (d : Debugged). d.size) e) (λ due m. by_move m.instr m.stepped m.settles)
+    by_tick before after answer h (λ due x. ap (λ (d : Debugged). d.size) x.1)
+    (λ due turns x. ap (λ (d : Debugged). d.size) x.1 ∙ gone_size before) (λ due forward m. by_move m.instr m.stepped m.settles)
   where
     by_move : (instr : Option Instr) (s : Result Stepped AllocError) → Settles before instr s answer after → after.size ≡ before.size
-    by_move instr (Ok s) e = settled_size before after s instr before.hart.pc e.1
+    by_move instr (Ok s) e = settled_size before after s instr e.1
     by_move instr (Err error) e = ap (λ (d : Debugged). d.size) e.1
 
 goes_size : (n : ℕ) (before after : Debugged) → Goes n before after → after.size ≡ before.size

@@ -2,43 +2,59 @@
 use Rattle.std.proofs.Common.{◌≡◌, ℕ, ℤ, Bool, true, false, cond, ◌||◌, List, [], ◌∷◌, ◌++◌, map, Option, Some, None, refl, sym, ap, ◌∙◌}
 use Rattle.std.specs.Prelude.{filter}
 use Rattle.std.specs.List.{list_any}
-use Rattle.breakpoints.specs.Stops.{Placed, stopping_ids, stops}
-use Rattle.rv32i.specs.declared.hart.Hart.{Hart}
-use Rattle.stepping.specs.Ticks.{Debugged, hit_at_pc, outcome_of, with_check}
+use Rattle.breakpoints.specs.Stops.{Lists, Placed, hit_where, ids_where, stands, stops}
+use Rattle.stepping.specs.Ticks.{Debugged, back_outcome, back_tick, gone_back, hit_at_pc, looked_at, outcome_of, outcome_or, undone, unless_start, with_check}
+use Rattle.stepping.specs.declared.goal.Goal.{Goal}
+use Rattle.stepping.specs.declared.goal.Goal.TheVariants.{Go, In, Over, Out, Back, ReverseGo}
 use Rattle.stepping.specs.Plain.{IsPlain, plain_tick}
 use Rattle.stepping.specs.declared.tick.Outcome.{Outcome}
 use Rattle.stepping.specs.declared.tick.Outcome.TheVariants.{Went, Stopped, Ended}
 use Rattle.stepping.specs.declared.tick.Tick.{Tick}
 use Rattle.debuggee.specs.Programs.{owing, owing_by}
 
--- where none of a list stops, none is named
-none_named : (pc : ℕ) (hart : Hart) (memory : List ℕ) (list : List Placed) → list_any (stops pc hart memory) list ≡ false
-    → stopping_ids pc hart memory list ≡ []
-none_named pc hart memory [] e = refl
-none_named pc hart memory (b ∷ list) e = by_first (stops pc hart memory b) refl e (none_named pc hart memory list) where
-  by_first : (first : Bool) → stops pc hart memory b ≡ first → list_any (stops pc hart memory) (b ∷ list) ≡ false
-      → (list_any (stops pc hart memory) list ≡ false → stopping_ids pc hart memory list ≡ []) → stopping_ids pc hart memory (b ∷ list) ≡ []
-  by_first true s h rest = absurd (let never : true ≡ false = sym (ap (λ x. x || list_any (stops pc hart memory) list) s) ∙ h in cc)
+-- where none of a list is so, none is named
+none_named : (test : Placed → Bool) (list : List Placed) → list_any test list ≡ false → ids_where test list ≡ []
+none_named test [] e = refl
+none_named test (b ∷ list) e = by_first (test b) refl e (none_named test list) where
+  by_first : (first : Bool) → test b ≡ first → list_any test (b ∷ list) ≡ false
+      → (list_any test list ≡ false → ids_where test list ≡ []) → ids_where test (b ∷ list) ≡ []
+  by_first true s h rest = absurd (let never : true ≡ false = sym (ap (λ x. x || list_any test list) s) ∙ h in cc)
   by_first false s h rest =
-      ap (λ x. map (λ (c : Placed). c.id) (cond x (b ∷ filter (stops pc hart memory) list) (filter (stops pc hart memory) list))) s
-      ∙ rest (sym (ap (λ x. x || list_any (stops pc hart memory) list) s) ∙ h)
+      ap (λ x. map (λ (c : Placed). c.id) (cond x (b ∷ filter test list) (filter test list))) s
+      ∙ rest (sym (ap (λ x. x || list_any test list) s) ∙ h)
 
-none_hit : (source instruction function goal : Bool)
-    → outcome_of (record { source = source; instruction = instruction; function = function }) goal ≡ Went
+none_hit : (source instruction function : Bool) (other : Outcome)
+    → outcome_or (record { source = source; instruction = instruction; function = function }) other ≡ Went
     → (source ≡ false) × ((instruction ≡ false) × (function ≡ false))
-none_hit true instruction function goal e = absurd (cc)
-none_hit false true function goal e = absurd (cc)
-none_hit false false true goal e = absurd (cc)
-none_hit false false false goal e = (refl, (refl, refl))
+none_hit true instruction function other e = absurd (cc)
+none_hit false true function other e = absurd (cc)
+none_hit false false true other e = absurd (cc)
+none_hit false false false other e = (refl, (refl, refl))
+
+names_none : (test : Placed → Bool) (lists : Lists) (other : Outcome) → outcome_or (hit_where test lists) other ≡ Went
+    → ids_where test lists.source ++ ids_where test lists.instructions ++ ids_where test lists.functions ≡ []
+names_none test lists other e =
+    let none = none_hit (hit_where test lists).source (hit_where test lists).instruction (hit_where test lists).function other e in
+    let source = none_named test lists.source none.0 in
+    let instructions = none_named test lists.instructions none.1.0 in
+    let functions = none_named test lists.functions none.1.1 in
+    λ j. source j ++ instructions j ++ functions j
 
 -- a look at the breakpoints that goes on
 pub looks_name_none : (d : Debugged) (goal : Bool) → outcome_of (hit_at_pc d) goal ≡ Went → (with_check d).lists.ids ≡ []
-looks_name_none d goal e =
-    let none = none_hit (hit_at_pc d).source (hit_at_pc d).instruction (hit_at_pc d).function goal e in
-    let source = none_named d.hart.pc d.hart d.memory d.lists.source none.0 in
-    let instructions = none_named d.hart.pc d.hart d.memory d.lists.instructions none.1.0 in
-    let functions = none_named d.hart.pc d.hart d.memory d.lists.functions none.1.1 in
-    λ j. source j ++ instructions j ++ functions j
+looks_name_none d goal e = names_none (stops d.hart.pc d.hart d.memory) d.lists _ e
+
+-- and one on the way back
+looks_back : (g : Goal) (d : Debugged) → back_outcome g d ≡ Went → (looked_at g d).lists.ids ≡ []
+looks_back ReverseGo d e = names_none (stands d.hart.pc d.hart d.memory) d.lists (unless_start d.past) e
+looks_back Go d e = refl
+looks_back (In granularity) d e = refl
+looks_back (Over granularity) d e = refl
+looks_back (Out granularity) d e = refl
+looks_back Back d e = refl
+
+pub undone_names_none : (d : Debugged) → (back_tick d).outcome ≡ Went → (gone_back d).lists.ids ≡ []
+undone_names_none d e = looks_back d.goal (undone d) e
 
 -- ---- what there is to tell of a tick
 

@@ -9,6 +9,9 @@
 -- why it stops. It is owed from the move on until it is told, and the program still runs while it is owed. A trap and
 -- the end of the program retire nothing: their instruction stays, to be met again, and nothing is owed of it.
 --
+-- A program may go back: then a move undoes the newest of those that are recorded. These are given up where its
+-- machine is changed from outside.
+--
 -- A machine has one tick: it has one, and no second (the laws `each_machine_ticks` and `tick_is_deterministic` of
 -- `stepping`). `the_tick` is that one, with what it answers and what it leaves.
 use Rattle.std.specs.Prelude.{◌≡◌, ◌≢◌, ◌<◌, zero, suc, ℕ, ℤ}
@@ -19,15 +22,16 @@ use Rattle.image.specs.declared.Image.{Image}
 use Rattle.image.specs.declared.fault.MemFault.{MemFault}
 use Rattle.image.specs.declared.fault.MemFault.TheVariants.{NoMemory}
 use Rattle.rv32i.specs.declared.hart.Hart.{Hart}
+use Rattle.course.specs.Positions.{past_left}
 use Rattle.stepping.specs.Loading.{loaded, no_breakpoints, reloaded}
-use Rattle.stepping.specs.Runs.{TickNeedsPage}
+use Rattle.stepping.specs.Runs.{MayLackMemory}
 use Rattle.stepping.specs.Ticks.{Debugged, entry_tick, entry_checked}
 use Rattle.stepping.specs.declared.goal.Goal.{Goal}
 use Rattle.stepping.specs.declared.goal.Goal.TheVariants.{Go}
 use Rattle.stepping.specs.declared.tick.Outcome.{Outcome}
 use Rattle.stepping.specs.declared.tick.Outcome.TheVariants.{Went, Stopped as HasStopped, Ended as HasEnded}
 use Rattle.stepping.specs.declared.tick.Reason.{Reason}
-use Rattle.stepping.specs.declared.tick.Reason.TheVariants.{Exception, Ebreak, Source, Instruction, Function, Goal as GoalMet}
+use Rattle.stepping.specs.declared.tick.Reason.TheVariants.{Exception, Ebreak, Source, Instruction, Function, Goal as GoalMet, Start}
 use Rattle.stepping.specs.declared.tick.Tick.{Tick}
 use Rattle.stepping.proofs.Existing.{the_tick}
 use Rattle.debuggee.specs.declared.program.Advanced.{Advanced}
@@ -188,15 +192,17 @@ with_functions wanted p = record p {
 
 -- ---- its machine is changed from outside
 
--- its hart has these registers and this pc
+-- Its hart has these registers and this pc. Its past is given up: no recorded move led there.
 abbrev pub with_hart : Hart → Program → Program
-with_hart hart p = record p { machine = record p.machine { hart = hart } }
+with_hart hart p = record p { machine = record p.machine { hart = hart; past = [] } }
 
--- Bytes are written to its memory, from an address on; nothing is where one of their addresses has no byte.
+-- Bytes are written to its memory, from an address on, and its past is given up; where one of their addresses has no
+-- byte, nothing is written, and the past stays.
 abbrev pub written : ℕ → List ℕ → Program → Program
-written address bytes p = let memory = p.machine.memory in record p {
+written address bytes p = let memory = p.machine.memory in let fault = fault_at memory 1 address (length bytes) in record p {
   machine = record p.machine {
-    memory = memory_after (fault_at memory 1 address (length bytes)) (with_bytes memory address bytes) memory;
+    memory = memory_after fault (with_bytes memory address bytes) memory;
+    past = past_left (unless_fault fault (tt {0})) p.machine.past;
   };
 }
 
@@ -250,6 +256,7 @@ is_exception Source = false
 is_exception Instruction = false
 is_exception Function = false
 is_exception GoalMet = false
+is_exception Start = false
 
 -- Whether an instruction stays that comes to this: one that traps or ends the program does not retire.
 abbrev pub stays : Outcome → Bool
@@ -264,11 +271,11 @@ GoesQuietly (suc n) p q = (middle : Program)
     × (GoesQuietly n p middle × (((moved middle).owed ≡ None) × (q ≡ moved middle)))
 
 -- What comes of moves, so many at most: all of them, with nothing to tell; or so many, the last of which is to be told;
--- or so many, before an instruction that stays; or so many, before one that needs a page for which no memory was left.
+-- or so many, before an instruction that stays; or so many, before one for which no memory was left.
 abbrev pub Advances : ℕ → Program → Advanced → Program → Type 0
 Advances most p Spent q = GoesQuietly most p q
 Advances most p (Owes n) q = (middle : Program) × (k : ℕ) × ((n ≡ suc k) × ((k < most) × (GoesQuietly k p middle
     × ((stays (next_tick middle).outcome ≡ false) × (((moved middle).owed ≢ None) × (q ≡ moved middle))))))
 Advances most p (Meets n tick) q =
     (n < most) × (GoesQuietly n p q × ((next_tick q ≡ tick) × (stays tick.outcome ≡ true)))
-Advances most p (Lacks n) q = (n < most) × (GoesQuietly n p q × TickNeedsPage q.machine)
+Advances most p (Lacks n) q = (n < most) × (GoesQuietly n p q × MayLackMemory q.machine)

@@ -3,6 +3,7 @@ ghost use Rattle.std.specs.Prelude.{◌≡◌, ◌+◌, ◌^◌, ◌<◌, ◌≤
 ghost use Rattle.breakpoints.specs.Stops.{CanBeSet, wanted_by};
 ghost use Rattle.debuggee.specs.Programs as spec;
 ghost use Rattle.stepping.specs.Loading.{CanBeLoaded};
+ghost use Rattle.stepping.specs.Runs.{MayGo};
 
 use crate::run::{Mark, Run, Why};
 use breakpoints::BreakSpec;
@@ -63,8 +64,8 @@ pub enum Advanced {
     /// So many were made, and there is nothing to tell of them. The instruction that comes next was not made: it traps or ends the
     /// program, and would come to this.
     Meets(u32, Tick),
-    /// So many were made, and there is nothing to tell of them. The move that comes next was not made: it is the first to store into
-    /// a page, and no memory was left for that.
+    /// So many were made, and there is nothing to tell of them. The move that comes next was not made: no memory was left for it, as
+    /// for the page that it is the first to store into.
     Lacks(u32),
 }
 
@@ -120,7 +121,7 @@ impl Program {
     }
 
     /// It runs, with this goal, which counts from the depth of its calls now. No check at the entry is due (`ContinueRequest`,
-    /// `NextRequest`, `StepInRequest`, `StepOutRequest`).
+    /// `NextRequest`, `StepInRequest`, `StepOutRequest`, `StepBackRequest`, `ReverseContinueRequest`).
     pub fn resume(&mut self, goal: Goal)
         ensures { self.new ≡ spec.resumed goal self.old }
     {
@@ -163,10 +164,10 @@ impl Program {
 
     /// Makes `most` moves, or fewer: up to the first of which there is something to tell, which it then owes, and none that traps or
     /// ends the program, since a stop that is not told is not made, nor one for which no memory was left. It runs or not as before.
-    /// No check at the entry is due, it owes nothing, and no more than 2^62 instructions will have retired.
+    /// No check at the entry is due, it owes nothing, and no more than 2^62 instructions will have retired, unless it goes back.
     pub fn advance(&mut self, most: u32) -> Advanced
         requires due { self.old.machine.check_due ≡ false }
-        requires few { self.old.machine.retired + most ≤ 2 ^ 62 }
+        requires few { MayGo most self.old.machine }
         requires owed { self.old.owed ≡ None }
         ensures { spec.Advances most self.old result self.new }
     {
@@ -233,15 +234,16 @@ impl Program {
         self.runner.breaks_mut().set_functions(specs)
     }
 
-    /// Gives its hart other registers and another pc (`SetVariableRequest`).
+    /// Gives its hart other registers and another pc, and gives up the recorded moves (`SetVariableRequest`).
     pub fn set_hart(&mut self, hart: Hart)
         ensures { self.new ≡ spec.with_hart hart self.old }
     {
         self.runner.set_hart(hart);
     }
 
-    /// Writes bytes to its memory, from an address on (`WriteMemoryRequest`). `Outside`: one of their addresses has no byte; `NoMemory`:
-    /// no memory was left for a page that is written first. Then nothing is written.
+    /// Writes bytes to its memory, from an address on, and gives up the recorded moves (`WriteMemoryRequest`). `Outside`: one of their
+    /// addresses has no byte; `NoMemory`: no memory was left for a page that is written first. Then nothing is written, and the moves
+    /// stay recorded.
     #[tactic(auto, using(crate::proofs::Writing::writes_so))]
     pub fn write(&mut self, address: u32, bytes: &[u8]) -> Result<(), MemFault>
         ensures { spec.IsWritten address bytes.now self.old result self.new }

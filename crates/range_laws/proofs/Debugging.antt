@@ -1,10 +1,11 @@
 -- What a debugger does to a machine leaves it in range.
-use Rattle.std.proofs.Common.{◌≡◌, ℕ, ◌+◌, Bool, true, false, cond, eqb, List, [], ◌∷◌, length, Option, Some, None, Result, Ok, Err, sym, subst, lit<, arith}
-use Rattle.std.specs.Prelude.{drop, replicate, take}
+use Rattle.std.proofs.Common.{◌≡◌, ℕ, suc, ◌+◌, ◌≤◌, Bool, true, false, cond, eqb, List, [], ◌∷◌, length, Option, Some, None, Result, Ok, Err, refl, sym, ap, subst, lit<, arith}
+use Rattle.std.specs.Prelude.{All, drop, replicate, take}
 use Rattle.std.specs.declared.alloc.AllocError.{AllocError}
 use Rattle.std.proofs.lemmas.List.{length-drop, length-take}
-use Rattle.std.proofs.lemmas.List.Elements.{All-cons, All-drop, All-nil, All-replicate, All-take}
-use Rattle.image.specs.Memory.{fault_at, first_address, memory_after, with_bytes}
+use Rattle.std.proofs.lemmas.List.Elements.{All-cons, All-drop, All-head, All-nil, All-tail, All-replicate, All-take}
+use Rattle.breakpoints.specs.Stops.{Lists}
+use Rattle.image.specs.Memory.{fault_at, first_address, memory_after, unless_fault, with_bytes}
 use Rattle.image.specs.declared.fault.MemFault.{MemFault}
 use Rattle.rv32i.specs.Machine.{machine_of}
 use Rattle.rv32i.specs.declared.instr.Instr.{Instr}
@@ -15,11 +16,16 @@ use Rattle.course.specs.Calls.{Kept, with_mark, with_marks}
 use Rattle.stepping.specs.Loading.{not_hit}
 use Rattle.course.specs.Marks.{Mark, is_link, jalr_marks, marks_at}
 use Rattle.course.specs.Marks.Mark.{Push, Pop}
-use Rattle.course.specs.Positions.{noted_if}
-use Rattle.stepping.proofs.Cases.{by_tick}
-use Rattle.stepping.specs.Ticks.{Debugged, Moves, Settles, moved_as, settled}
+use Rattle.course.specs.Positions.{Position, noted_if, past_left}
+use Rattle.stepping.proofs.Cases.{Enters, GoesBack, by_tick}
+use Rattle.stepping.proofs.Leading.{ticks_lead}
+use Rattle.stepping.specs.Goals.{turns_back}
+use Rattle.stepping.specs.Leading.{LeadTo}
+use Rattle.stepping.specs.Ticks.{Debugged, Moves, Settles, gone_on, looked_at, moved_as, position_of, settled, stayed, undone_by}
+use Rattle.stepping.specs.declared.goal.Goal.{Goal}
+use Rattle.stepping.specs.declared.goal.Goal.TheVariants.{Go, In, Over, Out, Back, ReverseGo}
 use Rattle.stepping.specs.declared.tick.Tick.{Tick}
-use Rattle.range_laws.specs.Debugging.{CallsInRange, DebuggedInRange, HartInRange, HartsStayInRange, LoadedIsInRange, ReloadedIsInRange, TicksStayInRange, WritesStayInRange}
+use Rattle.range_laws.specs.Debugging.{CallsInRange, DebuggedInRange, HartInRange, HartsStayInRange, LoadedIsInRange, PositionInRange, ReloadedIsInRange, TicksStayInRange, WritesStayInRange}
 use Rattle.range_laws.specs.Machines.{AreBytes, InRange, IsByte, IsWord}
 use Rattle.range_laws.proofs.Hart.{moves_stay_in_range}
 use Rattle.range_laws.proofs.Words.{bytes_in_range, started_in_range}
@@ -70,38 +76,107 @@ noted_calls : (kept : Kept) (instr : Option Instr) (pc : ℕ) → IsWord pc → 
 noted_calls kept None pc w h = h
 noted_calls kept (Some instr) pc w h = marked_calls kept (marks_at instr pc) (placed instr pc w) h
 
+-- neither the goal of a run nor breakpoints are numbers of the machine
+pub begun_in_range : (goal : Goal) (start : ℕ) (check_due : Bool) (d : Debugged) → DebuggedInRange d
+    → DebuggedInRange (record d { goal = goal; start = start; check_due = check_due })
+begun_in_range goal start check_due d h =
+    record { machine = h.machine; calls = h.calls; end = h.end; past = h.past; leads = h.leads; few = h.few }
+
+pub lists_in_range : (lists : Lists) (d : Debugged) → DebuggedInRange d → DebuggedInRange (record d { lists = lists })
+lists_in_range lists d h =
+    record { machine = h.machine; calls = h.calls; end = h.end; past = h.past; leads = h.leads; few = h.few }
+
 -- ---- ticks
 
--- what of a machine is neither hart nor memory
+-- what of a machine is neither hart nor memory, nor how it came here
 record RestInRange (d : Debugged) : Type 0 where
   calls : CallsInRange d.calls.calls
   end : IsWord (first_address + d.size)
+  past : All PositionInRange d.past
+  few : length d.past ≤ 65536
 
-settled_rest : (s : Stepped) (instr : Option Instr) (pc : ℕ) (d : Debugged) → IsWord pc → RestInRange d → RestInRange (settled s instr pc d)
-settled_rest Retired instr pc d w h = record { calls = noted_calls d.calls instr pc w h.calls; end = h.end }
-settled_rest (Printed number) instr pc d w h = record { calls = noted_calls d.calls instr pc w h.calls; end = h.end }
-settled_rest Break instr pc d w h = record { calls = noted_calls d.calls instr pc w h.calls; end = h.end }
-settled_rest (Exit code) instr pc d w h = record { calls = h.calls; end = h.end }
-settled_rest (Trap cause) instr pc d w h = record { calls = h.calls; end = h.end }
+here_in_range : (d : Debugged) → DebuggedInRange d → PositionInRange (position_of d)
+here_in_range d h = record { machine = h.machine; calls = h.calls }
+
+-- after a move that retired
+gone_rest : (instr : Option Instr) (before d : Debugged) → DebuggedInRange before → d.calls ≡ before.calls → d.size ≡ before.size
+    → RestInRange (gone_on instr before d)
+gone_rest instr before d h calls size =
+    let here = here_in_range before h in
+    let long = length-take 65536 (position_of before ∷ before.past) in
+    record {
+      calls =
+          noted_calls d.calls instr before.hart.pc h.machine.pc
+          (subst (λ (kept : Kept). CallsInRange kept.calls) (sym calls) h.calls);
+      end = subst (λ (n : ℕ). IsWord (first_address + n)) (sym size) h.end;
+      past =
+          All-take PositionInRange 65536 (position_of before ∷ before.past)
+          (All-cons PositionInRange (position_of before) before.past here h.past);
+      few = omega (arith, long);
+    }
+
+still_rest : (before after : Debugged) → DebuggedInRange before → RestInRange (stayed (moved_as before after))
+still_rest before after h = record { calls = h.calls; end = h.end; past = h.past; few = h.few }
+
+settled_rest : (s : Stepped) (instr : Option Instr) (before after : Debugged) → DebuggedInRange before
+    → RestInRange (settled s instr before (moved_as before after))
+settled_rest Retired instr before after h = gone_rest instr before (moved_as before after) h refl refl
+settled_rest (Printed number) instr before after h = gone_rest instr before (moved_as before after) h refl refl
+settled_rest Break instr before after h = gone_rest instr before (moved_as before after) h refl refl
+settled_rest (Exit code) instr before after h = still_rest before after h
+settled_rest (Trap cause) instr before after h = still_rest before after h
 
 answer_in : (s : Result Stepped AllocError) (before after : Debugged) (instr : Option Instr) (answer : Result Tick AllocError)
-    → Settles before instr s answer after → InRange (machine_of after.hart after.memory) → DebuggedInRange before → DebuggedInRange after
-answer_in (Ok s) before after instr answer e m h =
-    let rest : RestInRange after = subst RestInRange (sym e.1)
-    (settled_rest s instr before.hart.pc (moved_as before after) h.machine.pc (record { calls = h.calls; end = h.end })) in
-    record { machine = m; calls = rest.calls; end = rest.end }
-answer_in (Err error) before after instr answer e m h = subst DebuggedInRange (sym e.1) h
+    → Settles before instr s answer after → InRange (machine_of after.hart after.memory) → LeadTo after.past (position_of after)
+    → DebuggedInRange before → DebuggedInRange after
+answer_in (Ok s) before after instr answer e m leads h =
+    let rest : RestInRange after = subst RestInRange (sym e.1) (settled_rest s instr before after h) in
+    record { machine = m; calls = rest.calls; end = rest.end; past = rest.past; leads = leads; few = rest.few }
+answer_in (Err error) before after instr answer e m leads h = subst DebuggedInRange (sym e.1) h
+
+-- after a move that was undone
+undone_in : (past : List Position) (d : Debugged) → d.past ≡ past → DebuggedInRange d → DebuggedInRange (undone_by past d)
+undone_in [] d e h = h
+undone_in (p ∷ past) d e h =
+    let all : All PositionInRange (p ∷ past) = subst (λ (l : List Position). All PositionInRange l) e h.past in
+    let leads : LeadTo (p ∷ past) (position_of d) = subst (λ (l : List Position). LeadTo l (position_of d)) e h.leads in
+    let here : PositionInRange p = All-head PositionInRange p past all in
+    let long : length d.past ≡ suc (length past) = ap length e in
+    let few = h.few in
+    record {
+      machine = here.machine;
+      calls = here.calls;
+      end = h.end;
+      past = All-tail PositionInRange p past all;
+      leads = leads.1;
+      few = omega (arith, long, few);
+    }
+
+looked_in : (g : Goal) (d : Debugged) → DebuggedInRange d → DebuggedInRange (looked_at g d)
+looked_in ReverseGo d h = lists_in_range _ d h
+looked_in Go d h = lists_in_range _ d h
+looked_in (In granularity) d h = lists_in_range _ d h
+looked_in (Over granularity) d h = lists_in_range _ d h
+looked_in (Out granularity) d h = lists_in_range _ d h
+looked_in Back d h = lists_in_range _ d h
 
 pub ticks_stay_in_range : TicksStayInRange
-ticks_stay_in_range before after answer t h =
-    by_tick before after answer t
-    (λ due a e. subst DebuggedInRange (sym e) (record { machine = h.machine; calls = h.calls; end = h.end })) moved
-  where
-    moved : before.check_due ≡ false → Moves before answer after → DebuggedInRange after
-    moved due m =
-        answer_in m.stepped before after m.instr answer m.settles
-        (moves_stay_in_range (machine_of before.hart before.memory)
-        (record { answer = m.stepped; machine = machine_of after.hart after.memory }) m.moved h.machine) h
+ticks_stay_in_range before after answer t h = by_tick before after answer t entered undone moved where
+  entered : before.check_due ≡ true → Enters before answer after → DebuggedInRange after
+  entered due x =
+      subst DebuggedInRange (sym x.1) (lists_in_range _ _ (begun_in_range before.goal before.start false before h))
+
+  undone : before.check_due ≡ false → turns_back before.goal ≡ true → GoesBack before answer after → DebuggedInRange after
+  undone due turns x =
+      subst DebuggedInRange (sym x.1)
+      (looked_in before.goal (undone_by before.past before) (undone_in before.past before refl h))
+
+  moved : before.check_due ≡ false → turns_back before.goal ≡ false → Moves before answer after → DebuggedInRange after
+  moved due forward m =
+      answer_in m.stepped before after m.instr answer m.settles
+      (moves_stay_in_range (machine_of before.hart before.memory)
+      (record { answer = m.stepped; machine = machine_of after.hart after.memory }) m.moved h.machine)
+      (ticks_lead before after answer h.leads t) h
 
 -- ---- loading
 
@@ -114,6 +189,9 @@ loaded_is_in_range image size lists h w = record {
   };
   calls = record { words = All-nil IsWord; few = omega arith };
   end = w;
+  past = All-nil PositionInRange;
+  leads = tt;
+  few = omega arith;
 }
 
 pub reloaded_is_in_range : ReloadedIsInRange
@@ -137,10 +215,37 @@ writes_stay_in_range d address bytes w h = record {
   };
   calls = h.calls;
   end = h.end;
-}
+  past = past_in (fault_at d.memory 1 address (length bytes)) h.past;
+  leads = leads_in (fault_at d.memory 1 address (length bytes)) refl;
+  few = few_in (fault_at d.memory 1 address (length bytes)) h.few;
+} where
+  past_in : (fault : Option MemFault) → All PositionInRange d.past → All PositionInRange (past_left (unless_fault fault (tt {0})) d.past)
+  past_in None all = All-nil PositionInRange
+  past_in (Some fault) all = all
+
+  few_in : (fault : Option MemFault) → length d.past ≤ 65536 → length (past_left (unless_fault fault (tt {0})) d.past) ≤ 65536
+  few_in None few = omega arith
+  few_in (Some fault) few = few
+
+  leads_in : (fault : Option MemFault) → fault_at d.memory 1 address (length bytes) ≡ fault
+      → LeadTo (past_left (unless_fault fault (tt {0})) d.past)
+      (record {
+        hart = d.hart;
+        memory = memory_after fault (with_bytes d.memory address bytes) d.memory;
+        calls = d.calls;
+      })
+  leads_in None e = tt
+  leads_in (Some fault) e = h.leads
 
 pub harts_stay_in_range : HartsStayInRange
-harts_stay_in_range d hart w h = record { machine = record { pc = w.pc; x = w.x; memory = h.machine.memory }; calls = h.calls; end = h.end }
+harts_stay_in_range d hart w h = record {
+  machine = record { pc = w.pc; x = w.x; memory = h.machine.memory };
+  calls = h.calls;
+  end = h.end;
+  past = All-nil PositionInRange;
+  leads = tt;
+  few = omega arith;
+}
 
 -- the hart of a machine in range
 pub hart_in_range : (d : Debugged) → DebuggedInRange d → HartInRange d.hart

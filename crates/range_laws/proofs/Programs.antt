@@ -1,5 +1,5 @@
 -- What is done to a program leaves it in range.
-use Rattle.std.proofs.Common.{ℕ, ℤ, zero, suc, Bool, List, Option, sym, subst}
+use Rattle.std.proofs.Common.{ℕ, ℤ, zero, suc, Bool, false, List, Option, sym, subst}
 use Rattle.breakpoints.specs.Stops.{Lists, Wanted}
 use Rattle.debuggee.specs.Programs.{Advances, GoesQuietly, Program, ended, entered, first_run, left, marked, marked_by, moved, restarted, resumed, stopped, told, with_functions, with_hart, with_instructions, with_source, written}
 use Rattle.debuggee.specs.declared.program.Advanced.{Advanced}
@@ -17,7 +17,7 @@ use Rattle.stepping.proofs.Existing.{the_tick}
 use Rattle.range_laws.specs.Debugging.{DebuggedInRange, HartInRange}
 use Rattle.range_laws.specs.Machines.{AreBytes}
 use Rattle.range_laws.specs.Programs.{JustLoadedIsInRange, KeepsInRange, ProgramInRange, ProgramsMoveInRange, RequestsStayInRange, RunsStayInRange}
-use Rattle.range_laws.proofs.Debugging.{harts_stay_in_range, loaded_is_in_range, reloaded_is_in_range, ticks_stay_in_range, writes_stay_in_range}
+use Rattle.range_laws.proofs.Debugging.{begun_in_range, harts_stay_in_range, lists_in_range, loaded_is_in_range, reloaded_is_in_range, ticks_stay_in_range, writes_stay_in_range}
 
 pub just_loaded_in_range : JustLoadedIsInRange
 just_loaded_in_range image path stop_on_entry size h w = record { image = h; machine = loaded_is_in_range image size no_breakpoints h w }
@@ -29,14 +29,6 @@ stopped_in_range reason p h = record { image = h.image; machine = h.machine }
 
 pub ended_in_range : (code : Option ℤ) → KeepsInRange (ended code)
 ended_in_range code p h = record { image = h.image; machine = h.machine }
-
--- neither the goal of a run nor breakpoints are numbers of the machine
-begun_in_range : (goal : Goal) (start : ℕ) (check_due : Bool) (d : Debugged) → DebuggedInRange d
-    → DebuggedInRange (record d { goal = goal; start = start; check_due = check_due })
-begun_in_range goal start check_due d h = record { machine = h.machine; calls = h.calls; end = h.end }
-
-pub lists_in_range : (lists : Lists) (d : Debugged) → DebuggedInRange d → DebuggedInRange (record d { lists = lists })
-lists_in_range lists d h = record { machine = h.machine; calls = h.calls; end = h.end }
 
 pub resumed_in_range : (goal : Goal) → KeepsInRange (resumed goal)
 resumed_in_range goal p h = record { image = h.image; machine = begun_in_range _ _ _ p.machine h.machine }
@@ -69,7 +61,7 @@ runs_stay_in_range = record {
 
 pub entered_in_range : KeepsInRange entered
 entered_in_range p h =
-    record { image = h.image; machine = record { machine = h.machine.machine; calls = h.machine.calls; end = h.machine.end } }
+    record { image = h.image; machine = lists_in_range _ _ (begun_in_range p.machine.goal p.machine.start false p.machine h.machine) }
 
 pub moved_in_range : KeepsInRange moved
 moved_in_range p h =
