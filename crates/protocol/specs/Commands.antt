@@ -20,6 +20,8 @@ use Rattle.protocol.specs.Continue.{continue_request}
 use Rattle.protocol.specs.Next.{next_request}
 use Rattle.protocol.specs.StepIn.{step_in_request}
 use Rattle.protocol.specs.StepOut.{step_out_request}
+use Rattle.protocol.specs.StepBack.{step_back_request}
+use Rattle.protocol.specs.ReverseContinue.{reverse_continue_request}
 use Rattle.protocol.specs.Pause.{pause_request}
 use Rattle.protocol.specs.StackTrace.{stack_trace_request}
 use Rattle.protocol.specs.Scopes.{scopes_request}
@@ -65,6 +67,8 @@ execution_requests = set_breakpoints_request
     ∷ next_request
     ∷ step_in_request
     ∷ step_out_request
+    ∷ step_back_request
+    ∷ reverse_continue_request
     ∷ pause_request
     ∷ []
 
@@ -88,9 +92,9 @@ their_names : map (λ r. r.name) requests
     ≡ codes "initialize" ∷ codes "launch" ∷ codes "attach" ∷ codes "configurationDone" ∷ codes "threads"
     ∷ codes "cancel" ∷ codes "restart" ∷ codes "terminate" ∷ codes "disconnect" ∷ codes "setBreakpoints"
     ∷ codes "setFunctionBreakpoints" ∷ codes "setInstructionBreakpoints" ∷ codes "setExceptionBreakpoints"
-    ∷ codes "continue" ∷ codes "next" ∷ codes "stepIn" ∷ codes "stepOut" ∷ codes "pause" ∷ codes "stackTrace"
-    ∷ codes "scopes" ∷ codes "variables" ∷ codes "setVariable" ∷ codes "evaluate" ∷ codes "disassemble"
-    ∷ codes "readMemory" ∷ codes "writeMemory" ∷ []
+    ∷ codes "continue" ∷ codes "next" ∷ codes "stepIn" ∷ codes "stepOut" ∷ codes "stepBack"
+    ∷ codes "reverseContinue" ∷ codes "pause" ∷ codes "stackTrace" ∷ codes "scopes" ∷ codes "variables"
+    ∷ codes "setVariable" ∷ codes "evaluate" ∷ codes "disassemble" ∷ codes "readMemory" ∷ codes "writeMemory" ∷ []
 unfolding execution_requests inspection_requests
 their_names = refl
 
@@ -151,6 +155,8 @@ name_of (command.Continue arguments) = continue_request.name
 name_of (command.Next arguments) = next_request.name
 name_of (command.StepIn arguments) = step_in_request.name
 name_of (command.StepOut arguments) = step_out_request.name
+name_of (command.StepBack arguments) = step_back_request.name
+name_of (command.ReverseContinue arguments) = reverse_continue_request.name
 name_of (command.Pause arguments) = pause_request.name
 name_of (command.StackTrace arguments) = stack_trace_request.name
 name_of (command.Scopes arguments) = scopes_request.name

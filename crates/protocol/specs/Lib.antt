@@ -26,6 +26,8 @@ pub mod Continue
 pub mod Next
 pub mod StepIn
 pub mod StepOut
+pub mod StepBack
+pub mod ReverseContinue
 pub mod Pause
 pub mod StackTrace
 pub mod Scopes

@@ -15,7 +15,7 @@ use Rattle.protocol.specs.declared.refusal.Refusal.TheVariants.{NotStopped, Unkn
 use Rattle.protocol.specs.declared.refusal.Refusal.TheVariants.{BadMemoryReference, TooMuch, OutsideMemory}
 use Rattle.protocol.specs.declared.refusal.Refusal.TheVariants.{UnknownName, NotWritable, BadExpression, BadValue}
 use Rattle.protocol.specs.declared.refusal.Refusal.TheVariants.{AssemblyFailed, ReferencesExhausted, RequestGone}
-use Rattle.protocol.specs.declared.refusal.Refusal.TheVariants.{FileUnreadable}
+use Rattle.protocol.specs.declared.refusal.Refusal.TheVariants.{FileUnreadable, NoHistory}
 
 -- a refusal's number, its name, and whether a text of its own comes with it
 pub record Row : Type 0 where
@@ -53,6 +53,7 @@ row AssemblyFailed = with_text 17 (codes "assemblyFailed")
 row ReferencesExhausted = named 19 (codes "referencesExhausted")
 row RequestGone = named 20 (codes "requestGone")
 row FileUnreadable = named 21 (codes "fileUnreadable")
+row NoHistory = named 23 (codes "noHistory")
 
 -- the refusals, in the order in which they apply
 abbrev pub refusals : List Refusal
@@ -79,6 +80,7 @@ refusals =
     ∷ ReferencesExhausted
     ∷ RequestGone
     ∷ FileUnreadable
+    ∷ NoHistory
     ∷ []
 
 -- what `body.error.id` says
@@ -126,3 +128,4 @@ the_refusal_of_its_number AssemblyFailed = refl
 the_refusal_of_its_number ReferencesExhausted = refl
 the_refusal_of_its_number RequestGone = refl
 the_refusal_of_its_number FileUnreadable = refl
+the_refusal_of_its_number NoHistory = refl

@@ -8,9 +8,9 @@ ghost use Rattle.protocol.specs.Commands.{execution_requests, inspection_request
 use crate::unread::Unread;
 use crate::{
     attach, cancel, configuration_done, continue_, disassemble, disconnect, evaluate, initialize,
-    launch, next, pause, read_memory, restart, scopes, set_breakpoints, set_exception_breakpoints,
-    set_function_breakpoints, set_instruction_breakpoints, set_variable, stack_trace, step_in,
-    step_out, terminate, threads, variables, write_memory,
+    launch, next, pause, read_memory, restart, reverse_continue, scopes, set_breakpoints,
+    set_exception_breakpoints, set_function_breakpoints, set_instruction_breakpoints, set_variable,
+    stack_trace, step_back, step_in, step_out, terminate, threads, variables, write_memory,
 };
 use serde_json::{Map, Value};
 use std::alloc::Global;
@@ -52,6 +52,10 @@ pub enum Command {
     StepIn(step_in::StepInArguments),
     /// A step out of the running call (`StepOutRequest`).
     StepOut(step_out::StepOutArguments),
+    /// A step back (`StepBackRequest`).
+    StepBack(step_back::StepBackArguments),
+    /// A thread runs backward (`ReverseContinueRequest`).
+    ReverseContinue(reverse_continue::ReverseContinueArguments),
     /// A thread is to stop (`PauseRequest`).
     Pause(pause::PauseArguments),
     /// The frames of the call stack (`StackTraceRequest`).
@@ -95,6 +99,8 @@ impl Command {
             Command::Next(_) => next::NAME,
             Command::StepIn(_) => step_in::NAME,
             Command::StepOut(_) => step_out::NAME,
+            Command::StepBack(_) => step_back::NAME,
+            Command::ReverseContinue(_) => reverse_continue::NAME,
             Command::Pause(_) => pause::NAME,
             Command::StackTrace(_) => stack_trace::NAME,
             Command::Scopes(_) => scopes::NAME,
@@ -187,6 +193,10 @@ fn execution_command(alloc: Global, name: &str, members: Members) -> Result<Opti
         next::NAME => Ok(Some(Command::Next(next::arguments(alloc, members?)?))),
         step_in::NAME => Ok(Some(Command::StepIn(step_in::arguments(alloc, members?)?))),
         step_out::NAME => Ok(Some(Command::StepOut(step_out::arguments(alloc, members?)?))),
+        step_back::NAME => Ok(Some(Command::StepBack(step_back::arguments(alloc, members?)?))),
+        reverse_continue::NAME => Ok(Some(Command::ReverseContinue(reverse_continue::arguments(
+            alloc, members?,
+        )?))),
         pause::NAME => Ok(Some(Command::Pause(pause::arguments(alloc, members?)?))),
         _ => inspection_command(alloc, name, members),
     }

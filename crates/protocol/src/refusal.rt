@@ -50,6 +50,8 @@ pub enum Refusal {
     RequestGone,
     /// The program's file cannot be read.
     FileUnreadable,
+    /// The machine is to go back, and no move of it is recorded.
+    NoHistory,
 }
 
 impl Refusal {
@@ -102,6 +104,7 @@ impl Refusal {
             Refusal::ReferencesExhausted => (19, "referencesExhausted"),
             Refusal::RequestGone => (20, "requestGone"),
             Refusal::FileUnreadable => (21, "fileUnreadable"),
+            Refusal::NoHistory => (23, "noHistory"),
         }
     }
 
@@ -132,6 +135,7 @@ impl Refusal {
             19 => Some(Refusal::ReferencesExhausted),
             20 => Some(Refusal::RequestGone),
             21 => Some(Refusal::FileUnreadable),
+            23 => Some(Refusal::NoHistory),
             _ => None,
         }
     }

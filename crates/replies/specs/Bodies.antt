@@ -52,7 +52,8 @@ abbrev pub without_body : List (List ℕ)
 without_body =
     codes "attach" ∷ codes "cancel" ∷ codes "configurationDone" ∷ codes "disconnect"
     ∷ codes "launch" ∷ codes "next" ∷ codes "pause" ∷ codes "restart"
-    ∷ codes "setExceptionBreakpoints" ∷ codes "stepIn" ∷ codes "stepOut" ∷ codes "terminate" ∷ []
+    ∷ codes "reverseContinue" ∷ codes "setExceptionBreakpoints" ∷ codes "stepBack" ∷ codes "stepIn"
+    ∷ codes "stepOut" ∷ codes "terminate" ∷ []
 
 -- the table
 abbrev pub row : ResponseBody → Row

@@ -22,6 +22,7 @@ capabilities =
     ∷ codes "supportsReadMemoryRequest"
     ∷ codes "supportsRestartRequest"
     ∷ codes "supportsSetVariable"
+    ∷ codes "supportsStepBack"
     ∷ codes "supportsSteppingGranularity"
     ∷ codes "supportsTerminateRequest"
     ∷ codes "supportsWriteMemoryRequest"

@@ -23,6 +23,7 @@ const CAPABILITIES: &[&str] = &[
     "supportsReadMemoryRequest",
     "supportsRestartRequest",
     "supportsSetVariable",
+    "supportsStepBack",
     "supportsSteppingGranularity",
     "supportsTerminateRequest",
     "supportsWriteMemoryRequest",

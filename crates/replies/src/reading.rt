@@ -18,9 +18,9 @@ use crate::members::{
 use crate::{Message, Outcome, Response, ResponseBody, event, find, read_memory, writing};
 use protocol::{
     Refusal, Text, Unread, attach, cancel, configuration_done, continue_, disassemble, disconnect,
-    evaluate, initialize, launch, next, pause, restart, scopes, set_breakpoints,
+    evaluate, initialize, launch, next, pause, restart, reverse_continue, scopes, set_breakpoints,
     set_exception_breakpoints, set_function_breakpoints, set_instruction_breakpoints, set_variable,
-    stack_trace, step_in, step_out, terminate, threads, variables, write_memory,
+    stack_trace, step_back, step_in, step_out, terminate, threads, variables, write_memory,
 };
 use serde_json::Value;
 use std::alloc::{AllocError, Global};
@@ -58,7 +58,9 @@ fn is_without_body(command: &str) -> bool
             | next::NAME
             | pause::NAME
             | restart::NAME
+            | reverse_continue::NAME
             | set_exception_breakpoints::NAME
+            | step_back::NAME
             | step_in::NAME
             | step_out::NAME
             | terminate::NAME

@@ -35,6 +35,7 @@ fn refusal_of_arguments(name: &str) -> Result<Refusal, Fault> {
         "ReferencesExhausted" => Ok(Refusal::ReferencesExhausted),
         "RequestGone" => Ok(Refusal::RequestGone),
         "FileUnreadable" => Ok(Refusal::FileUnreadable),
+        "NoHistory" => Ok(Refusal::NoHistory),
         _ => Err(Fault::NoCommand),
     }
 }

@@ -44,6 +44,8 @@ fn show_arguments(line: &mut Line, command: &Command) -> Result<(), Fault> {
         Command::Next(arguments) => of::step(line, arguments.thread_id, arguments.granularity),
         Command::StepIn(arguments) => of::step(line, arguments.thread_id, arguments.granularity),
         Command::StepOut(arguments) => of::step(line, arguments.thread_id, arguments.granularity),
+        Command::StepBack(arguments) => of::step(line, arguments.thread_id, arguments.granularity),
+        Command::ReverseContinue(arguments) => line.value(arguments.thread_id),
         Command::Pause(arguments) => line.value(arguments.thread_id),
         Command::StackTrace(arguments) => of::stack_trace(line, arguments),
         Command::Scopes(arguments) => line.value(arguments.frame_id),
