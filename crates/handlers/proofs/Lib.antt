@@ -1,1 +1,2 @@
+pub mod GoingBack
 pub mod Launching

@@ -23,8 +23,9 @@ reason_of (why.Met met.Source) = reason.Breakpoint
 reason_of (why.Met met.Instruction) = reason.InstructionBreakpoint
 reason_of (why.Met met.Function) = reason.FunctionBreakpoint
 reason_of (why.Met met.Goal) = reason.Step
+reason_of (why.Met met.Start) = reason.Step
 
--- what more there is to say of a stop: of an exception, its name
+-- what more there is to say of a stop: of an exception, its name; and that a run back undid all moves that were recorded
 abbrev pub text_of : Why → Option (List ℕ)
 text_of why.Entry = None
 text_of why.Pause = None
@@ -35,6 +36,7 @@ text_of (why.Met met.Source) = None
 text_of (why.Met met.Instruction) = None
 text_of (why.Met met.Function) = None
 text_of (why.Met met.Goal) = None
+text_of (why.Met met.Start) = Some (codes "start of history")
 
 -- a stop, with the numbers of the breakpoints that made it
 abbrev pub stop_event : Why → List ℕ → Event

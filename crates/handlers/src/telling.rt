@@ -67,7 +67,7 @@ fn reason_of(why: Why) -> Reason
             stepping::Reason::Ebreak | stepping::Reason::Source => Reason::Breakpoint,
             stepping::Reason::Instruction => Reason::InstructionBreakpoint,
             stepping::Reason::Function => Reason::FunctionBreakpoint,
-            stepping::Reason::Goal => Reason::Step,
+            stepping::Reason::Goal | stepping::Reason::Start => Reason::Step,
         },
     }
 }
@@ -79,6 +79,7 @@ fn text_of(why: Why) -> Option<&'static str>
     match why {
         Why::Limit => Some("instruction limit"),
         Why::Met(stepping::Reason::Exception(cause)) => Some(cause.text()),
+        Why::Met(stepping::Reason::Start) => Some("start of history"),
         _ => None,
     }
 }

@@ -1,0 +1,15 @@
+-- `stepBack`: the program goes back by one instruction, at every granularity (DAP specification, `StepBackRequest`).
+use Rattle.std.specs.Prelude.{ℤ}
+use Rattle.stepping.specs.declared.goal.Goal.TheVariants.{Back}
+use Rattle.handlers.specs.declared.terms.Terms.{Terms}
+use Rattle.handlers.specs.declared.demand.Demand.{Demand}
+use Rattle.handlers.specs.Given.{Answering, Given}
+use Rattle.handlers.specs.GoingBack as going_back
+
+-- in which phases it is taken, and what it asks of the program
+abbrev pub demand : ℤ → Demand
+demand thread = going_back.demand thread
+
+-- what comes of it
+abbrev pub success : Given → Terms → Answering
+success given terms = going_back.success given terms Back
