@@ -194,7 +194,8 @@ function_few_by table size id asked = by (label_address table (trimmed asked.nam
       (λ _. unset_instruction_few (codes "unknown function") (omega arith))
       (λ problem m. unset_instruction_few (message_of problem) m.1) asked.condition asked.hit_condition
   by (Some address) =
-      by_conditions (λ n. n ≤ 3000) (λ r. most_of_instruction_breakpoint (instruction.entry id asked (function.placed size r (Some address))))
+      by_conditions (λ n. n ≤ 3000)
+      (λ r. most_of_instruction_breakpoint (instruction.entry id asked (function.placed size r (Some address))))
       (λ _. if_keeps (λ (place : Result instruction.Place _). most_of_instruction_breakpoint (instruction.entry id asked place) ≤ 3000)
       (instruction.is_instructions size address) _ _ (λ _. omega arith) (λ _. unset_instruction_few (codes "bad address") (omega arith)))
       (λ problem m. unset_instruction_few (message_of problem) m.1) asked.condition asked.hit_condition

@@ -118,7 +118,8 @@ source_texts base id asked true table = by (bind table (line_in_image base asked
       (λ problem m. (m.0, tt)) asked.condition asked.hit_condition
   by (Some found) =
       by_conditions AreTexts
-      (λ r. source_breakpoint.texts (source.entry base id asked (source.placed r (Some found) (source.written asked.log_message)))) (λ _. tt)
+      (λ r. source_breakpoint.texts (source.entry base id asked (source.placed r (Some found) (source.written asked.log_message))))
+      (λ _. tt)
       (λ problem m. (m.0, tt)) asked.condition asked.hit_condition
 
 instruction_texts : (size id : ℕ) (asked : InstructionBreakpoint)

@@ -1,11 +1,11 @@
 -- A program has no more than 1,024 breakpoints of each kind, so no more than three times as many stop it at once; and
 -- what its logpoints say are short texts.
-use Rattle.std.proofs.Common.{◌≡◌, ℕ, zero, suc, ◌+◌, ◌≤◌, Bool, true, false, cond, List, [], ◌∷◌, ◌++◌, map, filter, length, Option, Some, None, Result, Ok, Err, MatchBool, refl, sym, subst, arith}
+use Rattle.std.proofs.Common.{◌≡◌, ℕ, zero, suc, ◌+◌, ◌≤◌, Bool, true, false, cond, List, [], ◌∷◌, ◌++◌, map, filter, length, Option, Some, None, Result, Ok, Err, refl, sym, subst, arith}
 use Rattle.std.specs.Prelude.{IfSome, filter_map, slice_get}
 use Rattle.std.specs.List.{cons_option}
 use Rattle.std.specs.declared.alloc.AllocError.{AllocError}
 use Rattle.std.proofs.lemmas.List.{length-append, length-map}
-use Rattle.breakpoints.specs.Stops.{Lists, Placed, Wanted, checked, counted, fresh, is_hit, log_at, log_of, reset, stops, stopping_ids}
+use Rattle.breakpoints.specs.Stops.{Lists, Placed, Wanted, checked, counted, fresh, ids_where, is_hit, log_at, log_of, reset, stands, stops}
 use Rattle.debuggee.specs.Programs.{Program, marked, marked_by, moved}
 use Rattle.debuggee.specs.declared.run.Mark.{Mark}
 use Rattle.debuggee.specs.declared.run.Run.{Run}
@@ -19,7 +19,11 @@ use Rattle.rv32i.specs.declared.stepped.Stepped.{Stepped}
 use Rattle.rv32i.specs.declared.stepped.Stepped.TheVariants as stepped
 use Rattle.session.proofs.Reaching.{if_keeps}
 use Rattle.stepping.specs.Loading.{no_breakpoints}
-use Rattle.stepping.specs.Ticks.{Debugged, IsTick, Moves, Settles, entry_checked, entry_tick, moved_as, settled}
+use Rattle.course.specs.Positions.{Position}
+use Rattle.stepping.specs.Ticks.{Debugged, IsTick, Settles, entry_checked, looked_at, moved_as, settled, undone, undone_by}
+use Rattle.stepping.specs.declared.goal.Goal.{Goal}
+use Rattle.stepping.specs.declared.goal.Goal.TheVariants as goal
+use Rattle.stepping.proofs.Cases.{by_tick}
 use Rattle.stepping.specs.declared.tick.Tick.{Tick}
 use Rattle.stepping.proofs.Existing.{the_tick}
 use Rattle.message_laws.proofs.Named.{IsShortText}
@@ -89,30 +93,33 @@ few_filtered f (b ∷ list) = by (f b) (few_filtered f list) where
   by true h = omega (arith, h)
   by false h = omega (arith, h)
 
-few_stop : (pc : ℕ) (hart : Hart) (memory : List ℕ) (list : List Placed) → length list ≤ 1024
-    → length (stopping_ids pc hart memory list) ≤ 1024
-few_stop pc hart memory list h =
-    let some : List Placed = filter (stops pc hart memory) list in
+few_where : (test : Placed → Bool) (list : List Placed) → length list ≤ 1024 → length (ids_where test list) ≤ 1024
+few_where test list h =
+    let some : List Placed = filter test list in
     let same : length (map (λ (b : Placed). b.id) some) ≡ length some = length-map some (λ (b : Placed). b.id) in
-    let few : length some ≤ length list = few_filtered (stops pc hart memory) list in omega (arith, same, few, h)
+    let few : length some ≤ length list = few_filtered test list in omega (arith, same, few, h)
 
-checked_few : (pc : ℕ) (hart : Hart) (memory : List ℕ) (lists : Lists) → HasFew lists → HasFew (checked pc hart memory lists)
-checked_few pc hart memory lists h =
-    let xs : List ℕ = stopping_ids pc hart memory lists.source in
-    let ys : List ℕ = stopping_ids pc hart memory lists.instructions in
-    let zs : List ℕ = stopping_ids pc hart memory lists.functions in
+-- the ids of three lists
+few_ids : (test : Placed → Bool) (lists : Lists) → HasFew lists
+    → length (ids_where test lists.source ++ ids_where test lists.instructions ++ ids_where test lists.functions) ≤ 3072
+few_ids test lists h =
+    let xs : List ℕ = ids_where test lists.source in
+    let ys : List ℕ = ids_where test lists.instructions in
+    let zs : List ℕ = ids_where test lists.functions in
     let all : length (xs ++ ys ++ zs) ≡ length (xs ++ ys) + length zs = length-append (xs ++ ys) zs in
     let others : length (xs ++ ys) ≡ length xs + length ys = length-append xs ys in
-    let a : length xs ≤ 1024 = few_stop pc hart memory lists.source h.source in
-    let b : length ys ≤ 1024 = few_stop pc hart memory lists.instructions h.instructions in
-    let c : length zs ≤ 1024 = few_stop pc hart memory lists.functions h.functions in
-    record {
-      source = few_mapped (counted pc hart memory) lists.source h.source;
-      instructions = few_mapped (counted pc hart memory) lists.instructions h.instructions;
-      functions = few_mapped (counted pc hart memory) lists.functions h.functions;
-      ids = omega (arith, all, others, a, b, c);
-      logs = map_says (counted pc hart memory) (counted_log pc hart memory) lists.source h.logs;
-    }
+    let a : length xs ≤ 1024 = few_where test lists.source h.source in
+    let b : length ys ≤ 1024 = few_where test lists.instructions h.instructions in
+    let c : length zs ≤ 1024 = few_where test lists.functions h.functions in omega (arith, all, others, a, b, c)
+
+checked_few : (pc : ℕ) (hart : Hart) (memory : List ℕ) (lists : Lists) → HasFew lists → HasFew (checked pc hart memory lists)
+checked_few pc hart memory lists h = record {
+  source = few_mapped (counted pc hart memory) lists.source h.source;
+  instructions = few_mapped (counted pc hart memory) lists.instructions h.instructions;
+  functions = few_mapped (counted pc hart memory) lists.functions h.functions;
+  ids = few_ids (stops pc hart memory) lists h;
+  logs = map_says (counted pc hart memory) (counted_log pc hart memory) lists.source h.logs;
+}
 
 pub none_named : (lists : Lists) → HasFew lists → HasFew (record lists { ids = []; logs = [] })
 none_named lists h =
@@ -133,27 +140,45 @@ reset_few lists h = record {
 
 -- ---- a tick
 
-settled_few : (s : Stepped) (instr : Option Instr) (pc : ℕ) (d : Debugged) → HasFew d.lists → HasFew (settled s instr pc d).lists
-settled_few stepped.Retired instr pc d h = checked_few d.hart.pc d.hart d.memory d.lists h
-settled_few (stepped.Printed number) instr pc d h = checked_few d.hart.pc d.hart d.memory d.lists h
-settled_few stepped.Break instr pc d h = checked_few d.hart.pc d.hart d.memory d.lists h
-settled_few (stepped.Exit code) instr pc d h = none_named d.lists h
-settled_few (stepped.Trap cause) instr pc d h = none_named d.lists h
+settled_few : (s : Stepped) (instr : Option Instr) (before d : Debugged) → HasFew d.lists → HasFew (settled s instr before d).lists
+settled_few stepped.Retired instr before d h = checked_few d.hart.pc d.hart d.memory d.lists h
+settled_few (stepped.Printed number) instr before d h = checked_few d.hart.pc d.hart d.memory d.lists h
+settled_few stepped.Break instr before d h = checked_few d.hart.pc d.hart d.memory d.lists h
+settled_few (stepped.Exit code) instr before d h = none_named d.lists h
+settled_few (stepped.Trap cause) instr before d h = none_named d.lists h
 
 answer_few : (s : Result Stepped AllocError) (before after : Debugged) (instr : Option Instr) (answer : Result Tick AllocError)
     → Settles before instr s answer after → HasFew before.lists → HasFew after.lists
 answer_few (Ok s) before after instr answer e h =
-    subst (λ (d : Debugged). HasFew d.lists) (sym e.1) (settled_few s instr before.hart.pc (moved_as before after) h)
+    subst (λ (d : Debugged). HasFew d.lists) (sym e.1) (settled_few s instr before (moved_as before after) h)
 answer_few (Err error) before after instr answer e h = subst (λ (d : Debugged). HasFew d.lists) (sym e.1) h
+
+undone_few : (past : List Position) (d : Debugged) → HasFew d.lists → HasFew (undone_by past d).lists
+undone_few [] d h = h
+undone_few (before ∷ past) d h = h
+
+looked_few : (g : Goal) (d : Debugged) → HasFew d.lists → HasFew (looked_at g d).lists
+looked_few goal.ReverseGo d h = record {
+  source = h.source;
+  instructions = h.instructions;
+  functions = h.functions;
+  ids = few_ids (stands d.hart.pc d.hart d.memory) d.lists h;
+  logs = h.logs;
+}
+looked_few goal.Go d h = none_named d.lists h
+looked_few (goal.In granularity) d h = none_named d.lists h
+looked_few (goal.Over granularity) d h = none_named d.lists h
+looked_few (goal.Out granularity) d h = none_named d.lists h
+looked_few goal.Back d h = none_named d.lists h
 
 tick_few : (before after : Debugged) (answer : Result Tick AllocError) → IsTick before answer after → HasFew before.lists
     → HasFew after.lists
-tick_few before after answer t h = go before.check_due t where
-  go : (due : Bool) → MatchBool due ((answer ≡ Ok (entry_tick before)) × (after ≡ entry_checked before)) (Moves before answer after)
-      → HasFew after.lists
-  go true e =
-      subst (λ (d : Debugged). HasFew d.lists) (sym e.1) (checked_few before.hart.pc before.hart before.memory before.lists h)
-  go false m = answer_few m.stepped before after m.instr answer m.settles h
+tick_few before after answer t h =
+    by_tick before after answer t
+    (λ due x. subst (λ (d : Debugged). HasFew d.lists) (sym x.1) (checked_few before.hart.pc before.hart before.memory before.lists h))
+    (λ due turns x. subst (λ (d : Debugged). HasFew d.lists) (sym x.1)
+    (looked_few before.goal (undone before) (undone_few before.past before h)))
+    (λ due forward m. answer_few m.stepped before after m.instr answer m.settles h)
 
 -- ---- the program
 

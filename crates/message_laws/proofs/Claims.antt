@@ -52,7 +52,7 @@ use Rattle.session.specs.Outcomes.{Outcome, answering, answers_next, closing, ne
 use Rattle.session.specs.Phases.{is_active}
 use Rattle.session.specs.Refusals.{answer_to, response_to}
 use Rattle.session.specs.Sessions.{After, Beginning, Effect, Life, Said, Session, accepted_on, agreed_on, histories, hung_on, life_of, opened_on, performed_on, referred_on, replied_on, said_next, said_on, start}
-use Rattle.session.specs.Slices.{Beat, beat, beat_by, beat_of, concludes, exits, goes, goes_unless, halts, is_runnable_by, logged, moves_by, output_events, telling, tells}
+use Rattle.session.specs.Slices.{Beat, beat, beat_by, beat_of, concludes, exits, goes, goes_unless, halts, is_at_limit, is_runnable_by, logged, moves_by, output_events, telling, tells}
 use Rattle.session.specs.declared.event.Event.{Event}
 use Rattle.session.specs.declared.event.Event.TheVariants.{Connect, Recv, Turn, Slice, Hold, Sent, DropConnection}
 use Rattle.session.specs.declared.event.SliceEnd.{SliceEnd}
@@ -379,7 +379,7 @@ module _ (q : Claim) (h : Holds q) where
   goes_right now p more g =
       if_keeps OfBeat p.machine.check_due _ _ (λ _. (h.entered p g, tt))
       (λ _. if_keeps OfBeat (not more) _ _ (λ _. tt)
-      (λ _. if_keeps OfBeat (leb now.limits.last_retired p.machine.retired) _ _ (λ _. halts_right now p why.Limit [] g h.no_ids)
+      (λ _. if_keeps OfBeat (is_at_limit now p) _ _ (λ _. halts_right now p why.Limit [] g h.no_ids)
       (λ _. moves_right now p (next_tick p).outcome g)))
 
   unless_right : (m : Option Mark) (now : Now) (p : Program) (more : Bool) → q.program p → OfBeat (goes_unless m now p more)

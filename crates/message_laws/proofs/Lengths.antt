@@ -105,6 +105,7 @@ why_few (why.Met met.Source) = omega arith
 why_few (why.Met met.Instruction) = omega arith
 why_few (why.Met met.Function) = omega arith
 why_few (why.Met met.Goal) = omega arith
+why_few (why.Met met.Start) = let few = written_few (codes "start of history") 40 (omega arith) in omega (arith, few)
 
 stop_few : (reason : Why) (ids : List ℕ) → length ids ≤ 3072 → most_of_event (stop_event reason ids) ≤ 4000000000
 stop_few reason ids h = let text = why_few reason in omega (arith, text, h)

@@ -76,6 +76,7 @@ why_text (why.Met met.Source) = tt
 why_text (why.Met met.Instruction) = tt
 why_text (why.Met met.Function) = tt
 why_text (why.Met met.Goal) = tt
+why_text (why.Met met.Start) = IsUtf8-are_ascii (codes "start of history") refl
 
 no_texts : (ids : List ℕ) → AreTexts (texts_of whole.texts ids)
 no_texts [] = tt
@@ -153,7 +154,8 @@ shown_texts : (c : Command) (p : Program) (given : Given) (terms : Terms) (b : R
     → (seen_in p given terms c).result ≡ Ok b → HasBodyTexts b
 shown_texts c p given terms b orderly h e =
     subst (λ (r : Result ResponseBody Refusal). IfOk r HasBodyTexts) e
-    (looks_have_texts c p.machine p.image.lines given.numbers (view_of terms p) (holds_words p orderly) (has_labels p h.named) h.named.path.0)
+    (looks_have_texts c p.machine p.image.lines given.numbers (view_of terms p) (holds_words p orderly)
+    (has_labels p h.named) h.named.path.0)
 
 holds : Holds texts
 holds = record {

@@ -1,14 +1,20 @@
 -- Moves of which there is nothing to tell are as many beats.
-use Rattle.std.proofs.Common.{◌≡◌, ℕ, ℤ, zero, suc, ◌+◌, ◌<◌, ◌≤◌, Bool, true, false, leb, ltb, List, Option, Some, None, Result, Ok, Err, MatchBool, inr, refl, sym, ap, ◌∙◌, subst, arith}
+use Rattle.std.proofs.Common.{◌≡◌, ℕ, ℤ, zero, suc, ◌+◌, ◌<◌, ◌≤◌, Bool, true, false, leb, ltb, List, [], ◌∷◌, Option, Some, None, Result, Ok, Err, inr, refl, sym, ap, ◌∙◌, subst, arith}
+use Rattle.std.specs.Prelude.{◌&&◌, not}
 use Rattle.std.proofs.lemmas.Bool.Decides.{nat_tests}
 use Rattle.std.specs.declared.alloc.AllocError.{AllocError}
 use Rattle.rv32i.specs.declared.instr.Instr.{Instr}
 use Rattle.rv32i.specs.declared.stepped.Stepped.{Stepped}
 use Rattle.rv32i.specs.declared.stepped.Stepped.TheVariants.{Retired, Printed, Break, Exit, Trap}
-use Rattle.stepping.specs.Ticks.{Debugged, IsTick, Moves as Ticks, Settles, entry_checked, entry_tick, moved_as, settled, tick_of}
+use Rattle.course.specs.Positions.{Position}
+use Rattle.stepping.specs.Goals.{turns_back}
+use Rattle.stepping.specs.Ticks.{Debugged, IsTick, Moves as Ticks, Settles, gone_back, gone_on, looked_at, moved_as, settled, tick_of, undone, undone_by}
+use Rattle.stepping.specs.declared.goal.Goal.{Goal}
+use Rattle.stepping.specs.declared.goal.Goal.TheVariants.{Go, In, Over, Out, Back, ReverseGo}
 use Rattle.stepping.specs.declared.tick.Outcome.{Outcome}
 use Rattle.stepping.specs.declared.tick.Outcome.TheVariants.{Went, Stopped, Ended}
 use Rattle.stepping.specs.declared.tick.Tick.{Tick}
+use Rattle.stepping.proofs.Cases.{by_tick}
 use Rattle.stepping.proofs.Existing.{the_tick}
 use Rattle.debuggee.specs.Programs.{Program, Advances, GoesQuietly, moved, next_tick, owing_by, stays}
 use Rattle.debuggee.specs.declared.program.Advanced.{Advanced}
@@ -20,44 +26,78 @@ use Rattle.session.specs.declared.event.SliceEnd.TheVariants as ending
 use Rattle.session.specs.declared.slices.Ahead.{Ahead}
 use Rattle.session.specs.declared.slices.Ahead.TheVariants as ahead
 use Rattle.session.specs.declared.slices.Moves.{Moves}
-use Rattle.session.specs.Effects.{MakesPage, MayLack, Slicing, after_beat, beats_on, next_beat}
+use Rattle.session.specs.Effects.{MayLack, Slicing, after_beat, beats_on, next_beat}
 use Rattle.session.specs.Kept.{Kept, keepings}
-use Rattle.session.specs.Slices.{Beat, IsFree, beat, is_runnable_by, moves_by, retires}
+use Rattle.session.specs.Slices.{Beat, IsFree, beat, is_runnable_by, makes_move, moves_by}
 use Rattle.session.proofs.Deciding.{free_beat}
 use Rattle.session.proofs.Told.{with_one}
 use Rattle.session.proofs.ByMove.{by_move}
 
 -- ---- what a move leaves
 
-abbrev pub Retires : Debugged → Debugged → Type 0
-Retires before after = (after.check_due ≡ before.check_due) × (after.retired ≡ before.retired + 1)
+-- The check at the entry, the goal, and how many instructions have retired: one more, unless it goes back.
+pub record Leaves (before after : Debugged) : Type 0 where
+  pub due : after.check_due ≡ before.check_due
+  pub goal : after.goal ≡ before.goal
+  pub retired : turns_back before.goal ≡ false → after.retired ≡ before.retired + 1
 
-settled_retires : (before after : Debugged) (s : Stepped) (instr : Option Instr) (pc : ℕ)
-    → stays (tick_of s instr pc (moved_as before after)).outcome ≡ false → after ≡ settled s instr pc (moved_as before after)
-    → Retires before after
-settled_retires before after Retired instr pc e h = (ap (λ (d : Debugged). d.check_due) h, ap (λ (d : Debugged). d.retired) h)
-settled_retires before after (Printed number) instr pc e h = (ap (λ (d : Debugged). d.check_due) h, ap (λ (d : Debugged). d.retired) h)
-settled_retires before after Break instr pc e h = (ap (λ (d : Debugged). d.check_due) h, ap (λ (d : Debugged). d.retired) h)
-settled_retires before after (Exit code) instr pc e h = absurd (let never : true ≡ false = e in cc)
-settled_retires before after (Trap cause) instr pc e h = absurd (let never : true ≡ false = e in cc)
+gone_on_leaves : (before after : Debugged) (instr : Option Instr) → after ≡ gone_on instr before (moved_as before after)
+    → Leaves before after
+gone_on_leaves before after instr h = record {
+  due = ap (λ (d : Debugged). d.check_due) h;
+  goal = ap (λ (d : Debugged). d.goal) h;
+  retired = λ _. ap (λ (d : Debugged). d.retired) h;
+}
 
-tick_retires : (before after : Debugged) (tick : Tick) → before.check_due ≡ false → stays tick.outcome ≡ false
-    → IsTick before (Ok tick) after → Retires before after
-tick_retires before after tick due e h =
-    let m : Ticks before (Ok tick) after = subst
-    (λ (b : Bool). MatchBool b (((let r : Result Tick AllocError = Ok tick in r) ≡ Ok (entry_tick before)) × (after ≡ entry_checked before))
-    (Ticks before (Ok tick) after)) due h in
-    by m.instr m.stepped m.settles where
-      by : (instr : Option Instr) (s : Result Stepped AllocError) → Settles before instr s (Ok tick) after → Retires before after
-      by instr (Ok s) x =
-          let same : tick ≡ tick_of s instr before.hart.pc (moved_as before after) = cc in
-          settled_retires before after s instr before.hart.pc (sym (ap (λ (t : Tick). stays t.outcome) same) ∙ e) x.1
-      by instr (Err error) x = absurd (cc)
+settled_leaves : (before after : Debugged) (s : Stepped) (instr : Option Instr)
+    → stays (tick_of s instr before.hart.pc (moved_as before after)).outcome ≡ false
+    → after ≡ settled s instr before (moved_as before after)
+    → Leaves before after
+settled_leaves before after Retired instr e h = gone_on_leaves before after instr h
+settled_leaves before after (Printed number) instr e h = gone_on_leaves before after instr h
+settled_leaves before after Break instr e h = gone_on_leaves before after instr h
+settled_leaves before after (Exit code) instr e h = absurd (let never : true ≡ false = e in cc)
+settled_leaves before after (Trap cause) instr e h = absurd (let never : true ≡ false = e in cc)
 
-pub move_retires : (p : Program) → p.machine.check_due ≡ false → stays (next_tick p).outcome ≡ false → Retires p.machine (moved p).machine
-move_retires p due e = tick_retires p.machine (the_tick p.machine).after (next_tick p) due e (the_tick p.machine).is
+looked_leaves : (goal : Goal) (d : Debugged) → (let l = looked_at goal d in (l.check_due ≡ d.check_due) × (l.goal ≡ d.goal))
+looked_leaves Go d = (refl, refl)
+looked_leaves (In granularity) d = (refl, refl)
+looked_leaves (Over granularity) d = (refl, refl)
+looked_leaves (Out granularity) d = (refl, refl)
+looked_leaves Back d = (refl, refl)
+looked_leaves ReverseGo d = (refl, refl)
 
--- where a move leaves nothing to tell, its instruction has retired
+undone_leaves : (past : List Position) (d : Debugged) → (let u = undone_by past d in (u.check_due ≡ d.check_due) × (u.goal ≡ d.goal))
+undone_leaves [] d = (refl, refl)
+undone_leaves (before ∷ past) d = (refl, refl)
+
+back_leaves : (d : Debugged) → turns_back d.goal ≡ true → Leaves d (gone_back d)
+back_leaves d turns =
+    let looks = looked_leaves d.goal (undone d) in
+    let undoes = undone_leaves d.past d in
+    record {
+      due = looks.0 ∙ undoes.0;
+      goal = looks.1 ∙ undoes.1;
+      retired = λ forward. absurd (let never : true ≡ false = sym turns ∙ forward in cc);
+    }
+
+tick_leaves : (before after : Debugged) (tick : Tick) → before.check_due ≡ false → stays tick.outcome ≡ false
+    → IsTick before (Ok tick) after → Leaves before after
+tick_leaves before after tick due e h =
+    by_tick before after (Ok tick) h (λ d _. absurd (let never : true ≡ false = sym d ∙ due in cc))
+    (λ _ turns x. subst (Leaves before) (sym x.1) (back_leaves before turns)) (λ _ _ m. moves m) where
+      moves : Ticks before (Ok tick) after → Leaves before after
+      moves m = by m.instr m.stepped m.settles where
+        by : (instr : Option Instr) (s : Result Stepped AllocError) → Settles before instr s (Ok tick) after → Leaves before after
+        by instr (Ok s) x =
+            let same : tick ≡ tick_of s instr before.hart.pc (moved_as before after) = cc in
+            settled_leaves before after s instr (sym (ap (λ (t : Tick). stays t.outcome) same) ∙ e) x.1
+        by instr (Err error) x = absurd (cc)
+
+pub move_leaves : (p : Program) → p.machine.check_due ≡ false → stays (next_tick p).outcome ≡ false → Leaves p.machine (moved p).machine
+move_leaves p due e = tick_leaves p.machine (the_tick p.machine).after (next_tick p) due e (the_tick p.machine).is
+
+-- where a move leaves nothing to tell, it is made
 owes_none : (printed : Option ℤ) (outcome : Outcome) (logs : List ℕ) → owing_by printed outcome logs ≡ None → stays outcome ≡ false
 owes_none printed Went logs e = refl
 owes_none None (Stopped reason) logs e = absurd (cc)
@@ -70,9 +110,9 @@ quiet_goes p e = owes_none (next_tick p).printed (next_tick p).outcome (moved p)
 
 -- ---- a beat that makes a move
 
-retiring : (k : Kept) (p : Program) (outcome : Outcome) → stays outcome ≡ false → moves_by k.now p outcome ≡ retires k.now p
-retiring k p outcome =
-    by_move (λ o b. stays o ≡ false → b ≡ retires k.now p) k.now p outcome (λ _ _ _. refl)
+making : (k : Kept) (p : Program) (outcome : Outcome) → stays outcome ≡ false → moves_by k.now p outcome ≡ makes_move k.now p
+making k p outcome =
+    by_move (λ o b. stays o ≡ false → b ≡ makes_move k.now p) k.now p outcome (λ _ _ _. refl)
     (λ _ e. absurd (let never : true ≡ false = e in cc)) (λ _ e. absurd (let never : true ≡ false = e in cc))
 
 -- one beat more
@@ -80,7 +120,7 @@ one_more : (n m j : ℕ) (k t : Kept) (p : Program) → ltb (m + j) n ≡ true �
     → beats_on keepings n j (going k m) ≡ going t (m + j)
     → beats_on keepings n (suc j) (going k m) ≡ going (with_one (moved p) t) (m + suc j)
 one_more n m j k t p lt free e h =
-    let b : beat (keepings.see t) true ≡ retires t.now p = free_beat p t free ∙ retiring t p (next_tick p).outcome e in
+    let b : beat (keepings.see t) true ≡ makes_move t.now p = free_beat p t free ∙ making t p (next_tick p).outcome e in
     let sum : m + j + 1 ≡ m + suc j = omega arith in
     ap (next_beat keepings n) h
     ∙ ap (λ (x : Bool). let c = beat (keepings.see t) x in
@@ -97,7 +137,12 @@ record Still (j : ℕ) (p q : Program) : Type 0 where
   mark : q.mark ≡ p.mark
   owed : q.owed ≡ None
   due : q.machine.check_due ≡ false
-  retired : q.machine.retired ≡ p.machine.retired + j
+  goal : q.machine.goal ≡ p.machine.goal
+  retired : turns_back p.machine.goal ≡ false → q.machine.retired ≡ p.machine.retired + j
+
+-- so many instructions may retire still, unless it goes back
+abbrev pub HasLeft : ℕ → Kept → Program → Type 0
+HasLeft most k p = turns_back p.machine.goal ≡ false → p.machine.retired + most ≤ k.now.limits.last_retired
 
 same_one : (k : Kept) (p : Program) → k.now.debuggee.program ≡ Some p → k ≡ with_one p k
 same_one k p e = λ i. record k { now = record k.now { debuggee = record k.now.debuggee { program = e i } } }
@@ -107,8 +152,15 @@ still_fewer last retired theirs j most e lt few =
     let h : theirs < last = omega (arith, e, lt, few) in
     grind (arith, nat_tests)
 
+-- as many have not retired yet
+still_below : (k : Kept) (p q : Program) (j most : ℕ) (turns : Bool) → turns_back p.machine.goal ≡ turns → Still j p q → j < most
+    → HasLeft most k p → (not turns && leb k.now.limits.last_retired q.machine.retired) ≡ false
+still_below k p q j most true turns s lt few = refl
+still_below k p q j most false turns s lt few =
+    still_fewer k.now.limits.last_retired p.machine.retired q.machine.retired j most (s.retired turns) lt (few turns)
+
 still_free : (k : Kept) (p q : Program) (j most : ℕ) → IsFree p (keepings.see k) → Still j p q → j < most
-    → p.machine.retired + most ≤ k.now.limits.last_retired → IsFree q (keepings.see (with_one q k))
+    → HasLeft most k p → IsFree q (keepings.see (with_one q k))
 still_free k p q j most f s lt few = record {
   program = refl;
   owed = s.owed;
@@ -116,20 +168,23 @@ still_free k p q j most f s lt few = record {
   mark = s.mark ∙ f.mark;
   room = f.room;
   due = s.due;
-  few = still_fewer k.now.limits.last_retired p.machine.retired q.machine.retired j most s.retired lt few;
+  few = ap (λ (g : Goal). not (turns_back g) && leb k.now.limits.last_retired q.machine.retired) s.goal
+      ∙ still_below k p q j most (turns_back p.machine.goal) refl s lt few;
 }
 
 moved_still : (j : ℕ) (p q : Program) → Still j p q → (moved q).owed ≡ None → Still (suc j) p (moved q)
 moved_still j p q s e =
-    let r = move_retires q s.due (quiet_goes q e) in
-    let one = r.1 in
-    let all = s.retired in
+    let r = move_leaves q s.due (quiet_goes q e) in
     record {
       run = s.run;
       mark = s.mark;
       owed = e;
-      due = r.0 ∙ s.due;
-      retired = omega (arith, one, all);
+      due = r.due ∙ s.due;
+      goal = r.goal ∙ s.goal;
+      retired = λ forward.
+          let one = r.retired (ap turns_back s.goal ∙ forward) in
+          let all = s.retired forward in
+          omega (arith, one, all);
     }
 
 still_more : (m j most n : ℕ) → suc j ≤ most → m + most ≤ n → ltb (m + j) n ≡ true
@@ -142,7 +197,7 @@ record Quietly (n m j : ℕ) (k : Kept) (p q : Program) : Type 0 where
   still : Still j p q
 
 quietly : (n m most j : ℕ) (k : Kept) (p q : Program) → IsFree p (keepings.see k) → j ≤ most → m + most ≤ n
-    → p.machine.retired + most ≤ k.now.limits.last_retired → GoesQuietly j p q → Quietly n m j k p q
+    → HasLeft most k p → GoesQuietly j p q → Quietly n m j k p q
 quietly n m most zero k p q f le room few g =
     let none : m ≡ m + zero = omega arith in
     let here : p.machine.retired ≡ p.machine.retired + zero = omega arith in
@@ -151,7 +206,8 @@ quietly n m most zero k p q f le room few g =
           ap (λ (x : Kept). going x m) (same_one k p f.program) ∙ ap (λ (x : Program). going (with_one x k) m) (sym g) ∙ ap
           (λ (x : ℕ). going (with_one q k) x) none;
       still =
-          subst (λ (x : Program). Still zero p x) (sym g) (record { run = refl; mark = refl; owed = f.owed; due = f.due; retired = here });
+          subst (λ (x : Program). Still zero p x) (sym g)
+          (record { run = refl; mark = refl; owed = f.owed; due = f.due; goal = refl; retired = λ _. here });
     }
 quietly n m most (suc j) k p q f le room few g =
     let middle = g.0 in
@@ -171,7 +227,7 @@ quietly n m most (suc j) k p q f le room few g =
 
 -- so many moves, of none of which there is anything to tell, before one that is not made
 quiet_before : (left most count : ℕ) (k new : Kept) (p q : Program) (next : Ahead) → IsFree p (keepings.see k) → most ≤ left
-    → p.machine.retired + most ≤ k.now.limits.last_retired → count < most → GoesQuietly count p q → new ≡ with_one q k
+    → HasLeft most k p → count < most → GoesQuietly count p q → new ≡ with_one q k
     → (count < left → IsFree q (keepings.see new) → IsAhead left count next new) → Moved left k (record { moved = count; ahead = next }) new
 quiet_before left most count k new p q next f le few lt g e is =
     let less : count ≤ left = omega (arith, lt, le) in
@@ -188,7 +244,7 @@ quiet_before left most count k new p q next f le few lt g e is =
     }
 
 pub advance_moves : (left most : ℕ) (k new : Kept) (p q : Program) (a : Advanced) → IsFree p (keepings.see k) → 1 ≤ most → most ≤ left
-    → p.machine.retired + most ≤ k.now.limits.last_retired → Advances most p a q → new ≡ with_one q k → Moved left k (moves_of most a) new
+    → HasLeft most k p → Advances most p a q → new ≡ with_one q k → Moved left k (moves_of most a) new
 advance_moves left most k new p q Spent f some le few g e = record {
   few = le;
   goes =
@@ -269,7 +325,7 @@ moves_lack left m k new moves h e =
         goes = is_before left m moves.moved next.0;
         program = next.1.0;
         free = next.1.1.0;
-        needs = next.1.1.1;
+        lacks = next.1.1.1;
       });
     }
 
@@ -282,7 +338,7 @@ unfolding some_or
 the_free_one k p q e f = subst (λ (x : Program). IsFree x (keepings.see k)) (ap (some_or p) (sym f.program ∙ e)) f
 
 pub advances_so : (left most : ℕ) (k new : Kept) (p q : Program) (a : Advanced) (made : Moves) → made ≡ moves_of most a
-    → IsFree p (keepings.see k) → 1 ≤ most → most ≤ left → p.machine.retired + most ≤ k.now.limits.last_retired → Advances most p a q
+    → IsFree p (keepings.see k) → 1 ≤ most → most ≤ left → HasLeft most k p → Advances most p a q
     → new ≡ with_one q k → Moved left k made new
 advances_so left most k new p q a made is f some le few g e =
     subst (λ (x : Moves). Moved left k x new) (sym is) (advance_moves left most k new p q a f some le few g e)

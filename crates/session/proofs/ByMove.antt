@@ -1,26 +1,27 @@
--- What comes of a move, in three: the instruction retires, or it traps, or it ends the program.
+-- What comes of a move, in three: it is made, or the instruction traps, or it ends the program.
 use Rattle.std.proofs.Common.{◌≡◌, ℤ, false, Some, refl}
 use Rattle.debuggee.specs.Programs.{Program, stays}
 use Rattle.debuggee.specs.declared.run.Why.TheVariants as why
 use Rattle.rv32i.specs.declared.stepped.Cause.{Cause}
 use Rattle.session.specs.declared.event.SliceEnd.TheVariants as ending
 use Rattle.session.specs.Acts.{Now}
-use Rattle.session.specs.Slices.{Beat, exits, moves_by, retires, stops}
+use Rattle.session.specs.Slices.{Beat, exits, makes_move, moves_by, stops}
 use Rattle.stepping.specs.declared.tick.Outcome.{Outcome}
 use Rattle.stepping.specs.declared.tick.Outcome.TheVariants.{Went, Stopped, Ended}
 use Rattle.stepping.specs.declared.tick.Reason.TheVariants as met
 
 -- What holds of each holds of the move.
 pub by_move : (P : Outcome → Beat → Type 0) (now : Now) (p : Program) (outcome : Outcome)
-    → ((o : Outcome) → stays o ≡ false → P o (retires now p))
+    → ((o : Outcome) → stays o ≡ false → P o (makes_move now p))
     → ((cause : Cause) → P (Stopped (met.Exception cause)) (stops now p (why.Met (met.Exception cause))))
     → ((code : ℤ) → P (Ended code) (record { acts = exits now p code; moved = 0; ending = Some ending.Ended }))
     → P outcome (moves_by now p outcome)
-by_move P now p Went retired traps ends = retired Went refl
-by_move P now p (Stopped (met.Exception cause)) retired traps ends = traps cause
-by_move P now p (Stopped met.Ebreak) retired traps ends = retired (Stopped met.Ebreak) refl
-by_move P now p (Stopped met.Source) retired traps ends = retired (Stopped met.Source) refl
-by_move P now p (Stopped met.Instruction) retired traps ends = retired (Stopped met.Instruction) refl
-by_move P now p (Stopped met.Function) retired traps ends = retired (Stopped met.Function) refl
-by_move P now p (Stopped met.Goal) retired traps ends = retired (Stopped met.Goal) refl
-by_move P now p (Ended code) retired traps ends = ends code
+by_move P now p Went made traps ends = made Went refl
+by_move P now p (Stopped (met.Exception cause)) made traps ends = traps cause
+by_move P now p (Stopped met.Ebreak) made traps ends = made (Stopped met.Ebreak) refl
+by_move P now p (Stopped met.Source) made traps ends = made (Stopped met.Source) refl
+by_move P now p (Stopped met.Instruction) made traps ends = made (Stopped met.Instruction) refl
+by_move P now p (Stopped met.Function) made traps ends = made (Stopped met.Function) refl
+by_move P now p (Stopped met.Goal) made traps ends = made (Stopped met.Goal) refl
+by_move P now p (Stopped met.Start) made traps ends = made (Stopped met.Start) refl
+by_move P now p (Ended code) made traps ends = ends code

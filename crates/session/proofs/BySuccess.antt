@@ -2,7 +2,7 @@
 --
 -- This is the one list of requests in the laws over what is answered. A further request that looks into the program, lets it go on or sets a list of
 -- breakpoints has a line in it, and none in those laws.
-use Rattle.std.proofs.Common.{◌≡◌, ◌+◌, ◌≤◌, ℕ, Bool, true, false, List, length, Option, Some, None, Ok, refl, sym, ap, ◌∙◌, subst}
+use Rattle.std.proofs.Common.{◌≡◌, ◌+◌, ◌≤◌, ℕ, Bool, true, false, List, [], ◌∷◌, length, Option, Some, None, Ok, refl, sym, ap, ◌∙◌, subst}
 use Rattle.std.specs.Prelude.{IsTrue, ◌&&◌, take}
 use Rattle.answers.specs.Answers.{sets_breakpoints}
 use Rattle.answers.specs.Looking.{looks_in}
@@ -13,6 +13,7 @@ use Rattle.answers.specs.declared.write_memory.Writing.{Writing}
 use Rattle.assembler.specs.Placed.{error_of}
 use Rattle.assembler.specs.declared.error.AsmError.{AsmError}
 use Rattle.breakpoints.specs.Stops.{Wanted}
+use Rattle.course.specs.Positions.{Position}
 use Rattle.debuggee.specs.Programs.{Program, resumed, with_hart, written}
 use Rattle.protocol.specs.Commands.{name_of}
 use Rattle.protocol.specs.Refusals.{has_text}
@@ -23,7 +24,7 @@ use Rattle.protocol.specs.declared.initialize.InitializeArguments.{InitializeArg
 use Rattle.protocol.specs.declared.launch.LaunchArguments.{LaunchArguments}
 use Rattle.protocol.specs.declared.pause.PauseArguments.{PauseArguments}
 use Rattle.protocol.specs.declared.refusal.Refusal.{Refusal}
-use Rattle.protocol.specs.declared.refusal.Refusal.TheVariants.{AssemblyFailed, FileUnreadable}
+use Rattle.protocol.specs.declared.refusal.Refusal.TheVariants.{AssemblyFailed, FileUnreadable, NoHistory}
 use Rattle.protocol.specs.declared.set_variable.SetVariableArguments.{SetVariableArguments}
 use Rattle.protocol.specs.declared.write_memory.WriteMemoryArguments.{WriteMemoryArguments}
 use Rattle.replies.specs.Responses.{IsOutcomeOf}
@@ -39,6 +40,7 @@ use Rattle.handlers.specs.Breaks.{replaces, success_on}
 use Rattle.handlers.specs.ConfigurationDone.{begins, joins}
 use Rattle.handlers.specs.Demands.{has_none, run_of}
 use Rattle.handlers.specs.Disconnect as disconnect
+use Rattle.handlers.specs.GoingBack as going_back
 use Rattle.handlers.specs.Initialize as initialize
 use Rattle.handlers.specs.Launch.{assembles, error_text, loads}
 use Rattle.session.specs.Kinds.{initializes, is_resume}
@@ -82,6 +84,8 @@ steps (command.Continue arguments) = true
 steps (command.Next arguments) = true
 steps (command.StepIn arguments) = true
 steps (command.StepOut arguments) = true
+steps (command.StepBack arguments) = true
+steps (command.ReverseContinue arguments) = true
 steps other = false
 
 abbrev pub step_body : Command → ResponseBody
@@ -143,9 +147,10 @@ pub record BySuccess (given : Given) (terms : Terms) (P : Command → Answering 
   pub leaves : (arguments : DisconnectArguments) → P (command.Disconnect arguments) (disconnect.success given terms arguments)
   pub pauses : (arguments : PauseArguments) → P (command.Pause arguments) (pause.success given terms)
   pub stepped : (c : Command) → Steps c → (g : Goal) → P c (resuming given terms (resumed g) (step_body c))
-  -- of those that are answered by the program: none is there, or it is refused
+  -- of those that are answered by the program: none is there, or it is refused; as one is that lets it go back, too
   pub absent : (c : Command) → IsAboutProgram c → given.debuggee.program ≡ None → P c (agreeing given terms body.Empty)
-  pub refused : (c : Command) → IsAboutProgram c → (refusal : Refusal) → has_text refusal ≡ false → P c (refusing given terms refusal None)
+  pub refused : (c : Command) → (demand_of c).loaded ≡ true → (refusal : Refusal) → has_text refusal ≡ false
+      → P c (refusing given terms refusal None)
   pub sets_none : (c : Command) → SetsList c → (p : Program) (b : ResponseBody) → given.debuggee.program ≡ Some p
       → (answer_on p given terms c).result ≡ Ok b → (answer_on p given terms c).list ≡ None
       → P c (agreeing given terms b)
@@ -173,12 +178,20 @@ module _ (given : Given) (terms : Terms) (P : Command → Answering → Type 0) 
 
   listed : (c : Command) → SetsList c → P c (success_on given.debuggee.program given terms c)
   listed c kind =
-      by_answer (P c) given.debuggee.program given terms c kind.sets (h.absent c kind.about) (h.refused c kind.about) (h.sets_none c kind)
+      by_answer (P c) given.debuggee.program given terms c kind.sets (h.absent c kind.about) (h.refused c kind.about.loaded)
+      (h.sets_none c kind)
       (h.sets_list c kind)
 
   looked : (c : Command) → Looks c → P c (looks_on given.debuggee.program given terms c)
   looked c kind =
-      by_look (P c) given.debuggee.program given terms c kind.looks (h.absent c kind.about) (h.refused c kind.about) (h.shows c kind)
+      by_look (P c) given.debuggee.program given terms c kind.looks (h.absent c kind.about) (h.refused c kind.about.loaded) (h.shows c kind)
+
+  -- by the moves that are recorded: it goes back, or is refused
+  backed : (c : Command) (g : Goal) → (demand_of c).loaded ≡ true → P c (resuming given terms (resumed g) body.Empty)
+      → (past : List Position)
+      → P c (going_back.success_by past given terms g)
+  backed c g loaded goes [] = h.refused c loaded NoHistory refl
+  backed c g loaded goes (before ∷ past) = goes
 
   pub by_success : (file : Option (List ℕ)) (c : Command) → P c (success_of given terms file c)
   by_success file (command.Initialize arguments) = h.initialized arguments
@@ -210,6 +223,16 @@ module _ (given : Given) (terms : Terms) (P : Command → Answering → Type 0) 
       h.stepped (command.StepOut arguments)
       (record { kind = refl; outcome = (refl, refl); plain = refl; active = λ _. refl; loaded = refl; still = refl })
       (goal.Out (granularity_of arguments.granularity))
+  by_success file (command.StepBack arguments) =
+      backed (command.StepBack arguments) goal.Back refl
+      (h.stepped (command.StepBack arguments)
+      (record { kind = refl; outcome = (refl, refl); plain = refl; active = λ _. refl; loaded = refl; still = refl }) goal.Back)
+      (going_back.past_of given.debuggee.program)
+  by_success file (command.ReverseContinue arguments) =
+      backed (command.ReverseContinue arguments) goal.ReverseGo refl
+      (h.stepped (command.ReverseContinue arguments)
+      (record { kind = refl; outcome = (refl, refl); plain = refl; active = λ _. refl; loaded = refl; still = refl }) goal.ReverseGo)
+      (going_back.past_of given.debuggee.program)
   by_success file (command.SetBreakpoints arguments) =
       listed (command.SetBreakpoints arguments) (record { sets = refl; about = record { loaded = refl; stays = refl } })
   by_success file (command.SetFunctionBreakpoints arguments) =
@@ -231,8 +254,8 @@ module _ (given : Given) (terms : Terms) (P : Command → Answering → Type 0) 
   by_success file (command.SetVariable arguments) =
       let about : IsAboutProgram (command.SetVariable arguments) = record { loaded = refl; stays = refl } in
       by_setting (P (command.SetVariable arguments)) given.debuggee.program given terms arguments
-      (h.absent (command.SetVariable arguments) about) (h.refused (command.SetVariable arguments) about) (h.sets_register arguments)
+      (h.absent (command.SetVariable arguments) about) (h.refused (command.SetVariable arguments) refl) (h.sets_register arguments)
   by_success file (command.WriteMemory arguments) =
       let about : IsAboutProgram (command.WriteMemory arguments) = record { loaded = refl; stays = refl } in
       by_writing (P (command.WriteMemory arguments)) given.debuggee.program given terms arguments
-      (h.absent (command.WriteMemory arguments) about) (h.refused (command.WriteMemory arguments) about) (h.writes arguments)
+      (h.absent (command.WriteMemory arguments) about) (h.refused (command.WriteMemory arguments) refl) (h.writes arguments)

@@ -1,5 +1,5 @@
 -- What comes next in a slice.
-use Rattle.std.proofs.Common.{◌≡◌, ℕ, ◌<◌, ◌≤◌, Bool, true, false, cond, leb, ltb, List, [], ◌∷◌, length, Option, Some, None, ap, ◌∙◌, arith}
+use Rattle.std.proofs.Common.{◌≡◌, ℕ, ◌≤◌, Bool, true, false, cond, ltb, List, [], ◌∷◌, length, Option, Some, None, ap, ◌∙◌, arith}
 use Rattle.std.specs.Prelude.{not}
 use Rattle.std.proofs.lemmas.Bool.Decides.{nat_tests}
 use Rattle.debuggee.specs.Programs.{Program, entered, why_marked}
@@ -10,7 +10,7 @@ use Rattle.session.specs.declared.slices.Next.TheVariants as next
 use Rattle.session.specs.declared.state.TheConstants.{FULL}
 use Rattle.session.specs.Beats.{Decides}
 use Rattle.session.specs.Kept.{Kept, keepings}
-use Rattle.session.specs.Slices.{Beat, IsFree, beat, beat_by, beat_of, becomes, ends, goes, goes_unless, is_runnable_by, moves, stops}
+use Rattle.session.specs.Slices.{Beat, IsFree, beat, beat_by, beat_of, becomes, ends, goes, goes_unless, is_at_limit, is_runnable_by, moves, stops}
 use Rattle.stepping.specs.declared.tick.Tick.{Tick}
 
 -- where nothing is owed, and the program is given time and room
@@ -34,10 +34,10 @@ unmarked_beat p k more r e = ready_beat p k more r ∙ ap (λ (m : Option Mark).
 checked_beat : Program → Kept → Beat
 checked_beat p k = record { acts = becomes k.now (entered p) ∷ []; moved = 0; ending = None }
 
--- by whether a check is due, more moves are to be made, and more may retire
-by_tests : (due more few : Bool) (p : Program) (k : Kept) → Beat
-by_tests due more few p k =
-    cond due (checked_beat p k) (cond (not more) (ends ending.Spent) (cond few (stops k.now p why.Limit) (moves k.now p)))
+-- by whether a check is due, more moves are to be made, and as many instructions have retired as may
+by_tests : (due more full : Bool) (p : Program) (k : Kept) → Beat
+by_tests due more full p k =
+    cond due (checked_beat p k) (cond (not more) (ends ending.Spent) (cond full (stops k.now p why.Limit) (moves k.now p)))
 
 pub marks_there : (k : Kept) (p : Program) (mark : Mark) (more : Bool) → k.now.debuggee.program ≡ Some p → p.owed ≡ None
     → is_runnable_by k.now.link p.run ≡ true → ltb FULL (length k.waiting) ≡ false → p.mark ≡ Some mark
@@ -61,7 +61,7 @@ checks_there k p more is owed runnable room e due = (
     is,
     (
       unmarked_beat p k more (record { program = is; owed = owed; runnable = runnable; room = room }) e
-          ∙ ap (λ (b : Bool). by_tests b more (leb k.now.limits.last_retired p.machine.retired) p k) due,
+          ∙ ap (λ (b : Bool). by_tests b more (is_at_limit k.now p) p k) due,
       (due, owed),
     ),
   ),
@@ -69,22 +69,22 @@ checks_there k p more is owed runnable room e due = (
 
 pub limits_there : (k : Kept) (p : Program) (more : Bool) → k.now.debuggee.program ≡ Some p → p.owed ≡ None
     → is_runnable_by k.now.link p.run ≡ true → ltb FULL (length k.waiting) ≡ false → p.mark ≡ None → p.machine.check_due ≡ false
-    → more ≡ true → leb k.now.limits.last_retired p.machine.retired ≡ true → Decides (next.Stop why.Limit) k more
+    → more ≡ true → is_at_limit k.now p ≡ true → Decides (next.Stop why.Limit) k more
 unfolding by_tests checked_beat
-limits_there k p more is owed runnable room e due going few = (
+limits_there k p more is owed runnable room e due going full = (
   p,
   (
     is,
     unmarked_beat p k more (record { program = is; owed = owed; runnable = runnable; room = room }) e
-        ∙ ap (λ (b : Bool). by_tests b more (leb k.now.limits.last_retired p.machine.retired) p k) due
-        ∙ ap (λ (b : Bool). by_tests false b (leb k.now.limits.last_retired p.machine.retired) p k) going
-        ∙ ap (λ (b : Bool). by_tests false true b p k) few,
+        ∙ ap (λ (b : Bool). by_tests b more (is_at_limit k.now p) p k) due
+        ∙ ap (λ (b : Bool). by_tests false b (is_at_limit k.now p) p k) going
+        ∙ ap (λ (b : Bool). by_tests false true b p k) full,
   ),
 )
 
 pub free_there : (k : Kept) (p : Program) (more : Bool) → k.now.debuggee.program ≡ Some p → p.owed ≡ None
     → is_runnable_by k.now.link p.run ≡ true → ltb FULL (length k.waiting) ≡ false → p.mark ≡ None → p.machine.check_due ≡ false
-    → more ≡ true → leb k.now.limits.last_retired p.machine.retired ≡ false → Decides next.Advance k more
+    → more ≡ true → is_at_limit k.now p ≡ false → Decides next.Advance k more
 free_there k p more is owed runnable room e due going few = (
   going,
   (
@@ -106,7 +106,7 @@ pub free_beat : (p : Program) (k : Kept) → IsFree p (keepings.see k) → beat 
 unfolding by_tests checked_beat
 free_beat p k f =
     unmarked_beat p k true (record { program = f.program; owed = f.owed; runnable = f.runnable; room = f.room }) f.mark
-    ∙ ap (λ (b : Bool). by_tests b true (leb k.now.limits.last_retired p.machine.retired) p k) f.due
+    ∙ ap (λ (b : Bool). by_tests b true (is_at_limit k.now p) p k) f.due
     ∙ ap (λ (b : Bool). by_tests false true b p k) f.few
 
 -- ---- tests of the code
@@ -115,14 +115,4 @@ pub room_of : (waiting buffer : List ℕ) (len : ℕ) → buffer ≡ waiting →
 room_of waiting buffer len e l h =
     let same : len ≡ length waiting = l ∙ ap length e in
     let few : length waiting ≤ 65536 = omega (arith, same, h) in
-    grind (arith, nat_tests)
-
-pub many_of : (last mine retired theirs : ℕ) → mine ≡ last → theirs ≡ retired → mine ≤ theirs → leb last retired ≡ true
-many_of last mine retired theirs e f h =
-    let same : last ≤ retired = omega (arith, e, f, h) in
-    grind (arith, nat_tests)
-
-pub few_of : (last mine retired theirs : ℕ) → mine ≡ last → theirs ≡ retired → theirs < mine → leb last retired ≡ false
-few_of last mine retired theirs e f h =
-    let same : retired < last = omega (arith, e, f, h) in
     grind (arith, nat_tests)

@@ -1,5 +1,5 @@
 -- So many beats end each slice, in each world of sessions in which what is done to the program is done, and what is told of a tick leaves what it concludes.
-use Rattle.std.proofs.Common.{◌≡◌, ℕ, zero, suc, ◌+◌, ◌-◌, ◌*◌, ◌<◌, ◌≤◌, Bool, true, false, leb, ltb, [], ◌∷◌, Option, Some, None, refl, sym, ap, ◌∙◌, subst, arith}
+use Rattle.std.proofs.Common.{◌≡◌, ℕ, zero, suc, ◌+◌, ◌-◌, ◌*◌, ◌<◌, ◌≤◌, Bool, true, false, ltb, [], ◌∷◌, Option, Some, None, refl, sym, ap, ◌∙◌, subst, arith}
 use Rattle.std.specs.Prelude.{not}
 use Rattle.std.proofs.lemmas.Bool.Decides.{nat_tests}
 use Rattle.debuggee.specs.Programs.{Program, entered, moved, next_tick, stays, told, why_marked}
@@ -11,11 +11,11 @@ use Rattle.session.specs.declared.state.TheConstants.{FULL}
 use Rattle.session.specs.Acts.{Now}
 use Rattle.session.specs.Beats.{concluded}
 use Rattle.session.specs.Effects.{Slicing, after_beat, beats, enough, next_beat, next_by, sliced, World, performed}
-use Rattle.session.specs.Slices.{Beat, beat, beat_by, beat_of, becomes, ending_of, ends, goes, goes_unless, is_runnable_by, moves_by, retires, runs, stops, telling}
+use Rattle.session.specs.Slices.{Beat, beat, beat_by, beat_of, becomes, ending_of, ends, goes, goes_unless, is_at_limit, is_runnable_by, makes_move, moves_by, runs, stops, telling}
 use Rattle.stepping.specs.declared.tick.Outcome.{Outcome}
 use Rattle.stepping.specs.declared.tick.Outcome.TheVariants.{Went, Stopped, Ended}
 use Rattle.stepping.specs.declared.tick.Tick.{Tick}
-use Rattle.session.proofs.Advancing.{move_retires}
+use Rattle.session.proofs.Advancing.{move_leaves}
 use Rattle.session.proofs.Reaching.{if_keeps}
 use Rattle.session.proofs.ByMove.{by_move}
 
@@ -97,11 +97,11 @@ module _ {S : Type 0} (w : World S) (h : Follows w) where
       let few = owed_few (entered p).owed in
       becomes_fall n m 0 k p (entered p) (omega (arith, two, few))
 
-  retires_fall : (n m : ℕ) (k : S) (p : Program) → p.machine.check_due ≡ false → m < n → stays (next_tick p).outcome ≡ false
-      → Falls n m k (Some p) (retires (w.see k).now p)
+  makes_fall : (n m : ℕ) (k : S) (p : Program) → p.machine.check_due ≡ false → m < n → stays (next_tick p).outcome ≡ false
+      → Falls n m k (Some p) (makes_move (w.see k).now p)
   unfolding rank rank_of due_rank
-  retires_fall n m k p due lt e =
-      let none : due_rank (moved p).machine.check_due ≡ 0 = ap due_rank ((move_retires p due e).0 ∙ due) in
+  makes_fall n m k p due lt e =
+      let none : due_rank (moved p).machine.check_due ≡ 0 = ap due_rank ((move_leaves p due e).due ∙ due) in
       let few = owed_few (moved p).owed in
       becomes_fall n m 1 k p (moved p) (omega (arith, none, few, lt))
 
@@ -109,7 +109,7 @@ module _ {S : Type 0} (w : World S) (h : Follows w) where
       → Falls n m k (Some p) (moves_by (w.see k).now p outcome)
   moves_fall n m k p outcome e due lt =
       by_move (λ o b. (next_tick p).outcome ≡ o → Falls n m k (Some p) b) (w.see k).now p outcome
-      (λ o goes e. retires_fall n m k p due lt (ap stays e ∙ goes)) (λ _ _ x. absurd (cc)) (λ _ _ x. absurd (cc)) e
+      (λ o goes e. makes_fall n m k p due lt (ap stays e ∙ goes)) (λ _ _ x. absurd (cc)) (λ _ _ x. absurd (cc)) e
 
   ends_fall : (n m : ℕ) (k : S) (program : Option Program) (b : Beat) (e : SliceEnd) → b.ending ≡ Some e → Falls n m k program b
   ends_fall n m k program b e h x = absurd (cc)
@@ -118,7 +118,7 @@ module _ {S : Type 0} (w : World S) (h : Follows w) where
   goes_fall n m k p =
       if_keeps (Falls n m k (Some p)) p.machine.check_due _ _ (λ due. checks_fall n m k p due)
       (λ due. if_keeps (Falls n m k (Some p)) (not (ltb m n)) _ _ (λ _. ends_fall n m k (Some p) (ends ending.Spent) ending.Spent refl)
-      (λ more. if_keeps (Falls n m k (Some p)) (leb (w.see k).now.limits.last_retired p.machine.retired) _ _
+      (λ more. if_keeps (Falls n m k (Some p)) (is_at_limit (w.see k).now p) _ _
       (λ _. ends_fall n m k (Some p) (stops (w.see k).now p why.Limit) ending.Stopped refl)
       (λ _. moves_fall n m k p (next_tick p).outcome refl due (let lt : m < n = grind (arith, nat_tests) in lt))))
 

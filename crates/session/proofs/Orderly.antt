@@ -1,11 +1,11 @@
 -- What the editor is told of the program has numbers of 32 bits: breakpoints have such numbers, and so have lines and an end.
-use Rattle.std.proofs.Common.{◌≡◌, ℕ, ℤ, ◌+◌, ◌<◌, Bool, true, false, List, [], ◌∷◌, ◌++◌, map, filter, Option, Some, None, Result, Ok, Err, MatchBool, refl, sym, ap, ◌∙◌, subst, arith}
+use Rattle.std.proofs.Common.{◌≡◌, ℕ, ℤ, ◌+◌, ◌<◌, Bool, true, false, List, [], ◌∷◌, ◌++◌, map, filter, Option, Some, None, Result, Ok, Err, refl, sym, ap, ◌∙◌, subst, arith}
 use Rattle.std.specs.Prelude.{All, ◌^◌, ◌&&◌, ◌≤ℤ◌, not, int_le, pos, neg_ℤ}
 use Rattle.std.specs.List.{list_all}
 use Rattle.std.specs.declared.alloc.AllocError.{AllocError}
 use Rattle.std.proofs.lemmas.Int.{ints}
 use Rattle.assembler.specs.Assembled.{IsNarrowRow}
-use Rattle.breakpoints.specs.Stops.{Lists, Placed, Wanted, checked, counted, fresh, is_hit, reset, stops, stopping_ids}
+use Rattle.breakpoints.specs.Stops.{Lists, Placed, Wanted, checked, counted, fresh, ids_where, is_hit, looked, reset, stands, stops, stopping_ids}
 use Rattle.debuggee.specs.Programs.{Debuggee, Program, ended, entered, first_run, is_ended, is_running, just_loaded, left, marked, marked_by, moved, next_tick, on_program, owing_by, restarted, resumed, stopped, told, with_hart, written}
 use Rattle.debuggee.specs.declared.run.Mark.{Mark}
 use Rattle.debuggee.specs.declared.run.Run.{Run}
@@ -15,7 +15,9 @@ use Rattle.debuggee.specs.declared.run.Why.TheVariants as why
 use Rattle.image.specs.declared.Image.{Image}
 use Rattle.protocol.specs.declared.command.Command.{Command}
 use Rattle.protocol.specs.declared.command.Command.TheVariants.{SetBreakpoints, SetFunctionBreakpoints, SetInstructionBreakpoints}
+use Rattle.course.specs.Positions.{Position}
 use Rattle.stepping.specs.declared.goal.Goal.{Goal}
+use Rattle.stepping.specs.declared.goal.Goal.TheVariants.{Go, In, Over, Out, Back, ReverseGo}
 use Rattle.replies.specs.Events.{IsProperEvent}
 use Rattle.replies.specs.Forms.{is_signed_word, is_word}
 use Rattle.replies.specs.declared.event.Event.TheVariants as event
@@ -32,10 +34,11 @@ use Rattle.range_laws.specs.Programs.{ProgramInRange}
 use Rattle.range_laws.proofs.Programs.{ended_in_range, entered_in_range, first_run_in_range, just_loaded_in_range, left_in_range, moved_in_range, restarted_in_range, resumed_in_range, stopped_in_range, told_in_range, with_functions_in_range, with_hart_in_range, with_instructions_in_range, with_source_in_range, written_in_range}
 use Rattle.stepping.specs.Loading.{no_breakpoints}
 use Rattle.stepping.specs.RunLaws.{HasSignedCode}
-use Rattle.stepping.specs.Ticks.{Debugged, IsTick, Moves, Settles, entry_checked, entry_tick, hit_at_pc, moved_as, settled}
+use Rattle.stepping.specs.Ticks.{Debugged, IsTick, Settles, entry_checked, entry_tick, gone_back, hit_at_pc, looked_at, moved_as, settled, undone, undone_by}
 use Rattle.stepping.specs.declared.tick.Outcome.{Outcome}
 use Rattle.stepping.specs.declared.tick.Outcome.TheVariants.{Went, Stopped, Ended}
 use Rattle.stepping.specs.declared.tick.Tick.{Tick}
+use Rattle.stepping.proofs.Cases.{by_tick}
 use Rattle.stepping.proofs.Existing.{the_tick}
 use Rattle.stepping.proofs.Exiting.{ends_with_codes, no_end}
 use Rattle.handlers.specs.Breaks.{with_list}
@@ -100,6 +103,17 @@ checked_orderly pc hart memory lists h = record {
       (filter_words (stops pc hart memory) lists.functions h.functions);
 }
 
+looked_orderly : (pc : ℕ) (hart : Hart) (memory : List ℕ) (lists : Lists) → AreOrderly lists → AreOrderly (looked pc hart memory lists)
+looked_orderly pc hart memory lists h = record {
+  source = h.source;
+  instructions = h.instructions;
+  functions = h.functions;
+  ids = ids_append (ids_where (stands pc hart memory) lists.source) (ids_where (stands pc hart memory) lists.instructions)
+      (ids_where (stands pc hart memory) lists.functions) (filter_words (stands pc hart memory) lists.source h.source)
+      (filter_words (stands pc hart memory) lists.instructions h.instructions)
+      (filter_words (stands pc hart memory) lists.functions h.functions);
+}
+
 none_named : (lists : Lists) → AreOrderly lists → AreOrderly (record lists { ids = []; logs = [] })
 none_named lists h = record { source = h.source; instructions = h.instructions; functions = h.functions; ids = tt }
 
@@ -117,28 +131,43 @@ reset_orderly lists h = record {
 
 -- ---- a tick
 
-settled_orderly : (s : Stepped) (instr : Option Instr) (pc : ℕ) (d : Debugged) → AreOrderly d.lists
-    → AreOrderly (settled s instr pc d).lists
-settled_orderly stepped.Retired instr pc d h = checked_orderly d.hart.pc d.hart d.memory d.lists h
-settled_orderly (stepped.Printed number) instr pc d h = checked_orderly d.hart.pc d.hart d.memory d.lists h
-settled_orderly stepped.Break instr pc d h = checked_orderly d.hart.pc d.hart d.memory d.lists h
-settled_orderly (stepped.Exit code) instr pc d h = none_named d.lists h
-settled_orderly (stepped.Trap cause) instr pc d h = none_named d.lists h
+settled_orderly : (s : Stepped) (instr : Option Instr) (before d : Debugged) → AreOrderly d.lists
+    → AreOrderly (settled s instr before d).lists
+settled_orderly stepped.Retired instr before d h = checked_orderly d.hart.pc d.hart d.memory d.lists h
+settled_orderly (stepped.Printed number) instr before d h = checked_orderly d.hart.pc d.hart d.memory d.lists h
+settled_orderly stepped.Break instr before d h = checked_orderly d.hart.pc d.hart d.memory d.lists h
+settled_orderly (stepped.Exit code) instr before d h = none_named d.lists h
+settled_orderly (stepped.Trap cause) instr before d h = none_named d.lists h
 
 answer_orderly : (s : Result Stepped AllocError) (before after : Debugged) (instr : Option Instr) (answer : Result Tick AllocError)
     → Settles before instr s answer after → AreOrderly before.lists → AreOrderly after.lists
 answer_orderly (Ok s) before after instr answer e h =
-    subst (λ (d : Debugged). AreOrderly d.lists) (sym e.1) (settled_orderly s instr before.hart.pc (moved_as before after) h)
+    subst (λ (d : Debugged). AreOrderly d.lists) (sym e.1) (settled_orderly s instr before (moved_as before after) h)
 answer_orderly (Err error) before after instr answer e h = subst (λ (d : Debugged). AreOrderly d.lists) (sym e.1) h
+
+undone_orderly : (past : List Position) (d : Debugged) → AreOrderly d.lists → AreOrderly (undone_by past d).lists
+undone_orderly [] d h = h
+undone_orderly (before ∷ past) d h = h
+
+looked_at_orderly : (goal : Goal) (d : Debugged) → AreOrderly d.lists → AreOrderly (looked_at goal d).lists
+looked_at_orderly Go d h = none_named d.lists h
+looked_at_orderly (In granularity) d h = none_named d.lists h
+looked_at_orderly (Over granularity) d h = none_named d.lists h
+looked_at_orderly (Out granularity) d h = none_named d.lists h
+looked_at_orderly Back d h = none_named d.lists h
+looked_at_orderly ReverseGo d h = looked_orderly d.hart.pc d.hart d.memory d.lists h
+
+back_orderly : (d : Debugged) → AreOrderly d.lists → AreOrderly (gone_back d).lists
+back_orderly d h = looked_at_orderly d.goal (undone d) (undone_orderly d.past d h)
 
 tick_orderly : (before after : Debugged) (answer : Result Tick AllocError) → IsTick before answer after → AreOrderly before.lists
     → AreOrderly after.lists
-tick_orderly before after answer t h = go before.check_due t where
-  go : (due : Bool) → MatchBool due ((answer ≡ Ok (entry_tick before)) × (after ≡ entry_checked before)) (Moves before answer after)
-      → AreOrderly after.lists
-  go true e =
-      subst (λ (d : Debugged). AreOrderly d.lists) (sym e.1) (checked_orderly before.hart.pc before.hart before.memory before.lists h)
-  go false m = answer_orderly m.stepped before after m.instr answer m.settles h
+tick_orderly before after answer t h =
+    by_tick before after answer t
+    (λ _ e. subst (λ (d : Debugged). AreOrderly d.lists) (sym e.1)
+    (checked_orderly before.hart.pc before.hart before.memory before.lists h))
+    (λ _ _ e. subst (λ (d : Debugged). AreOrderly d.lists) (sym e.1) (back_orderly before h))
+    (λ _ _ m. answer_orderly m.stepped before after m.instr answer m.settles h)
 
 -- ---- the program
 
@@ -150,11 +179,14 @@ abbrev pub FitsOwed : Option Tick → Type 0
 FitsOwed None = Unit {0}
 FitsOwed (Some tick) = HasSignedCode tick.outcome
 
+-- Its image and its breakpoints are, so is what it owes, and so are its registers and memory. Where it does not run, it has no
+-- mark.
 pub record Orderly (p : Program) : Type 0 where
   pub image : IsNarrowImage p.image
   pub lists : AreOrderly p.machine.lists
   pub owed : FitsOwed p.owed
   pub range : ProgramInRange p
+  pub unmarked : is_running p.run ≡ false → p.mark ≡ None
 
 -- the same of the program that is debugged, if there is one
 abbrev pub OrderlyOf : Option Program → Type 0
@@ -171,17 +203,25 @@ pub owed_fits : (p : Program) (tick : Tick) → p.owed ≡ Some tick → Orderly
 owed_fits p tick e h = subst FitsOwed e h.owed
 
 pub stopped_orderly : (why : Why) (p : Program) → Orderly p → Orderly (stopped why p)
-stopped_orderly why p h = record { image = h.image; lists = h.lists; owed = h.owed; range = stopped_in_range why p h.range }
+stopped_orderly why p h =
+    record { image = h.image; lists = h.lists; owed = h.owed; range = stopped_in_range why p h.range; unmarked = λ _. refl }
 
 pub ended_orderly : (code : Option ℤ) (p : Program) → Orderly p → Orderly (ended code p)
-ended_orderly code p h = record { image = h.image; lists = h.lists; owed = h.owed; range = ended_in_range code p h.range }
+ended_orderly code p h =
+    record { image = h.image; lists = h.lists; owed = h.owed; range = ended_in_range code p h.range; unmarked = λ _. refl }
 
 pub told_orderly : (p : Program) → Orderly p → Orderly (told p)
-told_orderly p h = record { image = h.image; lists = none_named p.machine.lists h.lists; owed = tt; range = told_in_range p h.range }
+told_orderly p h = record {
+  image = h.image;
+  lists = none_named p.machine.lists h.lists;
+  owed = tt;
+  range = told_in_range p h.range;
+  unmarked = h.unmarked;
+}
 
 pub left_orderly : (p : Program) → Orderly p → Orderly (left p)
 left_orderly p h =
-    record { image = h.image; lists = no_orderly; owed = tt; range = left_in_range p h.range }
+    record { image = h.image; lists = no_orderly; owed = tt; range = left_in_range p h.range; unmarked = λ _. refl }
 
 owing_fits : (printed : Option ℤ) (outcome : Outcome) (logs : List ℕ) → HasSignedCode outcome → FitsOwed (owing_by printed outcome logs)
 owing_fits None Went [] h = tt
@@ -200,6 +240,7 @@ entered_orderly p h =
       lists = checked_orderly d.hart.pc d.hart d.memory d.lists h.lists;
       owed = owing_fits None (entry_tick d).outcome (entry_checked d).lists.logs (no_end (hit_at_pc d) false);
       range = entered_in_range p h.range;
+      unmarked = h.unmarked;
     }
 
 pub next_fits : (p : Program) → HasSignedCode (next_tick p).outcome
@@ -213,26 +254,50 @@ moved_orderly p h =
       lists = tick_orderly p.machine t.after (Ok t.tick) t.is h.lists;
       owed = owing_fits (next_tick p).printed (next_tick p).outcome t.after.lists.logs (next_fits p);
       range = moved_in_range p h.range;
+      unmarked = h.unmarked;
     }
 
-marked_by_orderly : (r : Run) (mark : Mark) (p : Program) → Orderly p → Orderly (marked_by r mark p)
-marked_by_orderly run.Running mark p h =
-    record { image = h.image; lists = h.lists; owed = h.owed; range = record { image = h.range.image; machine = h.range.machine } }
-marked_by_orderly (run.Stopped why) mark p h = h
-marked_by_orderly (run.Ended code) mark p h = h
+marked_by_orderly : (r : Run) (mark : Mark) (p : Program) → p.run ≡ r → Orderly p → Orderly (marked_by r mark p)
+marked_by_orderly run.Running mark p runs h = record {
+  image = h.image;
+  lists = h.lists;
+  owed = h.owed;
+  range = record { image = h.range.image; machine = h.range.machine };
+  unmarked = λ stands. absurd (let never : true ≡ false = sym (ap is_running runs) ∙ stands in cc);
+}
+marked_by_orderly (run.Stopped why) mark p stands h = h
+marked_by_orderly (run.Ended code) mark p has_ended h = h
 
 pub marked_orderly : (mark : Mark) (p : Program) → Orderly p → Orderly (marked mark p)
-marked_orderly mark p h = marked_by_orderly p.run mark p h
+marked_orderly mark p h = marked_by_orderly p.run mark p refl h
 
 pub resumed_orderly : (goal : Goal) (p : Program) → Orderly p → Orderly (resumed goal p)
-resumed_orderly goal p h = record { image = h.image; lists = h.lists; owed = h.owed; range = resumed_in_range goal p h.range }
+resumed_orderly goal p h = record {
+  image = h.image;
+  lists = h.lists;
+  owed = h.owed;
+  range = resumed_in_range goal p h.range;
+  unmarked = λ stands. absurd (let never : true ≡ false = stands in cc);
+}
 
 pub first_run_orderly : (p : Program) → Orderly p → Orderly (first_run p)
-first_run_orderly p h = record { image = h.image; lists = h.lists; owed = h.owed; range = first_run_in_range p h.range }
+first_run_orderly p h = record {
+  image = h.image;
+  lists = h.lists;
+  owed = h.owed;
+  range = first_run_in_range p h.range;
+  unmarked = λ stands. absurd (let never : true ≡ false = stands in cc);
+}
 
 pub restarted_orderly : (p : Program) → Orderly p → Orderly (restarted p)
 restarted_orderly p h =
-    record { image = h.image; lists = reset_orderly p.machine.lists h.lists; owed = h.owed; range = restarted_in_range p h.range }
+    record {
+      image = h.image;
+      lists = reset_orderly p.machine.lists h.lists;
+      owed = h.owed;
+      range = restarted_in_range p h.range;
+      unmarked = h.unmarked;
+    }
 
 pub departed_orderly : (ends stands : Bool) (p : Program) → Orderly p → Orderly (departed ends stands p)
 departed_orderly ends stands p h =
@@ -240,11 +305,23 @@ departed_orderly ends stands p h =
     (λ _. if_keeps Orderly (stands && is_running p.run) _ _ (λ _. stopped_orderly why.Pause p h) (λ _. h))
 
 pub hart_orderly : (hart : Hart) (p : Program) → HartInRange hart → Orderly p → Orderly (with_hart hart p)
-hart_orderly hart p fits h = record { image = h.image; lists = h.lists; owed = h.owed; range = with_hart_in_range hart fits p h.range }
+hart_orderly hart p fits h = record {
+  image = h.image;
+  lists = h.lists;
+  owed = h.owed;
+  range = with_hart_in_range hart fits p h.range;
+  unmarked = h.unmarked;
+}
 
 pub written_orderly : (address : ℕ) (bytes : List ℕ) (p : Program) → AreBytes bytes → Orderly p → Orderly (written address bytes p)
 written_orderly address bytes p fit h =
-    record { image = h.image; lists = h.lists; owed = h.owed; range = written_in_range address bytes fit p h.range }
+    record {
+      image = h.image;
+      lists = h.lists;
+      owed = h.owed;
+      range = written_in_range address bytes fit p h.range;
+      unmarked = h.unmarked;
+    }
 
 -- breakpoints that are set have their numbers, and none was hit
 set_numbered : (list : List Wanted) → AreWords (map (λ w. w.id) list) → AreNumbered (map fresh list)
@@ -259,6 +336,7 @@ listed_orderly (SetBreakpoints arguments) list ids p h =
       lists = record { source = set_numbered list ids; instructions = h.lists.instructions; functions = h.lists.functions; ids = tt };
       owed = h.owed;
       range = with_source_in_range list p h.range;
+      unmarked = h.unmarked;
     }
 listed_orderly (SetInstructionBreakpoints arguments) list ids p h =
     record {
@@ -266,6 +344,7 @@ listed_orderly (SetInstructionBreakpoints arguments) list ids p h =
       lists = record { source = h.lists.source; instructions = set_numbered list ids; functions = h.lists.functions; ids = tt };
       owed = h.owed;
       range = with_instructions_in_range list p h.range;
+      unmarked = h.unmarked;
     }
 listed_orderly (SetFunctionBreakpoints arguments) list ids p h =
     record {
@@ -273,6 +352,7 @@ listed_orderly (SetFunctionBreakpoints arguments) list ids p h =
       lists = record { source = h.lists.source; instructions = h.lists.instructions; functions = set_numbered list ids; ids = tt };
       owed = h.owed;
       range = with_functions_in_range list p h.range;
+      unmarked = h.unmarked;
     }
 listed_orderly other list ids p h = h
 
@@ -283,6 +363,7 @@ loaded_orderly image path stop_on_entry size narrow fits ends = record {
   lists = no_orderly;
   owed = tt;
   range = just_loaded_in_range image path stop_on_entry size fits ends;
+  unmarked = λ _. refl;
 }
 
 pub with_orderly : (f : Program → Program) → ((p : Program) → Orderly p → Orderly (f p)) → (program : Option Program) → OrderlyOf program

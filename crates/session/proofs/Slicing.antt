@@ -1,5 +1,5 @@
 -- A slice, stretch by stretch.
-use Rattle.std.proofs.Common.{List, ◌≡◌, ℕ, ◌+◌, ◌-◌, ◌≤◌, Option, Some, None, Result, Ok, refl, sym, ap, ◌∙◌, subst, arith, ltb, true}
+use Rattle.std.proofs.Common.{List, ◌≡◌, ℕ, ◌+◌, ◌-◌, ◌≤◌, Option, Some, None, Result, Ok, refl, sym, ap, ◌∙◌, subst, arith, ltb}
 use Rattle.session.specs.declared.event.Applied.{Applied}
 use Rattle.session.specs.declared.event.Applied.TheVariants.{Slice as DidSlice}
 use Rattle.session.specs.declared.event.SliceEnd.{SliceEnd}

@@ -1,5 +1,5 @@
 -- For private clauses alone: what comes next in a slice, and many beats at once.
-use Rattle.std.specs.Prelude.{◌≡◌, ℕ, ◌+◌, ◌<◌, ◌≤◌, nat_lt, Bool, true, false, List, [], ◌∷◌, ◌++◌, Option, Some, None}
+use Rattle.std.specs.Prelude.{◌≡◌, ℕ, ◌+◌, ◌<◌, ◌≤◌, nat_lt, Bool, true, List, [], ◌∷◌, ◌++◌, Option, Some, None}
 use Rattle.debuggee.specs.Programs.{Program, ended, entered, next_tick, stays, stopped, told}
 use Rattle.debuggee.specs.declared.program.Advanced.{Advanced}
 use Rattle.debuggee.specs.declared.program.Advanced.TheVariants as advanced
@@ -19,7 +19,7 @@ use Rattle.session.specs.Effects.{MayLack, Slicing, beats, beats_on}
 use Rattle.session.specs.Kept.{Drafted, Kept, keepings, settled}
 use Rattle.session.specs.Slices.{IsFree, beat, ends, output_events, stops, becomes}
 use Rattle.handlers.specs.Telling.{exit_events, stop_event}
-use Rattle.stepping.specs.Runs.{TickNeedsPage}
+use Rattle.stepping.specs.Runs.{MayLackMemory}
 use Rattle.stepping.specs.declared.tick.Outcome.{Outcome}
 use Rattle.stepping.specs.declared.tick.Outcome.TheVariants.{Went, Stopped, Ended}
 use Rattle.stepping.specs.declared.tick.Tick.{Tick}
@@ -95,13 +95,13 @@ pub record Stretches (n moved : ℕ) (old : Kept) (step : Step) (new : Kept) : T
   pub lacks : step.ending ≡ Some ending.NoMemory → MayLack (keepings.see new) (nat_lt (moved + step.moved) n)
 
 -- what is known of what comes next: nothing, as some move was made; or that the next one traps or ends the program; or
--- that it needs a page
+-- that it may lack memory
 abbrev pub IsAhead : ℕ → ℕ → Ahead → Kept → Type 0
 IsAhead left moved ahead.Open k = 1 ≤ moved
 IsAhead left moved (ahead.Meets tick) k = (moved < left)
     × ((p : Program) × (IsFree p (keepings.see k) × ((next_tick p ≡ tick) × (stays tick.outcome ≡ true))))
 IsAhead left moved ahead.Lacks k = (moved < left)
-    × ((p : Program) × (IsFree p (keepings.see k) × TickNeedsPage p.machine))
+    × ((p : Program) × (IsFree p (keepings.see k) × MayLackMemory p.machine))
 
 -- what came of moves, so many at most
 abbrev pub moves_of : ℕ → Advanced → Moves

@@ -21,7 +21,7 @@ use Rattle.session.specs.Acts.{Seen, Act}
 use Rattle.session.specs.declared.event.Sliced.{Sliced}
 use Rattle.session.specs.Outcomes.{is_owed, may_lack, needs_memory, outcome}
 use Rattle.session.specs.Slices.{Beat, IsFree, beat}
-use Rattle.stepping.specs.Runs.{TickNeedsPage}
+use Rattle.stepping.specs.Runs.{MayLackMemory}
 
 -- a world of sessions: what is seen of each, and what an act makes of it
 pub record World (S : Type 0) : Type 0 where
@@ -142,16 +142,16 @@ moves_asked DropConnection = 0
 abbrev pub telling_may_lack : Seen → Bool → Bool
 telling_may_lack seen more = is_owed seen.now.debuggee.program || needs_memory (beat seen more).acts
 
--- A beat is a move, and memory is made for it: it is the first to store into a page.
-pub record MakesPage (seen : Seen) (more : Bool) : Type 0 where
+-- A beat is a move that may lack memory: it is the first to store into a page, or it is undone.
+pub record MoveMayLack (seen : Seen) (more : Bool) : Type 0 where
   pub goes : more ≡ true
   pub program : Program
   pub free : IsFree program seen
-  pub needs : TickNeedsPage program.machine
+  pub lacks : MayLackMemory program.machine
 
--- A beat may lack memory: for what it tells, or for a page.
+-- A beat may lack memory: for what it tells, or for a move.
 abbrev pub MayLack : Seen → Bool → Type 0
-MayLack seen more = (telling_may_lack seen more ≡ true) ⊎ MakesPage seen more
+MayLack seen more = (telling_may_lack seen more ≡ true) ⊎ MoveMayLack seen more
 
 -- A slice that found no memory: some beats were made, none of them ended it, and the next one may lack memory.
 pub record BreaksOff {S : Type 0} (w : World S) (n moved : ℕ) (s : S) (P : S → Type 0) : Type 0 where

@@ -5,6 +5,8 @@ use Rattle.protocol.specs.declared.continue_.TheConstants.{NAME as CONTINUE}
 use Rattle.protocol.specs.declared.next.TheConstants.{NAME as NEXT}
 use Rattle.protocol.specs.declared.step_in.TheConstants.{NAME as STEP_IN}
 use Rattle.protocol.specs.declared.step_out.TheConstants.{NAME as STEP_OUT}
+use Rattle.protocol.specs.declared.step_back.TheConstants.{NAME as STEP_BACK}
+use Rattle.protocol.specs.declared.reverse_continue.TheConstants.{NAME as REVERSE_CONTINUE}
 use Rattle.protocol.specs.declared.restart.TheConstants.{NAME as RESTART}
 use Rattle.replies.specs.declared.response.Outcome.{Outcome}
 use Rattle.replies.specs.declared.response.Outcome.TheVariants.{Done, Refused}
@@ -23,4 +25,5 @@ initializes outcome = 0
 -- whether a request of that name lets the program run, and does nothing else
 abbrev pub is_resume : List ℕ → Bool
 is_resume name =
-    list_any (bytes_eq name) (CONTINUE.now ∷ NEXT.now ∷ STEP_IN.now ∷ STEP_OUT.now ∷ RESTART.now ∷ [])
+    list_any (bytes_eq name)
+    (CONTINUE.now ∷ NEXT.now ∷ STEP_IN.now ∷ STEP_OUT.now ∷ STEP_BACK.now ∷ REVERSE_CONTINUE.now ∷ RESTART.now ∷ [])

@@ -4,11 +4,12 @@
 -- ends the slice where it stops the program. Where the program does not run, or its editor has not said all, there is
 -- nothing to do. Then, before each move: the slice ends where more than 65,536 bytes wait; a program that is marked
 -- stops; in a first run the breakpoints at the entry are looked at; the slice ends where all its moves were made; and
--- the program stops where as many instructions have retired as may.
+-- the program stops where as many instructions have retired as may, unless it goes back.
 --
--- A move whose instruction retires leaves what is to be told of it, which the next beat tells: a number that it
--- printed, what the logpoints say that it reached (Debug Adapter Protocol, `logMessage`), in the order of their list, and
--- then its stop. One that traps, or ends the program, leaves nothing: the stop or the end is made and told at once.
+-- A move whose instruction retires, or is undone, leaves what is to be told of it, which the next beat tells: a number
+-- that it printed, what the logpoints say that it reached (Debug Adapter Protocol, `logMessage`), in the order of their
+-- list, and then its stop. One that traps, or ends the program, leaves nothing: the stop or the end is made and told at
+-- once.
 --
 -- Only an editor that has said all is told.
 use Rattle.std.specs.Prelude.{◌≡◌, ℕ, ℤ, nat_lt, nat_le, Bool, true, false, ◌&&◌, not, if◌then◌else◌, List, [], ◌∷◌}
@@ -28,6 +29,7 @@ use Rattle.session.specs.declared.state.TheConstants.{FULL}
 use Rattle.session.specs.Acts.{Now, Seen, Act, Become, Tell}
 use Rattle.session.specs.Phases.{is_active, is_configuring}
 use Rattle.handlers.specs.Telling.{exit_events, log_event, output_event, stop_event}
+use Rattle.stepping.specs.Goals.{turns_back}
 use Rattle.stepping.specs.declared.tick.Outcome.{Outcome}
 use Rattle.stepping.specs.declared.tick.Outcome.TheVariants.{Went, Stopped, Ended}
 use Rattle.stepping.specs.declared.tick.Reason.TheVariants as met
@@ -78,7 +80,7 @@ telling now p tick =
 
 -- ---- beats
 
--- what it does, how many instructions retire in it, and how it ends the slice, if it does
+-- what it does, how many moves are made in it, and how it ends the slice, if it does
 pub record Beat : Type 0 where
   pub acts : List Act
   pub moved : ℕ
@@ -98,30 +100,35 @@ ending_of (Ended code) = Some ending.Ended
 abbrev pub stops : Now → Program → Why → Beat
 stops now p why = record { acts = halts now p why []; moved = 0; ending = Some ending.Stopped }
 
--- an instruction retires
-abbrev pub retires : Now → Program → Beat
-retires now p = record { acts = becomes now (moved p) ∷ []; moved = 1; ending = None }
+-- a move is made: an instruction retires, or the last one that did is undone
+abbrev pub makes_move : Now → Program → Beat
+makes_move now p = record { acts = becomes now (moved p) ∷ []; moved = 1; ending = None }
 
 -- a move, by what its tick comes to
 abbrev pub moves_by : Now → Program → Outcome → Beat
-moves_by now p Went = retires now p
+moves_by now p Went = makes_move now p
 moves_by now p (Stopped (met.Exception cause)) = stops now p (why.Met (met.Exception cause))
-moves_by now p (Stopped met.Ebreak) = retires now p
-moves_by now p (Stopped met.Source) = retires now p
-moves_by now p (Stopped met.Instruction) = retires now p
-moves_by now p (Stopped met.Function) = retires now p
-moves_by now p (Stopped met.Goal) = retires now p
+moves_by now p (Stopped met.Ebreak) = makes_move now p
+moves_by now p (Stopped met.Source) = makes_move now p
+moves_by now p (Stopped met.Instruction) = makes_move now p
+moves_by now p (Stopped met.Function) = makes_move now p
+moves_by now p (Stopped met.Goal) = makes_move now p
+moves_by now p (Stopped met.Start) = makes_move now p
 moves_by now p (Ended code) = record { acts = exits now p code; moved = 0; ending = Some ending.Ended }
 
 abbrev pub moves : Now → Program → Beat
 moves now p = moves_by now p (next_tick p).outcome
+
+-- whether as many instructions have retired as may; a program that goes back retires none
+abbrev pub is_at_limit : Now → Program → Bool
+is_at_limit now p = not (turns_back p.machine.goal) && nat_le now.limits.last_retired p.machine.retired
 
 -- where nothing is owed and nothing is marked: whether the slice has more moves to make decides
 abbrev pub goes : Now → Program → Bool → Beat
 goes now p more =
     if p.machine.check_due then record { acts = becomes now (entered p) ∷ []; moved = 0; ending = None }
     else if not more then ends ending.Spent
-    else if nat_le now.limits.last_retired p.machine.retired then stops now p why.Limit
+    else if is_at_limit now p then stops now p why.Limit
     else moves now p
 
 abbrev pub goes_unless : Option Mark → Now → Program → Bool → Beat
@@ -160,7 +167,7 @@ pub record IsFree (p : Program) (seen : Seen) : Type 0 where
   pub room : nat_lt FULL seen.waits ≡ false
   pub mark : p.mark ≡ None
   pub due : p.machine.check_due ≡ false
-  pub few : nat_le seen.now.limits.last_retired p.machine.retired ≡ false
+  pub few : is_at_limit seen.now p ≡ false
 
 -- whether a slice would do something
 abbrev pub is_runnable_of : Option Link → Option Program → Bool

@@ -54,10 +54,10 @@ pub enum Turned {
     Full,
 }
 
-/// What a program did with the time that it was given: so many instructions retired, and then something ended the slice.
+/// What a program did with the time that it was given: so many moves were made, and then something ended the slice.
 #[derive(Clone, Copy, Debug, PartialEq, Eq)]
 pub struct Sliced {
-    /// How many instructions retired.
+    /// How many moves were made: how many instructions retired or, where the program goes back, were undone.
     pub moved: u32,
     /// What ended the slice.
     pub ending: SliceEnd,
@@ -66,7 +66,7 @@ pub struct Sliced {
 /// What ended a slice.
 #[derive(Clone, Copy, Debug, PartialEq, Eq)]
 pub enum SliceEnd {
-    /// As many instructions retired as were asked for.
+    /// As many moves were made as were asked for.
     Spent,
     /// More than 65,536 bytes wait to be sent.
     Full,
@@ -76,8 +76,9 @@ pub enum SliceEnd {
     Stopped,
     /// The program ended.
     Ended,
-    /// No memory was left: to tell what the program did, or for a page. What is owed will be told first by the next slice, or
-    /// the next turn; a stop that no move made was not made, nor was the move that is the first to store into the page.
+    /// No memory was left: to tell what the program did, or for a move. What is owed will be told first by the next slice, or
+    /// the next turn; a stop that no move made was not made, nor was the move that no memory was left for, as one that is the
+    /// first to store into a page.
     NoMemory,
 }
 

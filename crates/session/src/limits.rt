@@ -13,7 +13,7 @@ pub struct Limits {
     /// The last number of a breakpoint (`Breakpoint.id`), and the last reference to a frame or to variables,
     /// each at most 2,147,483,647.
     pub last_ref: u32,
-    /// How many instructions retire at most since the machine was loaded, at most 2^62.
+    /// How many instructions retire at most since the machine was loaded, at most 2^62. Those that were undone do not count.
     pub last_retired: u64,
 }
 

@@ -9,6 +9,7 @@ ghost use Rattle.session.specs.Kept.{Goes, draft_told, drafted_all, keepings, se
 ghost use Rattle.session.specs.Phases.{is_active};
 ghost use Rattle.session.specs.Slices as spec;
 ghost use Rattle.session.specs.Slices.{IsFree, logged, printed_events};
+ghost use Rattle.stepping.specs.Goals.{turns_back};
 ghost use Rattle.handlers.specs.Telling.{exit_events, log_event, output_event, stop_event};
 ghost use Rattle.session.specs.Beats.{moves_of, outcome_events, Decides, Moved, Stretches, after_made, concluded, owed_of, queued_with, tick_events};
 
@@ -20,12 +21,12 @@ use debuggee::{Advanced, Program, Run, Why};
 use handlers::telling;
 use replies::Event;
 use std::alloc::AllocError;
-use stepping::{Outcome, Tick};
+use stepping::{Outcome, Runner, Tick};
 
 /// What some beats of a slice did.
 #[derive(Clone, Copy, Debug, PartialEq, Eq)]
 pub struct Step {
-    /// How many instructions retired.
+    /// How many moves were made.
     pub moved: u32,
     /// What ended the slice, if something did.
     pub ending: Option<SliceEnd>,
@@ -66,7 +67,7 @@ pub enum Ahead {
     Open,
     /// It traps or ends the program, and would answer this.
     Meets(Tick),
-    /// It is the first to store into a page, for which no memory was left.
+    /// No memory was left for it, as for the page that it is the first to store into.
     Lacks,
 }
 
@@ -156,10 +157,18 @@ impl State {
         if !more {
             return Next::End(SliceEnd::Spent);
         }
-        if program.machine().retired() >= self.limits.last_retired {
+        if self.is_at_limit(program) {
             return Next::Stop(Why::Limit);
         }
         Next::Advance
+    }
+
+    // Whether as many instructions have retired as may; a program that goes back retires none.
+    fn is_at_limit(&self, program: &Program) -> bool
+        ensures { result ≡ spec.is_at_limit self.now.now program.now }
+    {
+        let machine = program.machine();
+        !machine.turns_back() && machine.retired() >= self.limits.last_retired
     }
 
     // What is owed is told.
@@ -256,7 +265,7 @@ impl State {
         let Some(program) = &mut self.program else {
             unreachable!()
         };
-        let most = most_of(last, program.machine().retired(), left);
+        let most = most_of(last, program.machine(), left);
         let advanced = program.advance(most);
         moves_of(most, advanced)
     }
@@ -486,15 +495,19 @@ fn add_exit(draft: &mut Draft, limits: Limits, code: i32) -> Result<(), AllocErr
     draft.add_event(limits, Event::Terminated)
 }
 
-// How many moves may be made of those that are left, by how many instructions may retire and have.
-fn most_of(last: u64, retired: u64, left: u32) -> u32
+// How many moves may be made of those that are left: all where the program goes back, and else by how many instructions may
+// retire and have.
+fn most_of(last: u64, machine: &Runner, left: u32) -> u32
     requires some { 0 < left }
-    requires few { retired < last }
+    requires few { turns_back machine.now.goal ≡ false → machine.now.retired < last }
     ensures some { 1 ≤ result }
     ensures few { result ≤ left }
-    ensures sum { retired + result ≤ last }
+    ensures sum { turns_back machine.now.goal ≡ false → machine.now.retired + result ≤ last }
 {
-    let few = last - retired;
+    if machine.turns_back() {
+        return left;
+    }
+    let few = last - machine.retired();
     if few < u64::from(left) {
         few as u32
     } else {

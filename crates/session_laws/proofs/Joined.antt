@@ -16,7 +16,7 @@ use Rattle.session.specs.Effects.{Slicing, after_beat, beats, beats_on, enough, 
 use Rattle.session_laws.specs.Laws.{SlicesEnd, SlicesJoin}
 use Rattle.session.specs.Phases.{is_active, is_configuring}
 use Rattle.session.specs.Sessions.{Session, histories, performed_on, waiting_of}
-use Rattle.session.specs.Slices.{Beat, beat, beat_by, beat_of, becomes, concludes, ending_of, ends, exits, goes, goes_unless, halts, is_runnable_by, logged, moves_by, output_events, retires, runs, stops, telling, tells}
+use Rattle.session.specs.Slices.{Beat, beat, beat_by, beat_of, becomes, concludes, ending_of, ends, exits, goes, goes_unless, halts, is_at_limit, is_runnable_by, logged, moves_by, output_events, makes_move, runs, stops, telling, tells}
 use Rattle.handlers.specs.Telling.{exit_events, stop_event}
 use Rattle.stepping.specs.declared.tick.Outcome.{Outcome}
 use Rattle.stepping.specs.declared.tick.Outcome.TheVariants.{Went, Stopped, Ended}
@@ -139,7 +139,7 @@ no_ending h = cc
 other : (e : SliceEnd) → (e ≡ ending.Spent → ⊥) → Some e ≡ Some ending.Spent → ⊥
 other e never h = never (let same : e ≡ ending.Spent = cc in same)
 
-retires_bounded : (now : Now) (p : Program) → Bounded true (retires now p)
+retires_bounded : (now : Now) (p : Program) → Bounded true (makes_move now p)
 retires_bounded now p =
     record { few = omega arith; none = λ e. absurd (cc); spent = λ h. absurd (no_ending h); still = λ h. absurd (no_ending h) }
 
@@ -151,7 +151,7 @@ moves_bounded now p outcome =
 goes_bounded : (now : Now) (p : Program) (more : Bool) → Bounded more (goes now p more)
 goes_bounded now p true =
     if_keeps (Bounded true) p.machine.check_due _ _ (λ _. rests true _ None no_ending)
-    (λ _. if_keeps (Bounded true) (leb now.limits.last_retired p.machine.retired) _ _ (λ _. rests true _ (Some ending.Stopped) (λ h. cc))
+    (λ _. if_keeps (Bounded true) (is_at_limit now p) _ _ (λ _. rests true _ (Some ending.Stopped) (λ h. cc))
     (λ _. moves_bounded now p (next_tick p).outcome))
 goes_bounded now p false = if_keeps (Bounded false) p.machine.check_due _ _ (λ _. rests false _ None no_ending) (λ _. spends false refl)
 
@@ -246,7 +246,7 @@ goes_still : (s : Session) (p : Program) (more : Bool) → p.owed ≡ None → E
 goes_still s p more owes =
     if_keeps (EndsStill s) p.machine.check_due _ _ (λ _. goes_on_still s _ 0)
     (λ _. if_keeps (EndsStill s) (not more) _ _ (λ _. spent_still s)
-    (λ _. if_keeps (EndsStill s) (leb s.now.limits.last_retired p.machine.retired) _ _ (λ _. halts_still s p why.Limit owes)
+    (λ _. if_keeps (EndsStill s) (is_at_limit s.now p) _ _ (λ _. halts_still s p why.Limit owes)
     (λ _. moves_still s p (next_tick p).outcome owes)))
 
 unless_still : (mark : Option Mark) (s : Session) (p : Program) (more : Bool) → p.owed ≡ None → EndsStill s (goes_unless mark s.now p more)

@@ -1,5 +1,6 @@
 -- The machine of the program remembers all that has retired since it was loaded or restarted.
-use Rattle.std.proofs.Common.{◌≡◌, ℕ, ℤ, zero, suc, ◌+◌, Bool, true, false, cond, eqb, leb, ltb, List, [], ◌∷◌, ◌++◌, length, Option, Some, None, Result, Ok, Err, MatchResult, inl, inr, refl, sym, ap, ◌∙◌, subst, take, arith, append-nil}
+use Rattle.std.proofs.Common.{◌≡◌, ℕ, ℤ, zero, suc, ◌+◌, ◌-◌, ◌≤◌, Bool, true, false, cond, eqb, leb, ltb, List, [], ◌∷◌, ◌++◌, length, Option, Some, None, Result, Ok, Err, MatchResult, inl, inr, refl, sym, ap, ◌∙◌, subst, take, arith, length-append}
+use Rattle.std.proofs.lemmas.List.{take_at}
 use Rattle.std.proofs.lemmas.Bool.{or_left, or_right}
 use Rattle.std.specs.Prelude.{◌&&◌, ◌||◌, not}
 use Rattle.assembler.specs.Assembled.{assembled}
@@ -16,7 +17,7 @@ use Rattle.handlers.specs.Disconnect.{departed, is_to_end, is_to_stand}
 use Rattle.handlers.specs.Given.{Answering}
 use Rattle.handlers.specs.Telling.{exit_events, stop_event}
 use Rattle.handlers.specs.declared.terms.Terms.{Terms}
-use Rattle.image.specs.Memory.{word_at}
+use Rattle.image.specs.Memory.{fault_at, unless_fault, word_at}
 use Rattle.image.specs.declared.fault.MemFault.{MemFault}
 use Rattle.protocol.specs.declared.command.Command.{Command}
 use Rattle.protocol.specs.declared.command.Command.TheVariants as command
@@ -31,9 +32,9 @@ use Rattle.session.specs.Effects.{Slicing, after_all, beats, enough, next_by, pe
 use Rattle.session.specs.Kinds.{is_success}
 use Rattle.session.specs.Outcomes.{Outcome as Does, outcome_at}
 use Rattle.session.specs.Refusals.{answer_to}
-use Rattle.session_laws.specs.Retiring.{FramesAreOfThePast, IsPast, PastIsRemembered, after_answer, after_next, and_next, and_retired, asks_to_load, at_address, at_pc, decoded, loads, next_of, retired_after, retired_in, retired_of}
+use Rattle.session_laws.specs.Retiring.{FramesAreOfThePast, IsPast, PastIsRemembered, after_answer, after_move, after_next, and_next, and_retired, asks_to_load, at_address, at_pc, decoded, loads, moved_on, retired_after, retired_in, retired_of, without_last}
 use Rattle.session.specs.Sessions.{Effect, Session, histories, start, waiting_of}
-use Rattle.session.specs.Slices.{Beat, beat_by, beat_of, becomes, ending_of, ends, exits, goes, goes_unless, is_runnable_by, moves_by, retires, stops, telling, tells}
+use Rattle.session.specs.Slices.{Beat, beat_by, beat_of, becomes, ending_of, ends, exits, goes, goes_unless, is_at_limit, is_runnable_by, makes_move, moves_by, stops, telling, tells}
 use Rattle.session_laws.specs.Turns.{Answered}
 use Rattle.session.specs.declared.event.Event.{Event}
 use Rattle.session.specs.declared.event.Event.TheVariants.{Connect, Recv, Turn, Slice, Hold, Sent, DropConnection}
@@ -48,14 +49,18 @@ use Rattle.stepping.proofs.Remembering.{ticks_remember}
 use Rattle.course.proofs.Standing.{nothing_stands}
 use Rattle.course.specs.Calls.{Kept, StandsFor, nothing_kept}
 use Rattle.course.specs.Marks.{Retired}
-use Rattle.stepping.specs.Past.{IsAdded, Remembers}
-use Rattle.course.specs.Positions.{IsFetched}
-use Rattle.stepping.specs.Ticks.{Debugged}
+use Rattle.stepping.specs.Past.{IsChanged, Remembers, RemembersPast}
+use Rattle.course.specs.Positions.{IsFetched, Position, past_left}
+use Rattle.stepping.proofs.Cases.{back_of}
+use Rattle.stepping.specs.Goals.{turns_back}
+use Rattle.stepping.specs.Ticks.{Debugged, gone_back, looked_at, undone, undone_by}
+use Rattle.stepping.specs.declared.goal.Goal.{Goal}
+use Rattle.stepping.specs.declared.goal.Goal.TheVariants.{Go, In, Over, Out, Back, ReverseGo}
 use Rattle.stepping.specs.declared.tick.Outcome.{Outcome}
 use Rattle.stepping.specs.declared.tick.Outcome.TheVariants.{Went, Stopped, Ended}
 use Rattle.stepping.specs.declared.tick.Reason.TheVariants as met
 use Rattle.stepping.specs.declared.tick.Tick.{Tick}
-use Rattle.session.proofs.Advancing.{move_retires}
+use Rattle.session.proofs.Advancing.{move_leaves}
 use Rattle.session_laws.proofs.Answered.{ByTurn, by_turn}
 use Rattle.session_laws.proofs.ByForms.{on}
 use Rattle.session.proofs.ByMove.{by_move}
@@ -67,19 +72,21 @@ use Rattle.session.proofs.Serving.{of_answer}
 
 -- ---- the machine stays as it is, but for what no past has
 
--- what has retired in one machine has retired in the other
+-- what has retired in one machine has retired in the other, and of what is recorded no more is than was
 record Keeps (before after : Debugged) : Type 0 where
   calls : after.calls ≡ before.calls
   count : after.retired ≡ before.retired
+  past : (retired : List Retired) → RemembersPast before.past retired → RemembersPast after.past retired
 
 kept : (before after : Debugged) (retired : List Retired) → Keeps before after → Remembers before retired → Remembers after retired
 kept before after retired k h = record {
   calls = subst (λ (c : Kept). StandsFor c retired) (sym k.calls) h.calls;
   count = h.count ∙ sym k.count;
+  past = k.past retired h.past;
 }
 
 same : (d : Debugged) → Keeps d d
-same d = record { calls = refl; count = refl }
+same d = record { calls = refl; count = refl; past = λ _ h. h }
 
 on_past : (f : Program → Program) (program : Option Program) (retired : List Retired)
     → ((p : Program) → Keeps p.machine (f p).machine) → IsPast program retired → IsPast (on_program f program) retired
@@ -87,10 +94,11 @@ on_past f None retired keeps h = h
 on_past f (Some p) retired keeps h = kept p.machine (f p).machine retired (keeps p) h
 
 -- nothing has retired in a machine that was loaded
-nothing_past : (p : Program) → p.machine.calls ≡ nothing_kept → p.machine.retired ≡ 0 → IsPast (Some p) []
-nothing_past p calls count = record {
+nothing_past : (p : Program) → p.machine.calls ≡ nothing_kept → p.machine.retired ≡ 0 → p.machine.past ≡ [] → IsPast (Some p) []
+nothing_past p calls count past = record {
   calls = subst (λ (c : Kept). StandsFor c []) (sym calls) nothing_stands;
   count = sym count;
+  past = subst (λ (l : List Position). RemembersPast l []) (sym past) tt;
 }
 
 -- ---- a move
@@ -109,22 +117,110 @@ added_is d instr f =
     let m = machine_of d.hart d.memory in
     ap (at_address d.hart.pc) (one_fetched m (Some instr) (decoded (word_at m.memory m.pc)) f (is_fetched m))
 
-move_past : (p : Program) (retired : List Retired) → p.machine.check_due ≡ false → stays (next_tick p).outcome ≡ false
-    → Remembers p.machine retired → Remembers (moved p).machine (retired ++ at_pc p.machine)
-move_past p retired due goes h =
+move_past : (p : Program) (retired : List Retired) → p.machine.check_due ≡ false → turns_back p.machine.goal ≡ false
+    → stays (next_tick p).outcome ≡ false → Remembers p.machine retired → Remembers (moved p).machine (retired ++ at_pc p.machine)
+move_past p retired due forward goes h =
     let grown = ticks_remember p.machine (moved p).machine (Ok (next_tick p)) retired h (the_tick p.machine).is in
     by grown.0 grown.1.0 grown.1.1 where
       count : (moved p).machine.retired ≡ p.machine.retired + 1
-      count = (move_retires p due goes).1
+      count = (move_leaves p due goes).retired forward
 
-      by : (added : List Retired) → IsAdded p.machine added → Remembers (moved p).machine (retired ++ added)
+      by : (left : List Retired) → IsChanged p.machine retired left → Remembers (moved p).machine left
           → Remembers (moved p).machine (retired ++ at_pc p.machine)
-      by added (inl none) r =
-          let more = r.count in let was = h.count in
-          let as_many : length (retired ++ added) ≡ length retired = ap (λ (xs : List Retired). length (retired ++ xs)) none ∙ ap length (append-nil retired) in
-          absurd (let no : length retired ≡ length retired + 1 = sym as_many ∙ more ∙ count ∙ ap (λ (n : ℕ). n + 1) (sym was) in omega (arith, no))
-      by added (inr (instr, (f, is))) r =
-          subst (λ (xs : List Retired). Remembers (moved p).machine (retired ++ xs)) (is ∙ added_is p.machine instr f) r
+      by left (inl none) r =
+          let more = r.count in
+          let was = h.count in
+          let as_many : length left ≡ length retired = ap length none in
+          absurd (omega (arith, more, was, as_many, count))
+      by left (inr (inl (instr, (f, is)))) r =
+          subst (λ (xs : List Retired). Remembers (moved p).machine xs)
+          (is ∙ ap (λ (xs : List Retired). retired ++ xs) (added_is p.machine instr f)) r
+      by left (inr (inr (last, is))) r =
+          let more = r.count in
+          let was = h.count in
+          let fewer : length retired ≡ length left + 1 = ap length is ∙ length-append left (last ∷ []) in
+          absurd (omega (arith, more, was, fewer, count))
+
+-- where it goes back it is the last that is undone
+last_off : (left : List Retired) (last : Retired) → take (length (left ++ last ∷ []) - 1) (left ++ last ∷ []) ≡ left
+last_off left last =
+    let long = length-append left (last ∷ []) in
+    let fewer : length (left ++ last ∷ []) - 1 ≡ length left = omega (arith, long) in
+    ap (λ (n : ℕ). take n (left ++ last ∷ [])) fewer ∙ take_at left (last ∷ []) (length left) refl
+
+looked_count : (g : Goal) (d : Debugged) → (looked_at g d).retired ≡ d.retired
+looked_count Go d = refl
+looked_count (In granularity) d = refl
+looked_count (Over granularity) d = refl
+looked_count (Out granularity) d = refl
+looked_count Back d = refl
+looked_count ReverseGo d = refl
+
+back_past : (p : Program) (retired : List Retired) → p.machine.check_due ≡ false → turns_back p.machine.goal ≡ true
+    → Remembers p.machine retired → Remembers (moved p).machine (without_last p.machine.past retired)
+back_past p retired due turns h = by p.machine.past refl where
+  left : (moved p).machine ≡ gone_back p.machine
+  left = (back_of p.machine (moved p).machine (Ok (next_tick p)) due turns (the_tick p.machine).is).1
+
+  count : (past : List Position) → p.machine.past ≡ past → (moved p).machine.retired ≡ (undone_by past p.machine).retired
+  count past e =
+      ap (λ (d : Debugged). d.retired) left
+      ∙ looked_count p.machine.goal (undone p.machine)
+      ∙ ap (λ (l : List Position). (undone_by l p.machine).retired) e
+
+  changed : (after : List Retired) × (IsChanged p.machine retired after × Remembers (moved p).machine after)
+  changed = ticks_remember p.machine (moved p).machine (Ok (next_tick p)) retired h (the_tick p.machine).is
+
+  none_off : (moved p).machine.retired ≡ p.machine.retired → (after : List Retired) → IsChanged p.machine retired after
+      → Remembers (moved p).machine after → Remembers (moved p).machine retired
+  none_off counts after (inl none) r = subst (Remembers (moved p).machine) none r
+  none_off counts after (inr (inl (instr, (f, is)))) r =
+      let now = r.count in
+      let was = h.count in
+      let more : length after ≡ length retired + 1 = ap length is
+      ∙ length-append retired (record { instr = instr; pc = p.machine.hart.pc } ∷ []) in
+      absurd (omega (arith, now, was, more, counts))
+  none_off counts after (inr (inr (last, is))) r =
+      let now = r.count in
+      let was = h.count in
+      let fewer : length retired ≡ length after + 1 = ap length is ∙ length-append after (last ∷ []) in
+      absurd (omega (arith, now, was, fewer, counts))
+
+  one_off : (moved p).machine.retired ≡ p.machine.retired - 1 → 1 ≤ length retired → (after : List Retired)
+      → IsChanged p.machine retired after → Remembers (moved p).machine after
+      → Remembers (moved p).machine (take (length retired - 1) retired)
+  one_off counts some after (inl none) r =
+      let now = r.count in
+      let was = h.count in
+      let as_many : length after ≡ length retired = ap length none in
+      absurd (omega (arith, now, was, as_many, counts, some))
+  one_off counts some after (inr (inl (instr, (f, is)))) r =
+      let now = r.count in
+      let was = h.count in
+      let more : length after ≡ length retired + 1 = ap length is
+      ∙ length-append retired (record { instr = instr; pc = p.machine.hart.pc } ∷ []) in
+      absurd (omega (arith, now, was, more, counts))
+  one_off counts some after (inr (inr (last, is))) r =
+      subst (Remembers (moved p).machine)
+      (sym (ap (λ (l : List Retired). take (length l - 1) l) is ∙ last_off after last)) r
+
+  some_retired : (q : Position) (past : List Position) → p.machine.past ≡ q ∷ past → 1 ≤ length retired
+  some_retired q past e =
+      let known : RemembersPast (q ∷ past) retired = subst (λ (l : List Position). RemembersPast l retired) e h.past in
+      let long : length retired ≡ length known.0 + 1 = ap length known.2.0 ∙ length-append known.0 (known.1 ∷ []) in
+      omega (arith, long)
+
+  by : (past : List Position) → p.machine.past ≡ past → Remembers (moved p).machine (without_last past retired)
+  by [] e = none_off (count [] e) changed.0 changed.1.0 changed.1.1
+  by (q ∷ past) e = one_off (count (q ∷ past) e) (some_retired q past e) changed.0 changed.1.0 changed.1.1
+
+moved_past : (p : Program) (retired : List Retired) → p.machine.check_due ≡ false → stays (next_tick p).outcome ≡ false
+    → Remembers p.machine retired → Remembers (moved p).machine (moved_on p.machine retired)
+moved_past p retired due goes h = by (turns_back p.machine.goal) refl where
+  by : (b : Bool) → turns_back p.machine.goal ≡ b
+      → Remembers (moved p).machine (cond b (without_last p.machine.past retired) (retired ++ at_pc p.machine))
+  by true turns = back_past p retired due turns h
+  by false forward = move_past p retired due forward goes h
 
 -- ---- a beat
 
@@ -156,7 +252,7 @@ tick_past : (s : Session) (p : Program) (tick : Tick) → program_of s ≡ Some 
 tick_past s p tick is =
     leaves_past s (record { acts = telling s.now p tick; moved = 0; ending = ending_of tick.outcome }) p
     (concluded tick.outcome (told p)) is refl (telling_program s.now p tick s)
-    (concluded_keeps tick.outcome p (told p) (record { calls = refl; count = refl }))
+    (concluded_keeps tick.outcome p (told p) (record { calls = refl; count = refl; past = λ _ h. h }))
 
 stop_past : (s : Session) (p : Program) (why : Why) → program_of s ≡ Some p → Past s (stops s.now p why)
 stop_past s p why is =
@@ -175,14 +271,14 @@ entry_past : (s : Session) (p : Program) → program_of s ≡ Some p
     → Past s (record { acts = becomes s.now (entered p) ∷ []; moved = 0; ending = None })
 entry_past s p is =
     leaves_past s (record { acts = becomes s.now (entered p) ∷ []; moved = 0; ending = None }) p (entered p) is refl refl
-    (record { calls = refl; count = refl })
+    (record { calls = refl; count = refl; past = λ _ h. h })
 
 retire_past : (s : Session) (p : Program) → program_of s ≡ Some p → p.machine.check_due ≡ false → stays (next_tick p).outcome ≡ false
-    → Past s (retires s.now p)
+    → Past s (makes_move s.now p)
 unfolding Past
 retire_past s p is due goes retired h =
-    subst (λ (x : Option Program). IsPast (Some (moved p)) (retired ++ next_of x)) (sym is)
-    (move_past p retired due goes (subst (λ (x : Option Program). IsPast x retired) is h))
+    subst (λ (x : Option Program). IsPast (Some (moved p)) (after_move x retired)) (sym is)
+    (moved_past p retired due goes (subst (λ (x : Option Program). IsPast x retired) is h))
 
 move_beat_past : (s : Session) (p : Program) → program_of s ≡ Some p → p.machine.check_due ≡ false
     → Past s (moves_by s.now p (next_tick p).outcome)
@@ -195,7 +291,7 @@ go_past : (s : Session) (p : Program) (more : Bool) → program_of s ≡ Some p 
 go_past s p more is =
     if_keeps (Past s) p.machine.check_due _ _ (λ _. entry_past s p is)
     (λ due. if_keeps (Past s) (not more) _ _ (λ _. idle_past s ending.Spent)
-    (λ _. if_keeps (Past s) (leb s.now.limits.last_retired p.machine.retired) _ _ (λ _. stop_past s p why.Limit is)
+    (λ _. if_keeps (Past s) (is_at_limit s.now p) _ _ (λ _. stop_past s p why.Limit is)
     (λ _. move_beat_past s p is due)))
 
 mark_past : (s : Session) (p : Program) (mark : Option Mark) (more : Bool) → program_of s ≡ Some p → Past s (goes_unless mark s.now p more)
@@ -209,7 +305,8 @@ owed_past None s p more is =
     if_keeps (Past s) (not (is_runnable_by s.now.link p.run)) _ _ (λ _. idle_past s ending.Idle)
     (λ _. if_keeps (Past s) (ltb FULL (length (waiting_of s))) _ _ (λ _. idle_past s ending.Full) (λ _. mark_past s p p.mark more is))
 
-beat_past : (program : Option Program) (s : Session) (more : Bool) → program_of s ≡ program → Past s (beat_of program (histories.see s) more)
+beat_past : (program : Option Program) (s : Session) (more : Bool) → program_of s ≡ program
+    → Past s (beat_of program (histories.see s) more)
 beat_past None s more is = idle_past s ending.Idle
 beat_past (Some p) s more is = owed_past p.owed s p more is
 
@@ -240,19 +337,30 @@ marked_by_keeps (run.Ended code) m p = same p.machine
 departed_keeps : (ends stands : Bool) (p : Program) → Keeps p.machine (departed ends stands (left p)).machine
 departed_keeps ends stands p =
     if_keeps (λ (q : Program). Keeps p.machine q.machine) (ends && not (is_ended (left p).run)) _ _
-    (λ _. record { calls = refl; count = refl })
+    (λ _. record { calls = refl; count = refl; past = λ _ h. h })
     (λ _. if_keeps (λ (q : Program). Keeps p.machine q.machine) (stands && is_running (left p).run) _ _
-    (λ _. record { calls = refl; count = refl }) (λ _. record { calls = refl; count = refl }))
+    (λ _. record { calls = refl; count = refl; past = λ _ h. h }) (λ _. record { calls = refl; count = refl; past = λ _ h. h }))
 
 listed_keeps : (c : Command) (list : List Wanted) (p : Program) → Keeps p.machine (with_list c list p).machine
-listed_keeps (command.SetBreakpoints arguments) list p = record { calls = refl; count = refl }
-listed_keeps (command.SetFunctionBreakpoints arguments) list p = record { calls = refl; count = refl }
-listed_keeps (command.SetInstructionBreakpoints arguments) list p = record { calls = refl; count = refl }
-listed_keeps other list p = record { calls = refl; count = refl }
+listed_keeps (command.SetBreakpoints arguments) list p = record { calls = refl; count = refl; past = λ _ h. h }
+listed_keeps (command.SetFunctionBreakpoints arguments) list p = record { calls = refl; count = refl; past = λ _ h. h }
+listed_keeps (command.SetInstructionBreakpoints arguments) list p = record { calls = refl; count = refl; past = λ _ h. h }
+listed_keeps other list p = record { calls = refl; count = refl; past = λ _ h. h }
+
+written_keeps : (address : ℕ) (bytes : List ℕ) (p : Program) → Keeps p.machine (written address bytes p).machine
+written_keeps address bytes p = record {
+  calls = refl;
+  count = refl;
+  past = by (fault_at p.machine.memory 1 address (length bytes));
+} where
+  by : (fault : Option MemFault) (retired : List Retired) → RemembersPast p.machine.past retired
+      → RemembersPast (past_left (unless_fault fault (tt {0})) p.machine.past) retired
+  by None retired h = tt
+  by (Some fault) retired h = h
 
 reloaded_past : (program : Option Program) → IsPast (on_program (λ p. first_run (restarted p)) program) []
 reloaded_past None = refl
-reloaded_past (Some p) = nothing_past (first_run (restarted p)) refl refl
+reloaded_past (Some p) = nothing_past (first_run (restarted p)) refl refl refl
 
 -- no request of another kind loads
 plain_loads : (c : Command) → ((agrees c || steps c) && loads c) ≡ false
@@ -288,10 +396,12 @@ module _ (now : Now) (terms : Terms) where
   successes = record {
     initialized = λ _ _ h. h;
     unreadable = λ _ _ h. h;
-    loaded = λ arguments text _ _ _. nothing_past (just_loaded (assembled text) arguments.program arguments.stop_on_entry now.size) refl refl;
+    loaded =
+        λ arguments text _ _ _. nothing_past
+        (just_loaded (assembled text) arguments.program arguments.stop_on_entry now.size) refl refl refl;
     wrong = λ _ _ _ _ _ h. h;
     attaches = λ _ h. h;
-    begun = λ _ retired h. on_past first_run now.debuggee.program retired (λ p. record { calls = refl; count = refl }) h;
+    begun = λ _ retired h. on_past first_run now.debuggee.program retired (λ p. record { calls = refl; count = refl; past = λ _ h. h }) h;
     joined = λ _ _ h. h;
     agreed = λ c kind retired h. stays_past now.debuggee.program (loads c) _ retired (plain c (or_left (agrees c) _ kind.kind)) h;
     restarts = λ _ _. reloaded_past now.debuggee.program;
@@ -301,21 +411,22 @@ module _ (now : Now) (terms : Terms) where
     pauses = λ _ retired h. on_past (marked mark.Pause) now.debuggee.program retired (λ p. marked_by_keeps p.run mark.Pause p) h;
     stepped = λ c kind g retired h. stays_past (on_program (resumed g) now.debuggee.program) (loads c) _ retired
         (plain c (or_right (agrees c) _ kind.kind))
-        (on_past (resumed g) now.debuggee.program retired (λ p. record { calls = refl; count = refl }) h);
+        (on_past (resumed g) now.debuggee.program retired (λ p. record { calls = refl; count = refl; past = λ _ h. h }) h);
     absent = λ c about _ retired h. stays_past now.debuggee.program (loads c) _ retired (about_loads c about) h;
-    refused = λ c about _ _ retired h. stays_past now.debuggee.program (loads c) _ retired (about_loads c about) h;
+    refused = λ c _ _ _ retired h. fails_past now.debuggee.program (loads c) retired h;
     sets_none = λ c kind _ _ _ _ _ retired h. stays_past now.debuggee.program (loads c) _ retired (about_loads c kind.about) h;
     sets_list = λ c kind _ _ list _ _ _ _ retired h. stays_past (on_program (with_list c list) now.debuggee.program) (loads c) _ retired
         (about_loads c kind.about) (on_past (with_list c list) now.debuggee.program retired (listed_keeps c list) h);
     shows = λ c kind _ _ _ _ _ _ retired h. stays_past now.debuggee.program (loads c) _ retired (about_loads c kind.about) h;
     sets_register = λ _ _ setting _ _ _ retired h.
-        on_past (with_hart setting.hart) now.debuggee.program retired (λ p. record { calls = refl; count = refl }) h;
+        on_past (with_hart setting.hart) now.debuggee.program retired (λ p. record { calls = refl; count = refl; past = λ _ _. tt }) h;
     writes = λ arguments _ writing _ _ _ retired h.
         on_past (written writing.address (take writing.count arguments.bytes)) now.debuggee.program retired
-        (λ p. record { calls = refl; count = refl }) h;
+        (λ p. written_keeps writing.address (take writing.count arguments.bytes) p) h;
   }
 
-answer_past : (now : Now) (terms : Terms) (file : Option (List ℕ)) (p : Pending) → Then now (asks_to_load p.ask) (answer_to now terms file p)
+answer_past : (now : Now) (terms : Terms) (file : Option (List ℕ)) (p : Pending)
+    → Then now (asks_to_load p.ask) (answer_to now terms file p)
 answer_past now terms file p =
     of_answer (λ ask answer. Then now (asks_to_load ask) answer) now terms file p.ask p.fate
     (λ refusal _ retired h. fails_past now.debuggee.program (asks_to_load p.ask) retired h)
@@ -372,7 +483,8 @@ outcome_past (Some l) Hold s retired e h = on_past (marked mark.Hold) (program_o
 outcome_past (Some l) (Sent n) s retired e h =
     if_keeps (λ (o : Does). Leaves (on (Some l) s) retired o retired) (ltb (length (waiting_of (on (Some l) s))) n) _ _ (λ _ x. x)
     (λ _ x. x) h
-outcome_past (Some l) DropConnection s retired e h = on_past left (program_of s) retired (λ p. record { calls = refl; count = refl }) h
+outcome_past (Some l) DropConnection s retired e h =
+    on_past left (program_of s) retired (λ p. record { calls = refl; count = refl; past = λ _ h. h }) h
 
 event_past : (e : Event) (s : Session) (retired : List Retired) → IsPast (program_of s) retired
     → IsPast (program_of (Effect s e)) (and_retired s e retired)
@@ -393,7 +505,7 @@ all_past (e ∷ events) s retired h = all_past events (Effect s e) (and_retired 
 
 first_past : (program : Option (List ℕ × List ℕ)) (size : ℕ) → IsPast (first_program program size) []
 first_past None size = refl
-first_past (Some program) size = nothing_past (given program.0 program.1 size) refl refl
+first_past (Some program) size = nothing_past (given program.0 program.1 size) refl refl refl
 
 pub past_is_remembered : PastIsRemembered
 past_is_remembered from events = all_past events (start from) [] (first_past from.program from.size)

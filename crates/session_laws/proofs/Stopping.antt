@@ -19,7 +19,7 @@ use Rattle.rv32i.specs.declared.stepped.Stepped.TheVariants as stepped
 use Rattle.session.specs.Beats.{concluded}
 use Rattle.session.specs.Effects.{Slicing, beats, enough, next_by, performed, sliced}
 use Rattle.session.specs.Sessions.{Session, histories, waiting_of}
-use Rattle.session.specs.Slices.{Beat, beat_by, beat_of, becomes, ending_of, ends, exits, goes, goes_unless, is_runnable_by, moves_by, retires, stops, telling, tells}
+use Rattle.session.specs.Slices.{Beat, beat_by, beat_of, becomes, ending_of, ends, exits, goes, goes_unless, is_at_limit, is_runnable_by, makes_move, moves_by, stops, telling, tells}
 use Rattle.session.specs.declared.event.SliceEnd.{SliceEnd}
 use Rattle.session.specs.declared.event.SliceEnd.TheVariants as ending
 use Rattle.session.specs.declared.state.TheConstants.{FULL}
@@ -28,12 +28,17 @@ use Rattle.stepping.proofs.Existing.{the_tick}
 use Rattle.stepping.proofs.Ticking.{ticks_say_where}
 use Rattle.stepping.specs.RunLaws.{GoOn, Says, number_after}
 use Rattle.stepping.specs.Stopping.{NoneBelow, StopsAt}
-use Rattle.stepping.specs.Ticks.{Debugged, IsTick, Moves, Settles, hit_at_pc, outcome_of, entry_checked, entry_tick}
+use Rattle.course.specs.Positions.{Position}
+use Rattle.stepping.proofs.Cases.{Enters, GoesBack, tick_of_entry}
+use Rattle.stepping.specs.Goals.{turns_back}
+use Rattle.stepping.specs.Ticks.{Debugged, IsTick, Moves, Settles, back_outcome, hit_at_pc, looked_at, outcome_of, entry_checked, entry_tick, undone_by}
+use Rattle.stepping.specs.declared.goal.Goal.{Goal}
+use Rattle.stepping.specs.declared.goal.Goal.TheVariants.{Go, In, Over, Out, Back, ReverseGo}
 use Rattle.stepping.specs.declared.tick.Outcome.{Outcome}
 use Rattle.stepping.specs.declared.tick.Outcome.TheVariants.{Went, Stopped, Ended}
 use Rattle.stepping.specs.declared.tick.Reason.TheVariants as met
 use Rattle.stepping.specs.declared.tick.Tick.{Tick}
-use Rattle.session.proofs.Advancing.{move_retires}
+use Rattle.session.proofs.Advancing.{move_leaves}
 use Rattle.session.proofs.ByMove.{by_move}
 use Rattle.session.proofs.Reaching.{if_keeps}
 use Rattle.session_laws.proofs.Joined.{becomes_program, program_of, slices_end, telling_program, tells_only}
@@ -55,11 +60,12 @@ next_after : (due : Bool) (ticks : ℕ) → cond due (suc ticks) (suc (suc ticks
 next_after true ticks = refl
 next_after false ticks = refl
 
-none_yet : (ticks : ℕ) (start now : Debugged) → GoOn ticks start now → NoneBelow (number_after ticks start) start
-none_yet zero start now goes = none_at_first start
-none_yet (suc ticks) start now g =
+none_yet : (ticks : ℕ) (start now : Debugged) → turns_back start.goal ≡ false → GoOn ticks start now
+    → NoneBelow (number_after ticks start) start
+none_yet zero start now forward goes = none_at_first start
+none_yet (suc ticks) start now forward g =
     subst (λ (n : ℕ). NoneBelow n start) (sym (next_after start.check_due ticks))
-    (ticks_say_where ticks start g.0 now (record { printed = g.2.1.0; outcome = Went }) g.2.0
+    (ticks_say_where ticks start g.0 now (record { printed = g.2.1.0; outcome = Went }) forward g.2.0
     (subst (λ (r : Result Tick AllocError). IsTick g.0 r now) g.2.1.1 g.2.2)).0
 
 -- ---- what the last look reached
@@ -77,18 +83,49 @@ settles_so logs d instr (Ok (stepped.Exit code)) tick after h = h
 settles_so logs d instr (Ok (stepped.Trap cause)) tick after h = h
 settles_so logs d instr (Err error) tick after h = absurd (let no = h.0 in cc)
 
+back_says : (g : Goal) (past : List Position) (logs : List ℕ) (d : Debugged)
+    → back_outcome g (undone_by past (but_logs logs d)) ≡ back_outcome g (undone_by past d)
+back_says ReverseGo [] logs d = refl
+back_says ReverseGo (before ∷ past) logs d = refl
+back_says Go past logs d = refl
+back_says (In granularity) past logs d = refl
+back_says (Over granularity) past logs d = refl
+back_says (Out granularity) past logs d = refl
+back_says Back past logs d = refl
+
+looked_so : (g : Goal) (logs : List ℕ) (d : Debugged) → looked_at g (but_logs logs d) ≡ looked_at g d
+looked_so ReverseGo logs d = refl
+looked_so Go logs d = refl
+looked_so (In granularity) logs d = refl
+looked_so (Over granularity) logs d = refl
+looked_so (Out granularity) logs d = refl
+looked_so Back logs d = refl
+
+back_leaves : (g : Goal) (past : List Position) (logs : List ℕ) (d : Debugged)
+    → looked_at g (undone_by past (but_logs logs d)) ≡ looked_at g (undone_by past d)
+back_leaves g [] logs d = looked_so g logs d
+back_leaves g (before ∷ past) logs d = looked_so g logs (undone_by (before ∷ past) d)
+
 -- each tick has a look of its own, so that they do not matter to it
 ticks_so : (logs : List ℕ) (d : Debugged) (tick : Tick) (after : Debugged) → IsTick (but_logs logs d) (Ok tick) after
     → IsTick d (Ok tick) after
-ticks_so logs d tick after t = go d.check_due t where
+ticks_so logs d tick after t = go d.check_due (turns_back d.goal) t where
   answer : Result Tick AllocError
   answer = Ok tick
 
-  go : (due : Bool)
-      → MatchBool due ((answer ≡ Ok (entry_tick (but_logs logs d))) × (after ≡ entry_checked (but_logs logs d))) (Moves (but_logs logs d) answer after)
-      → MatchBool due ((answer ≡ Ok (entry_tick d)) × (after ≡ entry_checked d)) (Moves d answer after)
-  go true e = e
-  go false m = record {
+  other : Debugged
+  other = but_logs logs d
+
+  go : (due turns : Bool)
+      → MatchBool due (Enters other answer after) (MatchBool turns (GoesBack other answer after) (Moves other answer after))
+      → MatchBool due (Enters d answer after) (MatchBool turns (GoesBack d answer after) (Moves d answer after))
+  go true turns e = e
+  go false true x = (
+    x.0 ∙ ap (λ (o : Outcome). let r : Result Tick AllocError = Ok (record { printed = None; outcome = o }) in r)
+        (back_says d.goal d.past logs d),
+    x.1 ∙ back_leaves d.goal d.past logs d,
+  )
+  go false false m = record {
     instr = m.instr;
     stepped = m.stepped;
     fetched = m.fetched;
@@ -100,6 +137,7 @@ ticks_so logs d tick after t = go d.check_due t where
 
 -- the run goes on, and owes nothing; what its logpoints said was told
 record Going (start : Debugged) (made : ℕ) (p : Program) : Type 0 where
+  forward : turns_back start.goal ≡ false
   ticks : ℕ
   machine : Debugged
   logs : List ℕ
@@ -111,6 +149,7 @@ record Going (start : Debugged) (made : ℕ) (p : Program) : Type 0 where
 
 -- what its last tick came to is owed
 record Owing (start : Debugged) (made : ℕ) (p : Program) (tick : Tick) : Type 0 where
+  forward : turns_back start.goal ≡ false
   ticks : ℕ
   before : Debugged
   goes : GoOn ticks start before
@@ -139,6 +178,7 @@ zero_more n = omega arith
 
 -- a tick of a run that goes on, and that leaves this program
 record Ticked (start : Debugged) (made : ℕ) (p : Program) (tick : Tick) : Type 0 where
+  forward : turns_back start.goal ≡ false
   ticks : ℕ
   before : Debugged
   goes : GoOn ticks start before
@@ -152,6 +192,7 @@ record Ticked (start : Debugged) (made : ℕ) (p : Program) (tick : Tick) : Type
 goes_after : (start : Debugged) (made : ℕ) (p q : Program) (tick : Tick) (logs : List ℕ) → Ticked start made p tick → tick.outcome ≡ Went
     → q.machine ≡ but_logs logs p.machine → q.owed ≡ None → q.run ≡ p.run → Going start made q
 goes_after start made p q tick logs t went same owed run = record {
+  forward = t.forward;
   ticks = suc t.ticks;
   machine = p.machine;
   logs = logs;
@@ -174,6 +215,7 @@ goes_after start made p q tick logs t went same owed run = record {
 
 owes : (start : Debugged) (made : ℕ) (p : Program) (tick : Tick) → Ticked start made p tick → p.owed ≡ Some tick → Owing start made p tick
 owes start made p tick t e = record {
+  forward = t.forward;
   ticks = t.ticks;
   before = t.before;
   goes = t.goes;
@@ -210,18 +252,20 @@ middle_after start made p tick t e =
 FarBy : Debugged → ℕ → Session → Beat → Type 0
 FarBy start made s b = Far start (made + b.moved) (program_of (performed histories b.acts s)) b.ending
 
-still_far : (start : Debugged) (made : ℕ) (program : Option Program) (e : Option SliceEnd) → Far start made program e → Far start (made + 0) program e
+still_far : (start : Debugged) (made : ℕ) (program : Option Program) (e : Option SliceEnd) → Far start made program e
+    → Far start (made + 0) program e
 still_far start made program e h = subst (λ (n : ℕ). Far start n program e) (zero_more made) h
 
 -- none of the moves that were made met a reason
 none_by : (start : Debugged) (made : ℕ) (p : Program) → Going start made p → NoneBelow (next_number made p.machine) start
-none_by start made p g = subst (λ (n : ℕ). NoneBelow n start) (sym g.count) (none_yet g.ticks start g.machine g.goes)
+none_by start made p g = subst (λ (n : ℕ). NoneBelow n start) (sym g.count) (none_yet g.ticks start g.machine g.forward g.goes)
 
 -- what its next move comes to
 next_is : (start : Debugged) (made : ℕ) (p : Program) (g : Going start made p) → IsTick g.machine (Ok (next_tick p)) (moved p).machine
 next_is start made p g =
     ticks_so g.logs g.machine (next_tick p) (moved p).machine
-    (subst (λ (d : Debugged). let r : Result Tick AllocError = Ok (next_tick p) in IsTick d r (moved p).machine) g.same (the_tick p.machine).is)
+    (subst (λ (d : Debugged). let r : Result Tick AllocError = Ok (next_tick p) in IsTick d r (moved p).machine) g.same
+    (the_tick p.machine).is)
 
 runs_on : (r : Run) (start : Debugged) (made : ℕ) (d : Debugged) → is_running r ≡ true → NoneBelow (next_number made d) start
     → SaysWhere made r start d
@@ -234,7 +278,8 @@ idle_far : (start : Debugged) (made : ℕ) (s : Session) (p : Program) (e : Slic
 unfolding FarBy Far
 idle_far start made s p e is g =
     still_far start made (program_of s) (Some e)
-    (subst (λ (x : Option Program). Far start made x (Some e)) (sym is) (runs_on p.run start made p.machine g.running (none_by start made p g)))
+    (subst (λ (x : Option Program). Far start made x (Some e)) (sym is)
+    (runs_on p.run start made p.machine g.running (none_by start made p g)))
 
 -- the program stops, but not for a reason of its machine
 is_outer : Why → Bool
@@ -256,7 +301,7 @@ stay_says start made p outcome g due e =
     subst (λ (n : ℕ). Says n outcome start (moved p).machine)
     (sym (ap (λ (b : Bool). cond b made (suc made)) (sym due) ∙ g.count))
     (subst (λ (o : Outcome). Says (number_after g.ticks start) o start (moved p).machine) e
-    (ticks_say_where g.ticks start g.machine (moved p).machine (next_tick p) g.goes (next_is start made p g)))
+    (ticks_say_where g.ticks start g.machine (moved p).machine (next_tick p) g.forward g.goes (next_is start made p g)))
 
 trap_far : (start : Debugged) (made : ℕ) (s : Session) (p : Program) (cause : Cause) → Going start made p → p.machine.check_due ≡ false
     → (next_tick p).outcome ≡ Stopped (met.Exception cause) → FarBy start made s (stops s.now p (why.Met (met.Exception cause)))
@@ -274,10 +319,11 @@ exit_far start made s p code g due e =
     (stay_says start made p (Ended code) g due e).0)
 
 retire_far : (start : Debugged) (made : ℕ) (s : Session) (p : Program) → Going start made p → p.machine.check_due ≡ false
-    → stays (next_tick p).outcome ≡ false → FarBy start made s (retires s.now p)
+    → stays (next_tick p).outcome ≡ false → FarBy start made s (makes_move s.now p)
 unfolding FarBy Far
 retire_far start made s p g due stay =
     middle_after start (made + 1) (moved p) (next_tick p) (record {
+      forward = g.forward;
       ticks = g.ticks;
       before = g.machine;
       goes = g.goes;
@@ -286,15 +332,12 @@ retire_far start made s p g due stay =
       count =
           (let more : made + 1 ≡ suc made = omega arith in more)
           ∙ ap (λ (b : Bool). cond b made (suc made)) (sym due) ∙ g.count;
-      due = (move_retires p due stay).0 ∙ due;
+      due = (move_leaves p due stay).due ∙ due;
       stay = stay;
     }) refl
 
 entry_is : (d : Debugged) → d.check_due ≡ true → IsTick d (Ok (entry_tick d)) (entry_checked d)
-entry_is d due =
-    let answer : Result Tick AllocError = Ok (entry_tick d) in
-    subst (λ (b : Bool). MatchBool b ((answer ≡ Ok (entry_tick d)) × (entry_checked d ≡ entry_checked d)) (Moves d answer (entry_checked d)))
-    (sym due) (refl, refl)
+entry_is d due = tick_of_entry d (entry_checked d) (Ok (entry_tick d)) due (refl, refl)
 
 entry_stays : (hit : Hit) → stays (outcome_of hit false) ≡ false
 entry_stays hit = by hit.source hit.instruction hit.function where
@@ -310,11 +353,13 @@ entry_far : (start : Debugged) (made : ℕ) (s : Session) (p : Program) → Goin
 unfolding FarBy Far
 entry_far start made s p g due = still_far start made (Some (entered p)) None
     (middle_after start made (entered p) (entry_tick p.machine) (record {
+      forward = g.forward;
       ticks = g.ticks;
       before = g.machine;
       goes = g.goes;
       is = ticks_so g.logs g.machine (entry_tick p.machine) (entry_checked p.machine)
-          (subst (λ (d : Debugged). let r : Result Tick AllocError = Ok (entry_tick p.machine) in IsTick d r (entry_checked p.machine)) g.same
+          (subst (λ (d : Debugged). let r : Result Tick AllocError = Ok (entry_tick p.machine) in
+          IsTick d r (entry_checked p.machine)) g.same
           (entry_is p.machine due));
       running = g.running;
       count = ap (λ (b : Bool). cond b made (suc made)) (sym due) ∙ g.count;
@@ -334,7 +379,7 @@ go_far : (start : Debugged) (made : ℕ) (s : Session) (p : Program) (more : Boo
 go_far start made s p more is g =
     if_keeps (FarBy start made s) p.machine.check_due _ _ (λ due. entry_far start made s p g due)
     (λ due. if_keeps (FarBy start made s) (not more) _ _ (λ _. idle_far start made s p ending.Spent is g)
-    (λ _. if_keeps (FarBy start made s) (leb s.now.limits.last_retired p.machine.retired) _ _
+    (λ _. if_keeps (FarBy start made s) (is_at_limit s.now p) _ _
     (λ _. stops_far start made s p why.Limit (none_by start made p g)) (λ _. move_far start made s p g due)))
 
 marked_says : (m : Mark) (start : Debugged) (made : ℕ) (d : Debugged) → NoneBelow (next_number made d) start
@@ -358,10 +403,13 @@ tick_far : (start : Debugged) (made : ℕ) (s : Session) (p : Program) (tick : T
 unfolding FarBy Far Middle
 tick_far start made s p tick o = by tick.outcome refl where
   says : Says made tick.outcome start p.machine
-  says = subst (λ (n : ℕ). Says n tick.outcome start p.machine) (sym o.count) (ticks_say_where o.ticks start o.before p.machine tick o.goes o.is)
+  says =
+      subst (λ (n : ℕ). Says n tick.outcome start p.machine) (sym o.count)
+      (ticks_say_where o.ticks start o.before p.machine tick o.forward o.goes o.is)
 
   ticked : Ticked start made p tick
   ticked = record {
+    forward = o.forward;
     ticks = o.ticks;
     before = o.before;
     goes = o.goes;
@@ -372,10 +420,12 @@ tick_far start made s p tick o = by tick.outcome refl where
     stay = o.stay;
   }
 
-  left : (outcome : Outcome) → tick.outcome ≡ outcome → program_of (performed histories (telling s.now p tick) s) ≡ Some (concluded outcome (told p))
+  left : (outcome : Outcome) → tick.outcome ≡ outcome
+      → program_of (performed histories (telling s.now p tick) s) ≡ Some (concluded outcome (told p))
   left outcome e = telling_program s.now p tick s ∙ ap (λ (x : Outcome). let q : Option Program = Some (concluded x (told p)) in q) e
 
-  by : (outcome : Outcome) → tick.outcome ≡ outcome → Far start (made + 0) (program_of (performed histories (telling s.now p tick) s)) (ending_of tick.outcome)
+  by : (outcome : Outcome) → tick.outcome ≡ outcome
+      → Far start (made + 0) (program_of (performed histories (telling s.now p tick) s)) (ending_of tick.outcome)
   by Went e =
       still_far start made _ (ending_of tick.outcome)
       (subst (λ (x : Option SliceEnd). Far start made (program_of (performed histories (telling s.now p tick) s)) x) (sym (ap ending_of e))
@@ -421,10 +471,12 @@ beats_far n zero s start h = h
 beats_far n (suc k) s start h =
     next_far n (beats histories n k s) (beats histories n k s).ending start refl (beats_far n k s start h)
 
-begins_far : (p : Program) → is_running p.run ≡ true → p.owed ≡ None → Middle p.machine 0 p p.owed
+begins_far : (p : Program) → is_running p.run ≡ true → p.owed ≡ None → turns_back p.machine.goal ≡ false
+    → Middle p.machine 0 p p.owed
 unfolding Middle
-begins_far p runs owed = subst (Middle p.machine 0 p) (sym owed)
+begins_far p runs owed forward = subst (Middle p.machine 0 p) (sym owed)
     (record {
+      forward = forward;
       ticks = 0;
       machine = p.machine;
       logs = p.machine.lists.logs;
@@ -444,8 +496,8 @@ says_by (Some p) (Some e) start made ended h = h
 
 pub slices_stop_there : (s : Session) → SlicesStopThere s
 unfolding Far
-slices_stop_there s p n is runs owed =
+slices_stop_there s p n is runs owed forward =
     let d = sliced histories n s in
     says_by (program_of d.state) d.ending p.machine d.moved (slices_end s n).0
     (beats_far n (enough n) s p.machine
-    (subst (λ (x : Option Program). Far p.machine 0 x None) (sym is) (begins_far p runs owed)))
+    (subst (λ (x : Option Program). Far p.machine 0 x None) (sym is) (begins_far p runs owed forward)))

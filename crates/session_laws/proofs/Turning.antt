@@ -38,7 +38,7 @@ use Rattle.session.specs.Outcomes.{Outcome, outcome_at, answers_next, closing, h
 use Rattle.session.specs.Phases.{is_active}
 use Rattle.session.specs.Refusals.{answer_to, response_to}
 use Rattle.session.specs.Sessions.{Beginning, Session, After, Effect, histories, agreed_on, hung_on, performed_on, referred_on, replied_on, said_on, start, waiting_of}
-use Rattle.session.specs.Slices.{Beat, beat, beat_by, beat_of, concludes, ends, exits, goes, goes_unless, halts, is_runnable_by, logged, moves_by, output_events, retires, telling, tells}
+use Rattle.session.specs.Slices.{Beat, beat, beat_by, beat_of, concludes, ends, exits, goes, goes_unless, halts, is_at_limit, is_runnable_by, logged, moves_by, output_events, makes_move, telling, tells}
 use Rattle.handlers.specs.Telling.{exit_events, log_event, stop_event}
 use Rattle.stepping.specs.RunLaws.{HasSignedCode}
 use Rattle.stepping.specs.declared.tick.Outcome.{Outcome as CameTo}
@@ -184,7 +184,7 @@ telling_quiet now d p tick h c = (
 abbrev QuietBeat : Beat → Type 0
 QuietBeat b = (d : Debuggee) → AllQuiet d b.acts
 
-retires_quiet : (now : Now) (p : Program) → Orderly p → QuietBeat (retires now p)
+retires_quiet : (now : Now) (p : Program) → Orderly p → QuietBeat (makes_move now p)
 unfolding AllQuiet
 retires_quiet now p h d = (moved_orderly p h, tt)
 
@@ -202,7 +202,7 @@ unfolding AllQuiet
 goes_quiet now p more h =
     if_keeps QuietBeat p.machine.check_due _ _ (λ _ d. (entered_orderly p h, tt))
     (λ _. if_keeps QuietBeat (not more) _ _ (λ _. ends_quiet ending.Spent)
-    (λ _. if_keeps QuietBeat (leb now.limits.last_retired p.machine.retired) _ _ (λ _ d. halts_quiet now d p why.Limit [] h tt)
+    (λ _. if_keeps QuietBeat (is_at_limit now p) _ _ (λ _ d. halts_quiet now d p why.Limit [] h tt)
     (λ _. moves_quiet now p (next_tick p).outcome h (next_fits p))))
 
 unless_quiet : (mark : Option Mark) (now : Now) (p : Program) (more : Bool) → Orderly p → QuietBeat (goes_unless mark now p more)

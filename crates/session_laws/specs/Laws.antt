@@ -181,7 +181,7 @@ RunsAreTold s = (c : ℕ) → All (λ (m : Said). SaysItsRun m.message m.snapsho
 
 -- ---- time
 
--- Two slices, one after the other, leave what one of all their moves leaves, and as many instructions retire in them.
+-- Two slices, one after the other, leave what one of all their moves leaves, and as many moves are made in them.
 abbrev pub SlicesJoin : Session → Type 0
 SlicesJoin s = (a b : ℕ) → let first = sliced histories a s in let second = sliced histories b first.state in
     let whole = sliced histories (a + b) s in (second.state ≡ whole.state) × (first.moved + second.moved ≡ whole.moved)
@@ -218,19 +218,19 @@ EditorLeaves s (Slice n) = ⊥
 EditorLeaves s Hold = ⊥
 EditorLeaves s (Sent n) = ⊥
 
--- no instruction retires in it
+-- no instruction retires in it, and none is undone
 abbrev pub RetiresNone : Session → Event → Type 0
 RetiresNone s (Slice n) = (sliced histories n s).moved ≡ 0
 RetiresNone s e = ⊤
 
--- No instruction retires in any of these events, until one after which the program does not run, or with which the
--- editor leaves.
+-- No instruction retires in any of these events, and none is undone, until one after which the program does not run, or
+-- with which the editor leaves.
 abbrev pub RetiresNoneIn : List Event → Session → Type 0
 RetiresNoneIn [] s = ⊤
 RetiresNoneIn (e ∷ events) s = RetiresNone s e
     × (IsAtRest (Effect s e).now.debuggee ⊎ (EditorLeaves s e ⊎ RetiresNoneIn events (Effect s e)))
 
--- A program that runs and is marked retires no instruction, whatever happens.
+-- A program that runs and is marked retires no instruction and undoes none, whatever happens.
 abbrev pub MarkedRetiresNone : Session → Type 0
 MarkedRetiresNone s = IsMarked s.now.debuggee → (events : List Event) → RetiresNoneIn events s
 

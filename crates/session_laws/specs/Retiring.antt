@@ -1,14 +1,15 @@
 -- What has retired, as long as the program lasts.
 --
 -- A session keeps no instruction that has retired. Of all that retired since the program was loaded or restarted there
--- is a list all the same: a list of events settles it, event by event, and a slice beat by beat. In a beat one
--- instruction retires or none; where one does it is the one at pc. A success of `launch` or of `restart` begins the list
--- anew. The call stack that an editor sees, and the count of instructions, are those of this list.
+-- is a list all the same: a list of events settles it, event by event, and a slice beat by beat. In a beat one move is
+-- made or none. Where one is made the instruction at pc retires; or, where the program goes back, the last that retired is
+-- undone, if its move is recorded. A success of `launch` or of `restart` begins the list anew. The call stack that an
+-- editor sees, and the count of instructions, are those of this list.
 --
 -- Each word has one decoding (the laws `each_word_is_decoded` and `instruction_is_unique` of `rv32i`). `the_decoding` is
 -- that one.
-use Rattle.std.specs.Prelude.{◌≡◌, ℕ, zero, suc, nat_lt, Bool, true, false, ◌&&◌, if◌then◌else◌, List, [], ◌∷◌, ◌++◌}
-use Rattle.std.specs.Prelude.{Option, Some, None, Result, Ok, Err}
+use Rattle.std.specs.Prelude.{◌≡◌, ℕ, zero, suc, ◌-◌, nat_lt, Bool, true, false, ◌&&◌, if◌then◌else◌, List, [], ◌∷◌, ◌++◌}
+use Rattle.std.specs.Prelude.{length, take, Option, Some, None, Result, Ok, Err}
 use Rattle.answers.specs.StackTrace.{addresses}
 use Rattle.debuggee.specs.Programs.{Program}
 use Rattle.image.specs.Memory.{word_at}
@@ -29,6 +30,8 @@ use Rattle.session.specs.Slices.{beat}
 use Rattle.session_laws.specs.Turns.{Answered, answered}
 use Rattle.course.specs.Calls.{calls_of}
 use Rattle.course.specs.Marks.{Retired}
+use Rattle.course.specs.Positions.{Position}
+use Rattle.stepping.specs.Goals.{turns_back}
 use Rattle.stepping.specs.Past.{Remembers}
 use Rattle.stepping.specs.Ticks.{Debugged}
 
@@ -48,14 +51,23 @@ at_address pc (Some instr) = record { instr = instr; pc = pc } ∷ []
 abbrev pub at_pc : Debugged → List Retired
 at_pc d = at_address d.hart.pc (decoded (word_at d.memory d.hart.pc))
 
-abbrev pub next_of : Option Program → List Retired
-next_of None = []
-next_of (Some p) = at_pc p.machine
+-- all but the last, where a move is recorded
+abbrev pub without_last : List Position → List Retired → List Retired
+without_last [] retired = retired
+without_last (before ∷ past) retired = take (length retired - 1) retired
 
--- what has retired after a beat, by how many instructions retire in it
+-- what has retired after a move
+abbrev pub moved_on : Debugged → List Retired → List Retired
+moved_on d retired = if turns_back d.goal then without_last d.past retired else retired ++ at_pc d
+
+abbrev pub after_move : Option Program → List Retired → List Retired
+after_move None retired = retired
+after_move (Some p) retired = moved_on p.machine retired
+
+-- what has retired after a beat, by how many moves are made in it
 abbrev pub and_next : ℕ → Option Program → List Retired → List Retired
 and_next zero program retired = retired
-and_next (suc n) program retired = retired ++ next_of program
+and_next (suc n) program retired = after_move program retired
 
 -- ---- a slice
 

@@ -5,14 +5,15 @@
 -- the machine that it begins with: whatever was done to that before, as breakpoints that were set, is in it. Where
 -- the slice leaves the program stopped or ended for a reason, the run stops there; where it does not, for none
 -- of the moves that were made does a reason apply. So a slice that is granted as many moves as the number stops there,
--- unless it ends before: by a mark or a limit, or while many bytes wait.
-use Rattle.std.specs.Prelude.{◌≡◌, ℕ, suc, true, if◌then◌else◌, Option, Some, None}
+-- unless it ends before: by a mark or a limit, or while many bytes wait. A program that goes back is no part of this.
+use Rattle.std.specs.Prelude.{◌≡◌, ℕ, suc, true, false, if◌then◌else◌, Option, Some, None}
 use Rattle.debuggee.specs.Programs.{Program, is_running, stays}
 use Rattle.debuggee.specs.declared.run.Run.{Run}
 use Rattle.debuggee.specs.declared.run.Run.TheVariants.{Stopped as StandsStill, Ended as HasEnded}
 use Rattle.debuggee.specs.declared.run.Why.TheVariants as why
 use Rattle.session.specs.Effects.{sliced}
 use Rattle.session.specs.Sessions.{Session, histories}
+use Rattle.stepping.specs.Goals.{turns_back}
 use Rattle.stepping.specs.Stopping.{NoneBelow, StopsAt}
 use Rattle.stepping.specs.Ticks.{Debugged}
 use Rattle.stepping.specs.declared.tick.Outcome.{Outcome}
@@ -41,4 +42,4 @@ SaysWhereIn moved (Some p) start = SaysWhere moved p.run start p.machine
 -- What a slice says is so, where the program runs and owes nothing when it begins.
 abbrev pub SlicesStopThere : Session → Type 0
 SlicesStopThere s = (p : Program) (n : ℕ) → s.now.debuggee.program ≡ Some p → is_running p.run ≡ true → p.owed ≡ None →
-    SaysWhereIn (sliced histories n s).moved (sliced histories n s).state.now.debuggee.program p.machine
+    turns_back p.machine.goal ≡ false → SaysWhereIn (sliced histories n s).moved (sliced histories n s).state.now.debuggee.program p.machine

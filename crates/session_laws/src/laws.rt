@@ -76,8 +76,8 @@ pub fn runs_are_told()
     ensures { (from : ABeginning) (events : List AnEvent) → law.RunsAreTold (After from events) }
 {}
 
-/// Two slices, one after the other, leave what one of all their moves leaves, and as many instructions
-/// retire in them.
+/// Two slices, one after the other, leave what one of all their moves leaves, and as many moves are made
+/// in them.
 pub fn slices_join()
     ensures { (s : ASession) → law.SlicesJoin s }
 {}
@@ -89,12 +89,12 @@ pub fn slices_end()
 
 /// A slice leaves the program stopped, or ended, for a reason of its machine exactly where a run of that machine stops, counted from the
 /// machine that the slice begins with: at the least number of moves at which a reason applies, for the first of the reasons there. Where it
-/// leaves it otherwise, none applied.
+/// leaves it otherwise, none applied. So it is where the program does not go back.
 pub fn slices_stop_there()
     ensures { (s : ASession) → SlicesStopThere s }
 {}
 
-/// A program that runs and is marked to stop retires no instruction: whatever happens, until it does not run, or its editor leaves, which
+/// A program that runs and is marked to stop retires no instruction and undoes none: whatever happens, until it does not run, or its editor leaves, which
 /// is when its connection ends or a `disconnect` succeeds. A turn that answers a `pause` with success leaves it marked.
 pub fn marked_retires_none()
     ensures marked { (s : ASession) → law.MarkedRetiresNone s }

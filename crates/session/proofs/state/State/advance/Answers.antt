@@ -1,7 +1,8 @@
-use Rattle.std.proofs.Common.{◌≡◌, ◌+◌, ◌≤◌, Some, ap, sym, ◌∙◌, arith}
+use Rattle.std.proofs.Common.{◌≡◌, Some, ap, sym, ◌∙◌, arith}
+use Rattle.stepping.specs.Goals.{turns_back}
 use Rattle.stepping.specs.Ticks.{Debugged}
 use Rattle.session.specs.Kept.{Kept}
-use Rattle.session.proofs.Advancing.{advances_so, the_free_one}
+use Rattle.session.proofs.Advancing.{HasLeft, advances_so, the_free_one}
 use Rattle.session.proofs.Told.{with_one}
 use Rattle.session.proofs.state.State.advance.Goals as goal
 
@@ -12,7 +13,8 @@ returns c =
     let is : k.now.debuggee.program ≡ Some p = sym (ap (λ (x : Kept). x.now.debuggee.program) c.self.view_is) ∙ c.in-Some.is in
     let free = the_free_one k c.requires.free.0 p is c.requires.free.1 in
     let last = ap (λ (x : Kept). x.now.limits.last_retired) c.self.view_is in
-    let retired = c.retired.ensures ∙ ap (λ (d : Debugged). d.retired) c.machine.ensures in
-    let sum = c.most_of-most.ensures.sum in
-    let few : p.machine.retired + c.most_of-most.result ≤ k.now.limits.last_retired = omega (arith, last, retired, sum) in
+    let retired = ap (λ (d : Debugged). d.retired) c.machine.ensures in
+    let turns = ap (λ (d : Debugged). turns_back d.goal) c.machine.ensures in
+    let few : HasLeft c.most_of-most.result k p =
+    λ forward. let sum = c.most_of-most.ensures.sum (turns ∙ forward) in omega (arith, last, retired, sum) in
     advances_so c.args.left c.most_of-most.result k _ p c.advance-advanced.new.self c.advance-advanced.result c.moves_of.result c.moves_of.ensures free c.most_of-most.ensures.some c.most_of-most.ensures.few few c.advance-advanced.ensures (ap (with_one c.advance-advanced.new.self) c.self.view_is)

@@ -1,11 +1,10 @@
 use Rattle.std.proofs.Common.{◌≡◌, Some, ap, sym, ◌∙◌, subst}
 use Rattle.debuggee.specs.declared.run.Why.{Why}
-use Rattle.stepping.specs.Ticks.{Debugged}
 use Rattle.session.specs.Beats.{Decides}
 use Rattle.session.specs.Kept.{Kept}
 use Rattle.session.specs.Slices.{is_runnable_by}
 use Rattle.session.specs.declared.slices.Next.TheVariants.{Stop}
-use Rattle.session.proofs.Deciding.{marks_there, checks_there, limits_there, free_there, room_of, many_of, few_of}
+use Rattle.session.proofs.Deciding.{marks_there, checks_there, limits_there, free_there, room_of}
 use Rattle.session.proofs.state.State.next.Goals as goal
 
 pub returns-in-Some-mark : goal.returns-in-Some-mark
@@ -32,8 +31,8 @@ returns-then-is_check_due c =
     let none = sym c.mark.ensures ∙ c.in_default-mark.is in
     checks_there k p c.args.more is owed runnable room none (sym c.is_check_due.ensures ∙ c.if-is_check_due.true)
 
-pub returns-then-retired-self : goal.returns-then-retired-self
-returns-then-retired-self c =
+pub returns-then-is_at_limit : goal.returns-then-is_at_limit
+returns-then-is_at_limit c =
     let k : Kept = c.args.self.now in
     let p = c.in-Some.program in
     let is : k.now.debuggee.program ≡ Some p = sym (ap (λ (x : Kept). x.now.debuggee.program) c.self.view_is) ∙ c.in-Some.is in
@@ -43,10 +42,8 @@ returns-then-retired-self c =
     (ap (λ (x : Kept). x.waiting) c.self.view_is) c.len.ensures c.if-len-gt-FULL.false in
     let none = sym c.mark.ensures ∙ c.in_default-mark.is in
     let due = sym c.is_check_due.ensures ∙ c.if-is_check_due.false in
-    let retired = c.retired.ensures ∙ ap (λ (d : Debugged). d.retired) c.machine.ensures in
-    let last = ap (λ (x : Kept). x.now.limits.last_retired) c.self.view_is in
     limits_there k p c.args.more is owed runnable room none due c.if-not-more.false
-    (many_of k.now.limits.last_retired _ p.machine.retired c.retired.result last retired c.if-retired-self.true)
+    (sym c.is_at_limit.ensures ∙ c.if-is_at_limit.true)
 
 pub returns : goal.returns
 returns c =
@@ -59,7 +56,5 @@ returns c =
     (ap (λ (x : Kept). x.waiting) c.self.view_is) c.len.ensures c.if-len-gt-FULL.false in
     let none = sym c.mark.ensures ∙ c.in_default-mark.is in
     let due = sym c.is_check_due.ensures ∙ c.if-is_check_due.false in
-    let retired = c.retired.ensures ∙ ap (λ (d : Debugged). d.retired) c.machine.ensures in
-    let last = ap (λ (x : Kept). x.now.limits.last_retired) c.self.view_is in
     free_there k p c.args.more is owed runnable room none due c.if-not-more.false
-    (few_of k.now.limits.last_retired _ p.machine.retired c.retired.result last retired c.if-retired-self.false)
+    (sym c.is_at_limit.ensures ∙ c.if-is_at_limit.false)
