@@ -1,0 +1,11 @@
+pub mod Recorded
+pub mod Ticking
+pub mod Beating
+pub mod Counted
+pub mod Events
+pub mod Refused
+pub mod GoingBack
+pub mod SteppingBack
+pub mod RunningBack
+pub mod Newest
+pub mod Again

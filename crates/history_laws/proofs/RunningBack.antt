@@ -1,0 +1,217 @@
+-- A run back stops where it has to.
+use Rattle.std.proofs.Common.{◌≡◌, ℕ, ℤ, zero, suc, ◌≤◌, Bool, true, false, ltb, List, [], ◌∷◌, length, Option, Some, None, Ok, ◌⊎◌, inl, inr, refl, sym, ap, ◌∙◌, subst}
+use Rattle.std.specs.Prelude.{not}
+use Rattle.course.specs.Positions.{Course}
+use Rattle.debuggee.specs.Programs.{Program, is_running, moved, next_tick, owing_by, stays, stopped, told}
+use Rattle.debuggee.specs.declared.run.Mark.{Mark}
+use Rattle.debuggee.specs.declared.run.Run.TheVariants as run
+use Rattle.debuggee.specs.declared.run.Why.TheVariants as why
+use Rattle.history_laws.proofs.Beating.{never_at_limit, stands_idle}
+use Rattle.history_laws.proofs.Ticking.{back_goes}
+use Rattle.history_laws.specs.GoingBack.{OfProgram}
+use Rattle.history_laws.specs.RunningBack.{RunsBackStopThere, StopsBackThere, after_slices}
+use Rattle.session.proofs.Advancing.{Leaves, move_leaves}
+use Rattle.session.proofs.ByMove.{by_move}
+use Rattle.session.proofs.Reaching.{if_keeps}
+use Rattle.session.specs.Beats.{concluded}
+use Rattle.session.specs.Effects.{Slicing, beats, enough, next_by, performed}
+use Rattle.session.specs.Sessions.{Effect, Session, histories, waiting_of}
+use Rattle.session.specs.Slices.{Beat, beat_by, beat_of, ends, goes, goes_unless, is_at_limit, is_runnable_by, makes_move, moves_by, telling}
+use Rattle.session.specs.declared.event.Event.TheVariants.{Slice}
+use Rattle.session.specs.declared.event.SliceEnd.{SliceEnd}
+use Rattle.session.specs.declared.event.SliceEnd.TheVariants as ending
+use Rattle.session.specs.declared.state.TheConstants.{FULL}
+use Rattle.session_laws.proofs.Joined.{program_of, telling_program}
+use Rattle.stepping.proofs.Cases.{GoesBack, back_of}
+use Rattle.stepping.proofs.Existing.{the_tick}
+use Rattle.stepping.proofs.Reversing.{runs_back_turn}
+use Rattle.stepping.specs.Goals.{turns_back}
+use Rattle.stepping.specs.StoppingBack.{TurnsTo, turned_from}
+use Rattle.stepping.specs.Ticks.{Debugged, back_tick, course_of, undone}
+use Rattle.stepping.specs.declared.goal.Goal.TheVariants.{ReverseGo}
+use Rattle.stepping.specs.declared.tick.Outcome.{Outcome}
+use Rattle.stepping.specs.declared.tick.Outcome.TheVariants.{Went, Stopped, Ended}
+use Rattle.stepping.specs.declared.tick.Reason.{Reason}
+use Rattle.stepping.specs.declared.tick.Tick.{Tick}
+
+-- ---- where it is
+
+-- what a tick that came to this left: the same stop ahead, or the stop
+abbrev TurnsBy : Outcome → Course → Debugged → Type 0
+TurnsBy Went stop d = (turned_from d ≡ stop) × (1 ≤ length d.past)
+TurnsBy (Stopped reason) stop d = course_of d ≡ stop
+TurnsBy (Ended code) stop d = ⊥
+
+abbrev Way : Course → Debugged → Option Tick → Type 0
+Way stop d None = (turned_from d ≡ stop) × (1 ≤ length d.past)
+Way stop d (Some tick) = TurnsBy tick.outcome stop d
+
+-- it runs back to that stop, or stands there
+record Turning (stop : Course) (p : Program) : Type 0 where
+  runs : p.run ≡ run.Running
+  goal : p.machine.goal ≡ ReverseGo
+  due : p.machine.check_due ≡ false
+  mark : p.mark ≡ None
+  way : Way stop p.machine p.owed
+
+record Stood (stop : Course) (p : Program) : Type 0 where
+  owed : p.owed ≡ None
+  reason : Reason
+  stands : p.run ≡ run.Stopped (why.Met reason)
+  course : course_of p.machine ≡ stop
+
+Turns : Course → Option Program → Type 0
+Turns stop program = OfProgram (Stood stop) program ⊎ OfProgram (Turning stop) program
+
+still : (stop : Course) (p : Program) → Turning stop p → Turns stop (Some p)
+unfolding Turns
+still stop p h = inr h
+
+stood : (stop : Course) (p : Program) → Stood stop p → Turns stop (Some p)
+unfolding Turns
+stood stop p h = inl h
+
+-- ---- a move
+
+way_after : (stop : Course) (d : Debugged) (printed : Option ℤ) (outcome : Outcome) (logs : List ℕ) → TurnsBy outcome stop d
+    → Way stop d (owing_by printed outcome logs)
+way_after stop d None Went [] h = h
+way_after stop d None Went (place ∷ logs) h = h
+way_after stop d (Some number) Went logs h = h
+way_after stop d None (Stopped reason) logs h = h
+way_after stop d (Some number) (Stopped reason) logs h = h
+way_after stop d None (Ended code) logs h = absurd h
+way_after stop d (Some number) (Ended code) logs h = absurd h
+
+turned_on : (outcome : Outcome) (stop : Course) (before after : Debugged) → turned_from before ≡ stop → TurnsTo outcome before after
+    → TurnsBy outcome stop after
+turned_on Went stop before after is h = (h.0 ∙ is, h.1)
+turned_on (Stopped reason) stop before after is h = h ∙ is
+turned_on (Ended code) stop before after is h = h
+
+-- ---- a beat
+
+-- what a beat leaves
+TurnsBeat : Course → Session → Beat → Type 0
+TurnsBeat stop s b = Turns stop (program_of (performed histories b.acts s))
+
+idle_turns : (stop : Course) (s : Session) (p : Program) (e : SliceEnd) → program_of s ≡ Some p → Turns stop (Some p)
+    → TurnsBeat stop s (ends e)
+unfolding TurnsBeat
+idle_turns stop s p e is h = subst (Turns stop) (sym is) h
+
+move_turns : (stop : Course) (s : Session) (p : Program) → p.owed ≡ None → Turning stop p
+    → TurnsBeat stop s (moves_by s.now p (next_tick p).outcome)
+unfolding TurnsBeat
+move_turns stop s p owed h =
+    by_move (λ o b. (next_tick p).outcome ≡ o → TurnsBeat stop s b) s.now p (next_tick p).outcome (λ o _ _. made)
+    (λ cause e. absurd (let no : true ≡ false = sym (ap stays e) ∙ stay in cc))
+    (λ code e. absurd (let no : true ≡ false = sym (ap stays e) ∙ stay in cc)) refl where
+      x : GoesBack p.machine (Ok (next_tick p)) (moved p).machine
+      x = back_of p.machine (moved p).machine (Ok (next_tick p)) h.due (ap turns_back h.goal) (the_tick p.machine).is
+
+      same : next_tick p ≡ back_tick p.machine
+      same = let e : Ok (next_tick p) ≡ Ok (back_tick p.machine) = x.0 in cc
+
+      stay : stays (next_tick p).outcome ≡ false
+      stay = ap (λ (t : Tick). stays t.outcome) same ∙ back_goes p.machine.goal (undone p.machine)
+
+      left : Leaves p.machine (moved p).machine
+      left = move_leaves p h.due stay
+
+      way : Way stop p.machine None
+      way = subst (Way stop p.machine) owed h.way
+
+      made : TurnsBeat stop s (makes_move s.now p)
+      made = still stop (moved p) (record {
+        runs = h.runs;
+        goal = left.goal ∙ h.goal;
+        due = left.due ∙ h.due;
+        mark = h.mark;
+        way = way_after stop (moved p).machine (next_tick p).printed (next_tick p).outcome (moved p).machine.lists.logs
+            (turned_on (next_tick p).outcome stop p.machine (moved p).machine way.0
+            (runs_back_turn p.machine (moved p).machine (next_tick p) h.goal h.due way.1 (the_tick p.machine).is));
+      })
+
+go_turns : (stop : Course) (s : Session) (p : Program) (more : Bool) → program_of s ≡ Some p → p.owed ≡ None → Turning stop p
+    → TurnsBeat stop s (goes s.now p more)
+go_turns stop s p more is owed h =
+    if_keeps (TurnsBeat stop s) p.machine.check_due _ _ (λ due. absurd (let no : true ≡ false = sym due ∙ h.due in cc))
+    (λ _. if_keeps (TurnsBeat stop s) (not more) _ _ (λ _. idle_turns stop s p ending.Spent is (still stop p h))
+    (λ _. if_keeps (TurnsBeat stop s) (is_at_limit s.now p) _ _ (λ limit. never_at_limit s.now p ReverseGo h.goal refl limit) (λ _. move_turns stop s p owed h)))
+
+unless_turns : (stop : Course) (s : Session) (p : Program) (more : Bool) → program_of s ≡ Some p → p.owed ≡ None → Turning stop p
+    → TurnsBeat stop s (goes_unless p.mark s.now p more)
+unless_turns stop s p more is owed h =
+    subst (λ (m : Option Mark). TurnsBeat stop s (goes_unless m s.now p more)) (sym h.mark) (go_turns stop s p more is owed h)
+
+-- what is owed is told
+tick_turns : (stop : Course) (s : Session) (p : Program) (tick : Tick) → p.owed ≡ Some tick → Turning stop p
+    → Turns stop (program_of (performed histories (telling s.now p tick) s))
+tick_turns stop s p tick owed h =
+    subst (Turns stop) (sym (telling_program s.now p tick s)) (by tick.outcome (subst (Way stop p.machine) owed h.way)) where
+      by : (outcome : Outcome) → TurnsBy outcome stop p.machine → Turns stop (Some (concluded outcome (told p)))
+      by Went way = still stop (told p) (record { runs = h.runs; goal = h.goal; due = h.due; mark = h.mark; way = way })
+      by (Stopped reason) way =
+          stood stop (stopped (why.Met reason) (told p)) (record { owed = refl; reason = reason; stands = refl; course = way })
+      by (Ended code) way = absurd way
+
+owed_turns : (owed : Option Tick) (stop : Course) (s : Session) (p : Program) (more : Bool) → p.owed ≡ owed → program_of s ≡ Some p
+    → Turning stop p → TurnsBeat stop s (beat_by owed (histories.see s) p more)
+unfolding TurnsBeat
+owed_turns (Some tick) stop s p more owed is h = tick_turns stop s p tick owed h
+owed_turns None stop s p more owed is h =
+    if_keeps (TurnsBeat stop s) (not (is_runnable_by s.now.link p.run)) _ _ (λ _. idle_turns stop s p ending.Idle is (still stop p h))
+    (λ _. if_keeps (TurnsBeat stop s) (ltb FULL (length (waiting_of s))) _ _
+    (λ _. idle_turns stop s p ending.Full is (still stop p h)) (λ _. unless_turns stop s p more is owed h))
+
+-- one that stands does nothing
+stood_turns : (stop : Course) (s : Session) (p : Program) (more : Bool) → program_of s ≡ Some p → Stood stop p
+    → TurnsBeat stop s (beat_by p.owed (histories.see s) p more)
+stood_turns stop s p more is h =
+    stands_idle (TurnsBeat stop s) (histories.see s) p more h.owed (ap is_running h.stands)
+    (idle_turns stop s p ending.Idle is (stood stop p h))
+
+beat_turns : (program : Option Program) (stop : Course) (s : Session) (more : Bool) → program_of s ≡ program → Turns stop program
+    → TurnsBeat stop s (beat_of program (histories.see s) more)
+unfolding Turns
+beat_turns None stop s more is (inl h) = absurd h
+beat_turns None stop s more is (inr h) = absurd h
+beat_turns (Some p) stop s more is (inl h) = stood_turns stop s p more is h
+beat_turns (Some p) stop s more is (inr h) = owed_turns p.owed stop s p more refl is h
+
+-- ---- slices
+
+next_turns : (n : ℕ) (d : Slicing Session) (e : Option SliceEnd) (stop : Course) → Turns stop (program_of d.state)
+    → Turns stop (program_of (next_by histories n e d).state)
+unfolding TurnsBeat
+next_turns n d (Some e) stop h = h
+next_turns n d None stop h = beat_turns (program_of d.state) stop d.state (ltb d.moved n) refl h
+
+slice_turns : (n k : ℕ) (s : Session) (stop : Course) → Turns stop (program_of s) → Turns stop (program_of (beats histories n k s).state)
+slice_turns n zero s stop h = h
+slice_turns n (suc k) s stop h = next_turns n (beats histories n k s) (beats histories n k s).ending stop (slice_turns n k s stop h)
+
+slices_turn : (slices : List ℕ) (s : Session) (stop : Course) → Turns stop (program_of s)
+    → Turns stop (program_of (after_slices slices s))
+slices_turn [] s stop h = h
+slices_turn (n ∷ slices) s stop h = slices_turn slices (Effect s (Slice n)) stop (slice_turns n (enough n) s stop h)
+
+says_so : (program : Option Program) (start : Debugged) → Turns (turned_from start) program → OfProgram (StopsBackThere start) program
+unfolding Turns
+says_so None start (inl h) = absurd h
+says_so None start (inr h) = absurd h
+says_so (Some p) start (inl h) = inr (h.reason, (h.stands, h.course))
+says_so (Some p) start (inr h) = inl h.runs
+
+pub runs_back_stop_there : (s : Session) → RunsBackStopThere s
+runs_back_stop_there s p from slices is h =
+    says_so (program_of (after_slices slices s)) p.machine (slices_turn slices s (turned_from p.machine)
+    (subst (Turns (turned_from p.machine)) (sym is) (still (turned_from p.machine) p (record {
+      runs = h.runs;
+      goal = h.goes;
+      due = h.due;
+      mark = h.mark;
+      way = subst (Way (turned_from p.machine) p.machine) (sym h.owed)
+          (refl, subst (λ (c : Course). 1 ≤ length c.past) (sym h.course) h.some);
+    }))))

@@ -1,0 +1,421 @@
+-- A step back goes one move back, whatever happens.
+use Rattle.std.proofs.Common.{◌≡◌, ◌≢◌, ℕ, zero, suc, Bool, true, false, leb, ltb, eqb, List, [], ◌∷◌, length, Option, Some, None, Ok, ◌⊎◌, inl, inr, refl, sym, ap, ◌∙◌, subst}
+use Rattle.std.specs.Prelude.{◌&&◌, not, bytes_eq}
+use Rattle.breakpoints.specs.Stops.{Wanted}
+use Rattle.course.specs.Positions.{Course, gone_back}
+use Rattle.debuggee.specs.Programs.{Debuggee, Program, first_mark, is_running, marked, marked_by, moved, next_tick, on_program, owing_by, stays, stopped, told, why_marked, with_functions, with_instructions, with_source}
+use Rattle.debuggee.specs.declared.run.Mark.{Mark}
+use Rattle.debuggee.specs.declared.run.Mark.TheVariants as mark
+use Rattle.debuggee.specs.declared.run.Run.{Run}
+use Rattle.debuggee.specs.declared.run.Run.TheVariants as run
+use Rattle.debuggee.specs.declared.run.Why.{Why}
+use Rattle.debuggee.specs.declared.run.Why.TheVariants as why
+use Rattle.handlers.specs.Breaks.{with_list}
+use Rattle.handlers.specs.Demands.{goes_on, run_of}
+use Rattle.handlers.specs.Given.{Answering}
+use Rattle.handlers.specs.Requests.{demand_of}
+use Rattle.handlers.specs.Telling.{stop_event}
+use Rattle.handlers.specs.declared.terms.Terms.{Terms}
+use Rattle.history_laws.proofs.Beating.{never_at_limit, stands_idle}
+use Rattle.history_laws.proofs.Ticking.{back_course, back_goes}
+use Rattle.history_laws.specs.GoingBack.{GoesBackFrom, OfProgram}
+use Rattle.history_laws.specs.SteppingBack.{HasSteppedBack, IsStartedOrEnded, IsUnderWay, StartsOrEnds, StepsBack, StepsBackIn, StepsGoOneBack, asks_to_start_or_end, starts_or_ends, step_made}
+use Rattle.protocol.specs.Commands.{name_of}
+use Rattle.protocol.specs.declared.command.Command.{Command}
+use Rattle.protocol.specs.declared.command.Command.TheVariants.{SetBreakpoints, SetFunctionBreakpoints, SetInstructionBreakpoints, SetVariable, WriteMemory}
+use Rattle.protocol.specs.declared.disconnect.TheConstants.{NAME as DISCONNECT}
+use Rattle.session.proofs.BySuccess.{BySuccess, by_success}
+use Rattle.session.proofs.Advancing.{Leaves, move_leaves}
+use Rattle.session.proofs.Reaching.{if_keeps}
+use Rattle.session.proofs.Serving.{Meets, of_answer}
+use Rattle.session.specs.Acts.{Now, given_of}
+use Rattle.session.specs.Arrivals.{name_asked}
+use Rattle.session.specs.Beats.{concluded}
+use Rattle.session.specs.Effects.{Slicing, beats, enough, next_by, performed}
+use Rattle.session.specs.Kinds.{is_success}
+use Rattle.session.specs.Outcomes.{Outcome as Does, answering, done, outcome_at}
+use Rattle.session.specs.Refusals.{answer_to}
+use Rattle.session.specs.Sessions.{Effect, Session, histories, waiting_of}
+use Rattle.session.specs.Slices.{Beat, beat_by, beat_of, ends, goes, goes_unless, is_at_limit, is_runnable_by, moves_by, stops, telling, tells}
+use Rattle.session.specs.declared.event.Applied.TheVariants.{Turn as DidTurn}
+use Rattle.session.specs.declared.event.Event.{Event}
+use Rattle.session.specs.declared.event.Event.TheVariants.{Connect, Recv, Turn, Slice, Hold, Sent, DropConnection}
+use Rattle.session.specs.declared.event.SliceEnd.{SliceEnd}
+use Rattle.session.specs.declared.event.SliceEnd.TheVariants as ending
+use Rattle.session.specs.declared.event.Turned.TheVariants as turned
+use Rattle.session.specs.declared.link.Link.{Link}
+use Rattle.session.specs.declared.pending.Pending.{Pending}
+use Rattle.session.specs.declared.state.TheConstants.{MOST_PIECE, MOST_PENDING, FULL, LAST_CONNECTION}
+use Rattle.session_laws.proofs.Answered.{ByTurn, by_turn, the_answered}
+use Rattle.session_laws.proofs.ByForms.{on}
+use Rattle.session_laws.proofs.Joined.{becomes_program, program_of, telling_program, tells_only}
+use Rattle.session_laws.proofs.Paused.{answering_debuggee}
+use Rattle.session_laws.specs.Laws.{Disconnects, EditorLeaves}
+use Rattle.session_laws.specs.Turns.{Answered}
+use Rattle.stepping.proofs.Cases.{GoesBack, back_of}
+use Rattle.stepping.proofs.Existing.{the_tick}
+use Rattle.stepping.specs.Goals.{turns_back}
+use Rattle.stepping.specs.Ticks.{back_outcome, back_tick, course_of, undone}
+use Rattle.stepping.specs.declared.goal.Goal.{Goal}
+use Rattle.stepping.specs.declared.goal.Goal.TheVariants.{Back}
+use Rattle.stepping.specs.declared.tick.Outcome.{Outcome}
+use Rattle.stepping.specs.declared.tick.Reason.TheVariants as met
+use Rattle.stepping.specs.declared.tick.Tick.{Tick}
+
+-- it steps back, or has
+pub Steps : Course → Option Program → Type 0
+Steps from program = OfProgram (HasSteppedBack from) program ⊎ OfProgram (StepsBack from) program
+
+still : (from : Course) (p : Program) → StepsBack from p → Steps from (Some p)
+unfolding Steps
+still from p h = inr h
+
+made : (from : Course) (p : Program) → HasSteppedBack from p → Steps from (Some p)
+unfolding Steps
+made from p h = inl h
+
+-- ---- the step
+
+-- what its tick comes to, and what it leaves
+record Undoes (p : Program) : Type 0 where
+  tick : next_tick p ≡ step_made
+  course : course_of (moved p).machine ≡ gone_back (course_of p.machine)
+  goal : (moved p).machine.goal ≡ Back
+  due : (moved p).machine.check_due ≡ false
+
+undoes : (p : Program) → p.machine.goal ≡ Back → p.machine.check_due ≡ false → Undoes p
+undoes p goal due = record {
+  tick = same ∙ ap (λ (g : Goal). record { printed = None; outcome = back_outcome g (undone p.machine) }) goal;
+  course = ap course_of x.1 ∙ back_course p.machine.goal p.machine;
+  goal = left.goal ∙ goal;
+  due = left.due ∙ due;
+} where
+  x : GoesBack p.machine (Ok (next_tick p)) (moved p).machine
+  x = back_of p.machine (moved p).machine (Ok (next_tick p)) due (ap turns_back goal) (the_tick p.machine).is
+
+  same : next_tick p ≡ back_tick p.machine
+  same = let e : Ok (next_tick p) ≡ Ok (back_tick p.machine) = x.0 in cc
+
+  left : Leaves p.machine (moved p).machine
+  left = move_leaves p due (ap (λ (t : Tick). stays t.outcome) same ∙ back_goes p.machine.goal (undone p.machine))
+
+-- what it owes then
+owes : (p : Program) → next_tick p ≡ step_made → (moved p).owed ≡ Some step_made
+owes p e = ap (λ (t : Tick). owing_by t.printed t.outcome (moved p).machine.lists.logs) e
+
+-- ---- a beat
+
+-- what a beat leaves
+StepsBy : Course → Session → Beat → Type 0
+StepsBy from s b = Steps from (program_of (performed histories b.acts s))
+
+idle_steps : (from : Course) (s : Session) (program : Option Program) (e : SliceEnd) → program_of s ≡ program → Steps from program
+    → StepsBy from s (ends e)
+unfolding StepsBy
+idle_steps from s program e is h = subst (Steps from) (sym is) h
+
+-- it stops where it is
+stop_steps : (from : Course) (s : Session) (p : Program) (w : Why) → Steps from (Some (stopped w p)) → StepsBy from s (stops s.now p w)
+unfolding StepsBy
+stop_steps from s p w h =
+    subst (Steps from) (sym (becomes_program s.now (stopped w p) (tells s.now (stop_event w [] ∷ [])) s
+    (tells_only s.now (stop_event w [] ∷ [])))) h
+
+-- a mark stops it before its move
+mark_pauses : (m : Mark) → (let some : Option Mark = Some m in some) ≢ Some mark.Entry → why_marked m ≡ why.Pause
+mark_pauses mark.Entry h = absurd (h refl)
+mark_pauses mark.Pause h = refl
+mark_pauses mark.Hold h = refl
+
+mark_steps : (from : Course) (s : Session) (p : Program) (m : Mark) → p.mark ≡ Some m → p.owed ≡ None → StepsBack from p
+    → StepsBy from s (stops s.now p (why_marked m))
+mark_steps from s p m is owed h =
+    stop_steps from s p (why_marked m) (made from (stopped (why_marked m) p) (
+      owed,
+      inr (
+        ap (λ (w : Why). run.Stopped w) (mark_pauses m (λ e. h.mark (is ∙ e))),
+        subst (IsUnderWay from p) owed h.way,
+      ),
+    ))
+
+move_steps : (from : Course) (s : Session) (p : Program) → p.owed ≡ None → StepsBack from p
+    → StepsBy from s (moves_by s.now p (next_tick p).outcome)
+unfolding StepsBy
+move_steps from s p owed h =
+    let u = undoes p h.goal h.due in
+    subst (λ (o : Outcome). StepsBy from s (moves_by s.now p o)) (sym (ap (λ (t : Tick). t.outcome) u.tick))
+    (still from (moved p) (record {
+      runs = h.runs;
+      goal = u.goal;
+      due = u.due;
+      mark = h.mark;
+      way = subst (IsUnderWay from (moved p)) (sym (owes p u.tick))
+          (refl, u.course ∙ ap gone_back (subst (IsUnderWay from p) owed h.way));
+    }))
+
+go_steps : (from : Course) (s : Session) (p : Program) (more : Bool) → program_of s ≡ Some p → p.owed ≡ None → StepsBack from p
+    → StepsBy from s (goes s.now p more)
+go_steps from s p more is owed h =
+    if_keeps (StepsBy from s) p.machine.check_due _ _ (λ due. absurd (let no : true ≡ false = sym due ∙ h.due in cc))
+    (λ _. if_keeps (StepsBy from s) (not more) _ _ (λ _. idle_steps from s (Some p) ending.Spent is (still from p h))
+    (λ _. if_keeps (StepsBy from s) (is_at_limit s.now p) _ _ (λ limit. never_at_limit s.now p Back h.goal refl limit) (λ _. move_steps from s p owed h)))
+
+unless_steps : (from : Course) (s : Session) (p : Program) (m : Option Mark) (more : Bool) → p.mark ≡ m → program_of s ≡ Some p
+    → p.owed ≡ None → StepsBack from p → StepsBy from s (goes_unless m s.now p more)
+unless_steps from s p None more e is owed h = go_steps from s p more is owed h
+unless_steps from s p (Some m) more e is owed h = mark_steps from s p m e owed h
+
+-- what is owed is told
+tick_steps : (from : Course) (s : Session) (p : Program) (tick : Tick) → p.owed ≡ Some tick → StepsBack from p
+    → Steps from (program_of (performed histories (telling s.now p tick) s))
+tick_steps from s p tick owed h =
+    let way = subst (IsUnderWay from p) owed h.way in
+    subst (Steps from) (sym (telling_program s.now p tick s ∙ ap
+    (λ (t : Tick). let q : Option Program = Some (concluded t.outcome (told p)) in q) way.0))
+    (made from (stopped (why.Met met.Goal) (told p)) (refl, inl (refl, way.1)))
+
+way_by : (owed : Option Tick) (from : Course) (s : Session) (p : Program) (more : Bool) → p.owed ≡ owed → program_of s ≡ Some p
+    → StepsBack from p → StepsBy from s (beat_by owed (histories.see s) p more)
+unfolding StepsBy
+way_by (Some tick) from s p more owed is h = tick_steps from s p tick owed h
+way_by None from s p more owed is h =
+    if_keeps (StepsBy from s) (not (is_runnable_by s.now.link p.run)) _ _ (λ _. idle_steps from s (Some p) ending.Idle is (still from p h))
+    (λ _. if_keeps (StepsBy from s) (ltb FULL (length (waiting_of s))) _ _
+    (λ _. idle_steps from s (Some p) ending.Full is (still from p h)) (λ _. unless_steps from s p p.mark more refl is owed h))
+
+-- one that has stepped back stands still
+stands_by : (from : Course) (p : Program) → HasSteppedBack from p → is_running p.run ≡ false
+stands_by from p h = by h.1 where
+  by : ((p.run ≡ run.Stopped (why.Met met.Goal)) × (course_of p.machine ≡ gone_back from))
+      ⊎ ((p.run ≡ run.Stopped why.Pause) × (course_of p.machine ≡ from)) → is_running p.run ≡ false
+  by (inl x) = ap is_running x.0
+  by (inr x) = ap is_running x.0
+
+made_by : (from : Course) (s : Session) (p : Program) (more : Bool) → program_of s ≡ Some p → HasSteppedBack from p
+    → StepsBy from s (beat_by p.owed (histories.see s) p more)
+made_by from s p more is h =
+    stands_idle (StepsBy from s) (histories.see s) p more h.0 (stands_by from p h)
+    (idle_steps from s (Some p) ending.Idle is (made from p h))
+
+beat_steps : (program : Option Program) (from : Course) (s : Session) (more : Bool) → program_of s ≡ program → Steps from program
+    → StepsBy from s (beat_of program (histories.see s) more)
+unfolding Steps
+beat_steps None from s more is (inl h) = absurd h
+beat_steps None from s more is (inr h) = absurd h
+beat_steps (Some p) from s more is (inl h) = made_by from s p more is h
+beat_steps (Some p) from s more is (inr h) = way_by p.owed from s p more refl is h
+
+-- ---- a slice
+
+next_steps : (n : ℕ) (d : Slicing Session) (e : Option SliceEnd) (from : Course) → Steps from (program_of d.state)
+    → Steps from (program_of (next_by histories n e d).state)
+unfolding StepsBy
+next_steps n d (Some e) from h = h
+next_steps n d None from h = beat_steps (program_of d.state) from d.state (ltb d.moved n) refl h
+
+slice_steps : (n k : ℕ) (s : Session) (from : Course) → Steps from (program_of s) → Steps from (program_of (beats histories n k s).state)
+slice_steps n zero s from h = h
+slice_steps n (suc k) s from h = next_steps n (beats histories n k s) (beats histories n k s).ending from (slice_steps n k s from h)
+
+-- ---- an answer
+
+on_steps : (f : Program → Program) (program : Option Program) (from : Course) → OfProgram (StepsBack from) program
+    → ((p : Program) → StepsBack from p → Steps from (Some (f p))) → Steps from (on_program f program)
+on_steps f None from h keeps = absurd h
+on_steps f (Some p) from h keeps = keeps p h
+
+still_steps : (from : Course) (program : Option Program) → OfProgram (StepsBack from) program → Steps from program
+unfolding Steps
+still_steps from program h = inr h
+
+no_entry : (m : Mark) (has : Option Mark) → has ≢ Some mark.Entry → (let some : Option Mark = Some m in some) ≢ Some mark.Entry
+    → first_mark has (Some m) ≢ Some mark.Entry
+no_entry m None h other = other
+no_entry m (Some first) h other = h
+
+marked_steps : (m : Mark) → (let some : Option Mark = Some m in some) ≢ Some mark.Entry → (from : Course) (p : Program) → StepsBack from p
+    → Steps from (Some (marked m p))
+marked_steps m other from p h =
+    subst (λ (r : Run). Steps from (Some (marked_by r m p))) (sym h.runs)
+    (still from (record p { mark = first_mark p.mark (Some m) }) (record {
+      runs = h.runs;
+      goal = h.goal;
+      due = h.due;
+      mark = no_entry m p.mark h.mark other;
+      way = h.way;
+    }))
+
+no_pause : (let some : Option Mark = Some mark.Pause in some) ≢ Some mark.Entry
+no_pause e = cc
+
+no_hold : (let some : Option Mark = Some mark.Hold in some) ≢ Some mark.Entry
+no_hold e = cc
+
+listed_steps : (c : Command) (list : List Wanted) (from : Course) (p : Program) → StepsBack from p → Steps from (Some (with_list c list p))
+listed_steps (SetBreakpoints arguments) list from p h =
+    still from (with_source list p) (record { runs = h.runs; goal = h.goal; due = h.due; mark = h.mark; way = h.way })
+listed_steps (SetFunctionBreakpoints arguments) list from p h =
+    still from (with_functions list p) (record { runs = h.runs; goal = h.goal; due = h.due; mark = h.mark; way = h.way })
+listed_steps (SetInstructionBreakpoints arguments) list from p h =
+    still from (with_instructions list p) (record { runs = h.runs; goal = h.goal; due = h.due; mark = h.mark; way = h.way })
+listed_steps other list from p h = still from p h
+
+-- a request that wants the program to stand still is refused
+no_step : {A : Type 0} (program : Option Program) (from : Course) → OfProgram (StepsBack from) program → goes_on (run_of program) ≡ false
+    → A
+no_step None from h stands = absurd h
+no_step (Some p) from h stands = absurd (let no : true ≡ false = sym (ap is_running h.runs) ∙ stands in cc)
+
+-- the editor leaves, the program begins anew or ends, or it steps back still
+abbrev Comes : Course → List ℕ → Bool → Answering → Type 0
+Comes from name starts a =
+    ((bytes_eq name DISCONNECT.now && is_success a.outcome) ≡ true) ⊎ (((starts && is_success a.outcome) ≡ true)
+    ⊎ Steps from a.debuggee.program)
+
+abbrev ComesTaken : Course → Now → Command → Answering → Type 0
+ComesTaken from now c a = Meets (run_of now.debuggee.program) (demand_of c) → Comes from (name_of c) (starts_or_ends c) a
+
+module _ (from : Course) (now : Now) (terms : Terms) (h : OfProgram (StepsBack from) now.debuggee.program) where
+  same : Steps from now.debuggee.program
+  same = still_steps from now.debuggee.program h
+
+  no_still : {A : Type 0} (c : Command) → (demand_of c).still ≡ true → Meets (run_of now.debuggee.program) (demand_of c) → A
+  no_still c stands meets =
+      no_step now.debuggee.program from h
+      (subst (λ (b : Bool). (b && goes_on (run_of now.debuggee.program)) ≡ false) stands meets.still)
+
+  successes_step : BySuccess (given_of now) terms (ComesTaken from now)
+  successes_step = record {
+    initialized = λ _ _. inr (inr same);
+    unreadable = λ _ _. inr (inr same);
+    loaded = λ _ _ _ _. inr (inl refl);
+    wrong = λ _ _ _ _ _. inr (inr same);
+    attaches = λ _. inr (inr same);
+    begun = λ _ _. inr (inl refl);
+    joined = λ _ _. inr (inr same);
+    agreed = λ _ _ _. inr (inr same);
+    restarts = λ _. inr (inl refl);
+    terminates = λ _. inr (inl refl);
+    leaves = λ _ _. inl refl;
+    pauses = λ _ _. inr (inr (on_steps (marked mark.Pause) now.debuggee.program from h (marked_steps mark.Pause no_pause from)));
+    stepped = λ c kind _ meets. no_still c kind.still meets;
+    absent = λ _ _ _ _. inr (inr same);
+    refused = λ _ _ _ _ _. inr (inr same);
+    sets_none = λ _ _ _ _ _ _ _ _. inr (inr same);
+    sets_list = λ c _ _ _ list _ _ _ _ _. inr (inr
+        (on_steps (with_list c list) now.debuggee.program from h (listed_steps c list from)));
+    shows = λ c kind _ _ _ _ _ _ meets. no_still c kind.still meets;
+    sets_register = λ arguments _ _ _ _ _ meets. no_still (SetVariable arguments) refl meets;
+    writes = λ arguments _ _ _ _ _ meets. no_still (WriteMemory arguments) refl meets;
+  }
+
+answer_steps : (from : Course) (now : Now) (terms : Terms) (file : Option (List ℕ)) (p : Pending)
+    → OfProgram (StepsBack from) now.debuggee.program
+    → Comes from (name_asked p.ask) (asks_to_start_or_end p.ask) (answer_to now terms file p)
+answer_steps from now terms file p h =
+    of_answer (λ ask a. Comes from (name_asked ask) (asks_to_start_or_end ask) a) now terms file p.ask p.fate
+    (λ refusal _. inr (inr (still_steps from now.debuggee.program h)))
+    (λ r taken meets. by_success (given_of now) terms (ComesTaken from now) (successes_step from now terms h) file r.command meets)
+
+-- ---- an event
+
+abbrev Passes : Course → Session → Event → Does → Type 0
+Passes from s e o = EditorLeaves s e ⊎ (IsStartedOrEnded s e ⊎ Steps from (program_of (performed histories o.acts s)))
+
+turn_passes : (file : Option (List ℕ)) (from : Course) (s : Session) → OfProgram (StepsBack from) (program_of s)
+    → EditorLeaves s (Turn file) ⊎ (IsStartedOrEnded s (Turn file) ⊎ Steps from (program_of (Effect s (Turn file))))
+turn_passes file from s h = by_turn (histories.see s) file P kinds s.now.link where
+  P : Option Answered → Does → Type 0
+  P a o = Disconnects a ⊎ (StartsOrEnds a ⊎ Steps from (program_of (performed histories o.acts s)))
+
+  same : Steps from (program_of s)
+  same = still_steps from (program_of s) h
+
+  answers : (l : Link) (p : Pending) → (let a = answer_to s.now l.terms file p in
+      Comes from (name_asked p.ask) (asks_to_start_or_end p.ask) a
+      → P (Some (the_answered (histories.see s) l file p)) (done (DidTurn turned.Answered) (answering a)))
+  answers l p (inl leaves) = inl leaves
+  answers l p (inr (inl starts)) = inr (inl starts)
+  answers l p (inr (inr steps)) =
+      inr (inr (subst (λ (d : Debuggee). Steps from d.program) (sym (answering_debuggee (answer_to s.now l.terms file p) s)) steps))
+
+  kinds : ByTurn (histories.see s) file P
+  kinds = record {
+    refused = inr (inr same);
+    tells = λ p tick is owed. inr (inr (tick_steps from s p tick owed (subst (OfProgram (StepsBack from)) is h)));
+    nothing = λ _. inr (inr same);
+    answers = λ l p. answers l p (answer_steps from s.now l.terms file p h);
+  }
+
+piece_passes : (l : Link) (piece : List ℕ) (from : Course) (s : Session) → OfProgram (StepsBack from) (program_of s)
+    → Passes from (on (Some l) s) (Recv piece) (outcome_at (histories.see (on (Some l) s)) (Some l) (Recv piece))
+piece_passes l piece from s h =
+    let same = inr (inr (still_steps from (program_of s) h)) in
+    let P : Does → Type 0 = Passes from (on (Some l) s) (Recv piece) in
+    if_keeps P l.is_closing _ _ (λ _. same)
+    (λ _. if_keeps P (ltb MOST_PIECE (length piece)) _ _ (λ _. same)
+    (λ _. if_keeps P (leb MOST_PENDING (length s.now.arrivals.pending)) _ _ (λ _. same)
+    (λ _. if_keeps (λ (t : Session). EditorLeaves (on (Some l) s) (Recv piece)
+    ⊎ (IsStartedOrEnded (on (Some l) s) (Recv piece) ⊎ Steps from (program_of t))) l.is_closing _ _ (λ _. same) (λ _. same))))
+
+hold_steps : (from : Course) (program : Option Program) → OfProgram (StepsBack from) program
+    → Steps from (on_program (marked mark.Hold) program)
+hold_steps from program h = on_steps (marked mark.Hold) program from h (marked_steps mark.Hold no_hold from)
+
+outcome_passes : (l : Option Link) (e : Event) (from : Course) (s : Session) → OfProgram (StepsBack from) (program_of s)
+    → Passes from (on l s) e (outcome_at (histories.see (on l s)) l e)
+outcome_passes None Connect from s h =
+    if_keeps (Passes from (on None s) Connect) (eqb s.now.connections LAST_CONNECTION) _ _
+    (λ _. inr (inr (still_steps from (program_of s) h))) (λ _. inr (inr (still_steps from (program_of s) h)))
+outcome_passes None (Recv piece) from s h = inr (inr (still_steps from (program_of s) h))
+outcome_passes None (Turn file) from s h = turn_passes file from (on None s) h
+outcome_passes None (Slice n) from s h = inr (inr (still_steps from (program_of s) h))
+outcome_passes None Hold from s h = inr (inr (hold_steps from (program_of s) h))
+outcome_passes None (Sent n) from s h = inr (inr (still_steps from (program_of s) h))
+outcome_passes None DropConnection from s h = inl tt
+outcome_passes (Some l) Connect from s h = inr (inr (still_steps from (program_of s) h))
+outcome_passes (Some l) (Recv piece) from s h = piece_passes l piece from s h
+outcome_passes (Some l) (Turn file) from s h = turn_passes file from (on (Some l) s) h
+outcome_passes (Some l) (Slice n) from s h = inr (inr (still_steps from (program_of s) h))
+outcome_passes (Some l) Hold from s h = inr (inr (hold_steps from (program_of s) h))
+outcome_passes (Some l) (Sent n) from s h =
+    if_keeps (Passes from (on (Some l) s) (Sent n)) (ltb (length (waiting_of (on (Some l) s))) n) _ _
+    (λ _. inr (inr (still_steps from (program_of s) h))) (λ _. inr (inr (still_steps from (program_of s) h)))
+outcome_passes (Some l) DropConnection from s h = inl tt
+
+event_passes : (e : Event) (from : Course) (s : Session) → OfProgram (StepsBack from) (program_of s)
+    → EditorLeaves s e ⊎ (IsStartedOrEnded s e ⊎ Steps from (program_of (Effect s e)))
+event_passes Connect from s h = outcome_passes s.now.link Connect from s h
+event_passes (Recv piece) from s h = outcome_passes s.now.link (Recv piece) from s h
+event_passes (Turn file) from s h = turn_passes file from s h
+event_passes (Slice n) from s h = inr (inr (slice_steps n (enough n) s from (still_steps from (program_of s) h)))
+event_passes Hold from s h = outcome_passes s.now.link Hold from s h
+event_passes (Sent n) from s h = outcome_passes s.now.link (Sent n) from s h
+event_passes DropConnection from s h = outcome_passes s.now.link DropConnection from s h
+
+goes_on_back : (e : Event) (events : List Event) (from : Course) (s : Session)
+    → (OfProgram (StepsBack from) (program_of (Effect s e)) → StepsBackIn from events (Effect s e))
+    → EditorLeaves s e ⊎ (IsStartedOrEnded s e ⊎ Steps from (program_of (Effect s e))) → StepsBackIn from (e ∷ events) s
+unfolding Steps
+goes_on_back e events from s rest (inl leaves) = inl leaves
+goes_on_back e events from s rest (inr (inl starts)) = inr (inl starts)
+goes_on_back e events from s rest (inr (inr (inl has))) = inr (inr (inl has))
+goes_on_back e events from s rest (inr (inr (inr steps))) = inr (inr (inr (steps, rest steps)))
+
+steps_back_in : (events : List Event) (from : Course) (s : Session) → OfProgram (StepsBack from) (program_of s) → StepsBackIn from events s
+steps_back_in [] from s h = tt
+steps_back_in (e ∷ events) from s h = goes_on_back e events from s (steps_back_in events from (Effect s e)) (event_passes e from s h)
+
+begins_steps : (program : Option Program) (from : Course) → OfProgram (GoesBackFrom Back from) program
+    → OfProgram (StepsBack from) program
+begins_steps None from h = absurd h
+begins_steps (Some p) from h = record {
+  runs = h.runs;
+  goal = h.goes;
+  due = h.due;
+  mark = λ e. (let no : None ≡ Some mark.Entry = sym h.mark ∙ e in cc);
+  way = subst (IsUnderWay from p) (sym h.owed) h.course;
+}
+
+pub steps_go_one_back : (s : Session) → StepsGoOneBack s
+steps_go_one_back s from h events = steps_back_in events from s (begins_steps (program_of s) from h)

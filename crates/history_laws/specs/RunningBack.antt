@@ -1,0 +1,52 @@
+-- A run back (DAP specification, `ReverseContinueRequest`).
+--
+-- Let the program be given time, slice after slice, and let nothing else happen. It runs, or it stands at the newest
+-- recorded position at which a breakpoint stands, and where there is none, at the oldest: by the positions and the breakpoints
+-- that there were before the first slice (`turned_from` of `stepping`). How the moves are cut into slices makes no difference.
+--
+-- In numbers: let n moves be recorded. It stops where j moves lead from the oldest recorded position, j being the greatest
+-- number below n such that a breakpoint stands where j moves lead, and else 0.
+use Rattle.std.specs.Prelude.{◌≡◌, ◌⊎◌, ℕ, ◌<◌, ◌≤◌, Bool, true, false, List, length, map, Some}
+use Rattle.course.specs.Positions.{Course, Position}
+use Rattle.debuggee.specs.Programs.{Program}
+use Rattle.debuggee.specs.declared.run.Run.TheVariants.{Running, Stopped as StandsStill}
+use Rattle.debuggee.specs.declared.run.Why.TheVariants as why
+use Rattle.session.specs.declared.event.Event.TheVariants.{Slice}
+use Rattle.session.specs.Effects.{after_all}
+use Rattle.session.specs.Sessions.{Session, histories}
+use Rattle.stepping.specs.Leading.{Makes, PastLeads, oldest}
+use Rattle.stepping.specs.StoppingBack.{turned, turned_from}
+use Rattle.stepping.specs.Ticks.{Debugged, course_of}
+use Rattle.stepping.specs.declared.goal.Goal.TheVariants.{ReverseGo}
+use Rattle.stepping.specs.declared.tick.Reason.{Reason}
+use Rattle.history_laws.specs.GoingBack.{GoesBackFrom, OfProgram}
+
+-- what slices leave, one after the other
+abbrev pub after_slices : List ℕ → Session → Session
+after_slices slices s = after_all histories (map (λ n. Slice n) slices) s
+
+-- It stands where the run back of that machine stops, for a reason of a run; or it still runs.
+abbrev pub StopsBackThere : Debugged → Program → Type 0
+StopsBackThere start p = (p.run ≡ Running)
+    ⊎ ((reason : Reason) × ((p.run ≡ StandsStill (why.Met reason)) × (course_of p.machine ≡ turned_from start)))
+
+-- Where slices leave a program that goes back, until it stops on its way.
+abbrev pub RunsBackStopThere : Session → Type 0
+RunsBackStopThere s = (p : Program) (from : Course) (slices : List ℕ) → s.now.debuggee.program ≡ Some p →
+    GoesBackFrom ReverseGo from p →
+    OfProgram (StopsBackThere p.machine) (after_slices slices s).now.debuggee.program
+
+-- ---- where that is
+
+-- so many moves lead there from the oldest recorded position: fewer than are recorded; this is so of that place, or it is the
+-- oldest; and it is so of no place that more moves lead to, but for the last
+pub record IsNewest (test : Position → Bool) (from stop : Course) : Type 0 where
+  pub makes : Makes (length stop.past) (oldest from) stop.now
+  pub below : length stop.past < length from.past
+  pub met : (test stop.now ≡ true) ⊎ (length stop.past ≡ 0)
+  pub greatest : (j : ℕ) (p : Position) → length stop.past < j → j < length from.past → Makes j (oldest from) p → test p ≡ false
+
+-- A run back that stops where this is so stops there.
+abbrev pub RunsBackToTheNewest : Type 0
+RunsBackToTheNewest = (test : Position → Bool) (from : Course) → PastLeads from → 1 ≤ length from.past →
+    IsNewest test from (turned test from.past from.now)
