@@ -1,5 +1,5 @@
 -- Each beat of a slice leads to what is known and fits.
-use Rattle.std.proofs.Common.{◌≡◌, ℕ, Bool, true, false, leb, ltb, List, [], ◌∷◌, map, Option, Some, None, Result, Ok, Err, MatchBool, refl, sym, ap, ◌∙◌, subst}
+use Rattle.std.proofs.Common.{◌≡◌, ℕ, Bool, true, false, leb, ltb, List, [], ◌∷◌, map, Option, Some, None, Result, Ok, Err, refl, sym, ap, ◌∙◌, subst}
 use Rattle.std.specs.Prelude.{not}
 use Rattle.std.specs.declared.alloc.AllocError.{AllocError}
 use Rattle.breakpoints.specs.Stops.{Lists, Placed, checked, counted, is_hit, with_hit}
@@ -17,11 +17,15 @@ use Rattle.session.proofs.Reaching.{if_keeps}
 use Rattle.session.specs.Acts.{Now, Seen}
 use Rattle.handlers.specs.Phases.{is_active_in}
 use Rattle.session.specs.Phases.{is_active, is_configuring}
-use Rattle.session.specs.Slices.{Beat, beat_by, beat_of, ends, goes, goes_unless, is_runnable_by, moves_by, runs}
+use Rattle.session.specs.Slices.{Beat, beat_by, beat_of, ends, goes, goes_unless, is_at_limit, is_runnable_by, moves_by, runs}
 use Rattle.session.specs.declared.state.TheConstants.{FULL}
 use Rattle.handlers.specs.declared.terms.Terms.{Terms}
 use Rattle.stepping.proofs.Existing.{the_tick}
-use Rattle.stepping.specs.Ticks.{Debugged, IsTick, Moves, Settles, entry_checked, entry_tick, moved_as, settled}
+use Rattle.course.specs.Positions.{Position}
+use Rattle.stepping.specs.Ticks.{Debugged, IsTick, Settles, entry_checked, looked_at, moved_as, settled, stayed, undone_by}
+use Rattle.stepping.specs.declared.goal.Goal.{Goal}
+use Rattle.stepping.specs.declared.goal.Goal.TheVariants as goal
+use Rattle.stepping.proofs.Cases.{by_tick}
 use Rattle.stepping.specs.declared.tick.Outcome.{Outcome as CameTo}
 use Rattle.stepping.specs.declared.tick.Reason.TheVariants as met
 use Rattle.stepping.specs.declared.tick.Tick.{Tick}
@@ -59,28 +63,41 @@ checked_same pc hart memory lists =
       functions = all_counted pc hart memory lists.functions;
     }
 
-settled_same : (s : Stepped) (instr : Option Instr) (pc : ℕ) (d : Debugged) → SameBreaks d.lists (settled s instr pc d).lists
-settled_same stepped.Retired instr pc d = checked_same d.hart.pc d.hart d.memory d.lists
-settled_same (stepped.Printed number) instr pc d = checked_same d.hart.pc d.hart d.memory d.lists
-settled_same stepped.Break instr pc d = checked_same d.hart.pc d.hart d.memory d.lists
-settled_same (stepped.Exit code) instr pc d = record { source = refl; instructions = refl; functions = refl }
-settled_same (stepped.Trap cause) instr pc d = record { source = refl; instructions = refl; functions = refl }
+settled_same : (s : Stepped) (instr : Option Instr) (before d : Debugged) → SameBreaks d.lists (settled s instr before d).lists
+settled_same stepped.Retired instr before d = checked_same d.hart.pc d.hart d.memory d.lists
+settled_same (stepped.Printed number) instr before d = checked_same d.hart.pc d.hart d.memory d.lists
+settled_same stepped.Break instr before d = checked_same d.hart.pc d.hart d.memory d.lists
+settled_same (stepped.Exit code) instr before d = record { source = refl; instructions = refl; functions = refl }
+settled_same (stepped.Trap cause) instr before d = record { source = refl; instructions = refl; functions = refl }
 
 answer_same : (s : Result Stepped AllocError) (before after : Debugged) (instr : Option Instr) (answer : Result Tick AllocError)
     → Settles before instr s answer after → SameBreaks before.lists after.lists
 answer_same (Ok s) before after instr answer e =
-    subst (λ (d : Debugged). SameBreaks before.lists d.lists) (sym e.1) (settled_same s instr before.hart.pc (moved_as before after))
+    subst (λ (d : Debugged). SameBreaks before.lists d.lists) (sym e.1) (settled_same s instr before (moved_as before after))
 answer_same (Err error) before after instr answer e =
     subst (λ (d : Debugged). SameBreaks before.lists d.lists) (sym e.1) (record { source = refl; instructions = refl; functions = refl })
 
+stayed_same : (past : List Position) (d : Debugged) → SameBreaks d.lists (stayed (undone_by past d)).lists
+stayed_same [] d = record { source = refl; instructions = refl; functions = refl }
+stayed_same (before ∷ past) d = record { source = refl; instructions = refl; functions = refl }
+
+-- nor does one that goes back change them
+looked_same : (g : Goal) (past : List Position) (d : Debugged) → SameBreaks d.lists (looked_at g (undone_by past d)).lists
+looked_same goal.ReverseGo [] d = record { source = refl; instructions = refl; functions = refl }
+looked_same goal.ReverseGo (before ∷ past) d = record { source = refl; instructions = refl; functions = refl }
+looked_same goal.Go past d = stayed_same past d
+looked_same (goal.In granularity) past d = stayed_same past d
+looked_same (goal.Over granularity) past d = stayed_same past d
+looked_same (goal.Out granularity) past d = stayed_same past d
+looked_same goal.Back past d = stayed_same past d
+
 tick_same : (before after : Debugged) (answer : Result Tick AllocError) → IsTick before answer after → SameBreaks before.lists after.lists
-tick_same before after answer is = go before.check_due is where
-  go : (due : Bool) → MatchBool due ((answer ≡ Ok (entry_tick before)) × (after ≡ entry_checked before)) (Moves before answer after)
-      → SameBreaks before.lists after.lists
-  go true e =
-      subst (λ (d : Debugged). SameBreaks before.lists d.lists) (sym e.1)
-      (checked_same before.hart.pc before.hart before.memory before.lists)
-  go false m = answer_same m.stepped before after m.instr answer m.settles
+tick_same before after answer is =
+    by_tick before after answer is
+    (λ due x. subst (λ (d : Debugged). SameBreaks before.lists d.lists) (sym x.1)
+    (checked_same before.hart.pc before.hart before.memory before.lists))
+    (λ due turns x. subst (λ (d : Debugged). SameBreaks before.lists d.lists) (sym x.1) (looked_same before.goal before.past before))
+    (λ due forward m. answer_same m.stepped before after m.instr answer m.settles)
 
 breaks_same : (p : Program) (d : Debugged) → SameBreaks p.machine.lists d.lists → (owed : Option Tick)
     → SameBut p (record p { machine = d; owed = owed })
@@ -140,7 +157,7 @@ module _ (terms : Terms) (numbers : Numbers) (f : Facts) where
     goes_lead p more r h =
         if_keeps (LeadsOn p) p.machine.check_due _ _ (λ _. goes_agrees p (entered p) r (entered_same p) refl h)
         (λ _. if_keeps (LeadsOn p) (not more) _ _ (λ _. h)
-        (λ _. if_keeps (LeadsOn p) (leb now.limits.last_retired p.machine.retired) _ _
+        (λ _. if_keeps (LeadsOn p) (is_at_limit now p) _ _
         (λ _. halts_lead terms numbers f now p why.Limit [] active r h) (λ _. moves_lead p (next_tick p).outcome r h)))
 
     unless_lead : (mark : Option Mark) (p : Program) (more : Bool) → is_running p.run ≡ true → Agrees f (Some p) numbers terms

@@ -83,11 +83,13 @@ told_then : (asked : ℕ → Option Asked) (told : List ARequest) (r : ARequest)
     → told_of asked r.seq (asked_of r.command) n ≡ asked_by (first_told (told ++ r ∷ []) n)
 unfolding asked_by
 told_then asked [] r n e = by (eqb r.seq n) where
-  by : (b : Bool) → cond b (kept_first (asked_of r.command) (asked n)) (asked n) ≡ asked_by (let none : Option ARequest = None in cond b (Some r) none)
+  by : (b : Bool)
+      → cond b (kept_first (asked_of r.command) (asked n)) (asked n) ≡ asked_by (let none : Option ARequest = None in cond b (Some r) none)
   by true = ap (kept_first (asked_of r.command)) e
   by false = e
 told_then asked (q ∷ told) r n e = by (eqb q.seq n) (told_then asked told r n) e where
-  known : (x : Option Asked) (b : Bool) → x ≡ Some (asked_of q.command) → cond b (kept_first (asked_of r.command) x) x ≡ Some (asked_of q.command)
+  known : (x : Option Asked) (b : Bool) → x ≡ Some (asked_of q.command)
+      → cond b (kept_first (asked_of r.command) x) x ≡ Some (asked_of q.command)
   known x true e = ap (kept_first (asked_of r.command)) e
   known x false e = e
 
@@ -249,7 +251,9 @@ module _ (life : Life) (readable : All IsReadable life.said) where
 
   before_more : (inputs : List Input) (input : Input) → IsEditor life (inputs ++ input ∷ []) → IsEditor life inputs
   before_more inputs input h = record {
-    bytes = sooner (fed_in inputs) (fed_in (input ∷ [])) (subst (λ (l : List ℕ). IsPrefixOf l (bytes_of life)) (fed_append inputs (input ∷ [])) h.bytes);
+    bytes =
+        sooner (fed_in inputs) (fed_in (input ∷ []))
+        (subst (λ (l : List ℕ). IsPrefixOf l (bytes_of life)) (fed_append inputs (input ∷ [])) h.bytes);
     in_time =
         λ before rest is. h.in_time before (rest ++ input ∷ [])
         (sym (append_assoc before rest (input ∷ [])) ∙ ap (λ (l : List Input). l ++ input ∷ []) is);
@@ -261,8 +265,10 @@ module _ (life : Life) (readable : All IsReadable life.said) where
       let prefix = subst (λ (l : List ℕ). IsPrefixOf l (bytes_of life)) (fed_fed inputs piece) editor.bytes in
       let told = editor.in_time (inputs ++ Fed piece ∷ []) [] (append-nil (inputs ++ Fed piece ∷ [])) in
       fed_more inputs piece prefix
-      (subst (λ (l : List ℕ). All (λ (m : Said). IsTold (sent_in inputs) life.heard m.message) (told_within (length l) life.said)) (fed_fed inputs piece)
-      (subst (λ (rs : List ARequest). All (λ (m : Said). IsTold rs life.heard m.message) (told_within (length (fed_in (inputs ++ Fed piece ∷ []))) life.said))
+      (subst (λ (l : List ℕ). All (λ (m : Said). IsTold (sent_in inputs) life.heard m.message) (told_within (length l) life.said))
+      (fed_fed inputs piece)
+      (subst (λ (rs : List ARequest). All (λ (m : Said). IsTold rs life.heard m.message)
+      (told_within (length (fed_in (inputs ++ Fed piece ∷ []))) life.said))
       (sent_fed inputs piece) told)) h
 
   made_none : Made []
@@ -340,5 +346,6 @@ is_editor life count = record {
       (sym (ap (λ (l : List ℕ). told_within (length l) life.said) none ∙ none_within_0 life.said))
       (All-nil (λ (m : Said). IsTold (sent_in before) life.heard m.message))
   in_time before (inr all) =
-      subst (λ (rs : List ARequest). All (λ (m : Said). IsTold rs life.heard m.message) (told_within (length (fed_in before)) life.said)) (sym all)
+      subst (λ (rs : List ARequest). All (λ (m : Said). IsTold rs life.heard m.message) (told_within (length (fed_in before)) life.said))
+      (sym all)
       (all_told life.heard (told_within (length (fed_in before)) life.said))

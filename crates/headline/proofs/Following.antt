@@ -11,7 +11,7 @@ use Rattle.session.proofs.Reaching.{if_keeps, performed_append}
 use Rattle.session.specs.Acts.{Act, Now}
 use Rattle.session.specs.Effects.{after_beat, performed}
 use Rattle.session.specs.Sessions.{Session, Snapshot, histories, performed_on}
-use Rattle.session.specs.Slices.{Beat, beat, beat_by, beat_of, becomes, concludes, ending_of, ends, exits, goes, goes_unless, is_runnable_by, logged, moves_by, output_events, retires, stops, telling, tells}
+use Rattle.session.specs.Slices.{Beat, beat, beat_by, beat_of, becomes, concludes, ending_of, ends, exits, goes, goes_unless, is_at_limit, is_runnable_by, logged, moves_by, output_events, makes_move, stops, telling, tells}
 use Rattle.session.specs.declared.event.SliceEnd.{SliceEnd}
 use Rattle.session.specs.declared.event.SliceEnd.TheVariants as ending
 use Rattle.session.specs.declared.state.TheConstants.{FULL}
@@ -180,7 +180,7 @@ pub record Begins (s : Session) (b : Beat) : Type 0 where
 begins_by : (s : Session) (b : Beat) (e : SliceEnd) → b.ending ≡ Some e → IsFollowed s (after_beat histories b s) → Begins s b
 begins_by s b e is h = record { told = h; printed = λ none. some_ending e (sym is ∙ none); moved = λ none. some_ending e (sym is ∙ none) }
 
-retires_begin : (s : Session) (p : Program) → Begins s (retires s.now p)
+retires_begin : (s : Session) (p : Program) → Begins s (makes_move s.now p)
 retires_begin s p =
     let u = became_first (record s.now.debuggee { program = Some (moved p) }) s in
     record { told = just_told s (performed_on (becomes s.now (moved p)) s) u; printed = λ _. u; moved = λ _. refl }
@@ -205,7 +205,7 @@ not_due now p due e =
 goes_begin : (s : Session) (p : Program) → program_of s ≡ Some p → goes s.now p false ≡ ends ending.Spent → Begins s (goes s.now p true)
 goes_begin s p is rest =
     if_keeps (Begins s) p.machine.check_due _ _ (λ due. absurd (not_due s.now p due rest))
-    (λ _. if_keeps (Begins s) (leb s.now.limits.last_retired p.machine.retired) _ _
+    (λ _. if_keeps (Begins s) (is_at_limit s.now p) _ _
     (λ _. begins_by s _ ending.Stopped refl (stops_follow s s p why.Limit is (nothing_newly s)).told)
     (λ _. moves_begin s p (next_tick p).outcome is))
 

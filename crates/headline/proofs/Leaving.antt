@@ -17,7 +17,7 @@ use Rattle.mirror.specs.Folding.{in_state, succeeded}
 use Rattle.mirror.specs.declared.asked.Asked.TheVariants as asks
 use Rattle.facts.specs.declared.run.RunState.TheVariants.{Running}
 use Rattle.protocol.specs.declared.command.Command.{Command}
-use Rattle.protocol.specs.declared.command.Command.TheVariants.{ConfigurationDone, Threads, Cancel, SetBreakpoints, SetFunctionBreakpoints, SetInstructionBreakpoints, SetExceptionBreakpoints, Continue, Next, StepIn, StepOut, StackTrace, Variables, SetVariable, ReadMemory, WriteMemory}
+use Rattle.protocol.specs.declared.command.Command.TheVariants.{ConfigurationDone, Threads, Cancel, SetBreakpoints, SetFunctionBreakpoints, SetInstructionBreakpoints, SetExceptionBreakpoints, Continue, Next, StepIn, StepOut, StepBack, ReverseContinue, StackTrace, Variables, SetVariable, ReadMemory, WriteMemory}
 use Rattle.replies.specs.declared.event.Event.TheVariants as event
 use Rattle.session.proofs.Orderly.{Orderly, OrderlyIn, OrderlyOf}
 use Rattle.session.proofs.Reaching.{if_keeps}
@@ -163,6 +163,8 @@ step_tells (Continue arguments) kind f = refl
 step_tells (Next arguments) kind f = refl
 step_tells (StepIn arguments) kind f = refl
 step_tells (StepOut arguments) kind f = refl
+step_tells (StepBack arguments) kind f = refl
+step_tells (ReverseContinue arguments) kind f = refl
 step_tells other kind f = absurd (let no : false ≡ true = kind in cc)
 
 module _ (now : Now) (terms : Terms) (f : Facts) (h : Agrees f now.debuggee.program now.numbers terms) where

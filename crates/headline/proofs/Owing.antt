@@ -11,7 +11,7 @@ use Rattle.replies.specs.declared.event.Event.{Event as Told}
 use Rattle.session.proofs.Reaching.{if_keeps}
 use Rattle.session.specs.Acts.{Act, Become, Now, Seen, Tell}
 use Rattle.session.specs.Phases.{is_active, is_configuring}
-use Rattle.session.specs.Slices.{Beat, beat_by, beat_of, concludes, exits, goes, goes_unless, halts, is_runnable_by, logged, moves_by, output_events, telling}
+use Rattle.session.specs.Slices.{Beat, beat_by, beat_of, concludes, exits, goes, goes_unless, halts, is_at_limit, is_runnable_by, logged, moves_by, output_events, telling}
 use Rattle.handlers.specs.Telling.{exit_events, stop_event}
 use Rattle.session.specs.declared.state.TheConstants.{FULL}
 use Rattle.stepping.specs.declared.tick.Outcome.{Outcome as CameTo}
@@ -81,7 +81,7 @@ unfolding AllOwe
 goes_owe now p more e r =
     if_keeps BeatOwes p.machine.check_due _ _ (λ _. (λ _. r, tt))
     (λ _. if_keeps BeatOwes (not more) _ _ (λ _. tt)
-    (λ _. if_keeps BeatOwes (leb now.limits.last_retired p.machine.retired) _ _ (λ _. halts_owe now p why.Limit [] e)
+    (λ _. if_keeps BeatOwes (is_at_limit now p) _ _ (λ _. halts_owe now p why.Limit [] e)
     (λ _. moves_owe now p (next_tick p).outcome e r)))
 
 unless_owes : (mark : Option Mark) (now : Now) (p : Program) (more : Bool) → p.owed ≡ None → is_running p.run ≡ true

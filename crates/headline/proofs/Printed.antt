@@ -27,7 +27,7 @@ use Rattle.session.specs.Outcomes.{Outcome, answering, answers_next, closing, ne
 use Rattle.session.specs.Phases.{is_active}
 use Rattle.session.specs.Refusals.{answer_to, response_to}
 use Rattle.session.specs.Sessions.{After, Beginning, Effect, Life, Said, Session, histories, hung_on, performed_on, said_next, said_on, waiting_of}
-use Rattle.session.specs.Slices.{Beat, beat, beat_by, beat_of, concludes, exits, goes, goes_unless, halts, is_runnable_by, logged, moves_by, output_events, telling, tells}
+use Rattle.session.specs.Slices.{Beat, beat, beat_by, beat_of, concludes, exits, goes, goes_unless, halts, is_at_limit, is_runnable_by, logged, moves_by, output_events, telling, tells}
 use Rattle.handlers.specs.Telling.{exit_events, stop_event}
 use Rattle.session.specs.declared.event.SliceEnd.{SliceEnd}
 use Rattle.session.specs.declared.event.Event.{Event}
@@ -188,7 +188,7 @@ unfolding AllPrint
 goes_print now p more =
     if_keeps BeatPrints p.machine.check_due _ _ (λ _ _. tt)
     (λ _. if_keeps BeatPrints (not more) _ _ (λ _ _. tt)
-    (λ _. if_keeps BeatPrints (leb now.limits.last_retired p.machine.retired) _ _ (λ _ d. halts_print now d p why.Limit [])
+    (λ _. if_keeps BeatPrints (is_at_limit now p) _ _ (λ _ d. halts_print now d p why.Limit [])
     (λ _. moves_print now p (next_tick p).outcome)))
 
 unless_prints : (mark : Option Mark) (now : Now) (p : Program) (more : Bool) → BeatPrints (goes_unless mark now p more)

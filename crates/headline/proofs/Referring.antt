@@ -95,7 +95,8 @@ module _ (G : List Said → ℤ → Type 0) (heard : List Ask) where
         (subst (λ (l : List Said). AllSo G heard l news) (sym (append_assoc earlier (m ∷ []) said)) more),
   )
 
-  so_at : (earlier before later : List Said) (m : Said) → AllSo G heard earlier (before ++ m ∷ later) → IsSo heard m.message (G (earlier ++ before))
+  so_at : (earlier before later : List Said) (m : Said) → AllSo G heard earlier (before ++ m ∷ later)
+      → IsSo heard m.message (G (earlier ++ before))
   so_at earlier [] later m h = subst (λ (l : List Said). IsSo heard m.message (G l)) (sym (append-nil earlier)) h.0
   so_at earlier (x ∷ before) later m h =
       subst (λ (l : List Said). IsSo heard m.message (G l)) (append_assoc earlier (x ∷ []) before)
@@ -228,7 +229,8 @@ AnswerNothing (act ∷ acts) = (answers_nothing act ≡ true) × AnswerNothing a
 acts_grow : (acts : List Act) (s : Session) → AnswerNothing acts → Grows s (performed histories acts s)
 acts_grow [] s h = stays s s refl refl refl
 acts_grow (act ∷ acts) s h =
-    then_grows s (performed_on act s) (performed histories acts (performed_on act s)) (act_grows act s h.0) (acts_grow acts (performed_on act s) h.1)
+    then_grows s (performed_on act s) (performed histories acts (performed_on act s)) (act_grows act s h.0)
+    (acts_grow acts (performed_on act s) h.1)
 
 owing_answers : (acts : List Act) → AllOwe acts → AnswerNothing acts
 unfolding AllOwe
@@ -330,7 +332,8 @@ module _ (G : ℕ → List Said → ℤ → Type 0) where
   repeats_refused now terms file ask NamesNone body e = refl
 
   module _ (l : Link) (rest : List Pending) (file : Option (List ℕ)) (s : Session) where
-    reply_so : (ask : Ask) (fate : Fate) (o : Outcome) → let t = on_with (Some l) (record { ask = ask; fate = fate } ∷ rest) s in Ready t file
+    reply_so : (ask : Ask) (fate : Fate) (o : Outcome) → let t =
+        on_with (Some l) (record { ask = ask; fate = fate } ∷ rest) s in Ready t file
         → (answer_to t.now l.terms file (record { ask = ask; fate = fate })).outcome ≡ o
         → AnswersBy s.life.heard (number_of ask) o (G (length s.before) s.life.said)
     reply_so ask fate (Refused refusal text) ready e = tt
@@ -356,10 +359,12 @@ module _ (G : ℕ → List Said → ℤ → Type 0) where
         let u = on_with (Some k) (p ∷ rest) (with_change a s) in
         acts_so (map Tell a.events ++ closing a.closes) (replied_on (p ∷ rest) a.outcome u) (after_reply a.events a.closes)
         (if_keeps LivesSo (ltb l.seq s.now.limits.last_seq) _ u
-        (λ _. said_so u (numbered u.now k rest) (said_next u.now k (IsResponse (response_to p.ask a.outcome))) (reply_so p.ask p.fate a.outcome ready refl) h)
+        (λ _. said_so u (numbered u.now k rest) (said_next u.now k (IsResponse (response_to p.ask a.outcome)))
+        (reply_so p.ask p.fate a.outcome ready refl) h)
         (λ _. h))
 
-  turn_pending : (l : Link) (file : Option (List ℕ)) (pending : List Pending) (s : Session) → let t = on_with (Some l) pending s in Ready t file
+  turn_pending : (l : Link) (file : Option (List ℕ)) (pending : List Pending) (s : Session) → let t =
+      on_with (Some l) pending s in Ready t file
       → LivesSo t → LivesSo (performed histories (next_turn t.now l.terms file pending).acts t)
   turn_pending l file [] s ready h = h
   turn_pending l file (p ∷ rest) s ready h = answering_so l rest file s p ready h
@@ -402,14 +407,16 @@ module _ (G : ℕ → List Said → ℤ → Type 0) where
   piece_so seen (Some l) piece s h =
       if_keeps (λ (o : CameTo). LivesSo (performed histories o.acts s)) l.is_closing _ _ (λ _. h)
       (λ _. if_keeps (λ (o : CameTo). LivesSo (performed histories o.acts s)) (ltb MOST_PIECE (length piece)) _ _ (λ _. h)
-      (λ _. if_keeps (λ (o : CameTo). LivesSo (performed histories o.acts s)) (leb MOST_PENDING (length seen.now.arrivals.pending)) _ _ (λ _. h)
+      (λ _. if_keeps (λ (o : CameTo). LivesSo (performed histories o.acts s)) (leb MOST_PENDING (length seen.now.arrivals.pending)) _ _
+      (λ _. h)
       (λ _. acts_so (Accept piece ∷ []) s (refl, tt) h)))
 
   hold_so : (seen : Seen) (l : Option Link) (s : Session) → LivesSo s → LivesSo (performed histories (outcome_at seen l Hold).acts s)
   hold_so seen None s h = acts_so (holding seen.now) s (refl, tt) h
   hold_so seen (Some l) s h = acts_so (holding seen.now) s (refl, tt) h
 
-  sent_so : (seen : Seen) (l : Option Link) (n : ℕ) (s : Session) → LivesSo s → LivesSo (performed histories (outcome_at seen l (Sent n)).acts s)
+  sent_so : (seen : Seen) (l : Option Link) (n : ℕ) (s : Session) → LivesSo s
+      → LivesSo (performed histories (outcome_at seen l (Sent n)).acts s)
   sent_so seen None n s h = h
   sent_so seen (Some l) n s h =
       if_keeps (λ (o : CameTo). LivesSo (performed histories o.acts s)) (ltb seen.waits n) _ _ (λ _. h)
@@ -528,7 +535,8 @@ named heard n (Done body) G number a e =
     a.good number (sym (ap (λ (x : Option ARequest). option_and_then (λ r. reference_in r.command) x) a.first) ∙ e)
 named heard n (Refused refusal text) G number a e = absurd (let no : None ≡ Some number = e in cc)
 
-message_named : (heard : List Ask) (m : Message) (G : ℤ → Type 0) (number : ℤ) → IsSo heard m G → reference_of heard m ≡ Some number → G number
+message_named : (heard : List Ask) (m : Message) (G : ℤ → Type 0) (number : ℤ) → IsSo heard m G → reference_of heard m ≡ Some number
+    → G number
 message_named heard (IsResponse r) G number h e = named heard r.request_seq r.outcome G number h e
 message_named heard (IsEvent event) G number h e = absurd (let no : None ≡ Some number = e in cc)
 

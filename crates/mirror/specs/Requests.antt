@@ -7,7 +7,8 @@ use Rattle.std.specs.Prelude.{◌≡◌, ℕ, ◌==◌, if◌then◌else◌, Lis
 use Rattle.numerals.specs.MemoryReferences.{address_in}
 use Rattle.protocol.specs.declared.command.Command.{Command}
 use Rattle.protocol.specs.declared.command.Command.TheVariants.{Initialize, Attach, Threads, Cancel, Restart}
-use Rattle.protocol.specs.declared.command.Command.TheVariants.{SetExceptionBreakpoints, Next, StepIn, StepOut, Pause}
+use Rattle.protocol.specs.declared.command.Command.TheVariants.{SetExceptionBreakpoints, Next, StepIn, StepOut, StepBack}
+use Rattle.protocol.specs.declared.command.Command.TheVariants.{ReverseContinue, Pause}
 use Rattle.protocol.specs.declared.command.Command.TheVariants.{Scopes, Evaluate, Disassemble}
 use Rattle.protocol.specs.declared.command.Command.TheVariants.{Launch as AskLaunch}
 use Rattle.protocol.specs.declared.command.Command.TheVariants.{ConfigurationDone as AskConfigurationDone}
@@ -66,6 +67,8 @@ asked_of (AskContinue arguments) = Continue
 asked_of (Next arguments) = Resume
 asked_of (StepIn arguments) = Resume
 asked_of (StepOut arguments) = Resume
+asked_of (StepBack arguments) = Resume
+asked_of (ReverseContinue arguments) = Resume
 asked_of (Pause arguments) = Other
 asked_of (AskStackTrace arguments) = StackTrace arguments.start_frame
 asked_of (Scopes arguments) = Other

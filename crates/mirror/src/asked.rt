@@ -15,7 +15,7 @@ use std::marker::Model;
 pub(crate) enum Asked {
     /// `continue`: the machine runs.
     Continue,
-    /// `next`, `stepIn`, `stepOut`, `restart`: the machine runs.
+    /// `next`, `stepIn`, `stepOut`, `stepBack`, `reverseContinue`, `restart`: the machine runs.
     Resume,
     /// `configurationDone`: the machine runs, if it was launched.
     ConfigurationDone,
@@ -68,6 +68,8 @@ impl Asked {
             Command::Next(_) => Ok(Asked::Resume),
             Command::StepIn(_) => Ok(Asked::Resume),
             Command::StepOut(_) => Ok(Asked::Resume),
+            Command::StepBack(_) => Ok(Asked::Resume),
+            Command::ReverseContinue(_) => Ok(Asked::Resume),
             Command::Pause(_) => Ok(Asked::Other),
             Command::StackTrace(arguments) => Ok(Asked::StackTrace(arguments.start_frame)),
             Command::Scopes(_) => Ok(Asked::Other),
