@@ -1,6 +1,7 @@
 -- An execution ends where a run stops.
-use Rattle.std.proofs.Common.{ℕ, zero, suc, List, refl}
+use Rattle.std.proofs.Common.{◌≡◌, ℕ, zero, suc, false, List, refl}
 use Rattle.stepping.proofs.Ticking.{ticks_say_where}
+use Rattle.stepping.specs.Goals.{turns_back}
 use Rattle.stepping.specs.RunLaws.{GoOn, Says, number_after}
 use Rattle.stepping.specs.Ticks.{Debugged}
 use Rattle.stepping.specs.declared.tick.Outcome.{Outcome}
@@ -14,15 +15,18 @@ go_on zero start after lines g = g.1
 go_on (suc n) start after lines (before, earlier, line, g, (number, tick, l), e) =
     (before, _, (go_on n start before earlier g, (number, refl), tick))
 
-says : (out : Outcome) (n : ℕ) (start before after : Debugged) (earlier line : List ℕ) → Goes n start earlier before → Does out before line after
+says : (out : Outcome) (n : ℕ) (start before after : Debugged) (earlier line : List ℕ) → turns_back start.goal ≡ false
+    → Goes n start earlier before
+    → Does out before line after
     → Says (number_after n start) out start after
-says out n start before after earlier line g (number, tick, l) = ticks_say_where n start before after _ (go_on n start before earlier g) tick
+says out n start before after earlier line forward g (number, tick, l) =
+    ticks_say_where n start before after _ forward (go_on n start before earlier g) tick
 
 pub ends_where_a_run_stops : EndsWhereARunStops
-ends_where_a_run_stops limit (Ended code) start after lines (ticks, below, m) =
-    (ticks, below, says (outcome.Ended code) ticks start m.before after m.earlier m.line m.goes m.last)
-ends_where_a_run_stops limit (Stopped reason) start after lines (ticks, below, m) =
-    (ticks, below, says (outcome.Stopped reason) ticks start m.before after m.earlier m.line m.goes m.last)
-ends_where_a_run_stops zero Limit start after lines g = g.1
-ends_where_a_run_stops (suc n) Limit start after lines (before, earlier, line, g, does, e) =
-    says outcome.Went n start before after earlier line g does
+ends_where_a_run_stops limit (Ended code) start after lines forward (ticks, below, m) =
+    (ticks, below, says (outcome.Ended code) ticks start m.before after m.earlier m.line forward m.goes m.last)
+ends_where_a_run_stops limit (Stopped reason) start after lines forward (ticks, below, m) =
+    (ticks, below, says (outcome.Stopped reason) ticks start m.before after m.earlier m.line forward m.goes m.last)
+ends_where_a_run_stops zero Limit start after lines forward g = g.1
+ends_where_a_run_stops (suc n) Limit start after lines forward (before, earlier, line, g, does, e) =
+    says outcome.Went n start before after earlier line forward g does

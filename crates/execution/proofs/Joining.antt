@@ -4,7 +4,7 @@ use Rattle.std.specs.Prelude.{OnErr}
 use Rattle.std.proofs.lemmas.List.{append-nil}
 use Rattle.stepping.proofs.Going.{tick_retires}
 use Rattle.stepping.specs.Plain.{IsPlain}
-use Rattle.stepping.specs.Runs.{EndsRun, Goes as GoesPlain, IsRun, TickNeedsPage}
+use Rattle.stepping.specs.Runs.{EndsRun, Goes as GoesPlain, IsRun, MayLackMemory}
 use Rattle.stepping.specs.Ticks.{Debugged, IsTick}
 use Rattle.stepping.specs.declared.tick.Outcome.{Outcome}
 use Rattle.stepping.specs.declared.tick.Outcome.TheVariants as outcome
@@ -172,7 +172,7 @@ unsaid most start after ran tick text text' r is same =
 pub lacked : (most : ℕ) (start after : Debugged) (ran : Ran) (text : List ℕ)
     → IsRun most start ran after → ran.ending ≡ run_end.NoMemory → BreaksOff most start after text text
 lacked most start after ran text r is =
-    let e : (ran.went < most) × ((after ≡ r.middle) × TickNeedsPage r.middle) = subst
+    let e : (ran.went < most) × ((after ≡ r.middle) × MayLackMemory r.middle) = subst
     (λ x. EndsRun most ran.went x r.middle after) is r.ends in
     let goes : GoesPlain ran.went start after = subst (λ d. GoesPlain ran.went start d) (sym e.1.0) r.goes in
     record {

@@ -41,7 +41,8 @@ first_part (suc n) (suc c) (x ∷ l) =
 -- ---- a slice
 
 -- where the writer failed
-pub unwritten : (most : ℕ) (start after : Debugged) (r : Result Slice AllocError) (text text' : List ℕ) (before now : Option (List ℕ)) → text ≡ []
+pub unwritten : (most : ℕ) (start after : Debugged) (r : Result Slice AllocError) (text text' : List ℕ) (before now : Option (List ℕ))
+    → text ≡ []
     → IfOk r (λ s. IsSlice most s.made s.end start after text text') → OnErr r (BreaksOff most start after text text')
     → IsPartWritten before now text' → IsGivenUp most Write start after before now
 unwritten most start after (Ok s) text text' before now none h e w =
@@ -92,12 +93,14 @@ more_written limit left most made start middle after before now later few s w = 
   lines = s.lines ++ w.lines;
   goes =
       let all : limit - left + made ≡ limit - (left - made) = omega (arith, s.few, few, w.comes.1) in
-      subst (λ n. Goes n start (s.lines ++ w.lines) after) all (goes_join (limit - left) made start middle after s.lines w.lines s.goes w.comes.2);
+      subst (λ n. Goes n start (s.lines ++ w.lines) after) all
+      (goes_join (limit - left) made start middle after s.lines w.lines s.goes w.comes.2);
   written = appends_join before now later s.lines w.lines s.written w.written;
   room = omega (arith, s.room, few, w.comes.1, goes_retire made middle after w.lines w.comes.2);
 }
 
-pub ended : (limit left most made : ℕ) (end : ExecutionEnd) (start middle after : Debugged) (before now later : Option (List ℕ)) → most ≤ left
+pub ended : (limit left most made : ℕ) (end : ExecutionEnd) (start middle after : Debugged) (before now later : Option (List ℕ))
+    → most ≤ left
     → SoWritten limit left start middle before now → Writes most made (Some end) middle after now later
     → Executes limit end start after before later
 ended limit left most made end start middle after before now later few s w = record {
@@ -113,8 +116,10 @@ still_short : (fault : ExecutionFault) (count : ℕ) (lines more : List ℕ) →
 still_short Write count lines more h = omega (arith, h, length-append lines more)
 still_short NoMemory count lines more h = tt
 
-pub given_up : (fault : ExecutionFault) (limit left most : ℕ) (start middle after : Debugged) (before now later : Option (List ℕ)) → most ≤ left
-    → SoWritten limit left start middle before now → IsGivenUp most fault middle after now later → IsGivenUp limit fault start after before later
+pub given_up : (fault : ExecutionFault) (limit left most : ℕ) (start middle after : Debugged) (before now later : Option (List ℕ))
+    → most ≤ left
+    → SoWritten limit left start middle before now → IsGivenUp most fault middle after now later
+    → IsGivenUp limit fault start after before later
 given_up fault limit left most start middle after before now later few s g = record {
   lines = s.lines ++ g.lines;
   made = made_join (limit - left) most limit start middle after s.lines g.lines (omega (arith, s.few, few)) s.goes g.made;
@@ -124,7 +129,8 @@ given_up fault limit left most start middle after before now later few s g = rec
       (appends_join before now later s.lines (take g.count g.lines) s.written g.written);
 }
 
-pub limit_met : (limit left : ℕ) (start after : Debugged) (before now : Option (List ℕ)) → left ≤ 0 → SoWritten limit left start after before now
+pub limit_met : (limit left : ℕ) (start after : Debugged) (before now : Option (List ℕ)) → left ≤ 0
+    → SoWritten limit left start after before now
     → Executes limit Limit start after before now
 limit_met limit left start after before now none s = record {
   lines = s.lines;

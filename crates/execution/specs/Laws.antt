@@ -1,5 +1,6 @@
 -- What holds of every execution: each of these statements is the contract of a function of the module `laws`.
-use Rattle.std.specs.Prelude.{◌≡◌, ℕ, zero, suc, ◌<◌, List}
+use Rattle.std.specs.Prelude.{◌≡◌, ℕ, zero, suc, ◌<◌, false, List}
+use Rattle.stepping.specs.Goals.{turns_back}
 use Rattle.stepping.specs.RunLaws.{Says, number_after}
 use Rattle.stepping.specs.Ticks.{Debugged}
 use Rattle.stepping.specs.declared.tick.Outcome.TheVariants as outcome
@@ -14,7 +15,7 @@ StopsThere limit (Stopped reason) start after = (ticks : ℕ) × (ticks < limit)
 StopsThere zero Limit start after = after ≡ start
 StopsThere (suc ticks) Limit start after = Says (number_after ticks start) outcome.Went start after
 
--- An execution ends where a run stops.
+-- An execution ends where a run stops, unless the machine is to go back.
 abbrev pub EndsWhereARunStops : Type 0
-EndsWhereARunStops = (limit : ℕ) (end : ExecutionEnd) (start after : Debugged) (lines : List ℕ) → Ends limit end start lines after →
-    StopsThere limit end start after
+EndsWhereARunStops = (limit : ℕ) (end : ExecutionEnd) (start after : Debugged) (lines : List ℕ) → turns_back start.goal ≡ false →
+    Ends limit end start lines after → StopsThere limit end start after

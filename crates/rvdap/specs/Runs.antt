@@ -26,6 +26,7 @@ status_of (Stopped why.Source) = 122
 status_of (Stopped why.Instruction) = 122
 status_of (Stopped why.Function) = 122
 status_of (Stopped why.Goal) = 122
+status_of (Stopped why.Start) = 122
 
 -- what the line on standard error says, if there is one
 abbrev pub reason_of : ExecutionEnd → Option (List ℕ)
@@ -37,6 +38,7 @@ reason_of (Stopped why.Source) = Some (codes "ebreak")
 reason_of (Stopped why.Instruction) = Some (codes "ebreak")
 reason_of (Stopped why.Function) = Some (codes "ebreak")
 reason_of (Stopped why.Goal) = Some (codes "ebreak")
+reason_of (Stopped why.Start) = Some (codes "ebreak")
 
 -- where the instruction is that stopped it: an EBREAK retires, so pc is 4 above it then
 abbrev pub place_of : ExecutionEnd → ℕ → ℕ
@@ -46,5 +48,6 @@ place_of (Stopped why.Source) pc = pc
 place_of (Stopped why.Instruction) pc = pc
 place_of (Stopped why.Function) pc = pc
 place_of (Stopped why.Goal) pc = pc
+place_of (Stopped why.Start) pc = pc
 place_of (Ended code) pc = pc
 place_of Limit pc = pc
