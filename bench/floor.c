@@ -40,6 +40,8 @@ static struct answer answers[] = {
       "\"command\":\"setBreakpoints\",\"request_seq\":500,\"seq\":1000," SUCCESS,
       NULL},
      0, "", 0},
+    {"stepBack", {"{\"command\":\"stepBack\",\"request_seq\":500,\"seq\":1000," SUCCESS, STOPPED("step", "1001")}, 0, "", 0},
+    {"reverseContinue", {"{\"command\":\"reverseContinue\",\"request_seq\":500,\"seq\":1000," SUCCESS, STOPPED("step", "1001")}, 0, "", 0},
     {"stepIn", {"{\"command\":\"stepIn\",\"request_seq\":500,\"seq\":1000," SUCCESS, STOPPED("step", "1001")}, 0, "", 0},
     {"pause", {"{\"command\":\"pause\",\"request_seq\":500,\"seq\":1000," SUCCESS, STOPPED("pause", "1001")}, 0, "", 0},
     {"stackTrace", {NULL, NULL}, STACK_TRACE, "", 0},

@@ -2,8 +2,11 @@
    decoded once, to a record that names its address, and forgotten where a store changes it; memory is a table of pages. In the
    loop the pc and the count of moves are kept apart; calls and returns are noted, of which 256 are kept; and where there are
    breakpoints, or the goal may be met, the new pc is looked up by a mark for each word of 256 KiB, and then closer, in a sorted list
-   and by the goal. Words: the program, the value of a0 at the start, and how it is run: `go COUNT`, `over` or `if CONDITION`, as in
-   crates/bench_stepping/src/way.rt. */
+   and by the goal. With RECORDED, what undoes a move is recorded in a ring of so many: the address of its instruction,
+   the register that it writes, with its value, the bytes over which it stores, and what it does to the calls, in 24 bytes. Words: the
+   program, the value of a0 at the start, and how it is run: `go COUNT`, `over` or `if CONDITION`, as in
+   crates/bench_stepping/src/way.rt; or `back COUNT`, where it is run back over all that is recorded, so often, and the least time is told. */
+#include <time.h>
 #include "../hart/decode.h"
 
 #define FAR 0x00020000u
@@ -16,8 +19,18 @@
 /* What an instruction comes to; a call of the environment and EBREAK are settled apart. */
 enum done { RETIRED, TRAP, CALL, BREAK };
 
-/* A decoded word, which names its address, 1 where there is none. A plain one changes registers and pc alone. */
-struct entry { uint32_t pc; uint8_t is_plain, stores; struct instr i; };
+/* What a move did to the calls: it called, or it returned, or both; and a call was kept no longer. */
+enum called { NOTHING, PUSHED, PUSHED_OUT, POPPED, POPPED_FROM, SWAPPED, SWAPPED_FROM };
+
+/* Which register an instruction writes, 0 where it writes none; how many bytes it stores; what it did to the calls; and whether it is a
+   plain one, which changes registers and pc alone. */
+struct effect { uint8_t writes, stores, called, is_plain; };
+
+/* A decoded word, which names its address, 1 where there is none. */
+struct entry { uint32_t pc; struct effect effect; struct instr i; };
+
+/* What undoes a move. */
+struct move { uint32_t pc, address, value; uint8_t bytes[4]; struct effect effect; uint32_t lost; };
 
 /* The calls kept, in a ring, and how many have not returned. */
 struct calls { uint64_t depth; uint32_t newest, kept, at[KEPT]; };
@@ -34,7 +47,7 @@ enum goal { GO, OVER };
 /* A source line, the address of its first word, and how many it has. */
 struct row { uint32_t line, address, words; };
 
-enum outcome { WENT, SOURCE, INSTRUCTION, GOAL, EBREAK_STOP, EXCEPTION, ENDED };
+enum outcome { WENT, SOURCE, INSTRUCTION, GOAL, START, EBREAK_STOP, EXCEPTION, ENDED };
 
 struct tick { enum outcome outcome; int prints; int32_t number; };
 
@@ -58,6 +71,10 @@ struct runner {
     uint8_t marks[MARKS];
     struct row rows[64];
     uint32_t lines;
+#ifdef RECORDED
+    struct move moves[RECORDED], *next;
+    uint32_t recorded;
+#endif
 };
 
 /* Does what an instruction at pc says; next: the pc after it. */
@@ -133,28 +150,40 @@ static int is_link(uint32_t number)
     return number == 1 || number == 5;
 }
 
-static void push(struct calls *c, uint32_t pc)
+/* A call; lost: the one that is kept no longer. */
+static enum called push(struct calls *c, uint32_t pc, uint32_t *lost)
 {
     c->depth++;
     c->newest = (c->newest + 1) % KEPT;
+    *lost = c->at[c->newest];
     c->at[c->newest] = pc;
-    if (c->kept < KEPT) c->kept++;
+    if (c->kept == KEPT) return PUSHED_OUT;
+    c->kept++;
+    return PUSHED;
 }
 
-static void pop(struct calls *c)
+/* A return; lost: the call that it returns from. */
+static enum called pop(struct calls *c, uint32_t *lost)
 {
-    if (c->depth > 0) c->depth--;
-    if (c->kept == 0) return;
+    if (c->depth == 0) return NOTHING;
+    c->depth--;
+    if (c->kept == 0) return POPPED;
+    *lost = c->at[c->newest];
     c->kept--;
     c->newest = (c->newest + KEPT - 1) % KEPT;
+    return POPPED_FROM;
 }
 
 /* Notes a jump. */
-static void note(struct calls *c, const struct instr *i, uint32_t pc)
+static enum called note(struct calls *c, const struct instr *i, uint32_t pc, uint32_t *lost)
 {
     int calls = is_link(i->rd), returns = i->op == JALR && is_link(i->rs1) && !(calls && i->rd == i->rs1);
-    if (returns) pop(c);
-    if (calls) push(c, pc);
+    enum called called = returns ? pop(c, lost) : NOTHING;
+    uint32_t none;
+    if (!calls) return called;
+    if (called == NOTHING) return push(c, pc, lost);
+    push(c, pc, &none);
+    return called == POPPED ? SWAPPED : SWAPPED_FROM;
 }
 
 /* The value of a condition; 0: it has none. */
@@ -222,13 +251,14 @@ static int is_met(const struct runner *r)
 /* Decodes the word at pc, if there is one, and remembers it; 0: it traps. */
 __attribute__((noinline, cold)) static int learn(struct runner *r, uint32_t pc)
 {
-    struct entry e = { pc, 1, 0, { 0, 0, 0, 0, 0 } };
+    struct entry e = { pc, { 0, 0, NOTHING, 1 }, { 0, 0, 0, 0, 0 } };
     uint32_t w;
     if (!load(pc, 4, &w)) return 0;
     e.i = decode(w);
     if (e.i.op == ILLEGAL) return 0;
-    e.stores = e.i.op == SB || e.i.op == SH || e.i.op == SW;
-    e.is_plain = !e.stores && !(e.i.op == JAL && is_link(e.i.rd))
+    e.effect.stores = e.i.op == SB ? 1 : e.i.op == SH ? 2 : e.i.op == SW ? 4 : 0;
+    e.effect.writes = e.effect.stores || (e.i.op >= BEQ && e.i.op <= BGEU) || e.i.op >= FENCE ? 0 : e.i.rd;
+    e.effect.is_plain = !e.effect.stores && !(e.i.op == JAL && is_link(e.i.rd))
         && !(e.i.op == JALR && (is_link(e.i.rd) || is_link(e.i.rs1)));
     r->entries[pc / 4 % PLACES] = e;
     return 1;
@@ -240,24 +270,127 @@ static inline void forget(struct runner *r, uint32_t address)
     if (e->pc == (address & ~3u)) e->pc = 1;
 }
 
+#ifdef RECORDED
+/* What undoes the move of an instruction, before it is made. */
+static inline __attribute__((always_inline)) void record(struct runner *r, struct move *m, uint32_t pc, const struct entry *e)
+{
+    m->pc = pc;
+    m->value = r->hart.x[e->effect.writes];
+    m->effect = e->effect;
+    if (!e->effect.stores) return;
+    m->address = r->hart.x[e->i.rs1] + e->i.imm;
+    if (e->effect.stores == 4) load(m->address, 4, m->bytes);
+    else if (e->effect.stores == 2) load(m->address, 2, m->bytes);
+    else load(m->address, 1, m->bytes);
+}
+
+/* The place after one in the ring. */
+static inline struct move *after(struct runner *r, struct move *m)
+{
+    return m == r->moves + RECORDED - 1 ? r->moves : m + 1;
+}
+
+/* So many moves more are recorded, and the next one is at this place. */
+static void keep(struct runner *r, struct move *next, uint32_t moves)
+{
+    r->next = next;
+    r->recorded = moves < RECORDED - r->recorded ? r->recorded + moves : RECORDED;
+}
+
+static void unnote(struct calls *c, const struct move *m)
+{
+    enum called called = m->effect.called;
+    if (called == NOTHING) return;
+    if (called <= PUSHED_OUT) c->depth--;
+    else if (called <= POPPED_FROM) c->depth++;
+    if (called == PUSHED_OUT || called == SWAPPED_FROM) c->at[c->newest] = m->lost;
+    if (called == PUSHED || called == SWAPPED) c->kept--;
+    if (called == PUSHED || called == PUSHED_OUT || called == SWAPPED) c->newest = (c->newest + KEPT - 1) % KEPT;
+    if (called == POPPED_FROM) {
+        c->newest = (c->newest + 1) % KEPT;
+        c->at[c->newest] = m->lost;
+        c->kept++;
+    }
+}
+
+/* Undoes the newest move. */
+static void undo(struct runner *r)
+{
+    struct move *m = r->next == r->moves ? r->moves + RECORDED - 1 : r->next - 1;
+    if (m->effect.stores == 4) store(m->address, 4, m->bytes);
+    else if (m->effect.stores == 2) store(m->address, 2, m->bytes);
+    else if (m->effect.stores == 1) store(m->address, 1, m->bytes);
+    if (m->effect.stores) forget(r, m->address);
+    r->hart.x[m->effect.writes] = m->value;
+    r->hart.x[0] = 0;
+    r->hart.pc = m->pc;
+    unnote(&r->calls, m);
+    r->next = m;
+    r->recorded--;
+    r->retired--;
+}
+
+/* Whether a breakpoint stands at pc, however often it was hit. */
+__attribute__((noinline)) static int stands(struct runner *r, uint32_t pc)
+{
+    uint32_t value;
+    for (uint32_t k = 0; k < r->count; k++)
+        if (r->list[k].address == pc && !(r->list[k].condition && evaluate(r->list[k].condition, &r->hart, &value) && value == 0)) return 1;
+    return 0;
+}
+
+/* Undoes so many moves at most, up to a breakpoint or the oldest that is recorded; there is one at least. */
+static enum outcome run_back(struct runner *r, uint32_t most)
+{
+    while (most-- > 0) {
+        undo(r);
+        if (is_marked(r, r->hart.pc) && stands(r, r->hart.pc)) return INSTRUCTION;
+        if (r->recorded == 0) return START;
+    }
+    return WENT;
+}
+#endif
+
 /* Makes moves in a row, so many at most. */
 __attribute__((noinline)) static struct burst retire(struct runner *r, uint32_t most)
 {
     int watches = r->count > 0 || r->reach > 0;
     struct burst b = { 0, 0, ENOUGH, RETIRED };
-    uint32_t pc = r->hart.pc, next = 0, went;
+    uint32_t pc = r->hart.pc, next = 0, lost = 0, went;
+#ifdef RECORDED
+    struct move *m = r->next;
+#endif
     for (went = 0; went < most; went++) {
         struct entry *e = &r->entries[pc / 4 % PLACES];
-        enum done done = e->pc == pc || learn(r, pc) ? execute(&r->hart, pc, &e->i, &next) : TRAP;
+        enum done done = TRAP;
+        enum called called;
+        if (e->pc == pc || learn(r, pc)) {
+#ifdef RECORDED
+            record(r, m, pc, e);
+#endif
+            done = execute(&r->hart, pc, &e->i, &next);
+        }
         if (done != RETIRED) {
             b.end = HALTED;
             b.done = done;
             break;
         }
-        if (!e->is_plain) {
-            if (e->stores) forget(r, r->hart.x[e->i.rs1] + e->i.imm);
-            else note(&r->calls, &e->i, pc);
+        if (!e->effect.is_plain) {
+            if (e->effect.stores) {
+                forget(r, r->hart.x[e->i.rs1] + e->i.imm);
+            } else {
+                called = note(&r->calls, &e->i, pc, &lost);
+#ifdef RECORDED
+                m->effect.called = called;
+                m->lost = lost;
+#else
+                (void)called;
+#endif
+            }
         }
+#ifdef RECORDED
+        m = after(r, m);
+#endif
         pc = next;
         if (watches && (is_marked(r, pc) || r->calls.depth < r->reach)) {
             b.end = NEAR;
@@ -266,6 +399,9 @@ __attribute__((noinline)) static struct burst retire(struct runner *r, uint32_t 
     }
     b.went = went;
     b.pc = pc;
+#ifdef RECORDED
+    keep(r, m, went + (b.end == NEAR));
+#endif
     return b;
 }
 
@@ -285,6 +421,10 @@ __attribute__((noinline, cold)) static struct tick settle(struct runner *r, enum
     if (done == TRAP || (done == CALL && x[17] != 93 && x[17] != 1)) return t;
     t.number = (int32_t)x[10];
     if (done == CALL && x[17] == 93) { t.outcome = ENDED; return t; }
+#ifdef RECORDED
+    record(r, r->next, r->hart.pc, &(struct entry){ 0, { 0, 0, NOTHING, 1 }, { 0, 0, 0, 0, 0 } });
+    keep(r, after(r, r->next), 1);
+#endif
     r->hart.pc += 4;
     r->retired++;
     t.prints = done == CALL;
@@ -343,11 +483,38 @@ static void begin_with(struct runner *r, const uint32_t *words, size_t bytes)
 {
     put(words, bytes);
     for (uint32_t k = 0; k < PLACES; k++) r->entries[k].pc = 1;
+#ifdef RECORDED
+    r->next = r->moves;
+#endif
     for (uint32_t i = 0; i < bytes / 4; i++) {
         struct row row = { i + 1, BASE + 4 * i, 1 };
         r->rows[r->lines++] = row;
     }
 }
+
+#ifdef RECORDED
+/* Runs a program for as many moves as are recorded and back, so often, and tells the least time of a run back. Each round leads to where the
+   first did. */
+static int back(struct runner *r, unsigned long rounds)
+{
+    double least = 1e9;
+    struct hart start = r->hart, end = r->hart;
+    for (unsigned long round = 0; round < rounds; round++) {
+        struct timespec from, to;
+        if (run(r, RECORDED).ending != SPENT) return 2;
+        if (round == 0) end = r->hart;
+        if (memcmp(&r->hart, &end, sizeof end)) return 3;
+        clock_gettime(CLOCK_MONOTONIC, &from);
+        if (run_back(r, RECORDED) != START) return 3;
+        clock_gettime(CLOCK_MONOTONIC, &to);
+        if (r->retired != 0 || r->calls.depth != 0 || memcmp(&r->hart, &start, sizeof start)) return 3;
+        double ms = (double)(to.tv_sec - from.tv_sec) * 1e3 + (double)(to.tv_nsec - from.tv_nsec) / 1e6;
+        if (ms < least) least = ms;
+    }
+    printf("%.3f\n", least);
+    return 0;
+}
+#endif
 
 int main(int count, char **words)
 {
@@ -363,6 +530,9 @@ int main(int count, char **words)
     r->hart.x[10] = (uint32_t)strtoul(words[2], NULL, 10);
     if (!strcmp(words[3], "over")) goal = OVER;
     else if (count != 5) return 2;
+#ifdef RECORDED
+    else if (!strcmp(words[3], "back")) return back(r, strtoul(words[4], NULL, 10));
+#endif
     else if (!strcmp(words[3], "if")) add(r, BASE, UINT32_MAX, condition_of(words[4]));
     else for (uint32_t i = 0; i < LIMIT && i < strtoul(words[4], NULL, 10); i++) add(r, FAR + 4 * i, 1, NULL);
     begin(r, goal);

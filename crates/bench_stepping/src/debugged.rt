@@ -14,7 +14,7 @@ pub(crate) const SIZE: u32 = 0x0010_0000;
 const SLICE: u32 = 100_000;
 
 /// How many instructions may have retired before a slice.
-const LIMIT: u64 = 1 << 61;
+pub(crate) const LIMIT: u64 = 1 << 61;
 
 /// The registers of the stack pointer, and of the argument.
 const SP: usize = 2;

@@ -3,6 +3,7 @@
 //! - `go COUNT`: without a goal, and with so many breakpoints in memory after the program, where it never comes; at most 1,024.
 //! - `over`: by steps over source lines.
 //! - `if CONDITION`: without a goal, and with a breakpoint at the entry of which the condition is looked at and which never stops.
+//! - `back COUNT`: for as many moves as are recorded and back over all of them, so often, without breakpoints.
 
 ghost use Rattle.std.specs.Prelude.{IfOk, ◌≤◌};
 ghost use Rattle.breakpoints.specs.Stops.{CanBeSet};
@@ -26,6 +27,8 @@ pub(crate) enum Way<'a> {
     Over,
     /// With a breakpoint of this condition at the entry.
     If(&'a str),
+    /// Forth and back, so often.
+    Back(u32),
 }
 
 impl<'a> Way<'a> {
@@ -34,16 +37,19 @@ impl<'a> Way<'a> {
         match words {
             [word] if word.as_str() == "over" => Some(Way::Over),
             [word, count] if word.as_str() == "go" => Some(Way::Go(count.as_str().parse().ok()?)),
+            [word, count] if word.as_str() == "back" => {
+                Some(Way::Back(count.as_str().parse().ok()?))
+            }
             [word, condition] if word.as_str() == "if" => Some(Way::If(condition.as_str())),
             _ => None,
         }
     }
 
-    /// Its goal.
+    /// Its goal, before it goes back.
     pub(crate) fn goal(self) -> Goal {
         match self {
             Way::Over => Goal::Over(Granularity::Line),
-            Way::Go(_) | Way::If(_) => Goal::Go,
+            Way::Go(_) | Way::If(_) | Way::Back(_) => Goal::Go,
         }
     }
 
@@ -52,7 +58,7 @@ impl<'a> Way<'a> {
         ensures { IfOk result (λ specs. CanBeSet specs.items) }
     {
         match self {
-            Way::Over => Ok(Vec::new(alloc)),
+            Way::Over | Way::Back(_) => Ok(Vec::new(alloc)),
             Way::Go(count) => Ok(far(alloc, count.min(LIMIT))?),
             Way::If(condition) => Ok(conditional(alloc, entry, Expr::parse(alloc, condition)?)?),
         }
