@@ -48,7 +48,8 @@ def line_of(frame):
 
 def of_frames(body):
     for frame in body["stackFrames"]:
-        yield "frame %d  %s  %-10s line %-3d %s" % (frame["id"], frame["instructionPointerReference"], frame["name"], frame["line"], line_of(frame))
+        shown = frame["id"], frame["instructionPointerReference"], frame["name"], frame["line"], line_of(frame)
+        yield ("frame %d  %s  %-10s line %-3d %s" % shown).rstrip()
     yield "%d of %d frames" % (len(body["stackFrames"]), body["totalFrames"])
 
 

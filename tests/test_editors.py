@@ -64,6 +64,12 @@ def both_files_for_emacs_run_one_command():
         expect(re.findall(r'concat "(.*?)"', text_of("editors", "emacs", name)), ["rvdap check "], "what %s runs before it launches" % name)
 
 
+def both_files_for_emacs_go_back_by_two_requests():
+    for name in LISP:
+        made = re.findall(r'\(defun (rvdap-(?:step-back|reverse-continue)) .*\n.*\n.*\n.* "(\w+)"', text_of("editors", "emacs", name))
+        expect(made, [("rvdap-step-back", "stepBack"), ("rvdap-reverse-continue", "reverseContinue")], "the commands of %s that go back" % name)
+
+
 # ---- Vim
 
 ITEMS = {"%f": r"(?P<file>.+?)", "%l": r"(?P<line>\d+)", "%m": r"(?P<text>.+)", "%.%#": r".*"}
@@ -104,8 +110,9 @@ def vim_takes_each_error():
 # ---- the editors themselves, where they are
 
 STUBS = """
-(defvar dape-configs nil) (defvar dape-compile-hook nil) (provide 'dape) (provide 'dap-ui) (provide 'dap-mode)
-(defvar seen nil)
+(defvar dape-configs nil) (defvar dape-compile-hook nil) (defvar dape-global-map (make-sparse-keymap))
+(provide 'dape) (provide 'dap-ui) (provide 'dap-mode)
+(defvar seen nil) (defvar dap-output-buffer-filter nil)
 (defun dap-mode (&rest _))
 (defun dap--put-if-absent (conf key value) (if (plist-get conf key) conf (plist-put conf key value)))
 (defun dap-register-debug-provider (_ make) (setq seen make))
@@ -115,6 +122,7 @@ PRINTS = """
 (with-temp-buffer
   (setq buffer-file-name "/a b.s")
   (princ (format "%S\n" (list (mapcar #'car dape-configs) (rvdap-check-command)))))
+(princ (format "%S\n" (mapcar (lambda (key) (lookup-key dape-global-map key)) '("N" "C"))))
 (princ (format "%S\n" (funcall seen (list :program (getenv "GOOD")))))
 (princ (format "%S\n" (condition-case refused (funcall seen (list :program (getenv "BAD"))) (user-error (car refused)))))
 (with-temp-buffer
@@ -146,8 +154,8 @@ def emacs_loads_its_files():
             words += ["-l", os.path.join(TOP, "editors", "emacs", name)]
         ran = subprocess.run(words + ["--eval", "(progn %s)" % PRINTS], env=environment(LINE=said(path), BAD=path, GOOD=good),
                              capture_output=True, timeout=SECONDS)
-    wanted = [r'((rvdap rvdap-tcp rvdap-attach) "rvdap check /a\\ b.s")', '(:program "%s" :dap-server-path ("rvdap"))' % good,
-              "user-error", '(2 "%s")' % path]
+    wanted = [r'((rvdap rvdap-tcp rvdap-attach) "rvdap check /a\\ b.s")', "(rvdap-step-back rvdap-reverse-continue)",
+              '(:program "%s" :dap-server-path ("rvdap"))' % good, "user-error", '(2 "%s")' % path]
     expect(ran.stdout.decode().splitlines(), wanted, "what Emacs has after it loaded its files: %s" % ran.stderr.decode())
 
 
@@ -275,7 +283,7 @@ def each_word_is_one_of_the_help():
 
 
 def checks():
-    found = (emacs_takes_each_error, both_files_for_emacs_run_one_command, vim_takes_each_error, emacs_loads_its_files,
-             vim_and_neovim_load_their_file, neovim_loads_its_configurations, json_is_json, toml_is_toml,
+    found = (emacs_takes_each_error, both_files_for_emacs_run_one_command, both_files_for_emacs_go_back_by_two_requests,
+             vim_takes_each_error, emacs_loads_its_files, vim_and_neovim_load_their_file, neovim_loads_its_configurations, json_is_json, toml_is_toml,
              what_the_document_quotes_is_in_its_file, each_file_of_an_editor_is_in_the_document, each_word_is_one_of_the_help)
     return [(check.__name__.replace("_", " "), check) for check in found]

@@ -9,22 +9,23 @@ from support.files import file_of
 from support.program import PROGRAM, TOP, expect
 
 NESTED = os.path.join(TOP, "examples", "nested.s")
+OVERRUN = os.path.join(TOP, "examples", "overrun.s")
 # The functions, from the outermost on: each calls the next one.
 FUNCTIONS = ("_start", "outer", "middle", "inner")
 
 
-def lines_of(function):
-    """The lines of a function of the sample, by number."""
-    with open(NESTED, encoding="utf-8") as file:
+def lines_of(function, sample=NESTED):
+    """The lines of a function of a sample, by number."""
+    with open(sample, encoding="utf-8") as file:
         lines = dict(enumerate(file.read().split("\n"), 1))
     begin = next(number for number, line in lines.items() if line.startswith(function + ":"))
     end = next((number for number, line in lines.items() if number > begin and not line.strip()), len(lines))
     return {number: lines[number] for number in range(begin, end)}
 
 
-def line_of(function, text):
+def line_of(function, text, sample=NESTED):
     """The line of a function that has this text."""
-    number, = [number for number, line in lines_of(function).items() if text in line]
+    number, = [number for number, line in lines_of(function, sample).items() if text in line]
     return number
 
 
@@ -35,11 +36,11 @@ def expected_frames(function, line):
     return [(function, line), *callers]
 
 
-def played():
-    """The requests and the messages of the session, in order."""
-    ran = subprocess.run([os.path.join(TOP, "examples", "play"), os.path.join(TOP, "examples", "nesting.session"), PROGRAM],
+def played(session="nesting.session"):
+    """The requests and the messages of a session, in order."""
+    ran = subprocess.run([os.path.join(TOP, "examples", "play"), os.path.join(TOP, "examples", session), PROGRAM],
                          cwd=TOP, capture_output=True, text=True, timeout=60)
-    expect((ran.stderr, ran.returncode), ("", 0), "examples/play examples/nesting.session")
+    expect((ran.stderr, ran.returncode), ("", 0), "examples/play examples/" + session)
     return [json.loads(line) for line in ran.stdout.splitlines()]
 
 
@@ -59,6 +60,33 @@ def it_ends_with_what_its_functions_compute():
     expect([body.get("reason") for body in reasons], ["breakpoint", "breakpoint", "step", "step", None], "the stops")
     # 5 * 2 + 2 + 1, as the sample computes it.
     expect(reasons[-1], {"exitCode": 13}, "the end")
+
+
+def who_overwrote_ra_is_found_by_going_back():
+    messages = played("backwards.session")
+    stops = [message["body"] for message in messages if message.get("event") == "stopped"]
+    expect([(body["reason"], body.get("text")) for body in stops],
+           [("exception", "instruction access fault"), ("step", None), ("breakpoint", None), ("step", "start of history")], "the stops")
+    stacks = [frames_of(message) for message in messages if message["type"] == "response" and message["command"] == "stackTrace"]
+    call, ret = line_of("_start", "call fours", OVERRUN), line_of("fours", "    ret", OVERRUN)
+    # A frame has the name of the nearest label, which at the ret is that of the loop.
+    expect(stacks, [[("0x00000010", 0)], [("next", ret), ("_start", call)], [("_start", call)]], "the frames")
+    store, = [message["body"]["breakpoints"][0]["line"] for message in messages if message.get("command") == "setBreakpoints" and "body" in message]
+    expect(store, line_of("fours", "sw   t3", OVERRUN), "the line of the store")
+    # ra, which is the word 4 * 4; where it was loaded from; how many words there are; and the address after the two words of the call.
+    results = [message["body"]["result"] for message in messages if message.get("command") == "evaluate" and "body" in message]
+    expect(results, ["0x00000010", "0x0010fffc", "0x00000004", "0x00010008"], "what is evaluated")
+    refused, = [message["message"] for message in messages if message.get("success") is False]
+    expect(refused, "noHistory", "where nothing is recorded any more")
+
+
+def the_program_that_overwrites_ra_is_the_one_of_the_guide():
+    with open(OVERRUN, encoding="utf-8") as file, open(os.path.join(TOP, "docs", "MACHINE.md"), encoding="utf-8") as guide:
+        text = file.read()
+        block, = re.findall(r"^```\n(fours:.*?)^```$", guide.read(), re.DOTALL | re.MULTILINE)
+    expect(text.endswith("\n\n" + block), True, "examples/overrun.s has the lines of the guide")
+    mended = run_of(text.replace("ble ", "blt "))
+    expect((mended.stdout, mended.stderr, mended.returncode), ("", "", 0), "a run of the program with blt")
 
 
 def rows(page, header):
@@ -167,6 +195,8 @@ def checks():
     return [(check.__name__.replace("_", " "), check) for check in (
         each_caller_is_shown_and_stepping_out_stops_in_it,
         it_ends_with_what_its_functions_compute,
+        who_overwrote_ra_is_found_by_going_back,
+        the_program_that_overwrites_ra_is_the_one_of_the_guide,
         each_habit_of_other_simulators_is_met_as_the_table_says,
         the_exercises_print_what_the_table_says,
         the_guide_multiplies,

@@ -1,6 +1,7 @@
 """Each growth refused in turn, tried whole: what found no memory changed nothing, and given again it does what it does with memory."""
 from functools import partial
 
+from rows.session_back import there_and_back
 from rows.session_logs import beside_a_function
 from rows.session_looks import at_an_instruction, code_that_is_written_over, in_a_recursion
 from rows.session_references import joined_while_it_runs
@@ -25,6 +26,7 @@ SESSIONS = (
     ("an editor that joins a program that runs", joined_while_it_runs, {"recv", "turn", "slice"}),
     ("values, and a register that is set, at an instruction", at_an_instruction, {"recv", "turn", "slice"}),
     ("a logpoint, and a function breakpoint after it", beside_a_function, {"recv", "turn", "slice"}),
+    ("a step back, and runs back", there_and_back, {"recv", "turn", "slice"}),
     ("a program that is launched and runs to its end, its events applied", launched_by_applying, {"apply", "slice"}),
 )
 
@@ -38,7 +40,8 @@ DRIVEN = (("a program is launched, stops at its entry and runs to its end", two_
           ("frames and the stack, over a call in a recursion and out of it", in_a_recursion, RECURS),
           ("code that is written over", code_that_is_written_over, COUNTS),
           ("values, and a register that is set, at an instruction", at_an_instruction, CALLS),
-          ("a logpoint, and a function breakpoint after it", beside_a_function, COUNTS))
+          ("a logpoint, and a function breakpoint after it", beside_a_function, COUNTS),
+          ("a step back, and runs back", there_and_back, COUNTS))
 
 
 def a_drive(name, script, file):
@@ -57,11 +60,13 @@ def two_editors_one_after_the_other():
 
 # Calls that take no memory, which are made in rows that are played with each allocation refused: their tables name the commands.
 TAKE_NONE = {
-    "Unframer::new", "Unframer::next_body", "Unframer::retract", "Server::new", "Command::name", "Memory::byte", "Memory::word", "Memory::read",
+    "Unframer::new", "Unframer::next_body", "Unframer::retract", "Server::new", "Command::name", "Memory::byte", "Memory::word", "Memory::word_bytes", "Memory::read",
     "LineTable::new", "LineTable::line_of", "LineTable::address_of", "LineTable::bind", "LineTable::starts", "LineTable::label_at", "LineTable::label_address",
-    "decode", "encode", "reg_name", "reg_of", "Hart::new", "Expr::value", "Breaks::check", "Breaks::ids", "Breaks::logs", "Breaks::log_text", "Breaks::clear", "Breaks::reset_hits",
-    "Calls::depth", "Calls::kept", "Calls::entry", "Runner::begin", "Handles::new", "Handles::find", "Handles::end_stop", "set_register",
-    "Session::connect", "Session::hold", "Session::sent", "Session::drop_connection", "Session::waiting", "Session::runnable",
+    "decode", "encode", "reg_name", "reg_of", "Hart::new", "Expr::value",
+    "Breaks::check", "Breaks::look", "Breaks::ids", "Breaks::logs", "Breaks::log_text", "Breaks::clear",
+    "Breaks::reset_hits", "destination", "undo_of", "undo_at", "Undo::of_pc", "Undo::stored", "Hart::undo",
+    "Calls::depth", "Calls::kept", "Calls::entry", "Runner::begin", "Runner::recorded", "Runner::turns_back",
+    "Handles::new", "Handles::find", "Handles::end_stop", "set_register", "Session::connect", "Session::hold", "Session::sent", "Session::drop_connection", "Session::waiting", "Session::runnable",
     "Session::pending", "Session::wants_file", "Session::finished", "Session::link_fault",
     "Mirror::new", "Mirror::run", "Mirror::source_break", "Mirror::instruction_break", "Mirror::function_break", "Mirror::frame", "Mirror::register",
     "Mirror::byte",

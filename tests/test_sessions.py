@@ -26,7 +26,7 @@ def expect_run(data, out, err=b"", status=0, **how):
 
 def the_texts_have_the_lengths_of_the_protocol_profile():
     expect(len(INITIALIZE), 83, "initialize")
-    expect(len(CAPABILITIES % (1, 1)), 656, "its answer")
+    expect(len(CAPABILITIES % (1, 1)), 680, "its answer")
     expect(len(THREADS % (2, 2)), 124, "the answer of threads")
     expect(len(DISCONNECTED % (3, 3)), 81, "the answer of disconnect")
 

@@ -176,6 +176,24 @@ def traps_stop_it_again_and_again():
     with_editor(b"lw a0, 8(zero)\n", act)
 
 
+def what_is_not_recorded_is_not_taken_back():
+    def act(editor, path):
+        editor.launch(path, stopOnEntry=True)
+        editor.start()
+        expect(editor.event("stopped")["reason"], "entry", "the entry")
+        expect(editor.refusal("stepBack", threadId=1), "noHistory", "a step back at the entry")
+        editor.ask("next", threadId=1)
+        expect(editor.event("stopped")["reason"], "step", "a step")
+        expect(editor.ask("reverseContinue", threadId=1)["success"], True, "a run back")
+        expect(editor.event("stopped")["text"], "start of history", "its stop")
+        expect(editor.refusal("reverseContinue", threadId=1), "noHistory", "one more, where all was taken back")
+        editor.ask("next", threadId=1)
+        editor.event("stopped")
+        expect(editor.ask("writeMemory", memoryReference="0x0010fff0", data="AQ==")["body"], {"bytesWritten": 1}, "memory is set")
+        expect(editor.refusal("stepBack", threadId=1), "noHistory", "a step back after that")
+    with_editor(b"_start: li a0, 1\n" + ENDS.removeprefix(b"_start: "), act)
+
+
 def a_loop_is_found_by_pause():
     def act(editor, path):
         editor.launch(path)
@@ -234,6 +252,7 @@ def checks():
         a_file_that_cannot_be_read_is_refused,
         one_that_ended_shows_nothing,
         traps_stop_it_again_and_again,
+        what_is_not_recorded_is_not_taken_back,
         a_loop_is_found_by_pause,
         what_is_typed_is_no_request,
         a_port_that_is_taken_is_a_fault,

@@ -375,7 +375,21 @@ def a_program_is_debugged_in_the_order_of_vs_code():
         expect((reason, frames[0]["line"], registers["t0"]), ("step", 37, "0x0010fff8"), "after a step by an instruction")
         editor.body("stepOut", threadId=1)
         expect([it["line"] for it in refreshed(editor)[1]], [45, 44, 14], "after a step out")
+        goes_back(editor)
         ends_anew(editor)
+
+
+def goes_back(editor):
+    """The buttons Step Back and Reverse, of a program that was changed at its breakpoint; the last has nothing to take back."""
+    editor.body("next", threadId=1, granularity="instruction")
+    expect(refreshed(editor)[1][0]["line"], 46, "after a step over")
+    editor.body("stepBack", threadId=1, granularity="instruction")
+    expect([it["line"] for it in refreshed(editor)[1]], [45, 44, 14], "after a step back")
+    editor.body("reverseContinue", threadId=1)
+    reason, frames, _, registers = refreshed(editor)
+    expect((reason, [it["line"] for it in frames], registers["a0"]), ("breakpoint", [36, 44, 44, 14], "0x0010fff8"), "where a run back stops")
+    refused = editor.ask("stepBack", threadId=1)
+    expect((refused["success"], refused["message"]), (False, "noHistory"), "a step back where nothing is recorded")
 
 
 def ends_anew(editor):

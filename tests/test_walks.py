@@ -92,7 +92,7 @@ class Walk:
             ("readMemory", {"memoryReference": address, "count": chance.randrange(40)}),
             ("writeMemory", {"memoryReference": address, "data": chance.choice(("EwUlAA==", "AAAA", "")), "allowPartial": chance.random() < 0.5}),
             ("continue", THREAD), ("next", THREAD), ("stepIn", THREAD), ("stepIn", {**THREAD, "granularity": "instruction"}), ("stepOut", THREAD),
-            ("pause", THREAD), ("restart", {}), ("terminate", {}), ("disconnect", {}), ("threads", {}), ("evaluate", {"expression": "[sp]"}),
+            ("stepBack", THREAD), ("stepBack", THREAD), ("reverseContinue", THREAD), ("pause", THREAD), ("restart", {}), ("terminate", {}), ("disconnect", {}), ("threads", {}), ("evaluate", {"expression": "[sp]"}),
             ("cancel", {"requestId": self.seq}), ("initialize", {}), ("bogus", {}), ("next", {"threadId": 2})))
         if command in ("terminate", "disconnect", "restart") and chance.random() < 0.7:
             return
@@ -198,8 +198,134 @@ def an_editor_in_turn_knows_the_same():
     expect(facts > EVENTS // 10, True, "there is much to know: %d facts" % facts)
 
 
+# ---- back and forth
+
+SESSIONS = "test_session"
+# What it runs at most on its way forward.
+LONGEST = 2500
+STEPS_OF_A_CONNECTION = 15
+# What follows pc where a session says all that is to be seen: the bytes.
+BYTES = 80
+# Programs that go on for longer than that: one that stores words, halfwords and bytes over what it stored; one that calls itself 260 times, of
+# which fewer are kept, and returns; one that changes an instruction of its own in each round; one in which two functions return and call at once; and
+# one that prints, now and then, for nobody takes what waits to be sent on these walks.
+GO_ON = (
+    b"_start: la t0, n\ne: addi a0, a0, 37\nsb a0, 1(t0)\nsh a0, 2(t0)\nsw a0, 4(t0)\nsw a0, -4(sp)\nlw a1, 0(t0)\ncall f\nj e\nf: ret\nn: .word 1, 2\n",
+    b"_start: li a0, 260\njal g\nj _start\ng: addi a0, a0, -1\naddi sp, sp, -4\nsw ra, 0(sp)\nbeqz a0, d\njal g\nd: lw ra, 0(sp)\naddi sp, sp, 4\nret\n",
+    b"_start: la t0, n\nlw t1, 0(t0)\nla t2, p\nlw t3, 0(t2)\np: addi a0, a0, 1\nsw t1, 0(t2)\nmv t4, t1\nmv t1, t3\nmv t3, t4\nj p\nn: addi a0, a0, 2\n",
+    b"_start: la t0, f\ne: addi a0, a0, 1\njalr ra, 0(t0)\nj e\nf: addi a1, a1, 1\njalr t0, 0(ra)\nj f\n",
+    b"_start: li a7, 1\nd: addi a1, a1, 9\ne: addi a1, a1, -1\nbnez a1, e\naddi a0, a0, 1\necall\nj d\n",
+)
+
+
+def machine_of(state):
+    """What is to be seen of the machine: its frames, registers and bytes."""
+    return state.partition(" | ")[2]
+
+
+def pc_of(state):
+    return int(state.split()[-BYTES - 1])
+
+
+class BackAndForth:
+    """The commands of one walk in a program, of which each state after so many moves on its way forward is known; and the number of moves that
+    leads to where it is after some of these."""
+
+    def __init__(self, chance, file, forward):
+        self.chance, self.file, self.forward = chance, file, forward
+        self.lines, self.wanted, self.events, self.at, self.recorded = [], [], 0, 0, 0
+        self.connects("launch", program=PATH, stopOnEntry=True)
+        self.does("slice 1")
+
+    def does(self, line):
+        self.lines.append(line)
+        self.events += 1
+
+    def asks(self, command, file=b"", **arguments):
+        self.seq += 1
+        self.does("recv " + frame(json.dumps({"seq": self.seq, "type": "request", "command": command, "arguments": arguments})).hex())
+        self.does(("turn " + file.hex()).strip())
+
+    def connects(self, command, **arguments):
+        self.does("connect")
+        self.seq, self.steps, self.address = 0, 0, None
+        self.asks("initialize")
+        self.asks(command, self.file, **arguments)
+        self.asks("configurationDone")
+
+    def is_seen(self):
+        """Here the machine is as it is on its way forward."""
+        self.wanted.append((len(self.lines), self.at))
+        self.lines.append("state")
+
+    def moves(self, command, most, moved, **arguments):
+        """It is given time for so many moves, of which so many are made, and stops there, if need be by a pause."""
+        self.asks(command, **THREAD, **arguments)
+        self.does("slice %d" % most)
+        self.asks("pause", **THREAD)
+        self.does("slice 1")
+        self.at += moved
+        self.recorded += moved
+        self.is_seen()
+
+    def first(self, places):
+        """How many moves lead to the first of these places where the breakpoint is, or to all of them."""
+        met = [number for number, place in enumerate(places, 1) if pc_of(self.forward[place]) == self.address]
+        return met[0] if met else len(places)
+
+    def goes_on(self):
+        chance, left = self.chance.random(), LONGEST - self.at
+        self.steps += 1
+        if self.steps > STEPS_OF_A_CONNECTION:
+            self.does("drop")
+            self.connects("attach")
+        elif chance < 0.3 and left:
+            self.moves("stepIn", 1, 1, granularity="instruction")
+        elif chance < 0.45 and left:
+            most = min(left, self.chance.choice((1, 2, 3, 20, 300)))
+            self.moves("continue", most, self.first(range(self.at + 1, self.at + most + 1)))
+        elif chance < 0.75:
+            self.moves("stepBack", 9, -min(1, self.recorded))
+        elif chance < 0.93:
+            most = min(self.recorded, self.chance.choice((1, 2, 3, 20, 300, LONGEST)))
+            self.moves("reverseContinue", most, -self.first(range(self.at - 1, self.at - most - 1, -1)) if most else 0)
+        elif chance < 0.99:
+            self.address = self.chance.choice((None, pc_of(self.forward[self.chance.randrange(LONGEST)])))
+            places = [] if self.address is None else [{"instructionReference": "0x%x" % self.address}]
+            self.asks("setInstructionBreakpoints", breakpoints=places)
+            self.is_seen()
+        else:
+            self.asks("writeMemory", memoryReference="0x%x" % BASE, data="")
+            self.recorded = 0
+
+
+def states_forward(file):
+    """What is to be seen after each number of moves, up to the longest."""
+    walk = BackAndForth(random.Random(SEED), file, None)
+    walk.asks("continue", **THREAD)
+    lines, status = play(SESSIONS, walk.lines + ["state"] + LONGEST * ["slice 1", "state"])
+    states = [machine_of(line) for line in lines[len(walk.lines)::2]]
+    expect((status, len(states)), (0, LONGEST + 1), "the status, and how many states")
+    return states
+
+
+def back_and_forth_is_where_it_was():
+    events, chance = 0, random.Random(SEED)
+    for file in GO_ON:
+        walk = BackAndForth(chance, file, states_forward(file))
+        while walk.events < EVENTS // len(GO_ON):
+            walk.goes_on()
+        lines, status = play(SESSIONS, walk.lines)
+        expect((status, len(lines)), (0, len(walk.lines)), "the status, and how many answers, of %r" % file)
+        for place, at in walk.wanted:
+            expect(machine_of(lines[place]), walk.forward[at], "the machine after %d moves of %r, at line %d of the walk" % (at, file, place))
+        events += walk.events
+    expect(events >= EVENTS, True, "there are many events: %d" % events)
+
+
 def checks():
     return [
         ("what is known on a walk was so", what_is_known_on_a_walk_was_so),
         ("an editor in turn knows the same", an_editor_in_turn_knows_the_same),
+        ("back and forth is where it was", back_and_forth_is_where_it_was),
     ]

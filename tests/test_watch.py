@@ -66,7 +66,7 @@ def expect_watched(name, lines, program, wanted, **watch):
 
 PRINTING = [*launched(BEGINS), "slice 100"]
 # How many bytes its editor gets, up to the stop.
-STOPS = 1197
+STOPS = 1221
 LOOKS = [sends(4, "stackTrace", **THREAD), "turn", *REGISTERS_OF_FRAME_0]
 
 
@@ -77,8 +77,8 @@ def known_registers(pc, sp=0x110000, **values):
 
 def what_was_printed_is_told_while_the_program_runs():
     """It prints and then stops: up to the last byte of the stop it is known to run."""
-    expect_watched("through the output", PRINTING, PRINTS, ["run running running"], cut=1063)
-    expect_watched("a byte before the stop", PRINTING, PRINTS, ["run running running"], cut=1196)
+    expect_watched("through the output", PRINTING, PRINTS, ["run running running"], cut=1087)
+    expect_watched("a byte before the stop", PRINTING, PRINTS, ["run running running"], cut=1220)
     expect_watched("the stop", PRINTING, PRINTS, ["run stopped stopped"], cut=STOPS)
     expect_watched("all", PRINTING, PRINTS, ["run stopped stopped"])
     expect_watched("all, and then a look", PRINTING + LOOKS, PRINTS, ["run stopped stopped", "frame 0 0x00010010 0x00010010", *known_registers(0x10010, a0=7, a7=1)])
@@ -103,8 +103,8 @@ def what_a_logpoint_says_is_told_while_the_program_runs():
 
 def before_a_message_is_whole_nothing_is_known():
     expect_watched("no byte", PRINTING, PRINTS, ["run unknown -"], cut=0)
-    expect_watched("a byte before the first message's end", PRINTING, PRINTS, ["run unknown -"], cut=678)
-    expect_watched("the first message", PRINTING, PRINTS, ["run unknown unknown"], cut=679)
+    expect_watched("a byte before the first message's end", PRINTING, PRINTS, ["run unknown -"], cut=702)
+    expect_watched("the first message", PRINTING, PRINTS, ["run unknown unknown"], cut=703)
 
 
 def what_was_not_asked_for_is_not_known():
@@ -120,6 +120,8 @@ ONE_BREAK = ("setBreakpoints", {"source": {"path": PATH}, "breakpoints": [{"line
 LOOKED = [*ENTERED, *LOOKS]
 AT_ENTRY = ["run stopped stopped", "frame 0 0x00010000 0x00010000", *known_registers(0x10000)]
 RAN = ["run running running"]
+# After a step, with its frame.
+GONE_ON = [*ENTERED, sends(4, "stepIn", **THREAD), "turn", "slice 9", sends(5, "stackTrace", **THREAD), "turn"]
 
 
 def told(lines, *asked, then=()):
@@ -135,6 +137,11 @@ TABLE = [
     ("next", told(LOOKED, ("next", THREAD)), CALLS, RAN),
     ("stepIn", told(LOOKED, ("stepIn", THREAD)), CALLS, RAN),
     ("stepOut", told(LOOKED, ("stepOut", THREAD)), CALLS, RAN),
+    ("a stop after a step", GONE_ON, CALLS, ["run stopped stopped", "frame 0 0x00010004 0x00010004"]),
+    ("stepBack", told(GONE_ON, ("stepBack", THREAD)), CALLS, RAN),
+    ("stepBack, to its stop", told(GONE_ON, ("stepBack", THREAD), then=["slice 9"]), CALLS, ["run stopped stopped"]),
+    ("reverseContinue", told(GONE_ON, ("reverseContinue", THREAD)), CALLS, RAN),
+    ("a step back where nothing is recorded", told(LOOKED, ("stepBack", THREAD)), CALLS, AT_ENTRY),
     ("restart", told(LOOKED, ("restart", {})), CALLS, RAN),
     ("a resume that is refused", told(LOOKED, ("continue", {"threadId": 2})), CALLS, AT_ENTRY),
     ("configurationDone after launch", launched(BEGINS), CALLS, RAN),

@@ -160,7 +160,7 @@ VALUES = [
     ], PROFILE),
     Row("successes without a body", [
         step for command in ("attach", "cancel", "configurationDone", "disconnect", "launch", "next", "pause", "restart",
-                             "setExceptionBreakpoints", "stepIn", "stepOut", "terminate")
+                             "reverseContinue", "setExceptionBreakpoints", "stepBack", "stepIn", "stepOut", "terminate")
         for text in ['{"command":"%s","request_seq":5,"seq":9,"success":true,"type":"response"}' % command]
         for step in (read(text, 9, is_done(5, command, "Empty")), write(9, text), no_message(text_of(command, "{}")))
     ], PROFILE),

@@ -2,8 +2,8 @@
 from support.players import NO_MEMORY, Row, alike, tried
 
 PLAYER = "test_breakpoints"
-TAKES_NONE = {"Breaks::check": "check", "Breaks::ids": "ids", "Breaks::logs": "logs", "Breaks::log_text": "text", "Breaks::clear": "clear",
-              "Breaks::reset_hits": "reset", "Breaks::has": "has", "Breaks::forget_ids": "forget"}
+TAKES_NONE = {"Breaks::check": "check", "Breaks::look": "look", "Breaks::ids": "ids", "Breaks::logs": "logs", "Breaks::log_text": "text",
+              "Breaks::clear": "clear", "Breaks::reset_hits": "reset", "Breaks::has": "has", "Breaks::forget_ids": "forget"}
 BASE = 0x10000
 # Addresses so far apart have one mark.
 APART = 4 * 65536
@@ -11,6 +11,7 @@ MOST = 1024
 
 PROFILE = "docs/MACHINE.md, \"Breakpoints\""
 BY_HAND = "worked by hand from docs/MACHINE.md, \"Breakpoints\""
+BACK = "docs/MACHINE.md, \"Going back\""
 
 
 def a(number, address=BASE, hit=1, condition=None, log=None):
@@ -45,10 +46,20 @@ def write(address, block):
     return "write %d %s" % (address, block.hex()), "ok"
 
 
+def found(lines, of_instructions, of_functions):
+    """Which kinds of breakpoints were found, and their ids."""
+    kinds = [str(bool(each)).lower() for each in (lines, of_instructions, of_functions)]
+    return " ".join(kinds + [str(number) for number in (*lines, *of_instructions, *of_functions)])
+
+
 def check(lines=(), of_instructions=(), of_functions=()):
     """A check at which the breakpoints of lines, those of instructions and those of functions with these ids stop."""
-    stops = [str(bool(each)).lower() for each in (lines, of_instructions, of_functions)]
-    return "check", " ".join(stops + [str(number) for number in (*lines, *of_instructions, *of_functions)])
+    return "check", found(lines, of_instructions, of_functions)
+
+
+def look(lines=(), of_instructions=(), of_functions=()):
+    """A look, for a program that goes back, at which the breakpoints with these ids stand."""
+    return "look", found(lines, of_instructions, of_functions)
 
 
 def ids(*numbers):
@@ -183,12 +194,30 @@ ROWS = [
         go(BASE), source(*(a(i, hit=1 + i % 2, log="x") for i in range(MOST))), functions(*(a(i) for i in range(MOST))),
         check([], [], range(MOST)), logs(*range(0, MOST, 2)), check([], [], range(MOST)), logs(*range(MOST)), text(MOST - 1, "x"), text(MOST),
     ], BY_HAND),
+    Row("a look where a program goes back counts no hits and waits for none", [
+        go(BASE), look(), source(a(1, hit=3), a(2, BASE + 4)), instructions(a(3, hit=4294967295)), functions(a(4, hit=2), a(5)),
+        look([1], [3], [4, 5]), ids(1, 3, 4, 5), look([1], [3], [4, 5]), look([1], [3], [4, 5]),
+        check([], [], [5]), ids(5), look([1], [3], [4, 5]), check([], [], [4, 5]), check([1], [], [4, 5]), look([1], [3], [4, 5]),
+        go(BASE + 4), look([2]), go(BASE + 8), look(), ids(), go(BASE + 2), look(),
+        source(), go(BASE), look([], [3], [4, 5]), functions(), look([], [3]), done("forget"), ids(), done("clear"), look(),
+    ], BACK),
+    Row("a look where a program goes back heeds conditions, and logpoints say nothing at it", [
+        go(BASE), source(a(1, condition="0"), a(2, condition="a0 == 5"), a(3, condition="[0]"), a(4, log="says"), a(5, condition="a0", log="says")),
+        instructions(a(6, condition="a0 - 5")), functions(a(7, condition="pc == 65536"), a(8, condition="pc")),
+        look([3], [6], [7, 8]), logs(), sets(10, 5), look([2, 3], [], [7, 8]), logs(), check([2, 3], [], [7, 8]), logs(3, 4),
+        look([2, 3], [], [7, 8]), logs(), go(BASE + 4), look(), go(BASE), sets(10, 4), look([3], [6], [7, 8]), check([3], [6], [7, 8]), logs(3, 4),
+    ], BACK),
+    Row("a look where a program goes back at lists of 1,024 breakpoints", [
+        go(BASE), source(*(a(i, hit=1 + i % 3, log="x" if i % 2 else None) for i in range(MOST))),
+        functions(*(a(i, condition="a0 == %d" % i) for i in range(MOST))),
+        look(range(0, MOST, 2), [], [0]), logs(), sets(10, MOST - 1), look(range(0, MOST, 2), [], [MOST - 1]), go(BASE + APART), look(),
+    ], BACK),
     Row("lists of functions and logpoints that found no memory are set when they are set again", [
         go(BASE), source(a(1, hit=2, condition="a0 == 0", log="one"), a(2)), functions(a(3), a(4, condition="[0]")), logs(), check([2], [], [3, 4]), logs(),
         check([2], [], [3, 4]), logs(0), text(0, "one"), functions(), logs(), check([2]), logs(0), done("forget"), logs(),
     ], PROFILE, refused=True),
     Row("lists that found no memory are set when they are set again", [
-        go(BASE), source(a(1, hit=2), a(2, condition="a0 == 0 || [0]")), check([2]),
+        go(BASE), source(a(1, hit=2), a(2, condition="a0 == 0 || [0]")), check([2]), look([1, 2]),
         instructions(a(3), a(4, BASE + 4), a(5)), ids(), check([1, 2], [3, 5]),
         source(a(6)), ids(), check([6], [3, 5]),
     ], PROFILE, refused=True),

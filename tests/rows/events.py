@@ -84,6 +84,7 @@ STOPS = [
     Row("a stop with a text", [
         *both_ways(stopped("Step", "x", 1), "stopped", STOP % RIGHT),
         *both_ways(stopped("Exception", "instruction limit"), "stopped", stop("exception", text='"text":"instruction limit",')),
+        *both_ways(stopped("Step", "start of history"), "stopped", stop("step", text='"text":"start of history",')),
         *both_ways(stopped("Step", '"\n\u00e9', 7), "stopped", stop("step", '"hitBreakpointIds":[7],', '"text":"\\"\\n\u00e9",')),
         *both_ways(stopped("Pause", "", 7), "stopped", stop("pause", '"hitBreakpointIds":[7],', '"text":"",')),
     ], PROFILE),

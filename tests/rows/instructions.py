@@ -3,7 +3,7 @@ from support.machine import REGISTERS
 from support.players import Row
 
 PLAYER = "test_machine"
-TAKES_NONE = {"decode": "word decode", "encode": "word encode", "reg_name": "register name", "reg_of": "register of"}
+TAKES_NONE = {"decode": "word decode", "encode": "word encode", "destination": "word destination", "reg_name": "register name", "reg_of": "register of"}
 
 ASSEMBLER = "GNU as 2.40, riscv64-unknown-elf-as -march=rv32i -mabi=ilp32"
 MANUAL = "the tables of RISC-V Unprivileged ISA 20191213, chapter 24, by hand"
@@ -39,6 +39,11 @@ def decoded(word, wanted):
 
 def encoded(word, wanted):
     return "word encode %d" % word, str(wanted)
+
+
+def writes(word, wanted):
+    """The register that a word's instruction writes."""
+    return "word destination %d" % word, str(wanted)
 
 
 def text(word, address, wanted):
@@ -128,6 +133,18 @@ FENCES = (
     (0xffff8f8f, ".word 0xffff8f8f"),
 )
 
+# The registers that the instructions write, by their texts above: 0 where one writes none.
+DESTINATIONS = tuple(zip((word for word, _, _ in ASSEMBLED), (
+    10, 1, 1, 0, 5, 1, 0,           # lui auipc jal jalr
+    0, 0, 0, 0, 0, 0,               # branches
+    10, 11, 12, 13, 14,             # loads
+    0, 0, 0,                        # stores
+    10, 28, 12, 14, 16, 25, 27,     # with an immediate
+    10, 11, 12,                     # shifts by a number
+    10, 13, 18, 21, 5, 28, 16, 9, 26, 0,
+    0, 0, 0, 0, 0,                  # fences, ecall and ebreak
+), strict=True))
+
 ILLEGAL = (
     0x02351513, 0x0000100f, 0x00000000, 0xffffffff, 0x02000033, 0x02005013, 0x40001013, 0x40001033,
     0x00002063, 0x00003003, 0x00003023, 0x00001067, 0x00200073, 0x00001073, 0x10500073, 0x00000001,
@@ -142,6 +159,8 @@ ROWS = [
     )], ASSEMBLER),
     Row("a shift is read", each_others(0x00351513, "Slli", rd=10, rs1=10, shamt=3), MANUAL),
     Row("what is not in the profile is illegal", [decoded(word, "none") for word in ILLEGAL], MANUAL),
+    Row("each instruction writes its rd, and a branch, a store, a fence and a call none", [writes(word, number) for word, number in DESTINATIONS]
+        + [writes(word, "none") for word in ILLEGAL], MANUAL),
     Row("a fence keeps all its fields", [
         *each_others(0x8330000f, "Fence", fm=8, before=3, after=3, rd=0, rs1=0),
         text(0x8330000f, 0, ".word 0x8330000f"),
@@ -194,6 +213,6 @@ ROWS = [
         text(0x00000073, 0, "ecall"),
         word_text(0, 0, ".word 0x00000000"),
         digits("aaaaaaaaaaaaaaaa", 0x89abcdef, "aaaaaaaaaaaaaaaa89abcdef"),
-        *each_others(0x00351513, "Slli", rd=10, rs1=10, shamt=3), encoded(0x02351513, "none"), name(10, "a0"), register("fp", 8), register("x32", "none"),
+        *each_others(0x00351513, "Slli", rd=10, rs1=10, shamt=3), encoded(0x02351513, "none"), writes(0x00351513, 10), name(10, "a0"), register("fp", 8), register("x32", "none"),
     ], ASSEMBLER, refused=True),
 ]

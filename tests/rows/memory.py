@@ -2,7 +2,8 @@
 from support.players import NO_MEMORY, Row
 
 PLAYER = "test_machine"
-TAKES_NONE = {"Memory::byte": "memory byte", "Memory::word": "memory word", "Memory::read": "memory read", "Memory::half": "memory half"}
+TAKES_NONE = {"Memory::byte": "memory byte", "Memory::word": "memory word", "Memory::word_bytes": "memory word_bytes", "Memory::read": "memory read",
+              "Memory::half": "memory half"}
 BASE = 0x10000
 SIZES = (4096, 8192, 1048576, 16777216)
 
@@ -27,6 +28,10 @@ def half(address, wanted):
 
 def word(address, wanted):
     return "memory word %d" % address, str(wanted)
+
+
+def word_bytes(address, wanted):
+    return "memory word_bytes %d" % address, wanted
 
 
 def read(address, before, after, answer="ok"):
@@ -153,6 +158,20 @@ ROWS = [
         half(0x11ffe, 0xfedc),
         byte(0x11fff, 0xfe),
         half(0x11ffc, 0),
+    ], BY_HAND, refused=True),
+    Row("the bytes of a word, and those of a page that was not written", [
+        new(8192),
+        word_bytes(BASE, "00000000"),
+        word_bytes(0x10002, "Misaligned"),
+        word_bytes(0x12002, "Misaligned"),
+        word_bytes(0x12000, "Outside"),
+        word_bytes(0xfffc, "Outside"),
+        word_bytes(0xfffffffc, "Outside"),
+        write_word(0x10ffc, 0x84838281),
+        word_bytes(0x10ffc, "81828384"),
+        word_bytes(0x11000, "00000000"),
+        write_half(0x11ffe, 0xfedc),
+        word_bytes(0x11ffc, "0000dcfe"),
     ], BY_HAND, refused=True),
     Row("reads over pages of which one was written", [
         step for at, wanted in ((4095, b"\7" + bytes(8192)), (4096, b"\0\7" + bytes(8191)), (8191, bytes(4096) + b"\7" + bytes(4096)),

@@ -144,6 +144,7 @@ REFUSALS = (
     ("ReferencesExhausted", "referencesExhausted", 19),
     ("RequestGone", "requestGone", 20),
     ("FileUnreadable", "fileUnreadable", 21),
+    ("NoHistory", "noHistory", 23),
 )
 # Those whose format is their name.
 NAMED_REFUSALS = [row for row in REFUSALS if row[0] != "AssemblyFailed"]

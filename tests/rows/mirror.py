@@ -169,7 +169,8 @@ RESUMES = [
     *(forgets("a success of %s" % name, sent(7, name, **arguments), feed(success(7, name, body)), state="Running")
       for name, arguments, body in (
           ("continue", {"threadId": 1}, GOES_ON), ("next", {"threadId": 1}, None), ("stepIn", {"threadId": 1}, None),
-          ("stepOut", {"threadId": 1}, None), ("restart", {}, None))),
+          ("stepOut", {"threadId": 1}, None), ("stepBack", {"threadId": 1}, None), ("reverseContinue", {"threadId": 1}, None),
+          ("restart", {}, None))),
     forgets("the start of a program that was launched", sent(7, "configurationDone"), feed(success(7, "configurationDone")), state="Running"),
     Row("a program that was joined is not started", [
         sent(1, "attach"), feed(success(1, "attach")), sent(2, "configurationDone"), feed(success(2, "configurationDone")), run("Unknown"),

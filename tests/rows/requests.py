@@ -79,6 +79,8 @@ ARGUMENTS = {
     "next": [THREAD_ID, GRANULARITY],
     "stepIn": [THREAD_ID, GRANULARITY],
     "stepOut": [THREAD_ID, GRANULARITY],
+    "stepBack": [THREAD_ID, GRANULARITY],
+    "reverseContinue": [THREAD_ID],
     "pause": [THREAD_ID],
     "stackTrace": [THREAD_ID, ("startFrame", NO_NATURAL, "2", "2", "0"), ("levels", NO_NATURAL, "20", "20", "none")],
     "scopes": [FRAME_ID],
@@ -182,11 +184,11 @@ EACH = [
     Row("other names are unknown, whatever the arguments are", [
         refused(name, arguments, "UnknownCommand")
         for name in (*(name[0].upper() + name[1:] for name in NAMES), "launch ", "goto", "source", "setDataBreakpoints",
-                     "stepBack", "reverseContinue", "runInTerminal", "logMessage")
+                     "stepback", "reverse", "continueReverse", "runInTerminal", "logMessage")
         for arguments in (None, "[]", '{"threadId":1}')], SCHEMA),
     Row("the granularities and filters", [
         *(read(name, '{"granularity":"%s","threadId":1}' % granularity, "1", granularity.capitalize())
-          for name in ("next", "stepIn", "stepOut") for granularity in ("statement", "line", "instruction")),
+          for name in ("next", "stepIn", "stepOut", "stepBack") for granularity in ("statement", "line", "instruction")),
         *(read("variables", '{"filter":"%s","variablesReference":1}' % kind, "1", kind.capitalize(), "0", "none") for kind in ("indexed", "named")),
     ], SCHEMA),
 ]

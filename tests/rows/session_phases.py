@@ -1,7 +1,7 @@
 """What each request answers in each phase of a connection, and in which order the reasons for a refusal are looked at."""
 from support.breaks import MOST, at, body_of, on
-from support.debugging import (BAD_ARGUMENTS, ENDED, GONE, INITIALIZED, NO_THREAD, NOT_STOPPED, PATH, REPEATED, TERMINATED, TOO_MUCH,
-                               UNKNOWN, WAS_CANCELLED, WRONG_PHASE, Debugging, debugging, exits, stopped)
+from support.debugging import (BAD_ARGUMENTS, ENDED, GONE, INITIALIZED, NO_HISTORY, NO_THREAD, NOT_STOPPED, PATH, REPEATED, TERMINATED,
+                               TOO_MUCH, UNKNOWN, WAS_CANCELLED, WRONG_PHASE, Debugging, debugging, exits, stopped)
 from support.looks import BASE, CONTINUED, NO_MACHINE, UNKNOWN_REFERENCE, frame_at, frames, memory, text
 from support.players import Row
 from support.programs import CALLS, CIRCLES
@@ -13,12 +13,15 @@ PROFILE = "docs/PROTOCOL.md, worked by hand"
 THREAD = {"threadId": 1}
 REQUESTS = {"initialize": {}, "launch": {"program": PATH}, "configurationDone": {}, "threads": {}, "setBreakpoints": {"breakpoints": []},
             "setInstructionBreakpoints": {"breakpoints": []}, "setExceptionBreakpoints": {"filters": []}, "continue": THREAD, "next": THREAD,
-            "stepIn": THREAD, "stepOut": THREAD, "pause": THREAD, "restart": {}, "terminate": {}, "cancel": {}, "disconnect": {},
-            "attach": {}, "stackTrace": THREAD, "scopes": {"frameId": 1}, "variables": {"variablesReference": 1},
+            "stepIn": THREAD, "stepOut": THREAD, "stepBack": THREAD, "reverseContinue": THREAD, "pause": THREAD, "restart": {},
+            "terminate": {}, "cancel": {}, "disconnect": {}, "attach": {}, "stackTrace": THREAD, "scopes": {"frameId": 1},
+            "variables": {"variablesReference": 1},
             "setVariable": {"variablesReference": 1, "name": "a0", "value": "1"}, "evaluate": {"expression": "pc"},
             "disassemble": {"memoryReference": "65536", "instructionCount": 0}, "readMemory": {"memoryReference": "65536", "count": 0},
             "writeMemory": {"memoryReference": "65536", "data": ""}, "goto": {"threadId": 1, "targetId": 1}}
 STEPS = ("continue", "next", "stepIn", "stepOut")
+# Those that need a move that is recorded.
+BACK = ("stepBack", "reverseContinue")
 # Those that name a number, of which none was given here; and those that need none.
 NAMING = ("scopes", "variables", "setVariable")
 LOOKS = ("stackTrace", "evaluate", "disassemble", "readMemory", "writeMemory")
@@ -50,6 +53,10 @@ def standing():
     return debugging(CIRCLES, stopOnEntry=True).slices(100, 0, "Stopped", stopped("entry"))
 
 
+def moved():
+    return standing().asks("stepIn").slices(100, 1, "Stopped", stopped("step"))
+
+
 def ended():
     return debugging(CALLS).slices(100, 6, "Ended", *exits(6))
 
@@ -72,6 +79,10 @@ def joined_standing():
     return joining(standing()).asks("configurationDone", events=[stopped("entry")])
 
 
+def joined_moved():
+    return joining(moved()).asks("configurationDone", events=[stopped("step")])
+
+
 def left():
     return initialized().sends("disconnect").answers("disconnect").takes()
 
@@ -83,9 +94,10 @@ def answers_of(taken, refused, other=WRONG_PHASE):
 
 EVERYWHERE = ("cancel", "disconnect")
 UNSERVED = {"goto": UNKNOWN}
-OF_ENDED = {command: ENDED for command in (*STEPS, *NAMING, *LOOKS, "pause", "restart", "terminate")}
-OF_RUNNING = {command: NOT_STOPPED for command in (*STEPS, *NAMING, *LOOKS)}
-OF_STANDING = {command: UNKNOWN_REFERENCE for command in NAMING}
+OF_ENDED = {command: ENDED for command in (*STEPS, *BACK, *NAMING, *LOOKS, "pause", "restart", "terminate")}
+OF_RUNNING = {command: NOT_STOPPED for command in (*STEPS, *BACK, *NAMING, *LOOKS)}
+OF_MOVED = {command: UNKNOWN_REFERENCE for command in NAMING}
+OF_STANDING = {**OF_MOVED, **{command: NO_HISTORY for command in BACK}}
 JOINED = ("configurationDone", "threads", *BREAKPOINTS, "terminate", *EVERYWHERE)
 
 # The phases, each with how it is reached and what is refused in it.
@@ -110,6 +122,10 @@ PHASES = [
         ("threads", *BREAKPOINTS, *STEPS, *LOOKS, "pause", "restart", "terminate", *EVERYWHERE), {**OF_STANDING, **UNSERVED})),
     ("a program stands still that was joined", joined_standing, answers_of(
         ("threads", *BREAKPOINTS, *STEPS, *LOOKS, "pause", "restart", "terminate", *EVERYWHERE), {**OF_STANDING, **UNSERVED})),
+    ("a program stands still after a move", moved, answers_of(
+        ("threads", *BREAKPOINTS, *STEPS, *BACK, *LOOKS, "pause", "restart", "terminate", *EVERYWHERE), {**OF_MOVED, **UNSERVED})),
+    ("a program stands still after a move, and was joined", joined_moved, answers_of(
+        ("threads", *BREAKPOINTS, *STEPS, *BACK, *LOOKS, "pause", "restart", "terminate", *EVERYWHERE), {**OF_MOVED, **UNSERVED})),
     ("a program has ended", ended, answers_of(("threads", *BREAKPOINTS, *EVERYWHERE), {**OF_ENDED, **UNSERVED})),
 ]
 
@@ -184,6 +200,13 @@ BOTH = [
     ("a join in the wrong phase where the program has ended", ended, WRONG_PHASE, "attach", {}),
     ("the end with no thread, of a look", ended, ENDED, "stackTrace", {"threadId": 2}),
     ("no thread where the program runs, of a look", running, NO_THREAD, "stackTrace", {"threadId": 2}),
+    ("a repeat where nothing is recorded", standing, REPEATED, "stepBack", {"seq": 1, "threadId": 1}),
+    ("bad arguments where nothing is recorded", standing, BAD_ARGUMENTS, "reverseContinue", {"threadId": "one"}),
+    ("a bad granularity where nothing is recorded", standing, BAD_ARGUMENTS, "stepBack", {"threadId": 1, "granularity": "word"}),
+    ("the wrong phase where nothing is recorded", configuring, WRONG_PHASE, "stepBack", {"threadId": 1}),
+    ("the end where nothing is recorded", ended, ENDED, "reverseContinue", {"threadId": 2}),
+    ("no thread where nothing is recorded", standing, NO_THREAD, "stepBack", {"threadId": 2}),
+    ("no thread where the program runs, of a run back", running, NO_THREAD, "reverseContinue", {"threadId": 2}),
     ("too many breakpoints where the program has ended", ended, TOO_MUCH, "setInstructionBreakpoints", {"breakpoints": TOO_MANY * [on("x")]}),
 ]
 
@@ -204,6 +227,7 @@ CANCELLED = [
     ("the end", ended, "restart", {}),
     ("no thread", standing, "next", {"threadId": 2}),
     ("a program that runs", running, "next", THREAD),
+    ("nothing is recorded", standing, "stepBack", THREAD),
     ("too many breakpoints", configuring, "setBreakpoints", {"lines": TOO_MANY * [1]}),
     ("no program to join", initialized, "attach", {}),
     ("a number that was not given", standing, "scopes", {"frameId": 7}),

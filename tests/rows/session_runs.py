@@ -104,7 +104,7 @@ def two_pieces():
 
 def prints_then_stops():
     script = debugging(PRINTS).slices(100, 4, "Stopped", printed(7), EBREAK)
-    assert len(script.taken) == 1197 and script.taken.endswith(
+    assert len(script.taken) == 1221 and script.taken.endswith(
         b'{"body":{"allThreadsStopped":true,"reason":"breakpoint","threadId":1},"event":"stopped","seq":6,"type":"event"}')
     return script
 

@@ -4,15 +4,19 @@ from support.programs import CALLS, COUNTS, PRINTS, RECURS, WRITES_ITSELF
 
 PLAYER = "test_stepping"
 TAKES_NONE = {"Calls::depth": "depth", "Calls::kept": "kept", "Calls::entry": "entry", "Runner::begin": "begin", "Runner::hart": "pc",
-              "Runner::retired": "retired", "Runner::breaks": "ids", "Runner::memory": "word", "Breaks::clear": "clear"}
+              "Runner::retired": "retired", "Runner::breaks": "ids", "Runner::memory": "word", "Breaks::clear": "clear",
+              "Runner::recorded": "recorded", "Runner::turns_back": "turns_back"}
 # The hart is made by the call that loads a program.
 ALSO_MADE = {"Hart::new": "load", "Calls::note": "tick"}
 BASE = 0x10000
 
 BY_HAND = "worked by hand from docs/MACHINE.md, \"Running and stepping\""
+BACK = "worked by hand from docs/MACHINE.md, \"Going back\""
 
 FAULTS = b"lw a0, 2(zero)\n"
 MANY = b"t: call t\n"
+# The first call is made from another place than those after it.
+DEEP = b"call t\nt: call t\n"
 
 # The instruction at p is run three times, and each time the one before it has made it anew: it adds 1, 16 and 256.
 WRITES_THE_NEXT = (b"_start: la t0, n\nla t2, p\nla t3, end\nr: lw t1, 0(t0)\nsw t1, 0(t2)\np: addi a0, a0, 1\naddi t0, t0, 4\nbne t0, t3, r\n"
@@ -60,6 +64,24 @@ FUNCTION = "Stopped(Function)"
 EBREAK = "Stopped(Ebreak)"
 ILLEGAL = "Stopped(Exception(Illegal))"
 
+START = "Stopped(Start)"
+
+# Programs that write over their own instructions: what is written, the text, how many moves come before the ebreak, and registers at that.
+OVERWRITTEN = (
+    ("the next instruction", WRITES_THE_NEXT, 21, ((10, 273),)), ("itself", WRITES_ITSELF, 14, ((10, 3),)),
+    ("a byte of an instruction", WRITES_A_BYTE, 15, ((10, 51), (6, 3))), ("half of an instruction", WRITES_A_HALF, 16, ((10, 3),)),
+    ("an instruction 65,536 bytes away", WRITES_FAR, 24, ((10, 3), (11, 33))), ("65,536 bytes from an instruction", STORES_FAR, 17, ((10, 3),)))
+
+
+def back(kind):
+    """A run that goes back begins."""
+    return [does("begin " + kind), does("turns_back", "true")]
+
+
+def recorded(count):
+    return "recorded", str(count)
+
+
 ROWS = [
     Row("a program without a goal runs to its end, and ends again",
         [load(CALLS)] + at(BASE, 0, 0) + ticks(WENT, WENT, WENT, WENT, WENT, WENT, "Ended(6)", "Ended(6)") + at(BASE + 0x10, 0, 6), BY_HAND,
@@ -92,10 +114,7 @@ ROWS = [
          does("write %d 13052500" % (BASE + 0xC)), does("begin go"), runs(100, "4 " + SOURCE), does("x 10", "3"), does("ids", "[1]")], BY_HAND),
     *(Row("a program that writes %s: as it wrote it, and from the start again" % what,
           [load(text, 262144)] + 2 * [runs(1000, "%d %s" % (moves, EBREAK)), *(does("x %d" % x, str(value)) for x, value in left), does("reload")], BY_HAND,
-          refused=what == "itself") for what, text, moves, left in (
-        ("the next instruction", WRITES_THE_NEXT, 21, ((10, 273),)), ("itself", WRITES_ITSELF, 14, ((10, 3),)),
-        ("a byte of an instruction", WRITES_A_BYTE, 15, ((10, 51), (6, 3))), ("half of an instruction", WRITES_A_HALF, 16, ((10, 3),)),
-        ("an instruction 65,536 bytes away", WRITES_FAR, 24, ((10, 3), (11, 33))), ("65,536 bytes from an instruction", STORES_FAR, 17, ((10, 3),)))),
+          refused=what == "itself") for what, text, moves, left in OVERWRITTEN),
     Row("what is written over parts of instructions that ran is met",
         [load(COUNTS, 262144), runs(8, "8 Spent"), does("x 10", "2")]
         + [step for at, written, value, link in ((0xF, "01", 19, 0), (0xE, "10006782", 1, BASE + 0x14), (0xB, "ff13053500", 4, BASE + 0x14)) for step in (
@@ -159,4 +178,63 @@ ROWS = [
     Row("the greatest memory",
         [load(COUNTS, 16777216), does("x 2", str(BASE + 16777216)), does("word %d" % (BASE + 16777212), "Ok(0)"), runs(5, "5 Spent"), does("reload"),
          does("x 2", str(BASE + 16777216))] + at(BASE, 0, 0), BY_HAND),
+    Row("a step back undoes one move, also where the way was by lines",
+        [load(CALLS), recorded(0), does("turns_back", "false"), does("begin in line"), runs(9, "0 " + GOAL), runs(9, "1 " + GOAL), runs(9, "0 " + GOAL)]
+        + at(BASE + 0x18, 1, 4) + [recorded(4)] + back("back") + ticks(GOAL) + at(BASE + 0x14, 1, 3)
+        + [does("x 10", "5"), recorded(3), runs(9, "0 " + GOAL)] + at(BASE + 8, 0, 2) + ticks(GOAL, GOAL) + at(BASE, 0, 0)
+        + [does("x 10", "0"), recorded(0), does("begin in instruction"), does("turns_back", "false")] + ticks(GOAL) + at(BASE + 4, 0, 1), BACK),
+    Row("a step back into a function that has returned opens its call again, and one out of it closes that",
+        [load(CALLS), runs(5, "5 Spent"), does("kept", "0")] + at(BASE + 0xC, 0, 5) + back("back") + ticks(GOAL) + at(BASE + 0x18, 1, 4)
+        + [does("kept", "1"), does("entry 0", "Some(%d)" % (BASE + 8)), does("x 10", "6")] + ticks(GOAL, GOAL) + at(BASE + 8, 0, 2)
+        + [does("kept", "0"), does("entry 0", "None"), does("x 10", "5")], BACK),
+    Row("a step back brings a call back that was forgotten",
+        [load(DEEP), runs(514, "514 Spent"), does("kept", "256"), does("entry 255", "Some(%d)" % (BASE + 0xC))] + at(BASE + 8, 257, 514) + back("back")
+        + ticks(GOAL) + at(BASE + 0xC, 256, 513) + [does("kept", "256"), does("entry 255", "Some(%d)" % (BASE + 4)), does("entry 256", "None")], BACK),
+    Row("a run back that no breakpoint stops ends where the past begins, and the program runs to the same end again",
+        [load(CALLS), runs(9, "6 Ended(6)"), recorded(6)] + back("reverse") + [runs(3, "3 Spent")] + at(BASE + 0x14, 1, 3)
+        + [does("x 10", "5"), runs(9, "2 " + START)] + at(BASE, 0, 0) + [does("x 10", "0"), does("begin go"), runs(9, "6 Ended(6)")]
+        + at(BASE + 0x10, 0, 6), BACK),
+    Row("where nothing is recorded a tick back undoes nothing",
+        [load(CALLS)] + back("reverse") + ticks(START) + [runs(9, "0 " + START)] + back("back") + ticks(GOAL) + at(BASE, 0, 0)
+        + [does("source 1 %d 9" % BASE)] + back("reverse") + ticks(SOURCE, SOURCE) + [does("ids", "[1]")] + back("back") + ticks(GOAL)
+        + [does("ids", "[]")] + at(BASE, 0, 0), BACK),
+    Row("a first run that goes back begins with the check at the entry too",
+        [load(CALLS), does("first back")] + ticks(WENT, GOAL) + [does("source 1 %d 1" % BASE), does("first back")] + ticks(SOURCE) + [does("ids", "[1]")]
+        + ticks(GOAL) + [does("ids", "[]")] + at(BASE, 0, 0), BACK),
+    Row("a run back stops where a breakpoint stands, whatever hits it waits for, and counts none",
+        [load(COUNTS), runs(12, "12 Spent"), does("source 1 %d 3" % (BASE + 8))] + back("reverse") + [runs(99, "2 " + SOURCE), does("ids", "[1]")]
+        + at(BASE + 8, 0, 9) + [runs(99, "4 " + SOURCE), does("x 10", "1")] + at(BASE + 8, 0, 4) + [runs(99, "3 " + START), does("ids", "[]")]
+        + at(BASE, 0, 0) + [does("begin go"), runs(99, "13 " + SOURCE), does("x 10", "3")], BACK),
+    Row("a run back heeds conditions, and goes past a logpoint, which says nothing",
+        [load(COUNTS), runs(20, "20 Spent"), does("source 1 %d 1 a0==1" % (BASE + 0xC))] + back("reverse") + [runs(99, "12 " + SOURCE), does("x 10", "1")]
+        + at(BASE + 0xC, 1, 7) + [does("source 2 %d 1 log here" % (BASE + 8)), runs(99, "6 " + START), does("logs", "[]")] + at(BASE, 0, 0)
+        + [does("source 1 %d 1 [0]" % (BASE + 0xC)), does("begin go"), runs(99, "1 " + SOURCE), runs(99, "4 " + SOURCE)] + at(BASE + 0xC, 1, 7)
+        + back("reverse") + [runs(99, "4 " + SOURCE), does("source 1 %d 1 0" % BASE), runs(99, "1 " + START)], BACK),
+    Row("of breakpoints at one address the line's comes first on the way back too, and then the instruction's",
+        [load(CALLS), runs(3, "3 Spent"), does("functions 3 %d 1" % (BASE + 8))] + back("reverse") + ticks(FUNCTION) + [does("ids", "[3]")]
+        + [step for kind, number, reason, ids in (("instructions", 2, INSTRUCTION, "[2, 3]"), ("source", 1, SOURCE, "[1, 2, 3]")) for step in (
+            does("begin go"), runs(1, "1 Spent"), does("%s %d %d 1" % (kind, number, BASE + 8)), *back("reverse"), *ticks(reason), does("ids", ids))]
+        + at(BASE + 8, 0, 2), BACK),
+    Row("a number is printed again, and an ebreak stops on the way forth alone",
+        [load(PRINTS), runs(9, "2 7 Went"), runs(9, "0 " + EBREAK), recorded(4)] + back("back") + ticks(GOAL) + at(BASE + 0xC, 0, 3)
+        + [does("begin go")] + ticks(EBREAK) + at(BASE + 0x10, 0, 4) + back("reverse") + [runs(9, "3 " + START)] + at(BASE, 0, 0)
+        + [does("begin go"), runs(9, "2 7 Went"), runs(9, "0 " + EBREAK)], BACK),
+    Row("what trapped is not among the moves that are taken back",
+        [load(b"li a0, 1\nlw a0, 2(zero)\n"), runs(9, "1 Stopped(Exception(LoadMisaligned))"), runs(9, "0 Stopped(Exception(LoadMisaligned))"), recorded(1)]
+        + at(BASE + 4, 0, 1) + back("back") + ticks(GOAL) + at(BASE, 0, 0) + [does("x 10", "0"), recorded(0)], BACK),
+    *(Row("a program that writes %s: back to its start, and forth again" % what,
+          [load(text, 262144), runs(1000, "%d %s" % (moves, EBREAK))]
+          + 2 * [recorded(moves + 1), *back("reverse"), runs(1000, "%d %s" % (moves, START)), *at(BASE, 0, 0), does("begin go"),
+                 runs(1000, "%d %s" % (moves, EBREAK)), *(does("x %d" % x, str(value)) for x, value in left)], BACK)
+      for what, text, moves, left in OVERWRITTEN),
+    Row("the newest 65,536 moves are recorded",
+        [load(COUNTS), runs(70000, "70000 Spent"), recorded(65536)] + back("reverse") + [runs(100000, "65535 " + START), does("x 10", "893")]
+        + at(BASE + 8, 0, 4464) + [recorded(0)], BACK),
+    Row("what is set gives up the past, and a breakpoint does not",
+        [load(COUNTS), runs(5, "5 Spent"), does("source 1 %d 1" % (BASE + 0x100)), recorded(5), does("set 10 1"), recorded(0), runs(2, "2 Spent"), recorded(2),
+         does("write %d 0102" % (BASE + 0xFFF), "Outside"), recorded(2), does("write %d 01" % (BASE + 0xFFF)), recorded(0), runs(1, "1 Spent"), recorded(1)]
+        + back("reverse") + [runs(9, "0 " + START)] + at(BASE + 0xC, 1, 7) + [does("begin go"), runs(1, "1 Spent"), does("reload"), recorded(0)], BACK),
+    Row("a store that found no memory is made again, and is taken back",
+        [load(STORES_ANEW, 262144), does("turns_back", "false"), recorded(0)] + ticks(WENT, WENT, EBREAK) + [recorded(3), does("word 131072", "Ok(131072)")]
+        + back("reverse") + ticks(WENT, WENT, START) + [recorded(0), does("word 131072", "Ok(0)"), does("x 10", "0")] + at(BASE, 0, 0), BACK, refused=True),
 ]

@@ -308,4 +308,4 @@ ROWS = [
   + [Row("the first session is answered however it is cut: pieces of %d, sends of %d" % (size, most), is_driven(polls, most, size), PROFILE)
      for polls, most, size in ((False, 1, 1), (False, 1, 7), (True, 7, 1), (False, 83, 1000), (True, 1000, 64), (True, 2, 83))] \
   + [Row("a call of a wire that fails ends the connection: call %d, sends of %d" % (failing, most), is_dropped(failing, most, count), PROFILE)
-     for failing, most, count in ((1, 1000, 0), (2, 1000, 0), (3, 1000, len(FIRST_ANSWER)), (3, 100, 100), (9, 100, len(FIRST_ANSWER)))]
+     for failing, most, count in ((1, 1000, 0), (2, 1000, 0), (3, 1000, len(FIRST_ANSWER)), (3, 100, 100), (9, 100, 700), (10, 100, len(FIRST_ANSWER)))]

@@ -20,6 +20,7 @@ ENDED = ("ended", 18)
 EXHAUSTED = ("referencesExhausted", 19)
 GONE = ("requestGone", 20)
 UNREADABLE = ("fileUnreadable", 21)
+NO_HISTORY = ("noHistory", 23)
 
 # Events: the name, and the body if there is one.
 INITIALIZED = ("initialized", None)
@@ -28,7 +29,7 @@ TERMINATED = ("terminated", None)
 # As many bytes may come at once.
 LONGEST_PIECE = 65536
 
-OF_A_THREAD = ("continue", "next", "stepIn", "stepOut", "pause")
+OF_A_THREAD = ("continue", "next", "stepIn", "stepOut", "stepBack", "reverseContinue", "pause")
 
 SUCCESSES = {"initialize": CAPABILITIES, "threads": THREADS,
              "continue": '{"body":{"allThreadsContinued":true},"command":"continue","request_seq":%d,"seq":%d,"success":true,"type":"response"}'}

@@ -4,7 +4,7 @@ import copy
 import json
 import random
 
-from rows import session_breaks, session_looks, session_references, session_runs
+from rows import session_back, session_breaks, session_looks, session_references, session_runs
 from support.debugging import PATH
 from support.program import frame
 from support.programs import CALLS, CIRCLES, COUNTS, PRINTS, RECURS, WRITES_ITSELF
@@ -16,6 +16,7 @@ SESSIONS = (
     session_runs.two_pieces, session_runs.steps, session_runs.restarts, session_runs.paused, session_looks.in_a_recursion,
     session_looks.code_that_is_written_over, session_looks.at_an_instruction, session_looks.expressions, session_references.joined_while_it_runs,
     session_references.in_one_piece, session_references.the_last_number, session_breaks.too_many,
+    session_back.through_a_call, session_back.there_and_back,
 )
 NUMBERS = (0, 1, -1, 2, 3, 255, 256, 1023, 1024, 1025, 4096, 65535, 65536, 65537, 2147483647, 2147483648, -2147483648, -2147483649, 4294967295, 4294967296,
            9223372036854775807, 9223372036854775808, -9223372036854775808, 18446744073709551615, 18446744073709551616, 1.0, 1.5, 1e9)

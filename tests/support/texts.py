@@ -7,7 +7,7 @@ CAPABILITIES = (
     '"supportsConditionalBreakpoints":true,"supportsConfigurationDoneRequest":true,"supportsDisassembleRequest":true,'
     '"supportsEvaluateForHovers":true,"supportsFunctionBreakpoints":true,"supportsHitConditionalBreakpoints":true,'
     '"supportsInstructionBreakpoints":true,"supportsLogPoints":true,"supportsReadMemoryRequest":true,'
-    '"supportsRestartRequest":true,"supportsSetVariable":true,'
+    '"supportsRestartRequest":true,"supportsSetVariable":true,"supportsStepBack":true,'
     '"supportsSteppingGranularity":true,"supportsTerminateRequest":true,"supportsWriteMemoryRequest":true},'
     '"command":"initialize","request_seq":%d,"seq":%d,"success":true,"type":"response"}'
 )
