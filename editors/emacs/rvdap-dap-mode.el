@@ -41,6 +41,23 @@
  "rvdap-attach"
  (list :type "rvdap" :request "attach" :name "rvdap-attach" :debugServer 4711))
 
+;; dap-mode has no commands that go back. A request that is refused leaves the program where it is, as dap-mode shows it then too.
+(defun rvdap-go-back (command session)
+  "Ask the program of SESSION to go back, by the request COMMAND."
+  (dap--send-message (dap--make-request command (list :threadId 1))
+                     (dap--resp-handler (lambda (_) (dap--resume-application session)))
+                     session))
+
+(defun rvdap-step-back (session)
+  "Take back one instruction of the program that SESSION debugs."
+  (interactive (list (dap--cur-session-or-die)))
+  (rvdap-go-back "stepBack" session))
+
+(defun rvdap-reverse-continue (session)
+  "Run the program that SESSION debugs back, to a breakpoint or as far as it is recorded."
+  (interactive (list (dap--cur-session-or-die)))
+  (rvdap-go-back "reverseContinue" session))
+
 ;; What a logpoint says is of the category console, which dap-mode does not show by itself.
 (add-to-list 'dap-output-buffer-filter "console" t)
 

@@ -75,5 +75,22 @@
   (interactive "nStop from the hit number: ")
   (dape-breakpoint-hits (number-to-string number)))
 
+;; dape has no commands that go back.
+(defun rvdap-step-back (conn)
+  "Take back one instruction of the program that CONN debugs."
+  (interactive (list (dape--live-connection 'stopped)))
+  (dape--next-like-command conn "stepBack"))
+
+(defun rvdap-reverse-continue (conn)
+  "Run the program that CONN debugs back, to a breakpoint or as far as it is recorded."
+  (interactive (list (dape--live-connection 'stopped)))
+  (dape--next-like-command conn "reverseContinue"))
+
+;; C-x C-a N and C-x C-a C: the capitals of the keys that go on. The last letter may be repeated, as theirs may, where repeat-mode is on.
+(define-key dape-global-map "N" #'rvdap-step-back)
+(define-key dape-global-map "C" #'rvdap-reverse-continue)
+(put 'rvdap-step-back 'repeat-map 'dape-global-map)
+(put 'rvdap-reverse-continue 'repeat-map 'dape-global-map)
+
 ;; Addresses of frames and disassembly are shown beside the source.
 (setq dape-buffer-window-arrangement 'right)
