@@ -1,14 +1,14 @@
 -- The last moves, the newest first, as they lie in a log.
-use Rattle.std.proofs.Common.{◌≡◌, ℕ, suc, ◌+◌, ◌-◌, ◌<◌, ◌≤◌, ◌⊎◌, inl, inr, List, [], ◌∷◌, ◌++◌, reverse, length, take, drop, min, Option, Some, None, refl, sym, ap, ◌∙◌, subst, arith, append_assoc, length-append}
+use Rattle.std.proofs.Common.{◌≡◌, ℕ, suc, ◌+◌, ◌-◌, ◌<◌, ◌≤◌, ◌⊎◌, inl, inr, List, [], ◌∷◌, ◌++◌, reverse, length, get_or, set, take, drop, min, Option, Some, None, refl, sym, ap, ◌∙◌, subst, arith, append_assoc, length-append}
 use Rattle.std.proofs.Math.Nat.{min_comm}
 use Rattle.std.proofs.lemmas.List.{append-nil}
 use Rattle.std.specs.Prelude.{slice_get}
 use Rattle.std.proofs.lemmas.Bool.{cases_lt}
 use Rattle.circular_buffer.proofs.Places.{slice_get-last}
-use Rattle.std.proofs.Math.Seq.{take-append_seam}
+use Rattle.std.proofs.Math.Seq.{get_or-append_seam, set-append_seam, take-append_seam}
 use Rattle.std.proofs.lemmas.List.{reverse-append, reverse-reverse, length-reverse, length-drop, length-take, take-append-drop, take-append-le, take_all, take-take}
 use Rattle.circular_buffer.specs.Buffer.{Buffer, buffer, keep_last, last_item}
-use Rattle.course.specs.Moves.{HandsOn, logged, with_move}
+use Rattle.course.specs.Moves.{Amends, HandsOn, Log, Puts, TakesBack, logged, moves_of, put_last, with_move}
 use Rattle.course.specs.declared.moves.Move.{Move}
 
 module _ {X : Type 0} where
@@ -94,6 +94,35 @@ pub one_more : (ring newest : List Move) (made : Move) → logged ring (newest +
 one_more ring newest made =
     ap (λ (l : List Move). take 65536 (reverse l)) (sym (append_assoc ring newest (made ∷ [])))
     ∙ put_behind 65535 (ring ++ newest) made
+
+-- what was put down last is amended
+pub amended : (log : Log) (ring items : List Move) (n : ℕ) (made was now : Move) (more : Move → Move)
+    → record { ring = ring; newest = items } ≡ put_last made log → n ≡ length items → was ≡ get_or items (n - 1) was → now ≡ more was
+    → record { ring = ring; newest = set items (n - 1) now } ≡ put_last (more made) log
+amended log ring items n made was now more e long there is =
+    let behind : items ≡ log.newest ++ made ∷ [] = ap (λ (l : Log). l.newest) e in
+    let last : n - 1 ≡ length log.newest = omega (arith, long, ap length behind, length-append log.newest (made ∷ [])) in
+    let same : was ≡ made = there ∙ (λ j. get_or (behind j) (last j) was) ∙ get_or-append_seam log.newest made [] was in
+    let put : set items (n - 1) now ≡ log.newest ++ more made ∷ [] = (λ j. set (behind j) (last j) ((is ∙ ap more same) j))
+    ∙ set-append_seam log.newest made [] (more made) in
+    λ j. record { ring = (e j).ring; newest = put j }
+
+-- there is one that was put down last
+pub room_behind : (made : Move) (before after : Log) → Puts made before after → 1 ≤ length after.newest
+room_behind made before after p =
+    omega (arith, ap (λ (l : Log). length l.newest) p.is, length-append p.roomy.newest (made ∷ []))
+
+-- which is taken back
+pub taken_back : (made : Move) (before put after : Log) → Puts made before put → TakesBack put after → moves_of after ≡ moves_of before
+taken_back made before put after p back = ap moves_of (back made p.roomy p.is) ∙ p.same
+
+-- or of which more is recorded
+pub amended_moves : (made : Move) (before put after : Log) (more : Move → Move) → Puts made before put → Amends more put after
+    → moves_of after ≡ with_move (more made) (moves_of before)
+amended_moves made before put after more p amends =
+    ap moves_of (amends made p.roomy p.is)
+    ∙ one_more p.roomy.ring p.roomy.newest (more made)
+    ∙ ap (with_move (more made)) p.same
 
 -- how many there are
 length_kept : (k n m : ℕ) (l : List Move) → length l ≡ m → n ≡ min m k → n ≡ length (take k (reverse l))

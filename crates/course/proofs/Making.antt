@@ -13,12 +13,15 @@ use Rattle.rv32i.specs.declared.undo.Undo.{Undo}
 use Rattle.rv32i.specs.declared.stepped.Stepped.TheVariants.{Retired}
 use Rattle.rv32i.proofs.Undoing.{BackFrom, undoes}
 use Rattle.course.specs.Calls.{Kept, noted}
-use Rattle.course.specs.Moves.{CanBeKept, IsKeptBy, IsMade, IsOver, called_in, kept_plain, kept_store, machine_in, store_kind, undo_in, undo_of, unmade, unnoted, with_called}
+use Rattle.course.specs.Moves.{CanBeKept, IsKeptBy, IsMade, IsOver, called_in, kept, machine_in, placed, undo_in, undo_of, unmade, unnoted, with_called}
 use Rattle.course.specs.declared.calls.Called.{Called}
 use Rattle.course.specs.declared.calls.Called.TheVariants.{Nothing, Pushed, PushedOut, Popped, PoppedFrom, Swapped, SwappedFrom}
 use Rattle.course.specs.Positions.{Position, machine_at, position_at}
-use Rattle.course.specs.Words.{AreKnown, Knows, stored_at, stores_in}
+use Rattle.course.specs.Words.{AreKnown, Knows, deed_of, kind_of, stored_at, stores_in}
 use Rattle.course.specs.declared.entry.Entry.{Entry}
+use Rattle.course.specs.declared.moves.Deed.{Deed}
+use Rattle.course.specs.declared.moves.Kind.{Kind}
+use Rattle.course.specs.declared.moves.Kind.TheVariants as kind
 use Rattle.course.specs.declared.moves.Move.{Move}
 use Rattle.course.proofs.Moving.{harts_equal, retires}
 use Rattle.course.proofs.Remembering.{known_from, known_write}
@@ -34,17 +37,25 @@ stores_nothing (Sh rs1 rs2 imm) x e = absurd (let never : true ≡ false = e in 
 stores_nothing (Sw rs1 rs2 imm) x e = absurd (let never : true ≡ false = e in cc)
 stores_nothing i x e = record { address = refl; count = refl }
 
+-- nor has it a kind
+no_kind : (i : Instr) → stores_in i ≡ false → kind_of i ≡ kind.Nothing
+no_kind (Sb rs1 rs2 imm) e = absurd (let never : true ≡ false = e in cc)
+no_kind (Sh rs1 rs2 imm) e = absurd (let never : true ≡ false = e in cc)
+no_kind (Sw rs1 rs2 imm) e = absurd (let never : true ≡ false = e in cc)
+no_kind i e = refl
+
 -- what is kept of it is the register that it writes
-plain_kept : (i : Instr) (m : Machine) (was register : ℕ) → stores_in i ≡ false → was ≡ value (destination i) m → register ≡ destination i
-    → IsKeptBy (kept_plain m.pc was register) i m
-plain_kept i m was register none over e =
+plain_kept : (i : Instr) (m : Machine) (was : ℕ) (k : Kind) → stores_in i ≡ false → was ≡ value (destination i) m → kind.Nothing ≡ k
+    → IsKeptBy (kept m.pc was (record { at = 0; register = destination i; kind = k })) i m
+plain_kept i m was k none over e =
     let s = stores_nothing i m.x none in
-    let undo : Undo = undo_in (kept_plain m.pc was register) in
-    record {
+    let deed : Kind → Deed = λ k. record { at = 0; register = destination i; kind = k } in
+    let undo : Undo = undo_in (kept m.pc was (deed kind.Nothing)) in
+    let by : IsKeptBy (kept m.pc was (deed kind.Nothing)) i m = record {
       undo = undo;
       kept = record {
         pc = refl;
-        register = e;
+        register = refl;
         value_is = over;
         address = sym s.address;
         count = sym s.count;
@@ -53,11 +64,14 @@ plain_kept i m was register none over e =
       same = λ after. refl;
       called = refl;
       alone = λ _. refl;
-    }
+    } in
+    subst (λ (k : Kind). IsKeptBy (kept m.pc was (deed k)) i m) e by
 
 pub plain_keeps : (e : Entry) (p : Position) (at was : ℕ) → IsOver was e.instr p.hart.x p.memory → Knows p.memory e
-    → stores_in e.instr ≡ false → IsKeptBy (kept_plain at was e.destination) e.instr (machine_at at p)
-plain_keeps e p at was over n none = plain_kept e.instr (machine_at at p) was e.destination none (over.value none) n.destination_is
+    → stores_in e.instr ≡ false → IsKeptBy (kept at was e.deed) e.instr (machine_at at p)
+plain_keeps e p at was over n none =
+    subst (λ (d : Deed). IsKeptBy (kept at was d) e.instr (machine_at at p)) (sym n.deed_is)
+    (plain_kept e.instr (machine_at at p) was (kind_of e.instr) none (over.value none) (sym (no_kind e.instr none)))
 
 -- what is kept of a store are the bytes that were there
 abbrev store_of : Instr → Machine → ℕ → Undo
@@ -71,7 +85,7 @@ store_of i m was = record {
 }
 
 store_kept : (i : Instr) (m : Machine) (was : ℕ) → IsOver was i m.x m.memory → stores_in i ≡ true
-    → IsKeptBy (kept_store m.pc was (stored_at i m.x) (store_kind i)) i m
+    → IsKeptBy (placed (stored_at i m.x) (kept m.pc was (deed_of i))) i m
 store_kept (Sb rs1 rs2 imm) m was over e = record {
   undo = store_of (Sb rs1 rs2 imm) m was;
   kept = record { pc = refl; register = refl; value_is = refl; address = refl; count = refl; bytes = over.bytes refl };
@@ -95,9 +109,11 @@ store_kept (Sw rs1 rs2 imm) m was over e = record {
 }
 store_kept i m was over e = absurd (let never : false ≡ true = e in cc)
 
-pub store_keeps : (e : Entry) (p : Position) (at was : ℕ) → IsOver was e.instr p.hart.x p.memory → stores_in e.instr ≡ true
-    → IsKeptBy (kept_store at was (stored_at e.instr p.hart.x) (store_kind e.instr)) e.instr (machine_at at p)
-store_keeps e p at was over some = store_kept e.instr (machine_at at p) was over some
+pub store_keeps : (e : Entry) (p : Position) (at was : ℕ) → IsOver was e.instr p.hart.x p.memory → Knows p.memory e
+    → stores_in e.instr ≡ true → IsKeptBy (placed (stored_at e.instr p.hart.x) (kept at was e.deed)) e.instr (machine_at at p)
+store_keeps e p at was over n some =
+    subst (λ (d : Deed). IsKeptBy (placed (stored_at e.instr p.hart.x) (kept at was d)) e.instr (machine_at at p)) (sym n.deed_is)
+    (store_kept e.instr (machine_at at p) was over some)
 
 -- a position by what undoes the move that led away from it
 pub unmade_is : (move : Move) (before after : Position) (at : ℕ) → undone (undo_in move) (machine_in after) ≡ machine_at at before

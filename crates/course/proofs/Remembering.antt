@@ -141,7 +141,7 @@ known_written m al at from to bytes es c none low high some whole = record {
     stores = n.stores;
     pops = n.pops;
     pushes = n.pushes;
-    destination_is = n.destination_is;
+    deed_is = n.deed_is;
   } where
     al_e : e.pc % 4 ≡ 0
     al_e = aligned_there m 4 e.pc 4 (fetched m e.pc n.word n.there)

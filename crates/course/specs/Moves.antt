@@ -8,7 +8,6 @@ use Rattle.rv32i.specs.Machine.{Machine, machine_of}
 use Rattle.std.specs.Int.{to_le_bytes, w32}
 use Rattle.image.specs.Memory.{bytes_at, fault_at}
 use Rattle.rv32i.specs.Undoing.{IsKept, destination, stored, undone}
-use Rattle.rv32i.specs.declared.instr.Instr.TheVariants.{Sb, Sh}
 use Rattle.rv32i.specs.declared.instr.Instr.{Instr}
 use Rattle.rv32i.specs.declared.undo.Undo.{Undo}
 use Rattle.rv32i.specs.declared.performing.Halt.{Halt}
@@ -18,6 +17,7 @@ use Rattle.course.specs.Words.{stores_in}
 use Rattle.course.specs.Positions.{Course, Halts, Position, Retires, position_at}
 use Rattle.course.specs.declared.calls.Called.{Called}
 use Rattle.course.specs.declared.calls.Called.TheVariants.{Nothing, Pushed, PushedOut, Popped, PoppedFrom, Swapped, SwappedFrom}
+use Rattle.course.specs.declared.moves.Deed.{Deed}
 use Rattle.course.specs.declared.moves.Kind.{Kind}
 use Rattle.course.specs.declared.moves.Kind.TheVariants as kind
 use Rattle.course.specs.declared.moves.Move.{Move}
@@ -58,32 +58,29 @@ pub record CanBeKept (kept : Kept) : Type 0 where
 
 -- ---- what is kept
 
--- of an instruction at an address that writes a register which had this value, and does nothing else; and of one that
--- changes pc alone
-abbrev pub kept_plain : ℕ → ℕ → ℕ → Move
-kept_plain pc value register = record { pc = pc; was = value; at = 0; register = register; kind = kind.Nothing }
+-- of an instruction at an address, which writes over this, and does that; and of one that changes pc alone
+abbrev pub kept : ℕ → ℕ → Deed → Move
+kept pc was deed = record { pc = pc; was = was; deed = deed }
 
 abbrev pub kept_of_pc : ℕ → Move
-kept_of_pc pc = kept_plain pc 0 0
+kept_of_pc pc = kept pc 0 (record { at = 0; register = 0; kind = kind.Nothing })
 
--- of a store at an address, where these bytes were, and what kind of store an instruction is
-abbrev pub kept_store : ℕ → ℕ → ℕ → Kind → Move
-kept_store pc was at kind = record { pc = pc; was = was; at = at; register = 0; kind = kind }
+-- where it stored
+abbrev pub placed : ℕ → Move → Move
+placed at move = record move { deed = record move.deed { at = at } }
 
-abbrev pub store_kind : Instr → Kind
-store_kind (Sb rs1 rs2 imm) = kind.StoredByte
-store_kind (Sh rs1 rs2 imm) = kind.StoredHalf
-store_kind other = kind.StoredWord
+-- what it did to the calls
+abbrev pub with_deed : ℕ → Kind → Move → Move
+with_deed at kind move = record move { deed = record { at = at; register = move.deed.register; kind = kind } }
 
--- with what it did to the calls
 abbrev pub with_called : Called → Move → Move
 with_called Nothing move = move
-with_called Pushed move = record move { at = 0; kind = kind.Pushed }
-with_called (PushedOut oldest) move = record move { at = oldest; kind = kind.PushedOut }
-with_called Popped move = record move { at = 0; kind = kind.Popped }
-with_called (PoppedFrom newest) move = record move { at = newest; kind = kind.PoppedFrom }
-with_called Swapped move = record move { at = 0; kind = kind.Swapped }
-with_called (SwappedFrom newest) move = record move { at = newest; kind = kind.SwappedFrom }
+with_called Pushed move = with_deed 0 kind.Pushed move
+with_called (PushedOut oldest) move = with_deed oldest kind.PushedOut move
+with_called Popped move = with_deed 0 kind.Popped move
+with_called (PoppedFrom newest) move = with_deed newest kind.PoppedFrom move
+with_called Swapped move = with_deed 0 kind.Swapped move
+with_called (SwappedFrom newest) move = with_deed newest kind.SwappedFrom move
 
 -- what undoes it of the hart and of memory
 abbrev pub undo_of : Move → ℕ → ℕ → Undo
@@ -92,18 +89,18 @@ undo_of move address count = record {
   value = move.was;
   address = address;
   bytes = to_le_bytes w32 move.was;
-  register = move.register;
+  register = move.deed.register;
   count = count;
 }
 
 abbrev pub undo_by : Kind → Move → Undo
-undo_by kind.StoredByte move = undo_of move move.at 1
-undo_by kind.StoredHalf move = undo_of move move.at 2
-undo_by kind.StoredWord move = undo_of move move.at 4
+undo_by kind.StoredByte move = undo_of move move.deed.at 1
+undo_by kind.StoredHalf move = undo_of move move.deed.at 2
+undo_by kind.StoredWord move = undo_of move move.deed.at 4
 undo_by other move = undo_of move 0 0
 
 abbrev pub undo_in : Move → Undo
-undo_in move = undo_by move.kind move
+undo_in move = undo_by move.deed.kind move
 
 -- and what it did to the calls
 abbrev pub called_by : Kind → ℕ → Called
@@ -116,7 +113,7 @@ called_by kind.SwappedFrom at = SwappedFrom at
 called_by other at = Nothing
 
 abbrev pub called_in : Move → Called
-called_in move = called_by move.kind move.at
+called_in move = called_by move.deed.kind move.deed.at
 
 -- A store of so many bytes to an address writes over these, if it does not trap.
 abbrev pub AreOver : List ℕ → ℕ → ℕ → List ℕ → Type 0
@@ -164,11 +161,35 @@ pub record IsMade (at next : ℕ) (before : Position) (made : Move) (after : Pos
 abbrev pub logged : List Move → List Move → List Move
 logged ring newest = take 65536 (reverse (ring ++ newest))
 
+-- those that were handed on, and those after them
+pub record Log : Type 0 where
+  pub ring : List Move
+  pub newest : List Move
+
+abbrev pub moves_of : Log → List Move
+moves_of log = logged log.ring log.newest
+
 -- the newest ones may be handed on to the ring: that changes nothing of what is recorded
 pub record HandsOn (ring : Buffer Move) (newest : List Move) (to : Buffer Move) (after : List Move) : Type 0 where
   pub same : logged to.items after ≡ logged ring.items newest
   pub capacity : to.capacity ≡ 65536
   pub few : length ring.items ≤ 65536 → length to.items ≤ 65536
+
+-- A move is put down behind all others; before, the newest ones may have been handed on.
+abbrev pub put_last : Move → Log → Log
+put_last made log = record log { newest = log.newest ++ made ∷ [] }
+
+pub record Puts (made : Move) (before after : Log) : Type 0 where
+  pub roomy : Log
+  pub same : moves_of roomy ≡ moves_of before
+  pub is : after ≡ put_last made roomy
+
+-- It is taken back, or it is known what more it did.
+abbrev pub TakesBack : Log → Log → Type 0
+TakesBack before after = (made : Move) (log : Log) → before ≡ put_last made log → after ≡ log
+
+abbrev pub Amends : (Move → Move) → Log → Log → Type 0
+Amends more before after = (made : Move) (log : Log) → before ≡ put_last made log → after ≡ put_last (more made) log
 
 -- with a move more
 abbrev pub with_move : Move → List Move → List Move
@@ -178,11 +199,11 @@ abbrev pub GoesBy : ℕ → Position → List Move → Result ℕ Halt → Posit
 GoesBy at before moves (Ok next) after more = (made : Move) × (IsMade at next before made after × (more ≡ with_move made moves))
 GoesBy at before moves (Err halt) after more = Halts at halt before × ((after ≡ before) × (more ≡ moves))
 
--- a jump is recorded with what it did to the calls
-pub record RecordsJump (made : Move) (before after : Kept) (moves more : List Move) : Type 0 where
+-- it is recorded what a jump did to the calls
+pub record NotesJump (before after : Kept) (log more : Log) : Type 0 where
   pub called : Called
   pub back : unnoted called after ≡ before
-  pub is : more ≡ with_move (with_called called made) moves
+  pub notes : Amends (with_called called) log more
 
 -- ---- of a course
 

@@ -16,6 +16,9 @@ use Rattle.rv32i.specs.declared.stepped.Cause.{Cause}
 use Rattle.course.specs.Calls.{Kept, with_mark}
 use Rattle.course.specs.Marks.{Mark, is_link}
 use Rattle.course.specs.declared.entry.Entry.{Entry}
+use Rattle.course.specs.declared.moves.Deed.{Deed}
+use Rattle.course.specs.declared.moves.Kind.{Kind}
+use Rattle.course.specs.declared.moves.Kind.TheVariants as kind
 use Rattle.course.specs.Positions.{IsFetched}
 
 -- the place of an address: its page modulo 16, and the word in it
@@ -60,9 +63,19 @@ stored_at (Sh rs1 rs2 imm) x = sum (slice_index x rs1) imm
 stored_at (Sw rs1 rs2 imm) x = sum (slice_index x rs1) imm
 stored_at instr x = 0
 
+-- what it will have done, as far as it is known before: the register that it writes, and how many bytes it stores
+abbrev pub kind_of : Instr → Kind
+kind_of (Sb rs1 rs2 imm) = kind.StoredByte
+kind_of (Sh rs1 rs2 imm) = kind.StoredHalf
+kind_of (Sw rs1 rs2 imm) = kind.StoredWord
+kind_of other = kind.Nothing
+
+abbrev pub deed_of : Instr → Deed
+deed_of instr = record { at = 0; register = destination instr; kind = kind_of instr }
+
 -- what is remembered of an instruction at an address
 abbrev pub entry_of : ℕ → Instr → Entry
-entry_of at instr = record { pc = at; is_plain = is_plain instr; stores = stores_in instr; pops = pops_in instr; pushes = pushes_in instr; destination = destination instr; instr = instr }
+entry_of at instr = record { pc = at; is_plain = is_plain instr; stores = stores_in instr; pops = pops_in instr; pushes = pushes_in instr; deed = deed_of instr; instr = instr }
 
 -- at this place nothing is remembered: the address is one of the next place
 abbrev pub elsewhere : ℕ → ℕ
@@ -80,7 +93,7 @@ pub record Knows (memory : List ℕ) (entry : Entry) : Type 0 where
   pub stores : entry.stores ≡ stores_in entry.instr
   pub pops : entry.pops ≡ pops_in entry.instr
   pub pushes : entry.pushes ≡ pushes_in entry.instr
-  pub destination_is : entry.destination ≡ destination entry.instr
+  pub deed_is : entry.deed ≡ deed_of entry.instr
 
 -- the address is none of those from one on up to another
 abbrev pub Spares : ℕ → ℕ → ℕ → Type 0

@@ -4,7 +4,6 @@ ghost use Rattle.std.specs.Prelude.{◌≡◌, ◌-◌, ◌^◌, ◌<◌, ◌≤
 ghost use Rattle.course.specs.Moves.{CanBeKept, popped, pushed, swapped, unnoted};
 ghost use Rattle.course.specs.Marks.{Retired, is_link, jalr_marks};
 ghost use Rattle.course.specs.Marks.Mark.{Pop, Push};
-ghost use Rattle.course.specs.Words.{with_mark_if};
 ghost use Rattle.course.specs.Calls.{StandsFor, calls_of, depth_of, noted, nothing_kept, with_mark, with_marks, with_retired};
 
 use circular_buffer::HeapCircularBuffer;
@@ -167,24 +166,9 @@ impl Calls {
         }
     }
 
-    /// Notes a jump that returns, or calls, or does both, in this order, and answers what undoes that.
+    /// Notes a call from an address, and answers what undoes that.
     #[inline(always)]
-    pub(crate) fn jump(&mut self, pops: bool, pushes: bool, pc: u32) -> Called
-        requires { self.old.depth < 2 ^ 64 - 1 }
-        ensures marks { self.new ≡ with_mark_if pushes (Push pc) (with_mark_if pops Pop self.old) }
-        ensures back { unnoted result self.new ≡ self.old }
-    {
-        match (pops, pushes) {
-            (false, false) => Called::Nothing,
-            (true, false) => self.pop(),
-            (false, true) => self.push(pc),
-            (true, true) => self.swap(pc),
-        }
-    }
-
-    // A call from an address.
-    #[inline(always)]
-    fn push(&mut self, pc: u32) -> Called
+    pub(crate) fn push(&mut self, pc: u32) -> Called
         requires { self.old.depth < 2 ^ 64 - 1 }
         ensures mark { self.new ≡ with_mark self.old (Push pc) }
         ensures back { unnoted result self.new ≡ self.old }
@@ -193,9 +177,9 @@ impl Calls {
         Called::pushed(self.addresses.push_front(pc))
     }
 
-    // A return.
+    /// Notes a return, and answers what undoes that.
     #[inline(always)]
-    fn pop(&mut self) -> Called
+    pub(crate) fn pop(&mut self) -> Called
         ensures mark { self.new ≡ with_mark self.old Pop }
         ensures back { unnoted result self.new ≡ self.old }
     {
@@ -206,9 +190,9 @@ impl Calls {
         Called::popped(self.addresses.pop_front())
     }
 
-    // A return, and a call.
+    /// Notes a return, and a call from an address, and answers what undoes both.
     #[inline(always)]
-    fn swap(&mut self, pc: u32) -> Called
+    pub(crate) fn swap(&mut self, pc: u32) -> Called
         requires { self.old.depth < 2 ^ 64 - 1 }
         ensures marks { self.new ≡ with_mark (with_mark self.old Pop) (Push pc) }
         ensures back { unnoted result self.new ≡ self.old }

@@ -24,14 +24,14 @@ pub struct Course {
 }
 
 impl Model for Course {
-    ghost use Rattle.course.specs.Moves.{AllCanBeKept, course_of, past_of};
+    ghost use Rattle.course.specs.Moves.{AllCanBeKept, course_of, moves_of, past_of};
     ghost use Rattle.course.specs.Positions as positions;
 
     ghost Value = { positions.Course };
 
-    ghost view = { λ c. course_of c.machine c.log };
+    ghost view = { λ c. course_of c.machine (moves_of c.log) };
 
-    ghost invariant = { λ c. AllCanBeKept (past_of c.log c.machine) };
+    ghost invariant = { λ c. AllCanBeKept (past_of (moves_of c.log) c.machine) };
 }
 
 impl Course {

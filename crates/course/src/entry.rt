@@ -8,8 +8,9 @@ ghost use Rattle.course.specs.Moves.{AreOver, IsOver};
 ghost use Rattle.course.specs.Words.{Knows, entry_of, is_plain, pops_in, pushes_in, stored_at, stores_in};
 
 use crate::calls::is_link;
+use crate::moves::Deed;
 use image::Memory;
-use rv32i::{Imm, Instr, Reg, destination, undo_at};
+use rv32i::{Imm, Instr, Reg, undo_at};
 
 /// A word that is remembered decoded, with what is asked of it after each move. It names its own
 /// address: the words of other pages have the same place.
@@ -24,8 +25,8 @@ pub(crate) struct Entry {
     /// Whether it returns, and whether it calls; it may do both, in this order.
     pub pops: bool,
     pub pushes: bool,
-    /// The register that it writes; x0 where it writes none.
-    pub destination: Reg,
+    /// What it will have done, as far as it is known before.
+    pub deed: Deed,
     pub instr: Instr,
 }
 
@@ -39,7 +40,7 @@ pub(crate) fn entry_of(pc: u32, instr: Instr) -> Entry
         stores: stores(&instr),
         pops: pops(&instr),
         pushes: pushes(&instr),
-        destination: destination(&instr),
+        deed: Deed::of(&instr),
         instr,
     }
 }
@@ -96,30 +97,30 @@ impl Entry {
         ensures { IsOver result self.now.instr x.now memory.now }
     {
         if self.stores {
-            return bytes_over(x, &self.instr, memory);
+            return u32::from_le_bytes(four_over(x, &self.instr, memory));
         }
-        x[self.destination.number()]
+        x[self.deed.register.number()]
     }
 }
 
-// The bytes over which an instruction stores, the first one lowest; where it traps, anything.
-#[inline(never)]
-fn bytes_over(x: &[u32; 32], instr: &Instr, memory: &Memory) -> u32
-    requires { stores_in instr.now ≡ true }
-    ensures { IsOver result instr.now x.now memory.now }
-{
-    u32::from_le_bytes(four_over(x, instr, memory))
-}
-
-// The same as four bytes, of which as many count as it stores. Most stores are of words.
+// The bytes over which an instruction stores, of which as many count as it stores; where it traps,
+// anything. Most stores are of words.
 #[inline(always)]
 fn four_over(x: &[u32; 32], instr: &Instr, memory: &Memory) -> [u8; 4]
     ensures { AreOver result (stored instr.now x.now).address (stored instr.now x.now).count memory.now }
 {
     match *instr {
         Instr::Sw { rs1, imm, .. } => word_over(memory, address(x, rs1, imm)),
-        _ => undo_at(x, 0, instr, memory).bytes,
+        _ => few_over(x, instr, memory),
     }
+}
+
+// The same, of any instruction, kept out of the way of stores of words.
+#[inline(never)]
+fn few_over(x: &[u32; 32], instr: &Instr, memory: &Memory) -> [u8; 4]
+    ensures { AreOver result (stored instr.now x.now).address (stored instr.now x.now).count memory.now }
+{
+    undo_at(x, 0, instr, memory).bytes
 }
 
 // The bytes of the word at an address, where it can be stored to.

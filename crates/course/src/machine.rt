@@ -1,16 +1,16 @@
 //! A hart in its memory, which executes words that were decoded once, and undoes what they did.
 
-ghost use Rattle.std.specs.Prelude.{◌≡◌, ◌-◌, ◌^◌, ◌<◌, true, IfOk, OnErr, OnOk};
+ghost use Rattle.std.specs.Prelude.{◌≡◌, ◌-◌, ◌^◌, ◌<◌, ◌≤◌, length, IfOk, OnErr, OnOk};
 ghost use Rattle.image.specs.Memory.{WritesOrLacks};
 ghost use Rattle.rv32i.specs.Steps.{settles};
 ghost use Rattle.course.specs.Marks.Mark.{Pop, Push};
-ghost use Rattle.course.specs.Moves.{CanBeKept, CanBeUnmade, GoesBy, RecordsJump, kept_plain, kept_store, unmade, with_move};
+ghost use Rattle.course.specs.Moves.{CanBeKept, CanBeUnmade, GoesBy, NotesJump, moves_of, unmade};
 ghost use Rattle.course.specs.Positions.{begun, position_at};
 ghost use Rattle.course.specs.Words.{with_mark_if};
 
 use crate::calls::Calls;
 use crate::entry::{Entry, stored_at};
-use crate::moves::{Kind, Move};
+use crate::moves::Move;
 use crate::places::{PLACES, forget, forget_words, ready};
 use crate::undo_log::UndoLog;
 use image::{MemFault, Memory};
@@ -60,13 +60,15 @@ impl Machine {
         })
     }
 
-    /// The instruction at an address. `Ok`: it retired, the next one is at this address, and what undoes its move is put before the
-    /// others. `Err`: it did not, for this reason, and nothing has changed. The hart's pc is not looked at, and stays. The depth of the
-    /// calls is below 2^64 - 1 before it.
+    /// The instruction at an address. `Ok`: it retired, the next one is at this address, and its move is
+    /// recorded. `Err`: it did not, for this reason, and nothing has changed. The hart's pc is not looked at,
+    /// and stays. The depth of the calls is below 2^64 - 1 before it.
+    ///
+    /// The move is put down before it is made, so that nothing of it has to be kept meanwhile.
     #[inline(always)]
     pub fn quick(&mut self, pc: u32, log: &mut UndoLog) -> Result<u32, Halt>
         requires { self.old.calls.depth < 2 ^ 64 - 1 }
-        ensures { GoesBy pc self.old log.old result self.new log.new }
+        ensures { GoesBy pc self.old (moves_of log.old) result self.new (moves_of log.new) }
     {
         match ready(&mut self.entries, &self.memory, pc) {
             Ok(()) => {}
@@ -74,22 +76,25 @@ impl Machine {
         }
         let entry = &self.entries[(pc / 4 % 16384) as usize];
         let was = entry.overwritten(&self.hart.x, &self.memory);
+        let deed = entry.deed;
+        log.push(Move { pc, was, deed });
         let next = match perform(&mut self.hart.x, pc, &entry.instr, &mut self.memory) {
             Ok(next) => next,
-            Err(halt) => return Err(halt),
+            Err(halt) => {
+                log.take_back();
+                return Err(halt);
+            }
         };
         if entry.is_plain {
-            log.push(Move::plain(pc, was, entry.destination));
             return Ok(next);
         }
         if entry.stores {
-            let kind = Kind::of_store(&entry.instr);
             let at = stored_at(&self.hart.x, &entry.instr);
             forget(&mut self.entries, at as usize / 4 * 4);
-            record_store(log, pc, was, at, kind);
+            log.place(at);
             return Ok(next);
         }
-        record_jump(log, &mut self.calls, entry, pc, was);
+        note_jump(log, &mut self.calls, entry, pc);
         Ok(next)
     }
 
@@ -184,24 +189,19 @@ impl Machine {
     }
 }
 
-// Records the move of a store at an address: the bytes that were there, and where.
-#[inline(never)]
-fn record_store(log: &mut UndoLog, pc: u32, was: u32, at: u32, kind: Kind)
-    ensures { log.new ≡ with_move (kept_store pc was at kind) log.old }
-{
-    log.push(Move::store(pc, was, at, kind));
-}
-
-// Notes a jump that calls or returns, and records its move.
-#[inline(never)]
-fn record_jump(log: &mut UndoLog, calls: &mut Calls, entry: &Entry, pc: u32, was: u32)
-    requires { calls.old.depth < 2 ^ 64 - 1 }
+// Notes a jump that calls or returns, or does both, in this order, of whose move the rest is recorded.
+#[inline(always)]
+fn note_jump(log: &mut UndoLog, calls: &mut Calls, entry: &Entry, pc: u32)
+    requires deep { calls.old.depth < 2 ^ 64 - 1 }
+    requires some { 1 ≤ length log.old.newest }
     ensures marks { calls.new
         ≡ with_mark_if entry.now.pushes (Push pc) (with_mark_if entry.now.pops Pop calls.old) }
-    ensures records { RecordsJump (kept_plain pc was entry.now.destination)
-        calls.old calls.new log.old log.new }
+    ensures notes { NotesJump calls.old calls.new log.old log.new }
 {
-    let called = calls.jump(entry.pops, entry.pushes, pc);
-    let made = Move::plain(pc, was, entry.destination);
-    log.push(made.with_called(called));
+    match (entry.pops, entry.pushes) {
+        (false, false) => {}
+        (true, false) => log.note(calls.pop()),
+        (false, true) => log.note(calls.push(pc)),
+        (true, true) => log.note(calls.swap(pc)),
+    }
 }

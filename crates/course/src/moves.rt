@@ -1,10 +1,11 @@
 //! What is kept of a move, so that it can be undone: 16 bytes, since it is written in each move.
 
 ghost use Rattle.std.specs.Prelude.{◌≡◌};
-ghost use Rattle.course.specs.Moves.{called_in, kept_of_pc, kept_plain, kept_store, store_kind, undo_in, with_called};
+ghost use Rattle.course.specs.Moves.{called_in, kept_of_pc, undo_in, with_called};
+ghost use Rattle.course.specs.Words.{deed_of, kind_of};
 
 use crate::calls::Called;
-use rv32i::{Instr, Reg, Undo};
+use rv32i::{Instr, Reg, Undo, destination};
 
 /// What undoes a move.
 #[derive(Clone, Copy)]
@@ -13,6 +14,13 @@ pub(crate) struct Move {
     pub pc: u32,
     /// The value that the register had; of a store the bytes that were there, the first one lowest.
     pub was: u32,
+    /// What it did.
+    pub deed: Deed,
+}
+
+/// What a move did: all that is known of it beside the instruction's address and what was written over.
+#[derive(Clone, Copy)]
+pub(crate) struct Deed {
     /// Where it stored; of a call or a return the call that is kept no longer.
     pub at: u32,
     /// The register that it wrote; x0 where it wrote none.
@@ -36,21 +44,20 @@ pub(crate) enum Kind {
     SwappedFrom,
 }
 
-impl Move {
-    /// Of an instruction at an address that writes this register, which had this value, or none for x0, and does nothing else.
-    #[inline(always)]
-    pub fn plain(pc: u32, was: u32, register: Reg) -> Move
-        ensures { result ≡ kept_plain pc was register }
+impl Deed {
+    /// What an instruction will have done, as far as it is known before: not where it stores, nor what it does to the calls.
+    pub fn of(instr: &Instr) -> Deed
+        ensures { result ≡ deed_of instr.now }
     {
-        Move {
-            pc,
-            was,
+        Deed {
             at: 0,
-            register,
-            kind: Kind::Nothing,
+            register: destination(instr),
+            kind: Kind::of(instr),
         }
     }
+}
 
+impl Move {
     /// Of an instruction at an address that changes pc alone.
     pub fn of_pc(pc: u32) -> Move
         ensures { result ≡ kept_of_pc pc }
@@ -58,33 +65,21 @@ impl Move {
         Move {
             pc,
             was: 0,
-            at: 0,
-            register: Reg::new(0),
-            kind: Kind::Nothing,
+            deed: Deed {
+                at: 0,
+                register: Reg::new(0),
+                kind: Kind::Nothing,
+            },
         }
     }
 
-    /// Of an instruction at an address that stores there, over these bytes.
+    /// It did this to the calls.
     #[inline(always)]
-    pub fn store(pc: u32, was: u32, at: u32, kind: Kind) -> Move
-        ensures { result ≡ kept_store pc was at kind }
-    {
-        Move {
-            pc,
-            was,
-            at,
-            register: Reg::new(0),
-            kind,
-        }
-    }
-
-    /// The same of an instruction that did this to the calls.
-    #[inline(always)]
-    pub fn with_called(self, called: Called) -> Move
-        ensures { result ≡ with_called called self }
+    pub fn note(&mut self, called: Called)
+        ensures { self.new ≡ with_called called self.old }
     {
         let (kind, at) = match called {
-            Called::Nothing => (self.kind, self.at),
+            Called::Nothing => return,
             Called::Pushed => (Kind::Pushed, 0),
             Called::PushedOut(oldest) => (Kind::PushedOut, oldest),
             Called::Popped => (Kind::Popped, 0),
@@ -92,17 +87,18 @@ impl Move {
             Called::Swapped => (Kind::Swapped, 0),
             Called::SwappedFrom(newest) => (Kind::SwappedFrom, newest),
         };
-        Move { kind, at, ..self }
+        self.deed.kind = kind;
+        self.deed.at = at;
     }
 
     /// What undoes it of the hart and of memory.
     pub fn undo(&self) -> Undo
         ensures { result ≡ undo_in self.now }
     {
-        let (address, count) = match self.kind {
-            Kind::StoredByte => (self.at, 1),
-            Kind::StoredHalf => (self.at, 2),
-            Kind::StoredWord => (self.at, 4),
+        let (address, count) = match self.deed.kind {
+            Kind::StoredByte => (self.deed.at, 1),
+            Kind::StoredHalf => (self.deed.at, 2),
+            Kind::StoredWord => (self.deed.at, 4),
             _ => (0, 0),
         };
         Undo {
@@ -110,7 +106,7 @@ impl Move {
             value: self.was,
             address,
             bytes: self.was.to_le_bytes(),
-            register: self.register,
+            register: self.deed.register,
             count,
         }
     }
@@ -119,28 +115,28 @@ impl Move {
     pub fn called(&self) -> Called
         ensures { result ≡ called_in self.now }
     {
-        match self.kind {
+        match self.deed.kind {
             Kind::Pushed => Called::Pushed,
-            Kind::PushedOut => Called::PushedOut(self.at),
+            Kind::PushedOut => Called::PushedOut(self.deed.at),
             Kind::Popped => Called::Popped,
-            Kind::PoppedFrom => Called::PoppedFrom(self.at),
+            Kind::PoppedFrom => Called::PoppedFrom(self.deed.at),
             Kind::Swapped => Called::Swapped,
-            Kind::SwappedFrom => Called::SwappedFrom(self.at),
+            Kind::SwappedFrom => Called::SwappedFrom(self.deed.at),
             _ => Called::Nothing,
         }
     }
 }
 
 impl Kind {
-    /// Of a store.
-    #[inline(always)]
-    pub fn of_store(instr: &Instr) -> Kind
-        ensures { result ≡ store_kind instr.now }
+    // Of an instruction, as far as it is known before.
+    fn of(instr: &Instr) -> Kind
+        ensures { result ≡ kind_of instr.now }
     {
         match instr {
             Instr::Sb { .. } => Kind::StoredByte,
             Instr::Sh { .. } => Kind::StoredHalf,
-            _ => Kind::StoredWord,
+            Instr::Sw { .. } => Kind::StoredWord,
+            _ => Kind::Nothing,
         }
     }
 }

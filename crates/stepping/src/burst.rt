@@ -44,21 +44,38 @@ impl Burst {
 }
 
 /// Executes so many instructions at most, from the hart's pc on, up to the first that leads to a breakpoint, or to where fewer
-/// calls are open than `reach`. The hart's pc stays: it is answered where it would be. This is the loop in which a program
-/// runs. So `quick` is called here alone, which makes it part of the loop; pc is kept apart; and whether there is anything to
-/// look for is decided once.
-#[inline(never)]
+/// calls are open than `reach`. The hart's pc stays: it is answered where it would be. Whether there is anything to look for is
+/// decided once.
 pub(crate) fn retire(course: &mut Course, breaks: &Breaks, reach: u64, most: u32) -> Burst
     requires { course.old.now.calls.depth + most ≤ 2 ^ 62 }
     ensures { Bursts most breaks.now reach course.old result course.new }
 {
-    let watches = watches(breaks, reach);
+    if watches(breaks, reach) {
+        retire_by::<true>(course, breaks, reach, most)
+    } else {
+        retire_by::<false>(course, breaks, reach, most)
+    }
+}
+
+// The same, where there is something to look for, and where there is nothing. These two are the loops in which a program runs. So
+// `quick` is called here alone, which makes it part of them, and pc is kept apart.
+#[inline(never)]
+fn retire_by<const WATCHES: bool>(
+    course: &mut Course,
+    breaks: &Breaks,
+    reach: u64,
+    most: u32,
+) -> Burst
+    requires few { course.old.now.calls.depth + most ≤ 2 ^ 62 }
+    requires far { OnFalse WATCHES ((pc depth : ℕ) → IsFar breaks.now reach pc depth) }
+    ensures { Bursts most breaks.now reach course.old result course.new }
+{
     let mut pc = course.hart().pc;
     for went in 0..most {
         match course.quick(pc) {
             Ok(next) => {
                 pc = next;
-                if watches && is_near(breaks, course.calls(), reach, pc) {
+                if WATCHES && is_near(breaks, course.calls(), reach, pc) {
                     let ending = BurstEnd::Near;
                     return Burst { went, pc, ending };
                 }

@@ -1,10 +1,11 @@
 use Rattle.std.proofs.Common.{◌∙◌, length, sym, ap}
 use Rattle.course.specs.Positions.{Course}
+use Rattle.course.specs.Moves.{moves_of}
 use Rattle.course.proofs.Coursing.{length_past}
 use Rattle.course.proofs.course.Course.recorded.Goals as goal
 
 pub returns-clause-recorded : goal.returns-clause-recorded
 returns-clause-recorded c =
     c.len.ensures.len
-    ∙ sym (length_past c.self.inside.log c.self.inside.machine)
+    ∙ sym (length_past (moves_of c.self.inside.log) c.self.inside.machine)
     ∙ ap (λ (x : Course). length x.past) c.self.view_is

@@ -1,7 +1,8 @@
 use Rattle.std.proofs.Common.{◌≡◌, ◌∙◌, Ok, Bool, true, false, cond, ap, sym, subst}
+use Rattle.rv32i.specs.Steps.{settles}
 use Rattle.rv32i.specs.Undoing.{retires}
 use Rattle.course.specs.Positions.{Course, Position, position_at, recorded}
-use Rattle.course.specs.Moves.{AllCanBeKept, course_of, kept_of_pc, past_of, unmade}
+use Rattle.course.specs.Moves.{AllCanBeKept, course_of, kept_of_pc, moves_of, past_of, unmade}
 use Rattle.course.specs.declared.moves.Move.{Move}
 use Rattle.course.proofs.Coursing.{all_kept, same_past, settled, stepped_back, went}
 use Rattle.course.proofs.course.Course.settle.Goals as goal
@@ -9,7 +10,7 @@ use Rattle.course.proofs.course.Course.settle.Goals as goal
 pub invariant_of-self : goal.invariant_of-self
 invariant_of-self c =
     let p = c.self.inside.machine in
-    let moves = c.self.inside.log in
+    let moves = moves_of c.self.inside.log in
     let next = c.settle.new.self.hart.pc in
     subst (λ (q : Position). AllCanBeKept (past_of moves q)) (sym c.settle.ensures.rest)
     (subst AllCanBeKept (sym (same_past moves next p)) c.self.invariant)
@@ -17,7 +18,7 @@ invariant_of-self c =
 pub returns-in-Err-clause-rest : goal.returns-in-Err-clause-rest
 returns-in-Err-clause-rest c =
     let p = c.self.inside.machine in
-    let moves = c.self.inside.log in
+    let moves = moves_of c.self.inside.log in
     ap (λ (q : Position). course_of q moves) c.settle.ensures.rest
     ∙ settled p moves c.settle.new.self.hart.pc
     ∙ ap (λ (x : Course). record { now = position_at c.settle.new.self.hart.pc x.now; past = x.past }) c.self.view_is
@@ -25,24 +26,24 @@ returns-in-Err-clause-rest c =
 pub invariant_of-self-then-has_retired : goal.invariant_of-self-then-has_retired
 invariant_of-self-then-has_retired c =
     let p = c.self.inside.machine in
-    let moves = c.self.inside.log in
+    let moves = moves_of c.self.inside.log in
     let next = c.settle.new.self.hart.pc in
     let made : Move = c.of_pc.result in
     let is : made ≡ kept_of_pc p.hart.pc = c.of_pc.ensures ∙ ap (λ (h : _). kept_of_pc h.pc) c.hart.ensures in
     let back : unmade made c.settle.new.self ≡ position_at p.hart.pc p = (λ j. unmade (is j) (c.settle.ensures.rest j))
     ∙ stepped_back next p in
-    all_kept moves c.push.new.self made p c.settle.new.self p.hart.pc c.push.ensures back c.settle.ensures.kept c.self.invariant
+    all_kept moves (moves_of c.push.new.self) made p c.settle.new.self p.hart.pc c.push.ensures.moves back c.settle.ensures.kept c.self.invariant
 
 pub returns-then-has_retired-clause-rest : goal.returns-then-has_retired-clause-rest
 returns-then-has_retired-clause-rest c =
     let p = c.self.inside.machine in
-    let moves = c.self.inside.log in
+    let moves = moves_of c.self.inside.log in
     let next = c.settle.new.self.hart.pc in
     let made : Move = c.of_pc.result in
     let is : made ≡ kept_of_pc p.hart.pc = c.of_pc.ensures ∙ ap (λ (h : _). kept_of_pc h.pc) c.hart.ensures in
     let back : unmade made c.settle.new.self ≡ position_at p.hart.pc p = (λ j. unmade (is j) (c.settle.ensures.rest j))
     ∙ stepped_back next p in
-    let past = went moves c.push.new.self made p c.settle.new.self p.hart.pc c.push.ensures back in
+    let past = went moves (moves_of c.push.new.self) made p c.settle.new.self p.hart.pc c.push.ensures.moves back in
     let retired : retires (Ok c.in-Ok.stepped) ≡ true = sym c.has_retired.ensures ∙ c.if-has_retired.true in
     (λ j. record { now = c.settle.ensures.rest j; past = past j })
     ∙ ap (λ (x : Course). record { now = position_at next x.now; past = recorded x.now.hart.pc x }) c.self.view_is
@@ -54,7 +55,7 @@ returns-then-has_retired-clause-rest c =
 pub invariant_of-self-else-has_retired : goal.invariant_of-self-else-has_retired
 invariant_of-self-else-has_retired c =
     let p = c.self.inside.machine in
-    let moves = c.self.inside.log in
+    let moves = moves_of c.self.inside.log in
     let next = c.settle.new.self.hart.pc in
     subst (λ (q : Position). AllCanBeKept (past_of moves q)) (sym c.settle.ensures.rest)
     (subst AllCanBeKept (sym (same_past moves next p)) c.self.invariant)
@@ -62,7 +63,7 @@ invariant_of-self-else-has_retired c =
 pub returns-else-has_retired-clause-rest : goal.returns-else-has_retired-clause-rest
 returns-else-has_retired-clause-rest c =
     let p = c.self.inside.machine in
-    let moves = c.self.inside.log in
+    let moves = moves_of c.self.inside.log in
     let next = c.settle.new.self.hart.pc in
     let stayed : retires (Ok c.in-Ok.stepped) ≡ false = sym c.has_retired.ensures ∙ c.if-has_retired.false in
     ap (λ (q : Position). course_of q moves) c.settle.ensures.rest
@@ -72,3 +73,8 @@ returns-else-has_retired-clause-rest c =
       now = position_at next c.args.self.now.now;
       past = cond b (recorded c.args.self.now.now.hart.pc c.args.self.now) c.args.self.now.past;
     }) (sym stayed)
+
+pub returns-then-has_retired-clause-pc : goal.returns-then-has_retired-clause-pc
+returns-then-has_retired-clause-pc c =
+    subst (λ (x : Course). settles c.args.halt x.now.hart.pc x.now.hart.x (Ok c.in-Ok.stepped) c.settle.new.self.hart.pc) c.self.view_is
+    c.in-Ok.ensures.pc

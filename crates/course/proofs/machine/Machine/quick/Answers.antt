@@ -1,14 +1,13 @@
 use Rattle.std.proofs.Common.{◌≡◌, ◌∙◌, ℕ, ◌-◌, ◌*◌, ◌/◌, ◌^◌, ◌<◌, List, ap, subst, refl, sym, arith}
 use Rattle.rv32i.specs.declared.performing.Halt.TheVariants.{Stopped}
 use Rattle.course.specs.Calls.{Kept}
-use Rattle.course.specs.Moves.{CanBeKept, kept_plain, kept_store, store_kind, with_called, with_move}
+use Rattle.course.specs.Moves.{CanBeKept, kept as kept_move, moves_of, placed, with_called, with_move}
 use Rattle.course.specs.Positions.{Halts, Position, machine_at}
 use Rattle.course.specs.Words.{AreKnown, forgotten, stored_at}
 use Rattle.course.specs.declared.entry.Entry.{Entry}
-use Rattle.course.specs.declared.moves.Move.{Move}
-use Rattle.course.specs.declared.moves.Kind.{Kind}
 use Rattle.course.proofs.Moving.{found, halts, kept, known_stored, marked, plain, same_position, stored, traps, unmarked_store}
 use Rattle.course.proofs.Calling.{marks_fit}
+use Rattle.course.proofs.Logging.{amended_moves, room_behind, taken_back}
 use Rattle.course.proofs.Making.{jumps, makes, plain_keeps, store_keeps}
 use Rattle.course.proofs.machine.Machine.quick.Goals as goal
 
@@ -38,7 +37,10 @@ returns-in-Err-perform c =
     let f = found p c.args.pc _ c.ready.new.entries.items e c.self.invariant.0.known c.in-Ok.ensures.ready c.index-entry.ensures in
     let s = halts p c.args.pc e c.in-Err-perform.halt _ _ f.knows f.named c.in-Err-perform.ensures.performs in (
       subst (λ (q : Position). Halts c.args.pc c.in-Err-perform.halt q) c.self.view_is s.0,
-      (same_position p c.args.self.now _ c.perform.new.memory c.self.view_is refl s.1.registers s.1.bytes, refl),
+      (
+        same_position p c.args.self.now _ c.perform.new.memory c.self.view_is refl s.1.registers s.1.bytes,
+        taken_back _ c.args.log.now c.push.new.self c.take_back.new.self c.push.ensures.puts c.take_back.ensures,
+      ),
     )
 
 -- a plain instruction
@@ -62,12 +64,12 @@ returns-then-entry c =
     let e : Entry = c.index-entry.result.now in
     let f = found p c.args.pc _ c.ready.new.entries.items e c.self.invariant.0.known c.in-Ok.ensures.ready c.index-entry.ensures in
     let n = plain p.calls e.instr c.args.pc (sym f.knows.plain ∙ c.if-entry.true) in (
-      kept_plain c.args.pc c.overwritten-was.result e.destination,
+      kept_move c.args.pc c.overwritten-was.result e.deed,
       (
         makes p c.args.self.now _ c.args.pc _ e _ c.self.view_is c.self.invariant.1 f.knows f.named
             (plain_keeps e p c.args.pc c.overwritten-was.result c.overwritten-was.ensures f.knows n.stores)
             c.in-Ok-perform.ensures.performs n.calls refl refl,
-        c.push.ensures ∙ ap (λ (m : Move). with_move m c.args.log.now) c.plain.ensures,
+        c.push.ensures.moves,
       ),
     )
 
@@ -97,15 +99,13 @@ returns-then-entry-2 c =
     let s = stored e.instr (machine_at c.args.pc p) _ _ _ stores c.in-Ok-perform.ensures.performs in
     let at : c.stored_at-at.result ≡ stored_at e.instr p.hart.x = c.stored_at-at.ensures ∙ ap (stored_at e.instr) s.same in
     let was : ℕ = c.overwritten-was.result in (
-      kept_store c.args.pc was (stored_at e.instr p.hart.x) (store_kind e.instr),
+      placed (stored_at e.instr p.hart.x) (kept_move c.args.pc was e.deed),
       (
         makes p c.args.self.now _ c.args.pc _ e _ c.self.view_is c.self.invariant.1 f.knows f.named
-            (store_keeps e p c.args.pc was c.overwritten-was.ensures stores) c.in-Ok-perform.ensures.performs
+            (store_keeps e p c.args.pc was c.overwritten-was.ensures f.knows stores) c.in-Ok-perform.ensures.performs
             (unmarked_store p.calls e.instr c.args.pc stores) refl refl,
-        c.record_store.ensures
-            ∙ ap (λ (a : ℕ). with_move (kept_store c.args.pc was a c.of_store-kind.result) c.args.log.now) at
-            ∙ ap (λ (k : Kind). with_move (kept_store c.args.pc was (stored_at e.instr p.hart.x) k) c.args.log.now)
-            c.of_store-kind.ensures,
+        amended_moves _ c.args.log.now c.push.new.self c.place.new.self (placed c.stored_at-at.result) c.push.ensures.puts c.place.ensures
+            ∙ ap (λ (a : ℕ). with_move (placed a (kept_move c.args.pc was e.deed)) (moves_of c.args.log.now)) at,
       ),
     )
 
@@ -123,7 +123,7 @@ invariant_of-self-2 c =
         known = subst (λ (m : List ℕ). AreKnown m 0 0 c.ready.new.entries.items) (sym same) f.known;
         roomy = omega (arith, c.in-Ok.ensures.room, c.self.invariant.0.roomy);
       },
-      subst (λ (k : Kept). CanBeKept k) (sym c.record_jump.ensures.marks) fit,
+      subst (λ (k : Kept). CanBeKept k) (sym c.note_jump.ensures.marks) fit,
     )
 
 pub returns : goal.returns
@@ -132,13 +132,22 @@ returns c =
     let e : Entry = c.index-entry.result.now in
     let f = found p c.args.pc _ c.ready.new.entries.items e c.self.invariant.0.known c.in-Ok.ensures.ready c.index-entry.ensures in
     let none = sym f.knows.stores ∙ c.if-entry-2.false in
-    let n = marked p.calls _ e p.memory c.args.pc f.knows c.record_jump.ensures.marks in
-    let r = c.record_jump.ensures.records in (
-      with_called r.called (kept_plain c.args.pc c.overwritten-was.result e.destination),
+    let n = marked p.calls _ e p.memory c.args.pc f.knows c.note_jump.ensures.marks in
+    let r = c.note_jump.ensures.notes in (
+      with_called r.called (kept_move c.args.pc c.overwritten-was.result e.deed),
       (
         jumps p c.args.self.now _ c.args.pc _ e _ r.called none c.self.view_is c.self.invariant.1 f.knows f.named
             (plain_keeps e p c.args.pc c.overwritten-was.result c.overwritten-was.ensures f.knows none)
             c.in-Ok-perform.ensures.performs n refl r.back,
-        r.is,
+        amended_moves _ c.args.log.now c.push.new.self c.note_jump.new.log (with_called r.called) c.push.ensures.puts r.notes,
       ),
     )
+
+pub place-requires : goal.place-requires
+place-requires c = room_behind _ c.args.log.now c.push.new.self c.push.ensures.puts
+
+pub note_jump-requires-clause-some : goal.note_jump-requires-clause-some
+note_jump-requires-clause-some c = room_behind _ c.args.log.now c.push.new.self c.push.ensures.puts
+
+pub note_jump-requires-clause-deep : goal.note_jump-requires-clause-deep
+note_jump-requires-clause-deep c = subst (λ (q : Position). q.calls.depth < 2 ^ 64 - 1) (sym c.self.view_is) c.requires

@@ -1,6 +1,6 @@
 use Rattle.std.proofs.Common.{◌∙◌, ap, List, sym}
 use Rattle.std.specs.Prelude.{slice_get}
-use Rattle.course.specs.Moves.{logged}
+use Rattle.course.specs.Moves.{logged, moves_of}
 use Rattle.course.specs.declared.moves.Move.{Move}
 use Rattle.course.proofs.Logging.{last_first, logged_alone}
 use Rattle.course.proofs.undo_log.UndoLog.newest.Goals as goal
@@ -10,7 +10,7 @@ returns-clause-newest c =
     c.copied.ensures ∙ c.back.ensures ∙ last_first 65535 c.hand_on.new.ring.items
     ∙ ap (λ (l : List Move). slice_get l 0)
     (sym (logged_alone c.hand_on.new.ring.items) ∙ ap (logged c.hand_on.new.ring.items) (sym c.hand_on.ensures.newest)
-    ∙ c.hand_on.ensures.ring.same ∙ c.self.view_is)
+    ∙ c.hand_on.ensures.ring.same ∙ ap moves_of c.self.view_is)
 
 pub returns-clause-same : goal.returns-clause-same
-returns-clause-same c = c.hand_on.ensures.ring.same ∙ c.self.view_is
+returns-clause-same c = c.hand_on.ensures.ring.same ∙ ap moves_of c.self.view_is

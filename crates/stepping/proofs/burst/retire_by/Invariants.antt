@@ -1,9 +1,9 @@
 use Rattle.std.proofs.Common.{◌≡◌, ◌≤◌, ◌+◌}
 use Rattle.stepping.specs.Bursts.{Retire}
-use Rattle.stepping.proofs.burst.retire.Given as goal
+use Rattle.stepping.proofs.burst.retire_by.Given as goal
 
 abbrev pub invariant-loop-went : goal.invariant-loop-went
-invariant-loop-went l = record {
+invariant-loop-went g l = record {
   retire : Retire l.went l.fn.breaks l.fn.reach l.fn.course.now.hart.pc l.fn.course l.pc l.course;
   deep : l.course.now.calls.depth ≤ l.fn.course.now.calls.depth + l.went;
   stays : l.course.now.hart.pc ≡ l.fn.course.now.hart.pc;

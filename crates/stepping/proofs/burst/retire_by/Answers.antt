@@ -2,11 +2,11 @@ use Rattle.std.proofs.Common.{◌≡◌, ℕ, refl, ap, ◌∙◌, subst, arith}
 use Rattle.course.specs.Calls.{Kept}
 use Rattle.stepping.specs.Bursts.{IsFar, Retire}
 use Rattle.stepping.proofs.Bursting.{retire_more, retires_deeper}
-use Rattle.stepping.proofs.burst.retire.Goals as goal
-use Rattle.stepping.proofs.burst.retire.Goals.{else-watches-via-then-watches+else-is_near, else-watches-via-else-watches}
+use Rattle.stepping.proofs.burst.retire_by.Goals as goal
+use Rattle.stepping.proofs.burst.retire_by.Goals.{else-this-ne0-via-then-this-ne0+else-is_near, else-this-ne0-via-else-this-ne0}
 
 pub returns-then-is_near : goal.returns-then-is_near
-returns-then-is_near c = record {
+returns-then-is_near g c = record {
   pc = c.loop-went.pc;
   middle = c.loop-went.course;
   retire = c.loop-went.invariant.retire;
@@ -15,7 +15,7 @@ returns-then-is_near c = record {
 }
 
 pub returns-in-Err : goal.returns-in-Err
-returns-in-Err c = record {
+returns-in-Err g c = record {
   pc = c.loop-went.pc;
   middle = c.loop-went.course;
   retire = c.loop-went.invariant.retire;
@@ -24,11 +24,11 @@ returns-in-Err c = record {
 }
 
 pub loop-went-preserved : goal.loop-went-preserved
-loop-went-preserved c =
-    let far : IsFar c.args.breaks.now c.args.reach c.in-Ok.next c.quick.new.self.now.calls.depth = elim c.else-watches.branch [
-      | else-watches-via-then-watches+else-is_near w ↦
+loop-went-preserved g c =
+    let far : IsFar c.args.breaks.now c.args.reach c.in-Ok.next c.quick.new.self.now.calls.depth = elim c.else-this-ne0.branch [
+      | else-this-ne0-via-then-this-ne0+else-is_near w ↦
           subst (λ (k : Kept). IsFar c.args.breaks.now c.args.reach c.in-Ok.next k.depth) w.calls.ensures w.if-is_near.ensures
-      | else-watches-via-else-watches w ↦ w.if-watches.ensures c.in-Ok.next c.quick.new.self.now.calls.depth
+      | else-this-ne0-via-else-this-ne0 w ↦ (rw w.if-this-ne0.false at c.requires.far) c.in-Ok.next c.quick.new.self.now.calls.depth
     ] in
     record {
       retire =
@@ -39,7 +39,7 @@ loop-went-preserved c =
     }
 
 pub returns : goal.returns
-returns c =
+returns g c =
     let all : c.loop-went.went ≡ c.args.most = omega (arith, c.loop-went.auto.went-end, c.loop-went-test.false) in
     record {
       pc = c.loop-went.pc;

@@ -1,0 +1,8 @@
+use Rattle.std.proofs.Common.{◌∙◌, refl}
+use Rattle.course.specs.Moves.{placed}
+use Rattle.course.proofs.Logging.{amended}
+use Rattle.course.proofs.undo_log.UndoLog.place.Goals as goal
+
+pub returns : goal.returns
+returns c = λ made log e. amended log c.self.inside.ring.items c.self.inside.newest.items c.len-last.result made c.index_mut.result.now
+    (placed c.args.at c.index_mut.result.now) (placed c.args.at) (c.self.view_is ∙ e) (c.len-last.ensures ∙ c.self.inside.newest.ok.0) c.index_mut.ensures.value refl
