@@ -314,7 +314,7 @@ def each_request_has_a_row():
 
 def each_definition_of_a_request_is_in_its_file():
     for row in rows_of_requests("docs/DEFINITIONS.md"):
-        for crate, cell in zip(("protocol", "handlers", "replies"), row.split("|")[2:]):
+        for crate, cell in zip(("protocol", "handlers", "message_parts"), row.split("|")[2:]):
             for file, name in re.findall(r"`(\w+)\.(\w+)`", cell):
                 expect_defined(crate, file, name)
 

@@ -5,9 +5,9 @@ use Rattle.std.specs.Option.{unwrap_or}
 use Rattle.std.proofs.lemmas.List.{length-map}
 use Rattle.std.proofs.lemmas.List.FromFn.{map-range_with_len_more}
 use Rattle.image.specs.Lines.{Table}
+use Rattle.message_parts.specs.declared.stack_trace.StackFrame.{StackFrame}
 use Rattle.protocol.specs.declared.stack_trace.StackTraceArguments.{StackTraceArguments}
 use Rattle.replies.specs.declared.response.ResponseBody.TheVariants.{StackTrace}
-use Rattle.replies.specs.declared.stack_trace.StackFrame.{StackFrame}
 use Rattle.stepping.specs.Ticks.{Debugged}
 use Rattle.variables.specs.Numbers.{Numbers, number_in, with_targets}
 use Rattle.variables.specs.declared.target.Target.{Target}

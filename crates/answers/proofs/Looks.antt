@@ -4,7 +4,7 @@ use Rattle.std.specs.Prelude.{slice_get, IsTrue}
 use Rattle.std.proofs.lemmas.Int.{ints}
 use Rattle.image.specs.Memory.{first_address}
 use Rattle.protocol.specs.declared.read_memory.ReadMemoryArguments.{ReadMemoryArguments}
-use Rattle.replies.specs.declared.read_memory.ReadMemory.{ReadMemory}
+use Rattle.message_parts.specs.declared.read_memory.ReadMemory.{ReadMemory}
 use Rattle.replies.specs.declared.response.ResponseBody.TheVariants.{ReadMemory as Bytes}
 use Rattle.rv32i.specs.Texts.{IsTextOf}
 use Rattle.rv32i.proofs.OneText.{one_text}

@@ -2,7 +2,7 @@
 use Rattle.std.proofs.Common.{◌≡◌, ℕ, ℤ, zero, suc, pos, ◌+ℤ◌, ◌+◌, ◌-◌, ◌*◌, ◌<◌, ◌≤◌, List, [], ◌∷◌, ◌++◌, sym, ap, ◌∙◌, arith, append_assoc}
 use Rattle.std.proofs.lemmas.Int.{ints}
 use Rattle.std.proofs.lemmas.List.{append-nil}
-use Rattle.replies.specs.declared.disassemble.Instruction.{Instruction}
+use Rattle.message_parts.specs.declared.disassemble.Instruction.{Instruction}
 use Rattle.answers.specs.Disassemble.{entries_from, entry}
 
 further : (memory : List ℕ) (place : ℤ) (count : ℕ) → 0 < count

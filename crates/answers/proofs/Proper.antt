@@ -11,8 +11,8 @@ use Rattle.protocol.specs.declared.refusal.Refusal.TheVariants.{TooMuch}
 use Rattle.protocol.specs.declared.set_breakpoints.SourceBreakpoint.{SourceBreakpoint}
 use Rattle.protocol.specs.declared.set_function_breakpoints.FunctionBreakpoint.{FunctionBreakpoint}
 use Rattle.protocol.specs.declared.set_instruction_breakpoints.InstructionBreakpoint.{InstructionBreakpoint}
-use Rattle.replies.specs.SetBreakpoints.{source_breakpoint}
-use Rattle.replies.specs.SetInstructionBreakpoints.{instruction_breakpoint}
+use Rattle.message_parts.specs.SetBreakpoints.{source_breakpoint}
+use Rattle.message_parts.specs.SetInstructionBreakpoints.{instruction_breakpoint}
 use Rattle.replies.specs.declared.response.ResponseBody.{ResponseBody}
 use Rattle.answers.specs.Breakpoints.{Answer, entries_of, followed_by, list_of, next_after}
 use Rattle.answers.specs.Laws.{AnswersAreProper, IsNarrow, NumbersFit}

@@ -7,11 +7,11 @@ use Rattle.std.proofs.lemmas.Bool.{lt-ltb}
 use Rattle.std.proofs.lemmas.List.{length-drop, length-map, length-take}
 use Rattle.std.proofs.lemmas.List.Elements.{All-cons, All-head, All-tail}
 use Rattle.image.specs.Lines.{Row, Table, covers, line_in, line_of}
+use Rattle.message_parts.specs.StackTrace.{stack_frame}
 use Rattle.protocol.specs.declared.refusal.Refusal.{Refusal}
 use Rattle.protocol.specs.declared.scopes.ScopesArguments.{ScopesArguments}
 use Rattle.protocol.specs.declared.stack_trace.StackTraceArguments.{StackTraceArguments}
 use Rattle.replies.specs.Responses.{IsOutcomeOf}
-use Rattle.replies.specs.StackTrace.{stack_frame}
 use Rattle.replies.specs.declared.response.Outcome.TheVariants.{Done}
 use Rattle.stepping.specs.Ticks.{Debugged}
 use Rattle.variables.specs.Numbers.{Numbers, number_from, number_in, with_all, with_targets}

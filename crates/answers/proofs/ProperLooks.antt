@@ -10,10 +10,10 @@ use Rattle.image.specs.declared.fault.MemFault.{MemFault}
 use Rattle.protocol.specs.declared.read_memory.ReadMemoryArguments.{ReadMemoryArguments}
 use Rattle.protocol.specs.declared.refusal.Refusal.{Refusal}
 use Rattle.protocol.specs.declared.refusal.Refusal.TheVariants.{OutsideMemory, TooMuch}
-use Rattle.replies.specs.Disassemble.{instruction}
-use Rattle.replies.specs.EncodedBytes.{are_bytes}
-use Rattle.replies.specs.Forms.{is_in_if, is_word}
-use Rattle.replies.specs.ReadMemory.{unless_0}
+use Rattle.message_parts.specs.Disassemble.{instruction}
+use Rattle.message_parts.specs.EncodedBytes.{are_bytes}
+use Rattle.message_parts.specs.Forms.{is_in_if, is_word}
+use Rattle.message_parts.specs.ReadMemory.{unless_0}
 use Rattle.replies.specs.Responses.{IsOutcomeOf}
 use Rattle.replies.specs.declared.response.Outcome.TheVariants.{Done}
 use Rattle.answers.specs.Disassemble.{disassembled, entries_from, entry, entry_by, start_by as places_by, word_in, wrapped}

@@ -20,11 +20,11 @@ use Rattle.protocol.specs.declared.refusal.Refusal.{Refusal}
 use Rattle.protocol.specs.declared.refusal.Refusal.TheVariants.{OutsideMemory, TooMuch}
 use Rattle.protocol.specs.declared.variables.VariablesArguments.{VariablesArguments}
 use Rattle.protocol.specs.declared.write_memory.WriteMemoryArguments.{WriteMemoryArguments}
-use Rattle.replies.specs.EncodedBytes.{are_bytes}
+use Rattle.message_parts.specs.EncodedBytes.{are_bytes}
+use Rattle.message_parts.specs.Variables.{variable}
+use Rattle.message_parts.specs.declared.variables.Variable.{Variable}
 use Rattle.replies.specs.Responses.{IsOutcomeOf}
-use Rattle.replies.specs.Variables.{variable}
 use Rattle.replies.specs.declared.response.Outcome.TheVariants.{Done}
-use Rattle.replies.specs.declared.variables.Variable.{Variable}
 use Rattle.rv32i.specs.Machine.{difference, sum}
 use Rattle.rv32i.specs.declared.hart.Hart.{Hart}
 use Rattle.stepping.specs.Ticks.{Debugged}

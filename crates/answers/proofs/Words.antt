@@ -10,7 +10,7 @@ use Rattle.std.proofs.lemmas.Nat.{and_le_l, or_lt, xor_lt}
 use Rattle.image.specs.Memory.{bytes_at, first_address, has_bytes, little_endian}
 use Rattle.numerals.specs.Numerals.{magnitude, magnitude_by, numeral, prefixed, within}
 use Rattle.numerals.specs.declared.NumeralError.TheVariants.{Malformed, TooLarge}
-use Rattle.replies.specs.EncodedBytes.{are_bytes}
+use Rattle.message_parts.specs.EncodedBytes.{are_bytes}
 use Rattle.rv32i.specs.Machine.{flag, is_less_than, places}
 use Rattle.rv32i.specs.declared.hart.Hart.{Hart}
 use Rattle.expressions.specs.Tokens.{IsTokens, Spells}

@@ -12,8 +12,8 @@ use Rattle.image.specs.Memory.{word_at}
 use Rattle.protocol.specs.declared.disassemble.DisassembleArguments.{DisassembleArguments}
 use Rattle.protocol.specs.declared.refusal.Refusal.{Refusal}
 use Rattle.protocol.specs.declared.refusal.Refusal.TheVariants.{BadMemoryReference, TooMuch}
-use Rattle.replies.specs.declared.disassemble.Instruction.{Instruction}
-use Rattle.replies.specs.declared.disassemble.Instruction.TheVariants.{Valid, Invalid}
+use Rattle.message_parts.specs.declared.disassemble.Instruction.{Instruction}
+use Rattle.message_parts.specs.declared.disassemble.Instruction.TheVariants.{Valid, Invalid}
 use Rattle.replies.specs.declared.response.ResponseBody.{ResponseBody}
 use Rattle.replies.specs.declared.response.ResponseBody.TheVariants.{Disassemble}
 use Rattle.numerals.specs.MemoryReferences.{address_of}

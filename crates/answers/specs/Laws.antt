@@ -11,18 +11,18 @@ use Rattle.protocol.specs.declared.command.Command.{Command}
 use Rattle.protocol.specs.declared.disassemble.DisassembleArguments.{DisassembleArguments}
 use Rattle.protocol.specs.declared.read_memory.ReadMemoryArguments.{ReadMemoryArguments}
 use Rattle.protocol.specs.declared.refusal.Refusal.{Refusal}
-use Rattle.replies.specs.EncodedBytes.{are_bytes}
+use Rattle.message_parts.specs.EncodedBytes.{are_bytes}
+use Rattle.message_parts.specs.declared.read_memory.ReadMemory.{ReadMemory}
+use Rattle.message_parts.specs.declared.set_breakpoints.SourceBreakpoint as at_line
+use Rattle.message_parts.specs.declared.set_breakpoints.SourceBreakpoint.TheVariants as line
+use Rattle.message_parts.specs.declared.set_instruction_breakpoints.InstructionBreakpoint as at_instruction
+use Rattle.message_parts.specs.declared.set_instruction_breakpoints.InstructionBreakpoint.TheVariants as instruction
 use Rattle.replies.specs.Responses.{IsOutcomeOf}
 use Rattle.replies.specs.declared.response.Outcome.TheVariants.{Done}
 use Rattle.replies.specs.declared.response.ResponseBody.{ResponseBody}
-use Rattle.replies.specs.declared.read_memory.ReadMemory.{ReadMemory}
 use Rattle.replies.specs.declared.response.ResponseBody.TheVariants.{ReadMemory as Bytes}
 use Rattle.replies.specs.declared.response.ResponseBody.TheVariants.{SetBreakpoints, SetFunctionBreakpoints}
 use Rattle.replies.specs.declared.response.ResponseBody.TheVariants.{SetInstructionBreakpoints}
-use Rattle.replies.specs.declared.set_breakpoints.SourceBreakpoint as at_line
-use Rattle.replies.specs.declared.set_breakpoints.SourceBreakpoint.TheVariants as line
-use Rattle.replies.specs.declared.set_instruction_breakpoints.InstructionBreakpoint as at_instruction
-use Rattle.replies.specs.declared.set_instruction_breakpoints.InstructionBreakpoint.TheVariants as instruction
 use Rattle.answers.specs.Answers.{asks_too_much, breaks_answer, count_asked, sets_breakpoints}
 use Rattle.breakpoints.specs.Stops.{Wanted}
 use Rattle.rv32i.specs.Texts.{IsTextOf}

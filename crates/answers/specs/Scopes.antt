@@ -3,12 +3,12 @@
 -- The innermost frame shows two scopes: the registers, and the words of the stack. Both are of the hart as it stands, and
 -- what they were for the frames below is not known, so those show none.
 use Rattle.std.specs.Prelude.{ℕ, zero, suc, List, [], ◌∷◌, Result, Ok, Err}
+use Rattle.message_parts.specs.declared.scopes.Scope.{Scope}
+use Rattle.message_parts.specs.declared.scopes.Scope.TheVariants as scope
 use Rattle.protocol.specs.declared.refusal.Refusal.{Refusal}
 use Rattle.protocol.specs.declared.scopes.ScopesArguments.{ScopesArguments}
 use Rattle.replies.specs.declared.response.ResponseBody.{ResponseBody}
 use Rattle.replies.specs.declared.response.ResponseBody.TheVariants.{Scopes}
-use Rattle.replies.specs.declared.scopes.Scope.{Scope}
-use Rattle.replies.specs.declared.scopes.Scope.TheVariants as scope
 use Rattle.variables.specs.Numbers.{Numbers, with_targets}
 use Rattle.variables.specs.declared.target.Target.{Target}
 use Rattle.variables.specs.declared.target.Target.TheVariants.{Registers, Stack}

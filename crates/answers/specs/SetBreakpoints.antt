@@ -14,9 +14,9 @@ use Rattle.image.specs.Lines.{Table, bind}
 use Rattle.protocol.specs.declared.set_breakpoints.SetBreakpointsArguments.{SetBreakpointsArguments}
 use Rattle.protocol.specs.declared.set_breakpoints.SourceBreakpoint.{SourceBreakpoint}
 use Rattle.protocol.specs.declared.refusal.Refusal.TheVariants.{TooMuch}
+use Rattle.message_parts.specs.declared.set_breakpoints.SourceBreakpoint as replied
+use Rattle.message_parts.specs.declared.set_breakpoints.SourceBreakpoint.TheVariants.{Verified, Unverified}
 use Rattle.replies.specs.declared.response.ResponseBody.TheVariants.{SetBreakpoints}
-use Rattle.replies.specs.declared.set_breakpoints.SourceBreakpoint as replied
-use Rattle.replies.specs.declared.set_breakpoints.SourceBreakpoint.TheVariants.{Verified, Unverified}
 use Rattle.breakpoints.specs.Stops.{Wanted}
 use Rattle.answers.specs.Breakpoints.{Answer, entries_of, list_of, message_of}
 use Rattle.answers.specs.Conditions.{Conditions, conditions_of}

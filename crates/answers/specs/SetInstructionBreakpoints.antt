@@ -8,9 +8,9 @@ use Rattle.image.specs.Memory.{first_address}
 use Rattle.protocol.specs.declared.set_instruction_breakpoints.InstructionBreakpoint.{InstructionBreakpoint}
 use Rattle.protocol.specs.declared.set_instruction_breakpoints.SetInstructionBreakpointsArguments as given
 use Rattle.protocol.specs.declared.refusal.Refusal.TheVariants.{TooMuch}
+use Rattle.message_parts.specs.declared.set_instruction_breakpoints.InstructionBreakpoint as replied
+use Rattle.message_parts.specs.declared.set_instruction_breakpoints.InstructionBreakpoint.TheVariants.{Verified, Unverified}
 use Rattle.replies.specs.declared.response.ResponseBody.TheVariants.{SetInstructionBreakpoints}
-use Rattle.replies.specs.declared.set_instruction_breakpoints.InstructionBreakpoint as replied
-use Rattle.replies.specs.declared.set_instruction_breakpoints.InstructionBreakpoint.TheVariants.{Verified, Unverified}
 use Rattle.breakpoints.specs.Stops.{Wanted}
 use Rattle.answers.specs.Breakpoints.{Answer, entries_of, list_of, message_of}
 use Rattle.numerals.specs.MemoryReferences.{address_in}

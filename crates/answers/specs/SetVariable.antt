@@ -5,11 +5,11 @@
 use Rattle.std.specs.Prelude.{◌≡◌, ℕ, zero, suc, Bool, if◌then◌else◌, List, [], ◌∷◌, slice_index, slice_set, Option}
 use Rattle.std.specs.Prelude.{Some, None, Result, Ok, Err, bytes_eq}
 use Rattle.std.specs.List.{list_any}
+use Rattle.message_parts.specs.declared.variables.Variable.{Variable}
 use Rattle.protocol.specs.declared.refusal.Refusal.{Refusal}
 use Rattle.protocol.specs.declared.refusal.Refusal.TheVariants.{BadValue, NotWritable, UnknownName, UnknownReference}
 use Rattle.protocol.specs.declared.set_variable.SetVariableArguments.{SetVariableArguments}
 use Rattle.replies.specs.declared.response.ResponseBody.TheVariants.{SetVariable}
-use Rattle.replies.specs.declared.variables.Variable.{Variable}
 use Rattle.rv32i.specs.declared.hart.Hart.{Hart}
 use Rattle.stepping.specs.Ticks.{Debugged}
 use Rattle.variables.specs.Numbers.{Numbers}

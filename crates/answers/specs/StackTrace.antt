@@ -12,12 +12,12 @@ use Rattle.std.specs.Prelude.{Option, Some, None, Result, Ok, codes, refl}
 use Rattle.std.specs.List.{range_with_len, take_while}
 use Rattle.std.specs.Fmt.{decimal}
 use Rattle.image.specs.Lines.{Table, label_at, line_of}
+use Rattle.message_parts.specs.declared.stack_trace.Source.{Source}
+use Rattle.message_parts.specs.declared.stack_trace.StackFrame.{StackFrame}
 use Rattle.protocol.specs.declared.refusal.Refusal.{Refusal}
 use Rattle.protocol.specs.declared.stack_trace.StackTraceArguments.{StackTraceArguments}
 use Rattle.replies.specs.declared.response.ResponseBody.{ResponseBody}
 use Rattle.replies.specs.declared.response.ResponseBody.TheVariants.{StackTrace}
-use Rattle.replies.specs.declared.stack_trace.Source.{Source}
-use Rattle.replies.specs.declared.stack_trace.StackFrame.{StackFrame}
 use Rattle.rv32i.specs.Texts.{address_text}
 use Rattle.stepping.specs.Ticks.{Debugged}
 use Rattle.variables.specs.Numbers.{Numbers, with_targets}

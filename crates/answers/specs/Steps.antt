@@ -2,7 +2,7 @@
 use Rattle.std.specs.Prelude.{◌≡◌, ℕ, ◌+◌, ◌==◌, min, if◌then◌else◌, ◌++◌, List, [], ◌∷◌, slice_index, Option, Some, None}
 use Rattle.std.specs.Prelude.{Result, Ok, Err, option_map, map}
 use Rattle.image.specs.Lines.{Table}
-use Rattle.replies.specs.declared.stack_trace.StackFrame.{StackFrame}
+use Rattle.message_parts.specs.declared.stack_trace.StackFrame.{StackFrame}
 use Rattle.expressions.specs.Nodes.{tree_of}
 use Rattle.expressions.specs.Trees.{Tree}
 use Rattle.expressions.specs.declared.node.Node.{Node}

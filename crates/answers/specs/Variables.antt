@@ -3,6 +3,7 @@
 -- The variables of a scope are a list, of which a request may ask for part. None of them is an element of a variable, so
 -- where only such ones are asked for (`filter` `indexed`), there are none.
 use Rattle.std.specs.Prelude.{List, [], Option, Some, None, Result, Ok, Err}
+use Rattle.message_parts.specs.declared.variables.Variable.{Variable}
 use Rattle.protocol.specs.declared.filter.Filter.{Filter}
 use Rattle.protocol.specs.declared.filter.Filter.TheVariants.{Indexed, Named}
 use Rattle.protocol.specs.declared.refusal.Refusal.{Refusal}
@@ -10,7 +11,6 @@ use Rattle.protocol.specs.declared.refusal.Refusal.TheVariants.{UnknownReference
 use Rattle.protocol.specs.declared.variables.VariablesArguments.{VariablesArguments}
 use Rattle.replies.specs.declared.response.ResponseBody.{ResponseBody}
 use Rattle.replies.specs.declared.response.ResponseBody.TheVariants.{Variables}
-use Rattle.replies.specs.declared.variables.Variable.{Variable}
 use Rattle.stepping.specs.Ticks.{Debugged}
 use Rattle.variables.specs.Numbers.{Numbers}
 use Rattle.variables.specs.Registers.{registers}

@@ -4,11 +4,11 @@ use Rattle.std.specs.Prelude.{ℕ, ℤ, List, [], ◌∷◌, ◌++◌, Option, S
 use Rattle.std.specs.Fmt.{signed_decimal}
 use Rattle.debuggee.specs.declared.run.Why.{Why}
 use Rattle.debuggee.specs.declared.run.Why.TheVariants as why
+use Rattle.message_parts.specs.declared.output.Category.TheVariants.{Console, Stdout}
+use Rattle.message_parts.specs.declared.stopped.Reason.{Reason}
+use Rattle.message_parts.specs.declared.stopped.Reason.TheVariants as reason
 use Rattle.replies.specs.declared.event.Event.{Event}
 use Rattle.replies.specs.declared.event.Event.TheVariants as event
-use Rattle.replies.specs.declared.output.Category.TheVariants.{Console, Stdout}
-use Rattle.replies.specs.declared.stopped.Reason.{Reason}
-use Rattle.replies.specs.declared.stopped.Reason.TheVariants as reason
 use Rattle.rv32i.specs.Causes.{cause_text}
 use Rattle.stepping.specs.declared.tick.Reason.TheVariants as met
 

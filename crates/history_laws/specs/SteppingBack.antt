@@ -14,9 +14,9 @@ use Rattle.debuggee.specs.declared.run.Mark.TheVariants.{Entry as MarkEntry}
 use Rattle.debuggee.specs.declared.run.Run.TheVariants.{Running, Stopped as StandsStill}
 use Rattle.debuggee.specs.declared.run.Why.TheVariants as why
 use Rattle.handlers.specs.Telling.{reason_of}
+use Rattle.message_parts.specs.declared.stopped.Reason.TheVariants as reason
 use Rattle.protocol.specs.declared.command.Command.{Command}
 use Rattle.protocol.specs.declared.command.Command.TheVariants.{ConfigurationDone, Launch, Restart, Terminate}
-use Rattle.replies.specs.declared.stopped.Reason.TheVariants as reason
 use Rattle.session.specs.declared.event.Event.{Event}
 use Rattle.session.specs.declared.event.Event.TheVariants.{Connect, Recv, Turn, Slice, Hold, Sent, DropConnection}
 use Rattle.session.specs.declared.pending.Ask.{Ask}

@@ -53,14 +53,14 @@ use Rattle.protocol.specs.declared.set_variable.SetVariableArguments.{SetVariabl
 use Rattle.protocol.specs.declared.stack_trace.StackTraceArguments.{StackTraceArguments}
 use Rattle.protocol.specs.declared.variables.VariablesArguments.{VariablesArguments}
 use Rattle.protocol.specs.declared.write_memory.WriteMemoryArguments.{WriteMemoryArguments}
-use Rattle.replies.specs.EncodedBytes.{are_bytes}
-use Rattle.replies.specs.declared.disassemble.Instruction.{Instruction}
+use Rattle.message_parts.specs.EncodedBytes.{are_bytes}
+use Rattle.message_parts.specs.declared.disassemble.Instruction.{Instruction}
+use Rattle.message_parts.specs.declared.set_breakpoints.SourceBreakpoint.TheVariants as at_line
+use Rattle.message_parts.specs.declared.set_instruction_breakpoints.InstructionBreakpoint.TheVariants as at_instruction
+use Rattle.message_parts.specs.declared.stack_trace.StackFrame.{StackFrame}
+use Rattle.message_parts.specs.declared.variables.Variable.{Variable}
 use Rattle.replies.specs.declared.response.ResponseBody.{ResponseBody}
 use Rattle.replies.specs.declared.response.ResponseBody.TheVariants.{SetBreakpoints, SetInstructionBreakpoints}
-use Rattle.replies.specs.declared.set_breakpoints.SourceBreakpoint.TheVariants as at_line
-use Rattle.replies.specs.declared.set_instruction_breakpoints.InstructionBreakpoint.TheVariants as at_instruction
-use Rattle.replies.specs.declared.stack_trace.StackFrame.{StackFrame}
-use Rattle.replies.specs.declared.variables.Variable.{Variable}
 use Rattle.rv32i.specs.Texts.{address_text}
 use Rattle.rv32i.specs.declared.hart.Hart.{Hart}
 use Rattle.stepping.specs.Ticks.{Debugged}

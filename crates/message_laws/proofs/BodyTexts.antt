@@ -50,18 +50,18 @@ use Rattle.protocol.specs.declared.set_instruction_breakpoints.InstructionBreakp
 use Rattle.protocol.specs.declared.set_variable.SetVariableArguments.{SetVariableArguments}
 use Rattle.protocol.specs.declared.variables.VariablesArguments.{VariablesArguments}
 use Rattle.protocol.specs.declared.write_memory.WriteMemoryArguments.{WriteMemoryArguments}
+use Rattle.message_parts.specs.Disassemble.{instruction as entry_form}
+use Rattle.message_parts.specs.EncodedBytes.{are_bytes}
+use Rattle.message_parts.specs.Forms.{AreTexts, texts_if, texts_of, whole}
+use Rattle.message_parts.specs.ReadMemory.{unless_0}
+use Rattle.message_parts.specs.SetBreakpoints.{source_breakpoint}
+use Rattle.message_parts.specs.SetInstructionBreakpoints.{instruction_breakpoint}
+use Rattle.message_parts.specs.StackTrace.{source as source_form, stack_frame}
+use Rattle.message_parts.specs.Variables.{variable}
+use Rattle.message_parts.specs.declared.variables.Variable.{Variable}
 use Rattle.replies.specs.Bodies.{texts_in}
-use Rattle.replies.specs.Disassemble.{instruction as entry_form}
-use Rattle.replies.specs.EncodedBytes.{are_bytes}
-use Rattle.replies.specs.Forms.{AreTexts, texts_if, texts_of, whole}
-use Rattle.replies.specs.ReadMemory.{unless_0}
-use Rattle.replies.specs.SetBreakpoints.{source_breakpoint}
-use Rattle.replies.specs.SetInstructionBreakpoints.{instruction_breakpoint}
-use Rattle.replies.specs.StackTrace.{source as source_form, stack_frame}
-use Rattle.replies.specs.Variables.{variable}
 use Rattle.replies.specs.declared.response.ResponseBody.{ResponseBody}
 use Rattle.replies.specs.declared.response.ResponseBody.TheVariants.{SetInstructionBreakpoints}
-use Rattle.replies.specs.declared.variables.Variable.{Variable}
 use Rattle.rv32i.specs.Names.{name_of}
 use Rattle.rv32i.specs.Texts.{address_text}
 use Rattle.rv32i.specs.declared.hart.Hart.{Hart}

@@ -27,8 +27,8 @@ use Rattle.image.specs.declared.Image.{Image}
 use Rattle.protocol.specs.Commands.{name_of}
 use Rattle.protocol.specs.declared.command.Command.{Command}
 use Rattle.protocol.specs.declared.refusal.Refusal.{Refusal}
+use Rattle.message_parts.specs.Forms.{AreTexts, text, texts_if, texts_of, whole}
 use Rattle.replies.specs.Events.{event_texts}
-use Rattle.replies.specs.Forms.{AreTexts, text, texts_if, texts_of, whole}
 use Rattle.replies.specs.Laws.{HasOutcomeTexts, HasTexts}
 use Rattle.replies.specs.declared.message.Message.{Message}
 use Rattle.replies.specs.declared.message.Message.TheVariants.{Response as IsResponse, Event as IsEvent}

@@ -5,6 +5,13 @@
 -- it stood still is forgotten: its frames, its registers and its memory may be others now. Its breakpoints stay.
 use Rattle.std.specs.Prelude.{◌≡◌, ℕ, ◌+◌, ◌-◌, ◌^◌, ◌==◌, nat_le, nat_lt, ◌&&◌, if◌then◌else◌, true, List, []}
 use Rattle.std.specs.Prelude.{◌∷◌, length, map, fold, take, filter_map, slice_get, bytes_eq, Option, Some, None, codes, pos, refl}
+use Rattle.message_parts.specs.declared.set_breakpoints.SourceBreakpoint.{SourceBreakpoint}
+use Rattle.message_parts.specs.declared.set_breakpoints.SourceBreakpoint.TheVariants.{Verified, Unverified}
+use Rattle.message_parts.specs.declared.set_instruction_breakpoints.InstructionBreakpoint.{InstructionBreakpoint}
+use Rattle.message_parts.specs.declared.set_instruction_breakpoints.InstructionBreakpoint.TheVariants.{Verified as VerifiedAt}
+use Rattle.message_parts.specs.declared.set_instruction_breakpoints.InstructionBreakpoint.TheVariants.{Unverified as UnverifiedAt}
+use Rattle.message_parts.specs.declared.stack_trace.StackFrame.{StackFrame}
+use Rattle.message_parts.specs.declared.variables.Variable.{Variable}
 use Rattle.replies.specs.declared.event.Event.{Event}
 use Rattle.replies.specs.declared.event.Event.TheVariants.{Initialized, Stopped as HasStopped, Continued, Output, Exited}
 use Rattle.replies.specs.declared.event.Event.TheVariants.{Terminated}
@@ -13,13 +20,6 @@ use Rattle.replies.specs.declared.message.Message.TheVariants.{Response as IsRes
 use Rattle.replies.specs.declared.response.Outcome.{Outcome}
 use Rattle.replies.specs.declared.response.Outcome.TheVariants.{Done, Refused}
 use Rattle.replies.specs.declared.response.ResponseBody.{ResponseBody}
-use Rattle.replies.specs.declared.set_breakpoints.SourceBreakpoint.{SourceBreakpoint}
-use Rattle.replies.specs.declared.set_breakpoints.SourceBreakpoint.TheVariants.{Verified, Unverified}
-use Rattle.replies.specs.declared.set_instruction_breakpoints.InstructionBreakpoint.{InstructionBreakpoint}
-use Rattle.replies.specs.declared.set_instruction_breakpoints.InstructionBreakpoint.TheVariants.{Verified as VerifiedAt}
-use Rattle.replies.specs.declared.set_instruction_breakpoints.InstructionBreakpoint.TheVariants.{Unverified as UnverifiedAt}
-use Rattle.replies.specs.declared.stack_trace.StackFrame.{StackFrame}
-use Rattle.replies.specs.declared.variables.Variable.{Variable}
 use Rattle.facts.specs.Facts.{Facts, nothing_known, unknown}
 use Rattle.mirror.specs.Requests.{register_of}
 use Rattle.mirror.specs.declared.asked.Asked.{Asked}

@@ -9,15 +9,15 @@ use Rattle.serde_json.specs.Find.{get}
 use Rattle.serde_json.specs.Written.{has_float}
 use Rattle.replies.specs.declared.response.ResponseBody.{ResponseBody}
 use Rattle.replies.specs.declared.response.ResponseBody.TheVariants as kind
-use Rattle.replies.specs.Forms.{Form, AreTexts, member_if}
+use Rattle.message_parts.specs.Forms.{Form, AreTexts, member_if}
 use Rattle.replies.specs.Bodies.{Row, Taken, IsBodyOf, all_taken, body_data, body_in, formed, has_numbers, surely, taken_among, texts_in, without_body}
-use Rattle.replies.specs.Laws.{is_ordered}
+use Rattle.message_parts.specs.Order.{is_ordered}
 use Rattle.replies.specs.Responses.{shared_members}
 use Rattle.replies.proofs.ByBody.{by_body, by_taken}
 use Rattle.replies.proofs.HasForm.{HasForm, IsAlways}
-use Rattle.replies.proofs.Lawful.{Lawful}
-use Rattle.replies.proofs.Simple.{IsPlain-is_simple}
-use Rattle.replies.proofs.Texts.{IsPlain}
+use Rattle.message_parts.proofs.Lawful.{Lawful}
+use Rattle.message_parts.proofs.Simple.{IsPlain-is_simple}
+use Rattle.message_parts.proofs.Texts.{IsPlain}
 
 -- what a response needs to know of its body
 pub record IsGood (d : Data) : Type 0 where

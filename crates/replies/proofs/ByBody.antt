@@ -5,10 +5,10 @@ use Rattle.serde_json.specs.Data.{Data}
 use Rattle.replies.specs.declared.response.ResponseBody.{ResponseBody}
 use Rattle.replies.specs.declared.response.ResponseBody.TheVariants as kind
 use Rattle.replies.specs.Bodies.{Taken, all_taken, formed, surely}
-use Rattle.replies.specs.Forms.{Form}
-use Rattle.replies.specs.Initialize.{initialize_body}
-use Rattle.replies.specs.Threads.{threads_body}
-use Rattle.replies.specs.Continue.{continue_body}
+use Rattle.message_parts.specs.Forms.{Form}
+use Rattle.message_parts.specs.Initialize.{initialize_body}
+use Rattle.message_parts.specs.Threads.{threads_body}
+use Rattle.message_parts.specs.Continue.{continue_body}
 use Rattle.replies.proofs.HasForm.{HasForm, IsAlways}
 use Rattle.replies.proofs.LawfulSetBreakpoints.{set_breakpoints_is}
 use Rattle.replies.proofs.LawfulSetFunctionBreakpoints.{set_function_breakpoints_is}

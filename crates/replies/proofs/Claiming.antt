@@ -3,6 +3,8 @@ use Rattle.std.proofs.Common.{◌≡◌, ℕ, ◌^◌, ◌<◌, ◌&&◌, List, 
 use Rattle.std.proofs.lemmas.Bool.{and_parts}
 use Rattle.serde_json.specs.Data.{Data, object}
 use Rattle.serde_json.specs.Find.{get}
+use Rattle.message_parts.specs.Forms.{member_if, whole, is_word}
+use Rattle.message_parts.proofs.Lawful.{lawful_whole, then_is}
 use Rattle.protocol.specs.Properties.{◌>>=◌}
 use Rattle.protocol.specs.Refusals.{has_text, the_refusal_of_its_number}
 use Rattle.protocol.specs.declared.refusal.Refusal.{Refusal}
@@ -14,13 +16,11 @@ use Rattle.replies.specs.declared.response.Outcome.{Outcome}
 use Rattle.replies.specs.declared.response.Outcome.TheVariants.{Done, Refused}
 use Rattle.replies.specs.declared.response.ResponseBody.{ResponseBody}
 use Rattle.replies.specs.Messages.{message_data, IsNumber, IsProper}
-use Rattle.replies.specs.Forms.{member_if, whole, is_word}
 use Rattle.replies.specs.Bodies.{IsBodyOf, body_data, body_in, has_numbers}
 use Rattle.replies.specs.Responses.{shared_members, outcome_data, IsOutcomeOf, IsProperResponse}
 use Rattle.replies.specs.Events.{IsProperEvent, event_body, event_name}
 use Rattle.replies.proofs.BodyTable.{body_in-done, body_in-proper}
 use Rattle.replies.proofs.EventTable.{event_named-event_data, event_named-proper, with_body}
-use Rattle.replies.proofs.Lawful.{lawful_whole, then_is}
 use Rattle.replies.specs.Claims.{kept_if, number_at, text_at, truth_at, seq_in, own_text, refusal_in, refused_in, error_in, outcome_in, response_in, event_in, message_of, claim_in}
 
 -- ---- a value that is a message

@@ -6,17 +6,17 @@ use Rattle.serde_json.specs.Data.{Data, object}
 use Rattle.serde_json.specs.Find.{get}
 use Rattle.replies.specs.declared.event.Event.{Event}
 use Rattle.replies.specs.declared.event.Event.TheVariants.{Initialized, Stopped, Continued, Output, Exited, Terminated}
-use Rattle.replies.specs.Forms.{Form, AreTexts, member_if}
-use Rattle.replies.specs.Stopped.{stopped}
-use Rattle.replies.specs.Continued.{continued_body}
-use Rattle.replies.specs.Output.{output}
-use Rattle.replies.specs.Exited.{exited}
+use Rattle.message_parts.specs.Forms.{Form, AreTexts, member_if}
+use Rattle.message_parts.specs.Stopped.{stopped}
+use Rattle.message_parts.specs.Continued.{continued_body}
+use Rattle.message_parts.specs.Output.{output}
+use Rattle.message_parts.specs.Exited.{exited}
 use Rattle.replies.specs.Events.{Taken, IsProperEvent, all_taken, event_body, event_data, event_members, event_name, event_named, event_texts, formed, taken_among}
 use Rattle.replies.proofs.BodyTable.{IsGood, good}
-use Rattle.replies.proofs.Lawful.{Lawful}
+use Rattle.message_parts.proofs.Lawful.{Lawful}
 use Rattle.replies.proofs.LawfulEvents.{lawful_stopped, lawful_output, lawful_exited}
-use Rattle.replies.proofs.Simple.{IsPlain-is_simple}
-use Rattle.replies.proofs.Texts.{IsPlain}
+use Rattle.message_parts.proofs.Simple.{IsPlain-is_simple}
+use Rattle.message_parts.proofs.Texts.{IsPlain}
 
 pub IsGood-event_body : (event : Event) → IfSome (event_body event) IsGood
 IsGood-event_body Initialized = tt

@@ -4,10 +4,10 @@ use Rattle.serde_json.specs.Data.{Data, depth}
 use Rattle.serde_json.specs.Written.{has_float}
 use Rattle.replies.specs.declared.response.ResponseBody.{ResponseBody}
 use Rattle.replies.specs.Bodies.{always, body_in, formed, in_form, row}
-use Rattle.replies.specs.Forms.{Form}
-use Rattle.replies.specs.Laws.{is_ordered}
-use Rattle.replies.proofs.Lawful.{Lawful}
-use Rattle.replies.proofs.Simple.{is_simple}
+use Rattle.message_parts.specs.Forms.{Form}
+use Rattle.message_parts.specs.Order.{is_ordered}
+use Rattle.message_parts.proofs.Lawful.{Lawful}
+use Rattle.message_parts.proofs.Simple.{is_simple}
 
 -- the bodies that are made of such values, after a success of this command
 pub record HasForm (n : ℕ) (command : List ℕ) {A : Type 0} (form : Form A) (make : A → ResponseBody) : Type 0 where

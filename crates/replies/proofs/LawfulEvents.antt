@@ -3,15 +3,15 @@ use Rattle.std.proofs.Common.{◌≡◌, ℕ, List, Option, true, codes, refl, a
 use Rattle.std.specs.Prelude.{Some}
 use Rattle.json.proofs.Printed.Utf8.{are_ascii}
 use Rattle.serde_json.specs.Data.{number, unsigned}
-use Rattle.replies.specs.Forms.{Fields, field, fixed, first_named, none, optional, text, unless_empty, whole}
-use Rattle.replies.specs.Stopped.{reason, reason_name, reasons, stopped}
-use Rattle.replies.specs.Output.{categories, category, category_name, output}
-use Rattle.replies.specs.declared.output.Category.{Category}
-use Rattle.replies.specs.declared.output.Category.TheVariants.{Console, Stdout}
-use Rattle.replies.specs.Exited.{exited}
-use Rattle.replies.specs.declared.stopped.Reason.{Reason}
-use Rattle.replies.specs.declared.stopped.Reason.TheVariants.{Entry, Step, Breakpoint, InstructionBreakpoint, FunctionBreakpoint, Exception, Pause}
-use Rattle.replies.proofs.Lawful.{Lawful, LawfulFields, lawful_whole, lawful_signed, lawful_text, lawful_one_of, lawful_list, lawful_none, lawful_field, lawful_fixed, lawful_optional, lawful_unless_empty, lawful_object, lawful_made_of}
+use Rattle.message_parts.specs.Forms.{Fields, field, fixed, first_named, none, optional, text, unless_empty, whole}
+use Rattle.message_parts.specs.Stopped.{reason, reason_name, reasons, stopped}
+use Rattle.message_parts.specs.Output.{categories, category, category_name, output}
+use Rattle.message_parts.specs.declared.output.Category.{Category}
+use Rattle.message_parts.specs.declared.output.Category.TheVariants.{Console, Stdout}
+use Rattle.message_parts.specs.Exited.{exited}
+use Rattle.message_parts.specs.declared.stopped.Reason.{Reason}
+use Rattle.message_parts.specs.declared.stopped.Reason.TheVariants.{Entry, Step, Breakpoint, InstructionBreakpoint, FunctionBreakpoint, Exception, Pause}
+use Rattle.message_parts.proofs.Lawful.{Lawful, LawfulFields, lawful_whole, lawful_signed, lawful_text, lawful_one_of, lawful_list, lawful_none, lawful_field, lawful_fixed, lawful_optional, lawful_unless_empty, lawful_object, lawful_made_of}
 
 -- the reason of a reason's name is that reason
 again : (r : Reason) → first_named reason_name reasons (reason_name r) ≡ Some r

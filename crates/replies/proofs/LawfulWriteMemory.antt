@@ -1,8 +1,8 @@
 -- The body of `writeMemory`: its form is lawful.
 use Rattle.std.proofs.Common.{refl, arith}
 use Rattle.std.specs.Prelude.{codes}
-use Rattle.replies.specs.WriteMemory.{write_memory}
-use Rattle.replies.proofs.Lawful.{Lawful, lawful_whole, lawful_none, lawful_field, lawful_object, lawful_made_of}
+use Rattle.message_parts.specs.WriteMemory.{write_memory}
+use Rattle.message_parts.proofs.Lawful.{Lawful, lawful_whole, lawful_none, lawful_field, lawful_object, lawful_made_of}
 use Rattle.replies.specs.declared.response.ResponseBody.TheVariants as body
 use Rattle.replies.proofs.HasForm.{HasForm}
 

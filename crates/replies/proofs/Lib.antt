@@ -1,17 +1,10 @@
 pub mod Bodies
 pub mod Sameness
-pub mod Texts
 pub mod Values
-pub mod Appending
 pub mod Printing
 pub mod Claiming
 pub mod Finding
-pub mod Lawful
 pub mod Refusals
-pub mod Simple
-pub mod Addresses
-pub mod InstructionBytes
-pub mod EncodedBytes
 pub mod HasForm
 pub mod LawfulSetBreakpoints
 pub mod LawfulSetFunctionBreakpoints

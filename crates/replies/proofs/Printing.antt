@@ -6,11 +6,11 @@ use Rattle.json.specs.Written.{Written}
 use Rattle.serde_json.specs.Data.{Data}
 use Rattle.serde_json.specs.Written.{compact_text}
 use Rattle.serde_json.proofs.Texts.{print-outline}
+use Rattle.message_parts.specs.Written.{Appends, HasSmallNumbers, tokens_of}
+use Rattle.message_parts.proofs.Texts.{json_of-tokens}
 use Rattle.protocol.specs.Json.{json_of}
 use Rattle.replies.specs.declared.message.Message.{Message}
 use Rattle.replies.specs.Messages.{message_data}
-use Rattle.replies.specs.Written.{Appends, HasSmallNumbers, tokens_of}
-use Rattle.replies.proofs.Texts.{json_of-tokens}
 use Rattle.replies.proofs.Values.{is_ordered-message_data, depth-message_data}
 
 -- it has written this value, and nothing else

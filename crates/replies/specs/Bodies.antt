@@ -7,22 +7,22 @@ use Rattle.std.specs.Prelude.{IsTrue, option_map}
 use Rattle.std.specs.List.{list_any}
 use Rattle.serde_json.specs.Data.{Data}
 use Rattle.serde_json.specs.Find.{get}
+use Rattle.message_parts.specs.Forms.{Form}
+use Rattle.message_parts.specs.Initialize.{initialize_body}
+use Rattle.message_parts.specs.Threads.{threads_body}
+use Rattle.message_parts.specs.Continue.{continue_body}
+use Rattle.message_parts.specs.SetBreakpoints.{set_breakpoints}
+use Rattle.message_parts.specs.SetFunctionBreakpoints.{set_function_breakpoints}
+use Rattle.message_parts.specs.SetInstructionBreakpoints.{set_instruction_breakpoints}
+use Rattle.message_parts.specs.StackTrace.{stack_trace}
+use Rattle.message_parts.specs.Scopes.{scopes}
+use Rattle.message_parts.specs.Variables.{variables}
+use Rattle.message_parts.specs.SetVariable.{set_variable}
+use Rattle.message_parts.specs.Evaluate.{evaluate}
+use Rattle.message_parts.specs.Disassemble.{disassemble}
+use Rattle.message_parts.specs.ReadMemory.{read_memory}
+use Rattle.message_parts.specs.WriteMemory.{write_memory}
 use Rattle.protocol.specs.Properties.{◌>>=◌}
-use Rattle.replies.specs.Forms.{Form}
-use Rattle.replies.specs.Initialize.{initialize_body}
-use Rattle.replies.specs.Threads.{threads_body}
-use Rattle.replies.specs.Continue.{continue_body}
-use Rattle.replies.specs.SetBreakpoints.{set_breakpoints}
-use Rattle.replies.specs.SetFunctionBreakpoints.{set_function_breakpoints}
-use Rattle.replies.specs.SetInstructionBreakpoints.{set_instruction_breakpoints}
-use Rattle.replies.specs.StackTrace.{stack_trace}
-use Rattle.replies.specs.Scopes.{scopes}
-use Rattle.replies.specs.Variables.{variables}
-use Rattle.replies.specs.SetVariable.{set_variable}
-use Rattle.replies.specs.Evaluate.{evaluate}
-use Rattle.replies.specs.Disassemble.{disassemble}
-use Rattle.replies.specs.ReadMemory.{read_memory}
-use Rattle.replies.specs.WriteMemory.{write_memory}
 use Rattle.replies.specs.declared.response.ResponseBody.{ResponseBody}
 use Rattle.replies.specs.declared.response.ResponseBody.TheVariants as kind
 

@@ -8,6 +8,7 @@ use Rattle.std.specs.Prelude.{ℕ, ◌^◌, ◌&&◌, List, Bool, true, false, n
 use Rattle.std.specs.Prelude.{option_map, option_and_then, codes, bytes_eq}
 use Rattle.serde_json.specs.Data.{Data}
 use Rattle.serde_json.specs.Find.{get, as_bool, as_number, as_str, as_u64}
+use Rattle.message_parts.specs.Forms.{whole}
 use Rattle.protocol.specs.Refusals.{has_text, refusal_of}
 use Rattle.protocol.specs.declared.refusal.Refusal.{Refusal}
 use Rattle.replies.specs.declared.response.Response as response
@@ -19,7 +20,6 @@ use Rattle.replies.specs.declared.event.Event as event
 use Rattle.protocol.specs.Properties.{◌>>=◌}
 use Rattle.replies.specs.Bodies.{body_in}
 use Rattle.replies.specs.Events.{event_named}
-use Rattle.replies.specs.Forms.{whole}
 
 -- the value, if it passes the test
 abbrev pub kept_if : {A : Type 0} → (A → Bool) → Option A → Option A

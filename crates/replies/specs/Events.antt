@@ -10,12 +10,12 @@ use Rattle.std.specs.Prelude.{◌≡◌, ℕ, List, [], ◌∷◌, Bool, true, O
 use Rattle.std.specs.Prelude.{option_map}
 use Rattle.serde_json.specs.Data.{Data, number, unsigned, string, object, Members, no_members, member}
 use Rattle.serde_json.specs.Find.{get}
+use Rattle.message_parts.specs.Forms.{Form, member_if}
+use Rattle.message_parts.specs.Stopped.{stopped}
+use Rattle.message_parts.specs.Continued.{continued_body}
+use Rattle.message_parts.specs.Output.{output}
+use Rattle.message_parts.specs.Exited.{exited}
 use Rattle.protocol.specs.Properties.{◌>>=◌}
-use Rattle.replies.specs.Forms.{Form, member_if}
-use Rattle.replies.specs.Stopped.{stopped}
-use Rattle.replies.specs.Continued.{continued_body}
-use Rattle.replies.specs.Output.{output}
-use Rattle.replies.specs.Exited.{exited}
 use Rattle.replies.specs.declared.event.Event.{Event}
 use Rattle.replies.specs.declared.event.Event.TheVariants.{Initialized, Stopped, Continued, Output, Exited, Terminated}
 

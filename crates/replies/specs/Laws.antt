@@ -2,19 +2,17 @@
 --
 -- What is written for a message is read as that message and as no other. The members of each object stand in byte order
 -- of their names, each name once, as a JSON object should have it (RFC 8259, section 4).
-use Rattle.std.specs.Prelude.{◌≡◌, ℕ, List, Bool, true, ◌&&◌, Some, Ok, IsUtf8, IfSome, IsTrue}
-use Rattle.std.specs.Cmp.Lexicographic.{slice_cmp}
-use Rattle.std.specs.Ordering.{nat_cmp, is_lt}
-use Rattle.serde_json.specs.Data.{Data, null, boolean, number, string, array, object, Items, no_items, item, Members}
-use Rattle.serde_json.specs.Data.{no_members, member}
+use Rattle.std.specs.Prelude.{◌≡◌, ℕ, List, Some, Ok, IsUtf8, IfSome, IsTrue}
+use Rattle.serde_json.specs.Data.{Data}
 use Rattle.replies.specs.declared.message.Message.{Message}
 use Rattle.replies.specs.declared.message.Message.TheVariants.{Response, Event}
 use Rattle.replies.specs.declared.response.Outcome.{Outcome}
 use Rattle.replies.specs.declared.response.Outcome.TheVariants.{Done, Refused}
+use Rattle.message_parts.specs.Order.{is_ordered}
+use Rattle.message_parts.specs.Forms.{AreTexts}
 use Rattle.protocol.specs.Json.{json_of}
 use Rattle.replies.specs.Bodies.{texts_in}
 use Rattle.replies.specs.Events.{event_texts}
-use Rattle.replies.specs.Forms.{AreTexts}
 use Rattle.replies.specs.Messages.{message_data, text_of, IsProper, IsNumber}
 use Rattle.replies.specs.Reading.{IsMessage, ReadsAs, reading_of}
 
@@ -50,30 +48,6 @@ abbrev pub ReadingIsRight : Type 0
 ReadingIsRight = (bytes : List ℕ) → ReadsAs bytes (reading_of bytes)
 
 -- ---- the order of members
-
--- the first name, if there is one, is above this one
-abbrev pub begins_above : List ℕ → Members → Bool
-begins_above name no_members = true
-begins_above name (member next value rest) = is_lt (slice_cmp nat_cmp name next)
-
-abbrev mutual
-  -- the names of each object rise
-  pub is_ordered : Data → Bool
-  is_ordered null = true
-  is_ordered (boolean b) = true
-  is_ordered (number n) = true
-  is_ordered (string s) = true
-  is_ordered (array values) = are_items_ordered values
-  is_ordered (object named) = are_members_ordered named
-
-  pub are_items_ordered : Items → Bool
-  are_items_ordered no_items = true
-  are_items_ordered (item value values) = is_ordered value && are_items_ordered values
-
-  pub are_members_ordered : Members → Bool
-  are_members_ordered no_members = true
-  are_members_ordered (member name value rest) =
-      begins_above name rest && (is_ordered value && are_members_ordered rest)
 
 -- in each object of a message the names rise, byte for byte
 abbrev pub NamesRise : Type 0

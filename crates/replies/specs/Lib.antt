@@ -1,41 +1,9 @@
 -- What the adapter sends, as JSON and as bytes: responses to requests, and events.
 
--- how the values of a message stand in JSON
-pub mod Forms
--- addresses and values of words, as texts
-pub mod Addresses
--- ---- the bodies of responses
--- whether a breakpoint is set, the bytes of an instruction, and bytes in base64
-pub mod Breakpoints
-pub mod InstructionBytes
-pub mod EncodedBytes
--- the body that answers each request, in the file of its name
-pub mod Initialize
-pub mod Threads
-pub mod Continue
-pub mod SetBreakpoints
-pub mod SetFunctionBreakpoints
-pub mod SetInstructionBreakpoints
-pub mod StackTrace
-pub mod Scopes
-pub mod Variables
-pub mod SetVariable
-pub mod Evaluate
-pub mod Disassemble
-pub mod ReadMemory
-pub mod WriteMemory
--- the table of the bodies
+-- ---- the tables of bodies, each of which is of `message_parts`, in the file of its name
+-- which body each request has
 pub mod Bodies
--- ---- the bodies of events
--- the body of `stopped`: why the machine stopped
-pub mod Stopped
--- the body of `continued`
-pub mod Continued
--- the body of `output`: what the program printed
-pub mod Output
--- the body of `exited`: the program's exit code
-pub mod Exited
--- the table of the events
+-- which body each event has
 pub mod Events
 -- ---- the whole
 -- a response as a JSON value, and which responses are the adapter's
@@ -51,9 +19,11 @@ pub mod Laws
 pub mod Same
 -- the one message that a JSON value can be
 pub mod Claims
--- ---- for private clauses alone
--- the tokens of a message, in the order in which they are written
-pub mod Written
+-- ---- of `message_parts`
+-- how the values of a message stand in JSON
+pub use Rattle.message_parts.specs.Forms
+-- the order of the members of objects
+pub use Rattle.message_parts.specs.Order
 -- ---- of `protocol`
 -- the names of the requests
 pub use Rattle.protocol.specs.Commands

@@ -10,14 +10,14 @@ use Rattle.std.specs.Str.{chars, is_utf8}
 use Rattle.serde_json.specs.Data.{Data}
 use Rattle.serde_json.specs.Written.{compact_text}
 use Rattle.serde_json.proofs.OnLiterals.{serde_json_on_literals}
+use Rattle.message_parts.specs.declared.output.Category.TheVariants.{Console, Stdout}
+use Rattle.message_parts.specs.declared.stopped.Reason.TheVariants.{InstructionBreakpoint, Exception}
 use Rattle.protocol.specs.declared.refusal.Refusal.TheVariants.{WrongPhase}
 use Rattle.replies.specs.declared.response.Outcome.TheVariants.{Done, Refused}
 use Rattle.replies.specs.declared.response.ResponseBody.TheVariants.{Threads, Empty}
 use Rattle.replies.specs.declared.message.Message.{Message}
 use Rattle.replies.specs.declared.message.Message.TheVariants.{Response, Event}
 use Rattle.replies.specs.declared.event.Event.TheVariants.{Stopped, Output, Exited, Terminated}
-use Rattle.replies.specs.declared.output.Category.TheVariants.{Console, Stdout}
-use Rattle.replies.specs.declared.stopped.Reason.TheVariants.{InstructionBreakpoint, Exception}
 use Rattle.replies.specs.Responses.{response_data, IsProperResponse}
 use Rattle.replies.specs.Events.{event_data, IsProperEvent}
 

@@ -8,12 +8,12 @@
 -- The members of each object stand in byte order of their names, which is where `put` puts them.
 use Rattle.std.specs.Prelude.{◌≡◌, ℕ, ◌^◌, ◌<◌, List, Bool, true, false, Option, Some, None, is_some, codes}
 use Rattle.serde_json.specs.Data.{Data, boolean, number, unsigned, string, object, Members, no_members, member, put}
+use Rattle.message_parts.specs.Forms.{member_if}
 use Rattle.protocol.specs.declared.refusal.Refusal.{Refusal}
 use Rattle.protocol.specs.Refusals.{has_text, id_of, name_of}
 use Rattle.replies.specs.declared.response.Response.{Response}
 use Rattle.replies.specs.declared.response.Outcome.{Outcome}
 use Rattle.replies.specs.declared.response.Outcome.TheVariants.{Done, Refused}
-use Rattle.replies.specs.Forms.{member_if}
 use Rattle.replies.specs.Bodies.{IsBodyOf, body_data, has_numbers}
 
 -- the text for people

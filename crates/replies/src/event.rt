@@ -1,16 +1,16 @@
 //! Events: what the adapter tells the editor, with no request that asks for it.
 ghost use Rattle.std.specs.Prelude.{◌≡◌, OnOk, codes};
+ghost use Rattle.message_parts.specs.Forms.{member_if};
+ghost use Rattle.message_parts.specs.Written.{AreWritten, IsWritten};
 ghost use Rattle.protocol.specs.Arguments.{Reads};
 ghost use Rattle.serde_json.specs.Data.{no_members};
 ghost use Rattle.serde_json.specs.View.{view};
 ghost use Rattle.replies.specs.Claims.{event_in};
 ghost use Rattle.replies.specs.Events.{event_body, event_data, event_name, event_named};
-ghost use Rattle.replies.specs.Forms.{member_if};
-ghost use Rattle.replies.specs.Written.{AreWritten, IsWritten};
 
-use crate::members::{BODY, EVENT, EVENT_NAME, SEQ, TYPE};
-use crate::{Exited, Output, Stopped, continued, find, member};
 use json::Writer;
+use message_parts::members::{BODY, EVENT, EVENT_NAME, SEQ, TYPE};
+use message_parts::{Exited, Output, Stopped, continued, find, member};
 use protocol::Unread;
 use serde_json::Value;
 use std::alloc::{AllocError, Global};

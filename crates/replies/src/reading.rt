@@ -12,10 +12,11 @@ ghost use Rattle.replies.specs.Messages.{message_data};
 ghost use Rattle.replies.specs.Reading.{message_in};
 ghost use Rattle.replies.specs.Same.{is_same};
 
-use crate::members::{
+use crate::{Message, Outcome, Response, ResponseBody, event, writing};
+use message_parts::members::{
     BODY, COMMAND, ERROR, EVENT, FORMAT, ID, REQUEST_SEQ, RESPONSE, SEQ, SUCCESS, TYPE,
 };
-use crate::{Message, Outcome, Response, ResponseBody, event, find, read_memory, writing};
+use message_parts::{find, read_memory};
 use protocol::{
     Refusal, Text, Unread, attach, cancel, configuration_done, continue_, disassemble, disconnect,
     evaluate, initialize, launch, next, pause, restart, reverse_continue, scopes, set_breakpoints,

@@ -3,7 +3,7 @@ ghost use Rattle.std.specs.Prelude.{◌≡◌, None, IfOk};
 ghost use Rattle.protocol.specs.Commands.{name_of};
 ghost use Rattle.replies.specs.declared.response.Response as declared;
 
-use crate::{
+use message_parts::{
     Disassemble, Evaluate, ReadMemory, Scopes, SetBreakpoints, SetFunctionBreakpoints,
     SetInstructionBreakpoints, SetVariable, StackTrace, Variables, WriteMemory,
 };

@@ -1,21 +1,19 @@
 //! Messages written as compact JSON, member by member into one buffer.
 ghost use Rattle.std.specs.Prelude.{◌≡◌, Some, IfOk, OnOk, codes};
 ghost use Rattle.serde_json.specs.Data.{no_members};
+ghost use Rattle.message_parts.specs.Forms.{member_if};
+ghost use Rattle.message_parts.specs.Written.{AreWritten, IsWritten};
 ghost use Rattle.protocol.specs.Json.{json_of};
 ghost use Rattle.replies.specs.Messages.{message_data, text_of};
 ghost use Rattle.replies.specs.Bodies.{body_data};
-ghost use Rattle.replies.specs.Forms.{member_if};
 ghost use Rattle.replies.specs.Responses.{response_data, outcome_data, error_data, format_of, last_members};
-ghost use Rattle.replies.specs.Written.{AreWritten, IsWritten};
 
-use crate::members::{
+use crate::{Message, Outcome, Response, ResponseBody, event};
+use json::Writer;
+use message_parts::members::{
     BODY, COMMAND, ERROR, FORMAT, ID, MESSAGE, REQUEST_SEQ, RESPONSE, SEQ, SUCCESS, TYPE,
 };
-use crate::{
-    Message, Outcome, Response, ResponseBody, continue_, event, initialize, member, read_memory,
-    threads,
-};
-use json::Writer;
+use message_parts::{continue_, initialize, member, read_memory, threads};
 use protocol::{Refusal, Text};
 use std::alloc::{AllocError, Global};
 

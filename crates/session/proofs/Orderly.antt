@@ -18,10 +18,10 @@ use Rattle.protocol.specs.declared.command.Command.TheVariants.{SetBreakpoints, 
 use Rattle.course.specs.Positions.{Position}
 use Rattle.stepping.specs.declared.goal.Goal.{Goal}
 use Rattle.stepping.specs.declared.goal.Goal.TheVariants.{Go, In, Over, Out, Back, ReverseGo}
+use Rattle.message_parts.specs.Forms.{is_signed_word, is_word}
+use Rattle.message_parts.specs.declared.stopped.Reason.{Reason as AReason}
 use Rattle.replies.specs.Events.{IsProperEvent}
-use Rattle.replies.specs.Forms.{is_signed_word, is_word}
 use Rattle.replies.specs.declared.event.Event.TheVariants as event
-use Rattle.replies.specs.declared.stopped.Reason.{Reason as AReason}
 use Rattle.rv32i.specs.Laws.{IsSignedWord}
 use Rattle.rv32i.specs.declared.hart.Hart.{Hart}
 use Rattle.rv32i.specs.declared.instr.Instr.{Instr}

@@ -9,9 +9,9 @@ use Rattle.debuggee.specs.declared.run.Run.{Run}
 use Rattle.debuggee.specs.declared.run.Run.TheVariants.{Running, Stopped as StandsStill, Ended}
 use Rattle.protocol.specs.declared.disconnect.TheConstants.{NAME as DISCONNECT}
 use Rattle.protocol.specs.declared.pause.TheConstants.{NAME as PAUSE}
+use Rattle.message_parts.specs.declared.exited.Exited.{Exited}
+use Rattle.message_parts.specs.declared.stopped.Stopped.{Stopped}
 use Rattle.replies.specs.declared.event.Event.TheVariants as event
-use Rattle.replies.specs.declared.exited.Exited.{Exited}
-use Rattle.replies.specs.declared.stopped.Stopped.{Stopped}
 use Rattle.replies.specs.declared.response.Response.{Response}
 use Rattle.handlers.specs.Telling.{reason_of, text_of}
 use Rattle.framing.specs.Reading.{reading_of}

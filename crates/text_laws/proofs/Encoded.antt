@@ -10,7 +10,7 @@ use Rattle.base64.proofs.RoundTrip.{length-encode_symbols}
 use Rattle.base64.specs.Engines.{standard}
 use Rattle.base64.specs.GeneralPurpose.{encode_of}
 use Rattle.base64.specs.Rfc4648.{encode_group, encode_symbols, padding_len}
-use Rattle.replies.specs.EncodedBytes.{are_bytes}
+use Rattle.message_parts.specs.EncodedBytes.{are_bytes}
 use Rattle.text_laws.specs.Lengths.{written_length}
 use Rattle.text_laws.specs.Texts.{IsPlain, IsPlainByte}
 use Rattle.text_laws.proofs.Sizes.{plain_texts_stand}

@@ -4,10 +4,10 @@ use Rattle.std.specs.List.{sum_by}
 use Rattle.base64.specs.Engines.{standard}
 use Rattle.base64.specs.GeneralPurpose.{encode_of}
 use Rattle.serde_json.specs.Data.{Data}
-use Rattle.replies.specs.Addresses.{address, address_text}
-use Rattle.replies.specs.EncodedBytes.{encoded_bytes}
-use Rattle.replies.specs.Forms.{Fields, Form, either, field, fixed, if_any, items_of, list, made_of, member_if, members_either, none, object_of, one_of, optional, signed, text, unless_empty, whole}
-use Rattle.replies.specs.InstructionBytes.{bytes_text, instruction_bytes}
+use Rattle.message_parts.specs.Addresses.{address, address_text}
+use Rattle.message_parts.specs.EncodedBytes.{encoded_bytes}
+use Rattle.message_parts.specs.Forms.{Fields, Form, either, field, fixed, if_any, items_of, list, made_of, member_if, members_either, none, object_of, one_of, optional, signed, text, unless_empty, whole}
+use Rattle.message_parts.specs.InstructionBytes.{bytes_text, instruction_bytes}
 use Rattle.text_laws.specs.Lengths.{written_length}
 use Rattle.text_laws.proofs.Sizes.{items_size, items_size-items_of, members_size, size, texts_are_escaped}
 

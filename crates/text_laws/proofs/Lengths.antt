@@ -6,58 +6,58 @@ use Rattle.base64.specs.Engines.{standard}
 use Rattle.base64.specs.GeneralPurpose.{encode_of}
 use Rattle.json.specs.Print.{escape_byte}
 use Rattle.serde_json.specs.Data.{Data, boolean, member, no_members, number, object, put, string, unsigned}
+use Rattle.message_parts.specs.Breakpoints.{is_verified}
+use Rattle.message_parts.specs.Disassemble as disassembly
+use Rattle.message_parts.specs.EncodedBytes.{are_bytes}
+use Rattle.message_parts.specs.Evaluate.{evaluate}
+use Rattle.message_parts.specs.Exited.{exited}
+use Rattle.message_parts.specs.Forms.{Form, is_in_if, is_word, member_if, whole}
+use Rattle.message_parts.specs.Output.{categories, category_name, output}
+use Rattle.message_parts.specs.ReadMemory.{or_0, read_memory, unless_0}
+use Rattle.message_parts.specs.Scopes as scope
+use Rattle.message_parts.specs.SetBreakpoints as of_source
+use Rattle.message_parts.specs.SetFunctionBreakpoints.{set_function_breakpoints}
+use Rattle.message_parts.specs.SetInstructionBreakpoints as at_instruction
+use Rattle.message_parts.specs.SetVariable.{set_variable}
+use Rattle.message_parts.specs.StackTrace.{source, stack_frame, stack_trace}
+use Rattle.message_parts.specs.Stopped.{reason_name, reasons, stopped}
+use Rattle.message_parts.specs.Variables.{variable, variables}
+use Rattle.message_parts.specs.WriteMemory.{write_memory}
+use Rattle.message_parts.specs.Written.{HasSmallNumbers}
+use Rattle.message_parts.specs.declared.disassemble.Instruction.{Instruction}
+use Rattle.message_parts.specs.declared.disassemble.Instruction.TheVariants as entry
+use Rattle.message_parts.specs.declared.output.Category.{Category}
+use Rattle.message_parts.specs.declared.output.Category.TheVariants.{Console, Stdout}
+use Rattle.message_parts.specs.declared.read_memory.ReadMemory.{ReadMemory}
+use Rattle.message_parts.specs.declared.scopes.Scope.{Scope}
+use Rattle.message_parts.specs.declared.scopes.Scope.TheVariants as group
+use Rattle.message_parts.specs.declared.set_breakpoints.SourceBreakpoint.{SourceBreakpoint}
+use Rattle.message_parts.specs.declared.set_breakpoints.SourceBreakpoint.TheVariants as source_breakpoint
+use Rattle.message_parts.specs.declared.set_instruction_breakpoints.InstructionBreakpoint.{InstructionBreakpoint}
+use Rattle.message_parts.specs.declared.set_instruction_breakpoints.InstructionBreakpoint.TheVariants as instruction_breakpoint
+use Rattle.message_parts.specs.declared.stack_trace.Source.{Source}
+use Rattle.message_parts.specs.declared.stopped.Reason.{Reason}
+use Rattle.message_parts.specs.declared.stopped.Reason.TheVariants as why
+use Rattle.message_parts.proofs.Simple.{IsPlain-is_simple}
+use Rattle.message_parts.proofs.Texts.{HasSmallNumbers-IsPlain}
 use Rattle.protocol.specs.Refusals.{id_of, name_of}
 use Rattle.protocol.specs.declared.refusal.Refusal.{Refusal}
 use Rattle.replies.specs.Bodies.{Row, body_data, has_numbers}
-use Rattle.replies.specs.Breakpoints.{is_verified}
-use Rattle.replies.specs.Disassemble as disassembly
-use Rattle.replies.specs.EncodedBytes.{are_bytes}
-use Rattle.replies.specs.Evaluate.{evaluate}
 use Rattle.replies.specs.Events.{IsProperEvent, event_body, event_members, event_name}
-use Rattle.replies.specs.Exited.{exited}
-use Rattle.replies.specs.Forms.{Form, is_in_if, is_word, member_if, whole}
 use Rattle.replies.specs.Messages.{IsNumber, IsProper, message_data}
-use Rattle.replies.specs.Output.{categories, category_name, output}
-use Rattle.replies.specs.ReadMemory.{or_0, read_memory, unless_0}
 use Rattle.replies.specs.Responses.{IsOutcomeOf, format_of, outcome_data, shared_members}
-use Rattle.replies.specs.Scopes as scope
-use Rattle.replies.specs.SetBreakpoints as of_source
-use Rattle.replies.specs.SetFunctionBreakpoints.{set_function_breakpoints}
-use Rattle.replies.specs.SetInstructionBreakpoints as at_instruction
-use Rattle.replies.specs.SetVariable.{set_variable}
-use Rattle.replies.specs.StackTrace.{source, stack_frame, stack_trace}
-use Rattle.replies.specs.Stopped.{reason_name, reasons, stopped}
-use Rattle.replies.specs.Variables.{variable, variables}
-use Rattle.replies.specs.WriteMemory.{write_memory}
-use Rattle.replies.specs.Written.{HasSmallNumbers}
-use Rattle.replies.specs.declared.disassemble.Instruction.{Instruction}
-use Rattle.replies.specs.declared.disassemble.Instruction.TheVariants as entry
 use Rattle.replies.specs.declared.event.Event.{Event}
 use Rattle.replies.specs.declared.event.Event.TheVariants as event
 use Rattle.replies.specs.declared.message.Message.{Message}
 use Rattle.replies.specs.declared.message.Message.TheVariants as message
-use Rattle.replies.specs.declared.output.Category.{Category}
-use Rattle.replies.specs.declared.output.Category.TheVariants.{Console, Stdout}
-use Rattle.replies.specs.declared.read_memory.ReadMemory.{ReadMemory}
 use Rattle.replies.specs.declared.response.Outcome.{Outcome}
 use Rattle.replies.specs.declared.response.Outcome.TheVariants.{Done, Refused}
 use Rattle.replies.specs.declared.response.ResponseBody.{ResponseBody}
 use Rattle.replies.specs.declared.response.ResponseBody.TheVariants as kind
-use Rattle.replies.specs.declared.scopes.Scope.{Scope}
-use Rattle.replies.specs.declared.scopes.Scope.TheVariants as group
-use Rattle.replies.specs.declared.set_breakpoints.SourceBreakpoint.{SourceBreakpoint}
-use Rattle.replies.specs.declared.set_breakpoints.SourceBreakpoint.TheVariants as source_breakpoint
-use Rattle.replies.specs.declared.set_instruction_breakpoints.InstructionBreakpoint.{InstructionBreakpoint}
-use Rattle.replies.specs.declared.set_instruction_breakpoints.InstructionBreakpoint.TheVariants as instruction_breakpoint
-use Rattle.replies.specs.declared.stack_trace.Source.{Source}
-use Rattle.replies.specs.declared.stopped.Reason.{Reason}
-use Rattle.replies.specs.declared.stopped.Reason.TheVariants as why
 use Rattle.replies.proofs.ByBody.{by_body}
 use Rattle.replies.proofs.HasForm.{HasForm, IsAlways}
 use Rattle.replies.proofs.LawfulEvents.{lawful_exited, lawful_output, lawful_stopped}
 use Rattle.replies.proofs.Refusals.{of_each, small-id_of}
-use Rattle.replies.proofs.Simple.{IsPlain-is_simple}
-use Rattle.replies.proofs.Texts.{HasSmallNumbers-IsPlain}
 use Rattle.text_laws.specs.Lengths.{TextsAreBounded, most_bytes, most_of_body, most_of_event, most_of_frame, most_of_instruction, most_of_instruction_breakpoint, most_of_outcome, most_of_source, most_of_source_breakpoint, most_of_variable, written_length, written_length_if}
 use Rattle.text_laws.proofs.Encoded.{encoded_fits}
 use Rattle.text_laws.proofs.Fitting.{Fits, fits_address, fits_either, fits_encoded_bytes, fits_even_list, fits_field, fits_fixed, fits_instruction_bytes, fits_list, fits_made_of, fits_none, fits_object, fits_one_of, fits_optional, fits_signed, fits_text, fits_unless_empty, fits_weaker, fits_whole, members_weaker, FieldsFit, most_either, most_if}

@@ -9,8 +9,8 @@ use Rattle.json.specs.Print.{escape, escape_byte, escape_letter, quoted}
 use Rattle.json.proofs.Printed.Strings.{escape_byte_plain}
 use Rattle.serde_json.specs.Data.{Data, Items, Members, array, boolean, float, item, member, negative, no_items, no_members, null, number, object, string, unsigned}
 use Rattle.serde_json.specs.Written.{comma_if, compact_text, items_text, members_text}
-use Rattle.replies.specs.Forms.{items_of}
-use Rattle.replies.specs.Written.{HasSmallNumbers, ItemsHaveSmallNumbers, MembersHaveSmallNumbers}
+use Rattle.message_parts.specs.Forms.{items_of}
+use Rattle.message_parts.specs.Written.{HasSmallNumbers, ItemsHaveSmallNumbers, MembersHaveSmallNumbers}
 use Rattle.text_laws.specs.Lengths.{PlainTextsStand, TextsAreEscaped, written_length}
 use Rattle.text_laws.specs.Texts.{IsPlain, IsPlainByte}
 

@@ -8,9 +8,16 @@
 use Rattle.std.specs.Prelude.{◌≡◌, ℕ, ◌+◌, ◌*◌, ◌≤◌, List, [], ◌∷◌, Option, Some, None, codes, length, refl}
 use Rattle.std.specs.List.{sum_by}
 use Rattle.json.specs.Print.{escape_byte, quoted}
+use Rattle.message_parts.specs.declared.disassemble.Instruction.{Instruction}
+use Rattle.message_parts.specs.declared.disassemble.Instruction.TheVariants.{Valid, Invalid}
+use Rattle.message_parts.specs.declared.set_breakpoints.SourceBreakpoint.{SourceBreakpoint}
+use Rattle.message_parts.specs.declared.set_breakpoints.SourceBreakpoint.TheVariants as of_source
+use Rattle.message_parts.specs.declared.set_instruction_breakpoints.InstructionBreakpoint.{InstructionBreakpoint}
+use Rattle.message_parts.specs.declared.set_instruction_breakpoints.InstructionBreakpoint.TheVariants as at_instruction
+use Rattle.message_parts.specs.declared.stack_trace.Source.{Source}
+use Rattle.message_parts.specs.declared.stack_trace.StackFrame.{StackFrame}
+use Rattle.message_parts.specs.declared.variables.Variable.{Variable}
 use Rattle.replies.specs.Messages.{IsNumber, IsProper, text_of}
-use Rattle.replies.specs.declared.disassemble.Instruction.{Instruction}
-use Rattle.replies.specs.declared.disassemble.Instruction.TheVariants.{Valid, Invalid}
 use Rattle.replies.specs.declared.event.Event.{Event}
 use Rattle.replies.specs.declared.event.Event.TheVariants as event
 use Rattle.replies.specs.declared.message.Message.{Message}
@@ -19,13 +26,6 @@ use Rattle.replies.specs.declared.response.Outcome.{Outcome}
 use Rattle.replies.specs.declared.response.Outcome.TheVariants.{Done, Refused}
 use Rattle.replies.specs.declared.response.ResponseBody.{ResponseBody}
 use Rattle.replies.specs.declared.response.ResponseBody.TheVariants as kind
-use Rattle.replies.specs.declared.set_breakpoints.SourceBreakpoint.{SourceBreakpoint}
-use Rattle.replies.specs.declared.set_breakpoints.SourceBreakpoint.TheVariants as of_source
-use Rattle.replies.specs.declared.set_instruction_breakpoints.InstructionBreakpoint.{InstructionBreakpoint}
-use Rattle.replies.specs.declared.set_instruction_breakpoints.InstructionBreakpoint.TheVariants as at_instruction
-use Rattle.replies.specs.declared.stack_trace.Source.{Source}
-use Rattle.replies.specs.declared.stack_trace.StackFrame.{StackFrame}
-use Rattle.replies.specs.declared.variables.Variable.{Variable}
 use Rattle.text_laws.specs.Texts.{IsPlain}
 
 -- how many bytes a text has in a JSON text: with its quotes and its escapes

@@ -6,7 +6,7 @@ use Rattle.rv32i.proofs.Following.{range_with_len-end, range_with_len-rest}
 use Rattle.image.specs.Memory.{bytes_at, has_bytes, little_endian}
 use Rattle.rv32i.specs.Names.{name_of}
 use Rattle.rv32i.specs.declared.hart.Hart.{Hart}
-use Rattle.replies.specs.declared.variables.Variable.{Variable}
+use Rattle.message_parts.specs.declared.variables.Variable.{Variable}
 use Rattle.variables.specs.Registers.{counter, register, registers}
 use Rattle.variables.specs.Stack.{has_word, word, word_anywhere, words}
 

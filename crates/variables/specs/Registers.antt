@@ -6,9 +6,9 @@
 use Rattle.std.specs.Prelude.{◌≡◌, ℕ, ◌==◌, if◌then◌else◌, List, [], ◌∷◌, ◌++◌, map, slice_index, slice_set}
 use Rattle.std.specs.Prelude.{Option, Some, None, Result, Ok, Err, bytes_eq, codes, refl}
 use Rattle.std.specs.List.{range_with_len}
+use Rattle.message_parts.specs.declared.variables.Variable.{Variable}
 use Rattle.protocol.specs.declared.refusal.Refusal.{Refusal}
 use Rattle.protocol.specs.declared.refusal.Refusal.TheVariants.{UnknownName, NotWritable, BadValue}
-use Rattle.replies.specs.declared.variables.Variable.{Variable}
 use Rattle.rv32i.specs.Names.{name_of, number_named}
 use Rattle.rv32i.specs.declared.hart.Hart.{Hart}
 use Rattle.variables.specs.Values.{value_of}

@@ -8,7 +8,7 @@ use Rattle.std.specs.Prelude.{codes}
 use Rattle.std.specs.List.{range_with_len, take_while}
 use Rattle.std.specs.Fmt.{decimal}
 use Rattle.image.specs.Memory.{bytes_at, has_bytes, little_endian}
-use Rattle.replies.specs.declared.variables.Variable.{Variable}
+use Rattle.message_parts.specs.declared.variables.Variable.{Variable}
 use Rattle.rv32i.specs.Machine.{sum}
 use Rattle.rv32i.specs.declared.hart.Hart.{Hart}
 

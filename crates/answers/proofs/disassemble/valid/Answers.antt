@@ -1,5 +1,5 @@
 use Rattle.std.proofs.Common.{ℕ, List, ap, ◌∙◌, string_bytes}
-use Rattle.replies.specs.declared.disassemble.Instruction.TheVariants.{Valid}
+use Rattle.message_parts.specs.declared.disassemble.Instruction.TheVariants.{Valid}
 use Rattle.rv32i.proofs.OneText.{one_text}
 use Rattle.answers.specs.Texts.{text_at, text_at-is}
 use Rattle.answers.proofs.disassemble.valid.Goals as goal

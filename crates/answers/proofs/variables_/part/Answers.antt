@@ -1,5 +1,5 @@
 use Rattle.std.proofs.Common.{◌∙◌}
-use Rattle.replies.specs.declared.variables.Variable.{Variable}
+use Rattle.message_parts.specs.declared.variables.Variable.{Variable}
 use Rattle.answers.proofs.Ranges.{cut}
 use Rattle.answers.proofs.variables_.part.Goals as goal
 

@@ -1,5 +1,5 @@
 use Rattle.std.proofs.lemmas.Result.{on_ok_weaker}
-use Rattle.replies.proofs.Appending.{and_then}
+use Rattle.message_parts.proofs.Appending.{and_then}
 use Rattle.replies.proofs.writing.last_members.Goals as goal
 
 pub returns : goal.returns

@@ -1,4 +1,4 @@
-use Rattle.replies.proofs.Appending.{object_written, and_then, member_written}
+use Rattle.message_parts.proofs.Appending.{object_written, and_then, member_written}
 use Rattle.replies.proofs.writing.refused.Goals as goal
 
 pub returns : goal.returns

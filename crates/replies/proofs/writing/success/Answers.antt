@@ -1,5 +1,5 @@
 use Rattle.replies.specs.Bodies.{body_data}
-use Rattle.replies.proofs.Appending.{object_written, and_then, if_then}
+use Rattle.message_parts.proofs.Appending.{object_written, and_then, if_then}
 use Rattle.replies.proofs.writing.success.Goals as goal
 
 pub returns : goal.returns

@@ -1,4 +1,4 @@
-use Rattle.replies.proofs.Appending.{member_if_written}
+use Rattle.message_parts.proofs.Appending.{member_if_written}
 use Rattle.replies.proofs.writing.write_body.Goals as goal
 
 pub returns-in_ok-key-in-Initialize : goal.returns-in_ok-key-in-Initialize

@@ -1,6 +1,6 @@
 use Rattle.std.proofs.Common.{ℕ, ◌*◌, List, ◌∷◌, ◌++◌, slice_index, [], ap, ◌∙◌}
 use Rattle.std.specs.List.{range_with_len}
-use Rattle.replies.specs.declared.variables.Variable.{Variable}
+use Rattle.message_parts.specs.declared.variables.Variable.{Variable}
 use Rattle.rv32i.specs.Machine.{sum}
 use Rattle.variables.specs.Stack.{name_at, stack_words, words}
 use Rattle.variables.proofs.Ranges.{has_it, value_of_it, words_on}

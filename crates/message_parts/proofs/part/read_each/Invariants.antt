@@ -1,0 +1,11 @@
+use Rattle.std.proofs.Common.{◌≡◌, drop}
+use Rattle.serde_json.specs.View.{items_view}
+use Rattle.protocol.proofs.Lists.{with_others}
+use Rattle.message_parts.specs.Forms.{all_found}
+use Rattle.message_parts.proofs.part.read_each.Given as goal
+
+-- the list is taken for the entries so far, and then for what is left of it
+abbrev pub invariant-loop-value : goal.invariant-loop-value
+invariant-loop-value g l =
+    all_found g.T.Part.form.found (items_view l.values) ≡ with_others l.entries.items
+    (all_found g.T.Part.form.found (items_view (drop l.value-index l.values)))

@@ -1,6 +1,0 @@
-use Rattle.replies.proofs.Appending.{object_written}
-use Rattle.replies.proofs.disassemble.DisassemblePart.write.Goals as goal
-
-pub returns : goal.returns
-returns c =
-    object_written c.end_object.result c.in_ok-begin_object.ensures c.in_ok-part.ensures c.end_object.ensures

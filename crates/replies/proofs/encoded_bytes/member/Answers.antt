@@ -1,6 +1,0 @@
-use Rattle.replies.proofs.Appending.{member_if_written}
-use Rattle.replies.proofs.encoded_bytes.member.Goals as goal
-
-pub returns : goal.returns
-returns c =
-    member_if_written _ _ c.write.result c.in_ok-key.ensures (rw c.as_slice.ensures at c.write.ensures)

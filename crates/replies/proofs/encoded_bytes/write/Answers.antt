@@ -1,8 +1,0 @@
-use Rattle.std.proofs.Common.{refl, ◌∙◌}
-use Rattle.replies.proofs.Appending.{IsWritten-token}
-use Rattle.replies.proofs.encoded_bytes.write.Goals as goal
-
-pub returns : goal.returns
-returns c =
-    let is = c.as_str.ensures.value ∙ c.in_ok-text.ensures.text in
-    IsWritten-token _ refl (tt, tt) c.string.result (rw is at c.string.ensures)

@@ -1,6 +1,0 @@
-use Rattle.replies.proofs.Appending.{member_if_written}
-use Rattle.replies.proofs.member.address.Goals as goal
-
-pub returns : goal.returns
-returns c =
-    member_if_written _ _ c.write.result c.in_ok-key.ensures c.write.ensures

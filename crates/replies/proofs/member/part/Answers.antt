@@ -1,6 +1,0 @@
-use Rattle.replies.proofs.Appending.{member_if_written}
-use Rattle.replies.proofs.member.part.Goals as goal
-
-pub returns : goal.returns
-returns g c =
-    member_if_written _ _ c.write.result c.in_ok-key.ensures c.write.ensures

@@ -1,9 +1,0 @@
-use Rattle.std.proofs.Common.{◌<◌, ◌^◌, arith, refl}
-use Rattle.serde_json.specs.Data.{number, unsigned}
-use Rattle.replies.proofs.Appending.{IsWritten-token}
-use Rattle.replies.proofs.part.number.Goals as goal
-
-pub returns : goal.returns
-returns c =
-    let small : c.args.number < 2 ^ 32 = c.ranges.number.fits in
-    IsWritten-token (number (unsigned c.args.number)) refl (omega (arith, small), tt) c.u64.result (rw c.from.ensures at c.u64.ensures)

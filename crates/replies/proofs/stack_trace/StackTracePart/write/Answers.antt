@@ -1,8 +1,0 @@
-use Rattle.replies.proofs.Appending.{object_written, and_then}
-use Rattle.replies.proofs.stack_trace.StackTracePart.write.Goals as goal
-
-pub returns : goal.returns
-returns c =
-    object_written c.end_object.result c.in_ok-begin_object.ensures
-    (and_then c.in_ok-part.ensures c.in_ok-number.ensures)
-    c.end_object.ensures

@@ -1,6 +1,0 @@
-use Rattle.std.proofs.Common.{refl}
-use Rattle.replies.proofs.Appending.{IsWritten-token}
-use Rattle.replies.proofs.stopped.ReasonPart.write.Goals as goal
-
-pub returns : goal.returns
-returns c = IsWritten-token _ refl (tt, tt) c.string.result (rw c.name.ensures at c.string.ensures)

@@ -1,9 +1,0 @@
--- The body that answers `setVariable`: the value that the variable has now (DAP specification, `SetVariableResponse`).
-use Rattle.std.specs.Prelude.{Some, codes}
-use Rattle.replies.specs.Addresses.{address}
-use Rattle.replies.specs.Forms.{Form, object_of, none, field, made_of}
-use Rattle.replies.specs.declared.set_variable.SetVariable.{SetVariable}
-
-abbrev pub set_variable : Form SetVariable
-set_variable = made_of (λ b. (b.value, tt)) (λ p. Some (record { value = p.0 }))
-    (object_of (field (codes "value") address none))
