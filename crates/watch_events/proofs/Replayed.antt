@@ -274,8 +274,8 @@ pub shows_watched : (c : Config) (limits : Limits) → PathFits c → (events : 
     → Watches c limits events connection count result
 shows_watched c limits path events connection count t (Ok watched) h shows =
     subst (λ (seen : Option (Option Captured)). Begun c limits
-    (λ from. IsWatched (After from events) connection count (record { mirror = watched.mirror; snapshot = seen }))) (sym shows.1.1.1)
-    (is_watched c limits path events connection count t watched.mirror h shows.0 shows.1.0 shows.1.1.0)
+    (λ from. IsWatched (After from events) connection count (record { mirror = watched.mirror; snapshot = seen }))) (sym shows.1)
+    (is_watched c limits path events connection count t watched.mirror h shows.0.0 shows.0.1.0 shows.0.1.1)
 shows_watched c limits path events connection count t (Err watch.NoSuchConnection) h shows = not_made c limits events connection count t h shows
 shows_watched c limits path events connection count t (Err watch.CutTooLong) h shows =
     is_too_long c limits events connection count t h shows.0 shows.1

@@ -123,11 +123,15 @@ TellsBody (Err why) is_message old new = (is_message ≡ false) × (new ≡ old)
 abbrev pub IsTold : List ℕ → List ℕ → Kept → Type 0
 IsTold accepted got mirror = StandsFor mirror (after (map Sent (requests_of accepted) ++ Fed got ∷ []))
 
--- what is shown of the connection that was watched, or why nothing is
+-- the mirror of the editor on the connection that was watched, or why there is none
+abbrev pub Mirrors : Tracked → ℕ → Result Kept WatchError → Type 0
+Mirrors t count (Ok mirror) = (is_made t ≡ true) × ((count ≤ length t.queued) × IsTold t.accepted (take count t.queued) mirror)
+Mirrors t count (Err watch.NoSuchConnection) = is_made t ≡ false
+Mirrors t count (Err watch.CutTooLong) = (is_made t ≡ true) × (length t.queued < count)
+Mirrors t count (Err watch.NoMemory) = ⊤
+Mirrors t count (Err (watch.Config error)) = ⊥
+
+-- what is shown of that connection
 abbrev pub Shows : Tracked → ℕ → Result Watched WatchError → Type 0
-Shows t count (Ok watched) = (is_made t ≡ true) × ((count ≤ length t.queued)
-    × (IsTold t.accepted (take count t.queued) watched.mirror × (watched.snapshot ≡ t.snapshot)))
-Shows t count (Err watch.NoSuchConnection) = is_made t ≡ false
-Shows t count (Err watch.CutTooLong) = (is_made t ≡ true) × (length t.queued < count)
-Shows t count (Err watch.NoMemory) = ⊤
-Shows t count (Err (watch.Config error)) = ⊥
+Shows t count (Ok watched) = Mirrors t count (Ok watched.mirror) × (watched.snapshot ≡ t.snapshot)
+Shows t count (Err error) = Mirrors t count (Err error)

@@ -3,7 +3,7 @@ ghost use Rattle.std.specs.Prelude.{◌≡◌, IfOk, OnOk};
 ghost use Rattle.protocol.specs.Reading.{incoming_of};
 ghost use Rattle.message_laws.specs.Messages.{IsPath};
 ghost use Rattle.watch_events.specs.Replaying as spec;
-ghost use Rattle.watch_events.specs.Replaying.{IsTold, Queues, Runs, Shows, TellsAll, TellsBody, TellsOne, Watches};
+ghost use Rattle.watch_events.specs.Replaying.{IsTold, Mirrors, Queues, Runs, Shows, TellsAll, TellsBody, TellsOne, Watches};
 
 use crate::bodies::bodies_of;
 use crate::track::Track;
@@ -67,19 +67,29 @@ pub fn watch(
 fn shown(alloc: Global, track: Track, count: usize) -> Result<Watched, WatchError>
     ensures { Shows track count result }
 {
+    match mirrored(alloc, &track, count) {
+        Ok(mirror) => Ok(Watched {
+            mirror,
+            snapshot: track.into_snapshot(),
+        }),
+        Err(error) => Err(error),
+    }
+}
+
+// The mirror of that editor.
+fn mirrored(alloc: Global, track: &Track, count: usize) -> Result<Mirror, WatchError>
+    ensures { Mirrors track.now count result }
+{
     if !track.is_made() {
         return Err(WatchError::NoSuchConnection);
     }
     if count > track.queued().len() {
         return Err(WatchError::CutTooLong);
     }
-    let Ok(mirror) = mirror_of(alloc, track.accepted(), &track.queued()[..count]) else {
-        return Err(WatchError::NoMemory);
-    };
-    Ok(Watched {
-        mirror,
-        snapshot: track.into_snapshot(),
-    })
+    match mirror_of(alloc, track.accepted(), &track.queued()[..count]) {
+        Ok(mirror) => Ok(mirror),
+        Err(_) => Err(WatchError::NoMemory),
+    }
 }
 
 /// How many bytes these events queue for the connection of this number: the greatest `count` of `watch`. The errors are those of
