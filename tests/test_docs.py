@@ -267,8 +267,8 @@ def rows_of_requests(name):
 # Files that name a request for a reason of its own: a law or a proof of that request alone, what it does when it comes, or an example.
 OF_ONE_REQUEST = {
     "answers/proofs/Frames.antt", "answers/proofs/Looks.antt", "answers/proofs/Settable.antt", "answers/proofs/Setting.antt",
-    "headline/specs/Known.antt", "protocol/specs/Laws.antt", "protocol/specs/Reading.antt", "range_laws/specs/Requests.antt",
-    "replies/specs/Messages.antt", "session_laws/proofs/Runs.antt", "session/specs/Arrivals.antt", "session/src/pending.rt",
+    "headline/specs/Known.antt", "protocol/specs/Laws.antt", "protocol/specs/Reading.antt", "queues/specs/Arrivals.antt",
+    "queues/src/pending.rt", "range_laws/specs/Requests.antt", "replies/specs/Messages.antt", "session_laws/proofs/Runs.antt",
     "test_transport/src/polling.rt",
 }
 

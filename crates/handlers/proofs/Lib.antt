@@ -1,2 +1,3 @@
 pub mod GoingBack
 pub mod Launching
+pub mod Reasons

@@ -43,5 +43,7 @@ pub mod SetVariable
 pub mod WriteMemory
 -- the list of the requests
 pub mod Requests
+-- the answer to a request: the refusals in their order, or its success
+pub mod Refusals
 -- what the code of an answer changes, and which answer it stands for
 pub mod Changes

@@ -16,7 +16,7 @@ use Rattle.handlers.specs.declared.terms.Terms.{Terms}
 use Rattle.variables.specs.Numbers.{Numbers, number_in}
 use Rattle.variables.specs.declared.target.Target.TheVariants.{Frame}
 use Rattle.headline.specs.Holding.{Holds, HoldsAt, HoldsRun}
-use Rattle.session.specs.Shown.{shown_by, shown_of}
+use Rattle.snapshots.specs.Shown.{shown_by, shown_of}
 
 -- nothing is known of the machine as it stands still
 pub record KnowsNoStand (f : Facts) : Type 0 where

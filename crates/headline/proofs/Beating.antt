@@ -1,5 +1,5 @@
 -- Each beat of a slice leads to what is known and fits.
-use Rattle.std.proofs.Common.{◌≡◌, ℕ, Bool, true, false, leb, ltb, List, [], ◌∷◌, map, Option, Some, None, Result, Ok, Err, refl, sym, ap, ◌∙◌, subst}
+use Rattle.std.proofs.Common.{◌≡◌, ℕ, Bool, true, ltb, List, [], ◌∷◌, map, Option, Some, None, Result, Ok, Err, refl, sym, ap, ◌∙◌, subst}
 use Rattle.std.specs.Prelude.{not}
 use Rattle.std.specs.declared.alloc.AllocError.{AllocError}
 use Rattle.breakpoints.specs.Stops.{Lists, Placed, checked, counted, is_hit, with_hit}
@@ -34,7 +34,7 @@ use Rattle.headline.proofs.Agreeing.{Agrees, OwesOf, OwesRunning, holds_moving, 
 use Rattle.headline.proofs.Leading.{Leads, SameBut, exits_lead, halts_lead, telling_leads}
 use Rattle.headline.proofs.Owing.{both_true}
 use Rattle.headline.specs.Holding.{HoldsRun}
-use Rattle.session.specs.Shown.{info_of, listed_at, shown_of, state_of}
+use Rattle.snapshots.specs.Shown.{info_of, listed_at, shown_of, state_of}
 use Rattle.session.proofs.ByMove.{by_move}
 
 -- ---- a tick leaves the breakpoints where they are

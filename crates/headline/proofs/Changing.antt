@@ -41,7 +41,7 @@ use Rattle.headline.proofs.Leading.{suits_as}
 use Rattle.headline.proofs.Placing.{first_test, not_below}
 use Rattle.headline.proofs.Valuing.{same_number, still_moving, value_at}
 use Rattle.headline.specs.Holding.{HoldsAt}
-use Rattle.session.specs.Shown.{register_at}
+use Rattle.snapshots.specs.Shown.{register_at}
 
 -- ---- one register is set
 

@@ -22,7 +22,7 @@ use Rattle.headline.proofs.Agreeing.{Agrees, OwesOf}
 use Rattle.headline.proofs.Leading.{Leads}
 use Rattle.headline.proofs.Remembering.{refused_tells}
 use Rattle.headline.specs.Holding.{Holds}
-use Rattle.session.specs.Shown.{shown_by}
+use Rattle.snapshots.specs.Shown.{shown_by}
 
 -- an answer is so, and so is what is told after it
 abbrev pub AnswerLeads : Now → Facts → Option Asked → Answering → Type 0

@@ -5,10 +5,10 @@ use Rattle.facts.specs.Facts.{Facts}
 use Rattle.mirror.specs.Folding.{folded}
 use Rattle.mirror.specs.declared.asked.Asked.{Asked}
 use Rattle.session.proofs.Reaching.{if_keeps}
-use Rattle.session.specs.Sessions.{Said, Snapshot, frame_said}
+use Rattle.session.specs.Sessions.{Said, frame_said}
+use Rattle.snapshots.specs.Shown.{Snapshot, shown}
 use Rattle.headline.specs.Concluding.{WasSo, known_after, last_seen, told_within}
 use Rattle.headline.specs.Holding.{Holds}
-use Rattle.session.specs.Shown.{shown}
 
 -- what is known after each of these messages was so when it was queued
 abbrev pub AllHold : (ℕ → Option Asked) → Facts → List Said → Type 0

@@ -20,8 +20,8 @@ use Rattle.replies.specs.declared.response.Outcome.TheVariants.{Done, Refused}
 use Rattle.session.specs.Kinds.{is_success}
 use Rattle.session.specs.Prefixes.{IsPrefixOf}
 use Rattle.session.specs.Sessions.{Life, Said, bytes_of, frame_said}
-use Rattle.session.specs.declared.pending.Ask.{Ask}
-use Rattle.session.specs.declared.pending.Ask.TheVariants.{Request, Bad}
+use Rattle.queues.specs.declared.pending.Ask.{Ask}
+use Rattle.queues.specs.declared.pending.Ask.TheVariants.{Request, Bad}
 use Rattle.headline.proofs.Readable.{IsReadable, framed_some, has_no_fault, messages_within}
 use Rattle.headline.proofs.Remembering.{refused_tells}
 use Rattle.headline.specs.Concluding.{known_after, remembered, told_within}

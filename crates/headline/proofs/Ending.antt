@@ -25,7 +25,7 @@ use Rattle.headline.proofs.Commands.{AnswerLeads}
 use Rattle.headline.proofs.Leading.{Leads}
 use Rattle.headline.proofs.Resuming.{alone, no_program, with_event}
 use Rattle.headline.specs.Holding.{Holds, HoldsRun}
-use Rattle.session.specs.Shown.{shown_by, shown_of, state_of}
+use Rattle.snapshots.specs.Shown.{shown_by, shown_of, state_of}
 
 while_configuring : (phase : Phase) (launched : Bool) (f : Facts) → is_configuring_in phase ≡ true → SuitsPhase phase launched f
     → WhileConfiguring launched f

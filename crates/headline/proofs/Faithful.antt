@@ -12,14 +12,14 @@ use Rattle.session_laws.proofs.ByForms.{on, on_with, saying, with_change}
 use Rattle.session.proofs.Reaching.{if_keeps, performed_append}
 use Rattle.handlers.specs.Given.{Answering}
 use Rattle.session.specs.Acts.{Act, Become, Tell}
-use Rattle.session.specs.Arrivals.{number_of}
+use Rattle.queues.specs.Arrivals.{number_of}
 use Rattle.session.specs.Effects.{performed}
 use Rattle.session.specs.Outcomes.{answering, closing}
 use Rattle.session.specs.References.{referred}
-use Rattle.session.specs.Refusals.{response_to}
+use Rattle.handlers.specs.Refusals.{response_to}
 use Rattle.session.specs.Sessions.{Life, Session, histories, hung_on, replied_on, said_next, snapshot_of, with_said}
 use Rattle.session.specs.declared.link.Link.{Link}
-use Rattle.session.specs.declared.pending.Pending.{Pending}
+use Rattle.queues.specs.declared.pending.Pending.{Pending}
 use Rattle.variables.specs.Numbers.{Numbers}
 use Rattle.headline.proofs.Agreeing.{Agrees, OwesOf}
 use Rattle.headline.proofs.Commands.{AnswerLeads}
@@ -28,7 +28,7 @@ use Rattle.headline.proofs.Leading.{Leads}
 use Rattle.headline.proofs.Owing.{AllOwe}
 use Rattle.headline.specs.Concluding.{known_after, remembered}
 use Rattle.headline.specs.Holding.{Holds}
-use Rattle.session.specs.Shown.{shown}
+use Rattle.snapshots.specs.Shown.{shown}
 
 -- ---- what is so of a session
 

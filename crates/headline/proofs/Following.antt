@@ -1,5 +1,5 @@
 -- What the beats of a slice queue, where it makes no move, or one that comes first.
-use Rattle.std.proofs.Common.{◌≡◌, ℕ, ℤ, Bool, true, false, cond, ltb, leb, List, [], ◌∷◌, Option, Some, None, refl, sym, ap, ◌∙◌, subst}
+use Rattle.std.proofs.Common.{◌≡◌, ℕ, ℤ, Bool, true, false, cond, ltb, List, [], ◌∷◌, Option, Some, None, refl, sym, ap, ◌∙◌, subst}
 use Rattle.std.specs.Prelude.{not}
 use mathlib.Core.Path.{fun_ext}
 use Rattle.debuggee.specs.Programs.{Program, entered, is_running, moved, next_tick, told, why_marked}
@@ -10,7 +10,8 @@ use Rattle.session_laws.proofs.Joined.{program_of}
 use Rattle.session.proofs.Reaching.{if_keeps, performed_append}
 use Rattle.session.specs.Acts.{Act, Now}
 use Rattle.session.specs.Effects.{after_beat, performed}
-use Rattle.session.specs.Sessions.{Session, Snapshot, histories, performed_on}
+use Rattle.session.specs.Sessions.{Session, histories, performed_on}
+use Rattle.snapshots.specs.Shown.{Snapshot, shown_of}
 use Rattle.session.specs.Slices.{Beat, beat, beat_by, beat_of, becomes, concludes, ending_of, ends, exits, goes, goes_unless, is_at_limit, is_runnable_by, logged, moves_by, output_events, makes_move, stops, telling, tells}
 use Rattle.session.specs.declared.event.SliceEnd.{SliceEnd}
 use Rattle.session.specs.declared.event.SliceEnd.TheVariants as ending
@@ -25,7 +26,6 @@ use Rattle.headline.proofs.Newly.{Printed, Same, became, became_first, exits_tol
 use Rattle.headline.proofs.Outputs.{tick_is_output}
 use Rattle.facts.specs.declared.run.RunState.TheVariants.{Running}
 use Rattle.headline.specs.News.{IsFollowed, sight_by}
-use Rattle.session.specs.Shown.{shown_of}
 use Rattle.session.proofs.ByMove.{by_move}
 
 -- ---- what is the same to see

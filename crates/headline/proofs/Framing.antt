@@ -25,7 +25,7 @@ use Rattle.headline.proofs.Leading.{suits_as}
 use Rattle.headline.proofs.Placing.{get_take, over_all}
 use Rattle.headline.proofs.Showing.{issued_agrees, number_all}
 use Rattle.headline.proofs.Valuing.{still_moving}
-use Rattle.session.specs.Shown.{frame_at, frame_in, shown_of}
+use Rattle.snapshots.specs.Shown.{frame_at, frame_in, shown_of}
 
 -- ---- lists
 

@@ -12,17 +12,17 @@ use Rattle.replies.specs.declared.response.Outcome.{Outcome}
 use Rattle.replies.specs.declared.response.Outcome.TheVariants.{Done, Refused}
 use Rattle.session.specs.declared.event.Event.{Event}
 use Rattle.session.specs.declared.link.Link.{Link}
-use Rattle.session.specs.declared.pending.Ask.{Ask}
-use Rattle.session.specs.declared.pending.Ask.TheVariants.{Request, Bad}
-use Rattle.session.specs.declared.pending.Fate.{Fate}
-use Rattle.session.specs.declared.pending.Fate.TheVariants.{Waits, Repeated, Cancelled, NamesNone}
-use Rattle.session.specs.declared.pending.Pending.{Pending}
+use Rattle.queues.specs.declared.pending.Ask.{Ask}
+use Rattle.queues.specs.declared.pending.Ask.TheVariants.{Request, Bad}
+use Rattle.queues.specs.declared.pending.Fate.{Fate}
+use Rattle.queues.specs.declared.pending.Fate.TheVariants.{Waits, Repeated, Cancelled, NamesNone}
+use Rattle.queues.specs.declared.pending.Pending.{Pending}
 use Rattle.handlers.specs.Given.{Answering}
 use Rattle.session.specs.Acts.{Now, Tell, read_on}
-use Rattle.session.specs.Arrivals.{Arrivals, all_joined, asks_of, cancelled_by, cancels, fate_of_cancel, is_above, is_named, is_repeat, joined, number_of, pending_with}
+use Rattle.queues.specs.Arrivals.{Arrivals, all_joined, asks_of, cancelled_by, cancels, fate_of_cancel, is_above, is_named, is_repeat, joined, number_of, pending_with}
 use Rattle.session.specs.Effects.{performed}
-use Rattle.session.specs.Outcomes.{answering, closing}
-use Rattle.session.specs.Refusals.{answer_to, response_to}
+use Rattle.session.specs.Outcomes.{answer_to, answering, closing}
+use Rattle.handlers.specs.Refusals.{response_to}
 use Rattle.session.specs.Sessions.{After, Beginning, Said, Session, histories, hung_on, no_life, performed_on, replied_on, said_next, said_on}
 use Rattle.handlers.specs.declared.terms.Terms.{Terms}
 use Rattle.session_laws.proofs.ByForms.{on, on_with, saying, with_change}

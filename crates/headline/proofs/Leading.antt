@@ -27,7 +27,7 @@ use Rattle.variables.specs.Numbers.{Numbers}
 use Rattle.headline.proofs.Agreeing.{Agrees, IsQuiet, SuitsPhase, holds_in, holds_moving, no_stand_in, none_numbered, nothing_holds}
 use Rattle.headline.proofs.Outputs.{AreOutput, IsOutput, tick_is_output}
 use Rattle.headline.specs.Holding.{HasEnded as HasEndedSo, Holds, HoldsRun}
-use Rattle.session.specs.Shown.{shown_by, shown_of, state_of}
+use Rattle.snapshots.specs.Shown.{shown_by, shown_of, state_of}
 
 -- what these acts tell is so, and what is known after them fits
 unfoldable pub Leads : Terms → Numbers → Facts → Option Program → List Act → Type 0

@@ -57,7 +57,7 @@ use Rattle.breakpoints.specs.Stops.{Wanted}
 use Rattle.handlers.specs.ConfigurationDone.{begins, joins}
 use Rattle.handlers.specs.Phases.{is_active_in}
 use Rattle.handlers.specs.declared.phase.Phase.TheVariants.{Active}
-use Rattle.session.specs.Shown.{shown_by}
+use Rattle.snapshots.specs.Shown.{shown_by}
 use Rattle.protocol.specs.declared.set_variable.SetVariableArguments.{SetVariableArguments}
 use Rattle.protocol.specs.declared.write_memory.WriteMemoryArguments.{WriteMemoryArguments}
 use Rattle.answers.specs.WriteMemory.{write_memory}

@@ -37,7 +37,7 @@ use Rattle.session.proofs.Reaching.{if_keeps}
 use Rattle.headline.proofs.Agreeing.{Agrees, IsQuiet, KnowsNoStand, SuitsPhase, never}
 use Rattle.headline.proofs.Valuing.{no_body, that_body}
 use Rattle.headline.specs.Holding.{HoldsAt, HoldsRun}
-use Rattle.session.specs.Shown.{info_of, shown_of, state_of}
+use Rattle.snapshots.specs.Shown.{info_of, shown_of, state_of}
 use Rattle.facts.specs.declared.run.RunState.{RunState}
 use Rattle.debuggee.specs.declared.run.Run.{Run}
 

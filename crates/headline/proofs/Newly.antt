@@ -19,15 +19,15 @@ use Rattle.session.proofs.Reaching.{if_keeps}
 use Rattle.session.specs.Acts.{Act, Become, Now, Tell}
 use Rattle.session.specs.Effects.{performed}
 use Rattle.session.specs.Phases.{is_active}
-use Rattle.session.specs.Sessions.{Life, Said, Session, Snapshot, histories, performed_on, said_next, said_on, snapshot_of}
+use Rattle.session.specs.Sessions.{Life, Said, Session, histories, performed_on, said_next, said_on, snapshot_of}
+use Rattle.snapshots.specs.Shown.{Snapshot, shown_of, state_of}
 use Rattle.session.specs.Slices.{becomes, exits, halts, tells}
 use Rattle.handlers.specs.Telling.{exit_events, stop_event}
 use Rattle.session.specs.declared.link.Link.{Link}
-use Rattle.session.specs.declared.pending.Pending.{Pending}
+use Rattle.queues.specs.declared.pending.Pending.{Pending}
 use Rattle.variables.specs.Numbers.{Numbers}
 use Rattle.headline.proofs.Outputs.{AreOutput, IsOutput}
 use Rattle.headline.specs.News.{Fits, IsFollowed, Newly, Sight, as_running, says_output, seen_at, seen_now, sight, sight_by}
-use Rattle.session.specs.Shown.{shown_of, state_of}
 
 -- all that was queued is what the program printed, and what its logpoints say
 pub record Printed (s t : Session) : Type 0 where

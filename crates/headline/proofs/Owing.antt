@@ -1,5 +1,5 @@
 -- A program that owes something runs: whatever is done to it.
-use Rattle.std.proofs.Common.{◌≡◌, ℕ, ℤ, Bool, true, false, cond, leb, ltb, List, [], ◌∷◌, ◌++◌, map, Option, Some, None, refl}
+use Rattle.std.proofs.Common.{◌≡◌, ℕ, ℤ, Bool, true, false, cond, ltb, List, [], ◌∷◌, ◌++◌, map, Option, Some, None, refl}
 use Rattle.std.specs.Prelude.{⊤, ◌&&◌, not}
 use Rattle.debuggee.specs.Programs.{Program, ended, is_running, left, marked, marked_by, next_tick, on_program, stopped, told, why_marked}
 use Rattle.debuggee.specs.declared.run.Mark.{Mark}

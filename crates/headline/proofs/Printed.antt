@@ -25,7 +25,8 @@ use Rattle.session.specs.Effects.{beats, enough, next_by, performed}
 use Rattle.session_laws.specs.Laws.{RunsAs}
 use Rattle.session.specs.Outcomes.{Outcome, answering, answers_next, closing, next_turn, outcome_at, turn_by, turn_of}
 use Rattle.session.specs.Phases.{is_active}
-use Rattle.session.specs.Refusals.{answer_to, response_to}
+use Rattle.handlers.specs.Refusals.{response_to}
+use Rattle.session.specs.Outcomes.{answer_to}
 use Rattle.session.specs.Sessions.{After, Beginning, Effect, Life, Said, Session, histories, hung_on, performed_on, said_next, said_on, waiting_of}
 use Rattle.session.specs.Slices.{Beat, beat, beat_by, beat_of, concludes, exits, goes, goes_unless, halts, is_at_limit, is_runnable_by, logged, moves_by, output_events, telling, tells}
 use Rattle.handlers.specs.Telling.{exit_events, stop_event}
@@ -33,7 +34,7 @@ use Rattle.session.specs.declared.event.SliceEnd.{SliceEnd}
 use Rattle.session.specs.declared.event.Event.{Event}
 use Rattle.session.specs.declared.event.Event.TheVariants.{Connect, Recv, Turn, Slice, Hold, Sent, DropConnection}
 use Rattle.session.specs.declared.link.Link.{Link}
-use Rattle.session.specs.declared.pending.Pending.{Pending}
+use Rattle.queues.specs.declared.pending.Pending.{Pending}
 use Rattle.session.specs.declared.state.TheConstants.{FULL, LAST_CONNECTION, MOST_PENDING, MOST_PIECE}
 use Rattle.handlers.specs.declared.terms.Terms.{Terms}
 use Rattle.stepping.specs.declared.tick.Outcome.{Outcome as CameTo}

@@ -19,7 +19,7 @@ use Rattle.replies.specs.Messages.{IsNumber, IsProper, text_of}
 use Rattle.replies.specs.declared.message.Message.{Message}
 use Rattle.session.proofs.Reaching.{if_keeps}
 use Rattle.session.specs.Sessions.{Said, frame_said}
-use Rattle.session.specs.Writing.{frame_of}
+use Rattle.queues.specs.Writing.{frame_of}
 use Rattle.headline.proofs.Frames.{bodies_within, within}
 use Rattle.headline.specs.Concluding.{told_within}
 

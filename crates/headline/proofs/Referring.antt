@@ -14,21 +14,22 @@ use Rattle.replies.specs.declared.response.ResponseBody.{ResponseBody}
 use Rattle.session.proofs.Reaching.{if_keeps}
 use Rattle.session.proofs.Serving.{of_answer}
 use Rattle.session.specs.Acts.{Act, Open, Close, Accept, Agree, Become, Refer, Reply, Tell, HangUp, Take, Now, Seen, numbered, read_on}
-use Rattle.session.specs.Arrivals.{asks_of, is_repeat, number_of}
+use Rattle.queues.specs.Arrivals.{asks_of, is_repeat, number_of}
 use Rattle.session.specs.Effects.{after_all, beats, enough, next_by, performed}
 use Rattle.session.specs.Outcomes.{Outcome as CameTo, answering, answers_next, closing, holding, leaving, next_turn, outcome_at, turn_by, turn_of}
-use Rattle.session.specs.Refusals.{answer_to, response_to}
+use Rattle.handlers.specs.Refusals.{response_to}
+use Rattle.session.specs.Outcomes.{answer_to}
 use Rattle.session.specs.Sessions.{After, Beginning, Effect, Life, Said, Session, accepted_on, agreed_on, histories, hung_on, life_of, no_life, opened_on, performed_on, referred_on, replied_on, said_next, said_on, start, waiting_of}
 use Rattle.session.specs.Slices.{beat, telling}
 use Rattle.session.specs.declared.event.Event.{Event}
 use Rattle.session.specs.declared.event.Event.TheVariants.{Connect, Recv, Turn, Slice, Hold, Sent, DropConnection}
 use Rattle.session.specs.declared.event.SliceEnd.{SliceEnd}
 use Rattle.session.specs.declared.link.Link.{Link}
-use Rattle.session.specs.declared.pending.Ask.{Ask}
-use Rattle.session.specs.declared.pending.Ask.TheVariants.{Request, Bad}
-use Rattle.session.specs.declared.pending.Fate.{Fate}
-use Rattle.session.specs.declared.pending.Fate.TheVariants.{Waits, Repeated, Cancelled, NamesNone}
-use Rattle.session.specs.declared.pending.Pending.{Pending}
+use Rattle.queues.specs.declared.pending.Ask.{Ask}
+use Rattle.queues.specs.declared.pending.Ask.TheVariants.{Request, Bad}
+use Rattle.queues.specs.declared.pending.Fate.{Fate}
+use Rattle.queues.specs.declared.pending.Fate.TheVariants.{Waits, Repeated, Cancelled, NamesNone}
+use Rattle.queues.specs.declared.pending.Pending.{Pending}
 use Rattle.session.specs.declared.state.TheConstants.{FULL, MOST_PIECE, MOST_PENDING, LAST_CONNECTION}
 use Rattle.session_laws.proofs.ByForms.{on, on_with, with_change}
 use Rattle.session_laws.proofs.Lasting.{references_last}

@@ -11,14 +11,14 @@ use Rattle.replies.specs.declared.message.Message.{Message}
 use Rattle.replies.specs.declared.message.Message.TheVariants.{Response as IsResponse, Event as IsEvent}
 use Rattle.replies.specs.declared.response.Outcome.{Outcome}
 use Rattle.replies.specs.declared.response.Outcome.TheVariants.{Done, Refused}
-use Rattle.session.specs.declared.pending.Ask.{Ask}
+use Rattle.queues.specs.declared.pending.Ask.{Ask}
 use Rattle.session.specs.Sessions.{Said}
 use Rattle.headline.proofs.Cutting.{AllHold}
 use Rattle.headline.proofs.Knowing.{first_more}
 use Rattle.headline.specs.Concluding.{known_after, remembered}
 use Rattle.headline.specs.Holding.{Holds}
 use Rattle.headline.specs.Known.{IsKnownBy, IsKnownIn, first_asked}
-use Rattle.session.specs.Shown.{shown}
+use Rattle.snapshots.specs.Shown.{shown}
 
 -- what is remembered of a request that is the first of its number
 pub remembers : (asks : List Ask) (number : ℕ) (r : ARequest) → first_asked asks number ≡ Some r

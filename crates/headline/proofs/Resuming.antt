@@ -17,7 +17,7 @@ use Rattle.variables.specs.Numbers.{Numbers}
 use Rattle.headline.proofs.Agreeing.{Agrees, KnowsNoStand, MovesUnknown, SuitsPhase, holds_in, no_stand_in, none_numbered, nothing_holds}
 use Rattle.headline.proofs.Leading.{Leads, SameBut, suits_as}
 use Rattle.headline.specs.Holding.{Holds}
-use Rattle.session.specs.Shown.{info_of, listed_at, shown_by, shown_of, state_of}
+use Rattle.snapshots.specs.Shown.{info_of, listed_at, shown_by, shown_of, state_of}
 
 -- an answer after which nothing is told
 pub alone : (f : Facts) (program : Option Program) (numbers : Numbers) (terms : Terms) → Agrees f program numbers terms

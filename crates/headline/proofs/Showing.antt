@@ -25,7 +25,7 @@ use Rattle.headline.proofs.Agreeing.{Agrees, FramesNumbered, never}
 use Rattle.headline.proofs.Commands.{AnswerLeads}
 use Rattle.headline.proofs.Resuming.{alone}
 use Rattle.headline.specs.Holding.{HoldsAt}
-use Rattle.session.specs.Shown.{frame_at, frame_in, or_zero, shown_of}
+use Rattle.snapshots.specs.Shown.{frame_at, frame_in, or_zero, shown_of}
 
 -- ---- numbers that were issued stay
 

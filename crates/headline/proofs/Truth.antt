@@ -13,12 +13,12 @@ use Rattle.session.proofs.Serving.{of_answer}
 use Rattle.session_laws.proofs.Turning.{Both, BoundsIn, beat_keeps, begins_so, outcome_keeps}
 use Rattle.handlers.specs.Given.{Answering}
 use Rattle.session.specs.Acts.{Now, read_on, given_of}
-use Rattle.session.specs.Arrivals.{asks_of, number_of}
+use Rattle.queues.specs.Arrivals.{asks_of, number_of}
 use Rattle.session.specs.Config.{first_program}
 use Rattle.session.specs.Effects.{beats, enough, next_by, performed}
 use Rattle.session.specs.Outcomes.{Outcome, answers_next, holding, leaving, next_turn, outcome_at, turn_by, turn_of}
 use Rattle.handlers.specs.Phases.{first_terms}
-use Rattle.session.specs.Refusals.{answer_to}
+use Rattle.session.specs.Outcomes.{answer_to}
 use Rattle.handlers.specs.Requests.{success_of}
 use Rattle.session.specs.Sessions.{After, Beginning, Effect, Session, histories, life_of, start, waiting_of}
 use Rattle.session.specs.Slices.{beat, telling}
@@ -26,10 +26,10 @@ use Rattle.session.specs.declared.event.SliceEnd.{SliceEnd}
 use Rattle.session.specs.declared.event.Event.{Event}
 use Rattle.session.specs.declared.event.Event.TheVariants.{Connect, Recv, Turn, Slice, Hold, Sent, DropConnection}
 use Rattle.session.specs.declared.link.Link.{Link}
-use Rattle.session.specs.declared.pending.Ask.{Ask}
-use Rattle.session.specs.declared.pending.Fate.{Fate}
-use Rattle.session.specs.declared.pending.Fate.TheVariants.{Waits, Repeated, Cancelled, NamesNone}
-use Rattle.session.specs.declared.pending.Pending.{Pending}
+use Rattle.queues.specs.declared.pending.Ask.{Ask}
+use Rattle.queues.specs.declared.pending.Fate.{Fate}
+use Rattle.queues.specs.declared.pending.Fate.TheVariants.{Waits, Repeated, Cancelled, NamesNone}
+use Rattle.queues.specs.declared.pending.Pending.{Pending}
 use Rattle.session.specs.declared.state.TheConstants.{FULL, MOST_PIECE, MOST_PENDING, LAST_CONNECTION}
 use Rattle.handlers.specs.declared.terms.Terms.{Terms}
 use Rattle.stepping.specs.declared.tick.Tick.{Tick}

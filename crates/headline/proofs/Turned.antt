@@ -19,14 +19,15 @@ use Rattle.handlers.specs.ConfigurationDone.{run_events}
 use Rattle.handlers.specs.Demands.{run_of}
 use Rattle.session.specs.Effects.{performed}
 use Rattle.session.specs.Outcomes.{Outcome, answering, answers_next, closing, done, next_turn, outcome_at, turn_by, turn_of}
-use Rattle.session.specs.Refusals.{answer_to, response_to}
+use Rattle.handlers.specs.Refusals.{response_to}
+use Rattle.session.specs.Outcomes.{answer_to}
 use Rattle.session.specs.Sessions.{Effect, Session, histories, hung_on, replied_on}
 use Rattle.handlers.specs.Telling.{stop_event}
 use Rattle.session.specs.declared.event.Applied.TheVariants.{Turn as DidTurn}
 use Rattle.session.specs.declared.event.Event.TheVariants.{Turn}
 use Rattle.session.specs.declared.event.Turned.TheVariants.{Full}
 use Rattle.session.specs.declared.link.Link.{Link}
-use Rattle.session.specs.declared.pending.Pending.{Pending}
+use Rattle.queues.specs.declared.pending.Pending.{Pending}
 use Rattle.session.specs.declared.state.TheConstants.{FULL}
 use Rattle.handlers.specs.declared.terms.Terms.{Terms}
 use Rattle.stepping.specs.declared.tick.Tick.{Tick}

@@ -28,7 +28,7 @@ use Rattle.variables.specs.declared.target.Target.TheVariants as target
 use Rattle.headline.proofs.Agreeing.{Agrees, never}
 use Rattle.headline.proofs.Leading.{suits_as}
 use Rattle.headline.specs.Holding.{HoldsAt}
-use Rattle.session.specs.Shown.{register_at}
+use Rattle.snapshots.specs.Shown.{register_at}
 
 -- a variable that has a register's name has its value
 abbrev pub IsTrueOf : Hart → Variable → Type 0

@@ -8,11 +8,11 @@ use Rattle.facts.specs.Facts.{Facts, nothing_known}
 use Rattle.mirror.specs.Folding.{folded}
 use Rattle.mirror.specs.Requests.{asked_of}
 use Rattle.mirror.specs.declared.asked.Asked.{Asked}
-use Rattle.session.specs.declared.pending.Ask.{Ask}
-use Rattle.session.specs.Sessions.{Session, Said, Snapshot, frame_said, life_of}
+use Rattle.queues.specs.declared.pending.Ask.{Ask}
+use Rattle.session.specs.Sessions.{Session, Said, frame_said, life_of}
+use Rattle.snapshots.specs.Shown.{Snapshot, shown}
 use Rattle.headline.specs.Holding.{Holds}
 use Rattle.headline.specs.Known.{first_asked}
-use Rattle.session.specs.Shown.{shown}
 
 -- what an editor remembers of its requests: of each number the first
 abbrev pub remembered : List Ask → ℕ → Option Asked

@@ -13,8 +13,8 @@ use Rattle.replies.specs.declared.message.Message.TheVariants.{Response as IsRes
 use Rattle.session.specs.Kinds.{is_success}
 use Rattle.session.specs.Prefixes.{IsPrefixOf}
 use Rattle.session.specs.Sessions.{Life, Said, bytes_of}
-use Rattle.session.specs.declared.pending.Ask.{Ask}
-use Rattle.session.specs.declared.pending.Ask.TheVariants.{Request, Bad}
+use Rattle.queues.specs.declared.pending.Ask.{Ask}
+use Rattle.queues.specs.declared.pending.Ask.TheVariants.{Request, Bad}
 use Rattle.headline.specs.Concluding.{told_within}
 use Rattle.headline.specs.Known.{first_asked}
 

@@ -18,4 +18,4 @@ pub mod Printed
 pub mod News
 -- ---- of the crates below
 -- what there is to see of a program
-pub use Rattle.session.specs.Shown
+pub use Rattle.snapshots.specs.Shown

@@ -12,8 +12,8 @@ use Rattle.replies.specs.declared.event.Event.TheVariants as event
 use Rattle.replies.specs.declared.message.Message.{Message}
 use Rattle.replies.specs.declared.message.Message.TheVariants.{Response as IsResponse, Event as IsEvent}
 use Rattle.session.specs.Effects.{ended_as, sliced}
-use Rattle.session.specs.Sessions.{Effect, Said, Session, Snapshot, histories, snapshot_of}
-use Rattle.session.specs.Shown.{shown_by}
+use Rattle.session.specs.Sessions.{Effect, Said, Session, histories, snapshot_of}
+use Rattle.snapshots.specs.Shown.{Snapshot, shown_by}
 use Rattle.session.specs.Slices.{beat, ends}
 use Rattle.session.specs.declared.event.SliceEnd.TheVariants as ending
 use Rattle.session.specs.declared.event.Event.TheVariants.{Slice, Turn}

@@ -12,7 +12,7 @@ use Rattle.replies.specs.declared.response.Outcome.TheVariants.{Done, Refused}
 use Rattle.session.specs.Sessions.{After, Beginning, Said, life_of}
 use Rattle.session.specs.declared.event.Event.{Event}
 use Rattle.session.specs.declared.event.Event.TheVariants.{Turn}
-use Rattle.session.specs.declared.pending.Ask.{Ask}
+use Rattle.queues.specs.declared.pending.Ask.{Ask}
 use Rattle.session_laws.specs.Lifetimes.{IsGood, reference_in}
 use Rattle.headline.specs.Known.{first_asked}
 

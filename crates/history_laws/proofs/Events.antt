@@ -37,8 +37,7 @@ use Rattle.session.specs.Acts.{Now, given_of}
 use Rattle.session.specs.Beats.{concluded}
 use Rattle.session.specs.Effects.{Slicing, beats, enough, next_by, performed, sliced}
 use Rattle.session.specs.Kinds.{is_success}
-use Rattle.session.specs.Outcomes.{Outcome as Does, outcome_at}
-use Rattle.session.specs.Refusals.{answer_to}
+use Rattle.session.specs.Outcomes.{Outcome as Does, answer_to, outcome_at}
 use Rattle.session.specs.Sessions.{After, Beginning, Effect, Session, histories, waiting_of}
 use Rattle.session.specs.Slices.{Beat, beat_by, beat_of, ending_of, ends, exits, goes, goes_unless, is_at_limit, is_runnable_by, makes_move, moves_by, stops, telling, tells}
 use Rattle.session.specs.declared.event.Event.{Event}
@@ -46,7 +45,7 @@ use Rattle.session.specs.declared.event.Event.TheVariants.{Connect, Recv, Turn, 
 use Rattle.session.specs.declared.event.SliceEnd.{SliceEnd}
 use Rattle.session.specs.declared.event.SliceEnd.TheVariants as ending
 use Rattle.session.specs.declared.link.Link.{Link}
-use Rattle.session.specs.declared.pending.Pending.{Pending}
+use Rattle.queues.specs.declared.pending.Pending.{Pending}
 use Rattle.session.specs.declared.state.TheConstants.{MOST_PIECE, MOST_PENDING, FULL, LAST_CONNECTION}
 use Rattle.session_laws.proofs.Answered.{ByTurn, by_turn}
 use Rattle.session_laws.proofs.ByForms.{on}

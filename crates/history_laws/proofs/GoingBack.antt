@@ -18,14 +18,14 @@ use Rattle.session.specs.Acts.{Now, given_of}
 use Rattle.session.specs.Effects.{performed}
 use Rattle.session.specs.Kinds.{is_success}
 use Rattle.session.specs.Outcomes.{Outcome as Does, answers_next, done, next_turn, outcome_at, turn_by, turn_of}
-use Rattle.session.specs.Refusals.{answer_to}
+use Rattle.session.specs.Outcomes.{answer_to}
 use Rattle.session.specs.Sessions.{After, Beginning, Session, histories, waiting_of}
 use Rattle.session.specs.declared.event.Applied.TheVariants.{Turn as DidTurn}
 use Rattle.session.specs.declared.event.Event.{Event}
 use Rattle.session.specs.declared.event.Event.TheVariants.{Turn}
 use Rattle.session.specs.declared.event.Turned.TheVariants as turned
 use Rattle.session.specs.declared.link.Link.{Link}
-use Rattle.session.specs.declared.pending.Pending.{Pending}
+use Rattle.queues.specs.declared.pending.Pending.{Pending}
 use Rattle.session.specs.declared.state.TheConstants.{FULL}
 use Rattle.session_laws.proofs.Joined.{program_of}
 use Rattle.session_laws.proofs.Paused.{answering_debuggee}

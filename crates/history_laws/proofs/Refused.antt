@@ -21,12 +21,12 @@ use Rattle.replies.specs.declared.response.Outcome.{Outcome}
 use Rattle.replies.specs.declared.response.Outcome.TheVariants.{Done, Refused}
 use Rattle.replies.specs.declared.response.ResponseBody.TheVariants as body
 use Rattle.session.specs.Acts.{Now, given_of}
-use Rattle.session.specs.Arrivals.{is_repeat}
-use Rattle.session.specs.Refusals.{answer_by, first_refusal, is_cancelled, names_none, refusals, where_so}
+use Rattle.queues.specs.Arrivals.{is_repeat}
+use Rattle.handlers.specs.Refusals.{answer_by, first_refusal, is_cancelled, names_none, refusals, where_so}
 use Rattle.session.specs.Sessions.{Session}
 use Rattle.session.specs.declared.link.Link.{Link}
-use Rattle.session.specs.declared.pending.Ask.TheVariants.{Request}
-use Rattle.session.specs.declared.pending.Fate.{Fate}
+use Rattle.queues.specs.declared.pending.Ask.TheVariants.{Request}
+use Rattle.queues.specs.declared.pending.Fate.{Fate}
 use Rattle.session_laws.specs.Lifetimes.{IsNotRefusedBefore, outcome_next}
 use Rattle.stepping.specs.declared.goal.Goal.{Goal}
 use Rattle.stepping.specs.declared.goal.Goal.TheVariants as goal

@@ -29,12 +29,11 @@ use Rattle.session.proofs.Advancing.{Leaves, move_leaves}
 use Rattle.session.proofs.Reaching.{if_keeps}
 use Rattle.session.proofs.Serving.{Meets, of_answer}
 use Rattle.session.specs.Acts.{Now, given_of}
-use Rattle.session.specs.Arrivals.{name_asked}
+use Rattle.queues.specs.Arrivals.{name_asked}
 use Rattle.session.specs.Beats.{concluded}
 use Rattle.session.specs.Effects.{Slicing, beats, enough, next_by, performed}
 use Rattle.session.specs.Kinds.{is_success}
-use Rattle.session.specs.Outcomes.{Outcome as Does, answering, done, outcome_at}
-use Rattle.session.specs.Refusals.{answer_to}
+use Rattle.session.specs.Outcomes.{Outcome as Does, answer_to, answering, done, outcome_at}
 use Rattle.session.specs.Sessions.{Effect, Session, histories, waiting_of}
 use Rattle.session.specs.Slices.{Beat, beat_by, beat_of, ends, goes, goes_unless, is_at_limit, is_runnable_by, moves_by, stops, telling, tells}
 use Rattle.session.specs.declared.event.Applied.TheVariants.{Turn as DidTurn}
@@ -44,7 +43,7 @@ use Rattle.session.specs.declared.event.SliceEnd.{SliceEnd}
 use Rattle.session.specs.declared.event.SliceEnd.TheVariants as ending
 use Rattle.session.specs.declared.event.Turned.TheVariants as turned
 use Rattle.session.specs.declared.link.Link.{Link}
-use Rattle.session.specs.declared.pending.Pending.{Pending}
+use Rattle.queues.specs.declared.pending.Pending.{Pending}
 use Rattle.session.specs.declared.state.TheConstants.{MOST_PIECE, MOST_PENDING, FULL, LAST_CONNECTION}
 use Rattle.session_laws.proofs.Answered.{ByTurn, by_turn, the_answered}
 use Rattle.session_laws.proofs.ByForms.{on}

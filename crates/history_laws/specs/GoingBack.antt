@@ -9,8 +9,8 @@ use Rattle.debuggee.specs.declared.run.Run.TheVariants.{Running}
 use Rattle.protocol.specs.declared.command.Command.{Command}
 use Rattle.protocol.specs.declared.command.Command.TheVariants.{StepBack, ReverseContinue}
 use Rattle.session.specs.declared.event.Event.TheVariants.{Turn}
-use Rattle.session.specs.declared.pending.Ask.{Ask}
-use Rattle.session.specs.declared.pending.Ask.TheVariants.{Request, Bad}
+use Rattle.queues.specs.declared.pending.Ask.{Ask}
+use Rattle.queues.specs.declared.pending.Ask.TheVariants.{Request, Bad}
 use Rattle.session.specs.Kinds.{is_success}
 use Rattle.session.specs.Sessions.{Effect, Session, histories}
 use Rattle.session_laws.specs.Turns.{Answered, answered}

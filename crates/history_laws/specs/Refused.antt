@@ -10,7 +10,7 @@ use Rattle.protocol.specs.declared.refusal.Refusal.TheVariants.{NoHistory}
 use Rattle.protocol.specs.declared.request.Request.{Request}
 use Rattle.replies.specs.declared.response.Outcome.TheVariants.{Refused}
 use Rattle.session.specs.declared.link.Link.{Link}
-use Rattle.session.specs.declared.pending.Fate.{Fate}
+use Rattle.queues.specs.declared.pending.Fate.{Fate}
 use Rattle.session.specs.Sessions.{Session}
 use Rattle.session_laws.specs.Lifetimes.{IsNotRefusedBefore, outcome_next}
 use Rattle.history_laws.specs.Recorded.{recorded_of}

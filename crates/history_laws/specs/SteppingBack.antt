@@ -19,8 +19,8 @@ use Rattle.protocol.specs.declared.command.Command.{Command}
 use Rattle.protocol.specs.declared.command.Command.TheVariants.{ConfigurationDone, Launch, Restart, Terminate}
 use Rattle.session.specs.declared.event.Event.{Event}
 use Rattle.session.specs.declared.event.Event.TheVariants.{Connect, Recv, Turn, Slice, Hold, Sent, DropConnection}
-use Rattle.session.specs.declared.pending.Ask.{Ask}
-use Rattle.session.specs.declared.pending.Ask.TheVariants.{Request, Bad}
+use Rattle.queues.specs.declared.pending.Ask.{Ask}
+use Rattle.queues.specs.declared.pending.Ask.TheVariants.{Request, Bad}
 use Rattle.session.specs.Kinds.{is_success}
 use Rattle.session.specs.Sessions.{Effect, Session, histories}
 use Rattle.session_laws.specs.Laws.{EditorLeaves}

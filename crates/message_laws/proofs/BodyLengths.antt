@@ -60,7 +60,7 @@ use Rattle.message_parts.specs.declared.set_instruction_breakpoints.InstructionB
 use Rattle.message_parts.specs.declared.stack_trace.StackFrame.{StackFrame}
 use Rattle.message_parts.specs.declared.variables.Variable.{Variable}
 use Rattle.replies.specs.declared.response.ResponseBody.{ResponseBody}
-use Rattle.replies.specs.declared.response.ResponseBody.TheVariants.{SetBreakpoints, SetInstructionBreakpoints}
+use Rattle.replies.specs.declared.response.ResponseBody.TheVariants.{SetBreakpoints}
 use Rattle.rv32i.specs.Texts.{address_text}
 use Rattle.rv32i.specs.declared.hart.Hart.{Hart}
 use Rattle.stepping.specs.Ticks.{Debugged}

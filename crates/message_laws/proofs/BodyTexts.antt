@@ -61,7 +61,6 @@ use Rattle.message_parts.specs.Variables.{variable}
 use Rattle.message_parts.specs.declared.variables.Variable.{Variable}
 use Rattle.replies.specs.Bodies.{texts_in}
 use Rattle.replies.specs.declared.response.ResponseBody.{ResponseBody}
-use Rattle.replies.specs.declared.response.ResponseBody.TheVariants.{SetInstructionBreakpoints}
 use Rattle.rv32i.specs.Names.{name_of}
 use Rattle.rv32i.specs.Texts.{address_text}
 use Rattle.rv32i.specs.declared.hart.Hart.{Hart}

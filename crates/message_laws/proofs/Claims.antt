@@ -45,21 +45,22 @@ use Rattle.replies.specs.declared.response.ResponseBody.{ResponseBody}
 use Rattle.replies.specs.declared.response.ResponseBody.TheVariants as body
 use Rattle.rv32i.specs.declared.hart.Hart.{Hart}
 use Rattle.session.specs.Acts.{Act, Now, Seen, Open, Close, Accept, Agree, Become, Refer, Reply, Tell, HangUp, Take, given_of, read_on}
-use Rattle.session.specs.Arrivals.{Arrivals, all_joined, asks_of, name_asked}
+use Rattle.queues.specs.Arrivals.{Arrivals, all_joined, asks_of, name_asked}
 use Rattle.session.specs.Config.{first_program}
 use Rattle.session.specs.Effects.{beats, enough, next_by, performed}
 use Rattle.session.specs.Outcomes.{Outcome, answering, answers_next, closing, next_turn, outcome_at, turn_by, turn_of}
 use Rattle.session.specs.Phases.{is_active}
-use Rattle.session.specs.Refusals.{answer_to, response_to}
+use Rattle.handlers.specs.Refusals.{response_to}
+use Rattle.session.specs.Outcomes.{answer_to}
 use Rattle.session.specs.Sessions.{After, Beginning, Effect, Life, Said, Session, accepted_on, agreed_on, histories, hung_on, life_of, opened_on, performed_on, referred_on, replied_on, said_next, said_on, start}
 use Rattle.session.specs.Slices.{Beat, beat, beat_by, beat_of, concludes, exits, goes, goes_unless, halts, is_at_limit, is_runnable_by, logged, moves_by, output_events, telling, tells}
 use Rattle.session.specs.declared.event.Event.{Event}
 use Rattle.session.specs.declared.event.Event.TheVariants.{Connect, Recv, Turn, Slice, Hold, Sent, DropConnection}
 use Rattle.session.specs.declared.event.SliceEnd.{SliceEnd}
 use Rattle.session.specs.declared.link.Link.{Link}
-use Rattle.session.specs.declared.pending.Ask.{Ask}
-use Rattle.session.specs.declared.pending.Ask.TheVariants.{Request, Bad}
-use Rattle.session.specs.declared.pending.Pending.{Pending}
+use Rattle.queues.specs.declared.pending.Ask.{Ask}
+use Rattle.queues.specs.declared.pending.Ask.TheVariants.{Request, Bad}
+use Rattle.queues.specs.declared.pending.Pending.{Pending}
 use Rattle.session.specs.declared.state.TheConstants.{FULL, LAST_CONNECTION, MOST_PENDING, MOST_PIECE}
 use Rattle.session.proofs.Breaking.{answer_on}
 use Rattle.session.proofs.ByMove.{by_move}

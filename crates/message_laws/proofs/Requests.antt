@@ -10,7 +10,7 @@ use Rattle.protocol.specs.declared.request.Incoming.TheVariants.{Request as IsRe
 use Rattle.protocol.specs.declared.request.MessageError.{MessageError}
 use Rattle.protocol.specs.declared.set_breakpoints.SourceBreakpoint.{SourceBreakpoint}
 use Rattle.session.specs.Acts.{Now, read_on}
-use Rattle.session.specs.Arrivals.{asks_in, asks_of}
+use Rattle.queues.specs.Arrivals.{asks_in, asks_of}
 use Rattle.session.specs.declared.TheConstants.{BODY_LIMIT}
 use Rattle.text_laws.specs.Requests.{AsksWithin, MeansWithin, WritesWithin}
 use Rattle.text_laws.specs.Texts.{IsTextWithin}

@@ -7,7 +7,7 @@ use Rattle.replies.specs.declared.message.Message.{Message}
 use Rattle.replies.specs.declared.message.Message.TheVariants.{Response, Event as IsEvent}
 use Rattle.session.specs.declared.limits.Limits.{Limits}
 use Rattle.session.specs.declared.link.Link.{Link}
-use Rattle.session.specs.declared.pending.Pending.{Pending}
+use Rattle.queues.specs.declared.pending.Pending.{Pending}
 use Rattle.handlers.specs.declared.terms.Terms.{Terms}
 use Rattle.handlers.specs.declared.change.Change.{Change}
 use Rattle.session.specs.declared.prepared.Prepared.{Prepared}
@@ -15,14 +15,14 @@ use Rattle.session.specs.Preparing.{IsPrepared, draft_of}
 use Rattle.handlers.specs.declared.answer.Answer.{Answer as AnAnswer}
 use Rattle.handlers.specs.Given.{Answering, Lent}
 use Rattle.session.specs.Acts.{Act, Now, Tell, agreed, given_of, numbered, refers}
-use Rattle.session.specs.Arrivals.{first_pending, others_pending}
+use Rattle.queues.specs.Arrivals.{first_pending, others_pending}
 use Rattle.session.specs.Effects.{performed}
-use Rattle.session.specs.Outcomes.{answering, closing, needs_memory, next_turn}
+use Rattle.session.specs.Outcomes.{answer_to, answering, closing, needs_memory, next_turn}
 use Rattle.handlers.specs.Changes.{answering_as, call_of, changed}
 use Rattle.session.specs.Kept.{Kept, Drafted, kept_changed, kept_closing, draft_on, draft_told, drafted, drafted_all, keepings, kept_said, settled}
 use Rattle.session.specs.Phases.{is_active}
-use Rattle.session.specs.Refusals.{answer_of, answer_to, response_to}
-use Rattle.session.specs.Writing.{frame_of}
+use Rattle.handlers.specs.Refusals.{answer_of, response_to}
+use Rattle.queues.specs.Writing.{frame_of}
 use Rattle.variables.specs.Laws.{Call}
 
 -- on this connection, where these requests wait

@@ -5,7 +5,6 @@ pub mod ByMove
 pub mod Advancing
 pub mod Enough
 pub mod Slicing
-pub mod Arriving
 pub mod Simulation
 pub mod Standing
 pub mod Drafting
@@ -18,5 +17,4 @@ pub mod Looked
 pub mod BySuccess
 pub mod Numbering
 pub mod Wanting
-pub mod Seeing
 pub mod Whole

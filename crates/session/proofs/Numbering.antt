@@ -1,6 +1,6 @@
 -- The references that an answer issues have numbers.
 use Rattle.std.proofs.Common.{ℕ, List, Option, sym, subst}
-use Rattle.session.specs.declared.pending.Pending.{Pending}
+use Rattle.queues.specs.declared.pending.Pending.{Pending}
 use Rattle.session.specs.declared.prepared.Prepared.{Prepared}
 use Rattle.handlers.specs.declared.terms.Terms.{Terms}
 use Rattle.handlers.specs.Given.{Answering}
@@ -8,7 +8,7 @@ use Rattle.session.specs.Acts.{Now, given_of}
 use Rattle.handlers.specs.Changes.{call_of}
 use Rattle.session.specs.Kept.{HasNumbers}
 use Rattle.session.specs.Preparing.{IsPrepared}
-use Rattle.session.specs.Refusals.{answer_to}
+use Rattle.session.specs.Outcomes.{answer_to}
 use Rattle.variables.specs.Laws.{Call}
 use Rattle.session.proofs.Serving.{of_answer}
 use Rattle.session.proofs.BySuccess.{BySuccess, by_success}

@@ -5,13 +5,14 @@ use Rattle.protocol.specs.Refusals.{has_text}
 use Rattle.protocol.specs.declared.refusal.Refusal.{Refusal}
 use Rattle.protocol.specs.declared.refusal.Refusal.TheVariants.{RepeatedSequence, Cancelled as IsCancelled, WrongPhase, RequestGone, NoMachine, Ended, NoThread, NotStopped}
 use Rattle.protocol.specs.declared.request.Request.{Request as ARequest}
-use Rattle.session.specs.declared.pending.Ask.{Ask}
-use Rattle.session.specs.declared.pending.Ask.TheVariants.{Request, Bad}
-use Rattle.session.specs.declared.pending.Fate.{Fate}
+use Rattle.queues.specs.declared.pending.Ask.{Ask}
+use Rattle.queues.specs.declared.pending.Ask.TheVariants.{Request, Bad}
+use Rattle.queues.specs.declared.pending.Fate.{Fate}
 use Rattle.handlers.specs.Given.{Answering}
 use Rattle.session.specs.Acts.{Now, given_of}
-use Rattle.session.specs.Arrivals.{is_repeat}
-use Rattle.session.specs.Refusals.{is_cancelled, misread, names_none, where_so, first_refusal, answer_by, answer_to, unmet}
+use Rattle.queues.specs.Arrivals.{is_repeat}
+use Rattle.handlers.specs.Refusals.{is_cancelled, misread, names_none, where_so, first_refusal, answer_by, unmet}
+use Rattle.session.specs.Outcomes.{answer_to}
 use Rattle.handlers.specs.Requests.{demand_of, is_taken_in, success_of}
 use Rattle.handlers.specs.Successes.{refusing}
 use Rattle.handlers.specs.Demands.{goes_on, has_ended, has_none, is_no_thread, run_of}
@@ -91,25 +92,3 @@ of_answer P now terms file (Bad seq command refusal) fate refuses succeeds =
 -- a request that its phase does not take does not succeed
 pub not_taken : false ≡ true → ⊥
 not_taken h = cc
-
--- ---- the first of several reasons
-
--- one that does not apply, at the end, changes nothing
-pub first_refusal-none : (reasons : List (Option Refusal)) → first_refusal (reasons ++ None ∷ []) ≡ first_refusal reasons
-first_refusal-none [] = refl
-first_refusal-none (None ∷ reasons) = first_refusal-none reasons
-first_refusal-none (Some refusal ∷ reasons) = refl
-
--- where one applies, those after it do not matter
-pub first_refusal-some : (reasons : List (Option Refusal)) (refusal : Refusal) (more : List (Option Refusal))
-    → first_refusal reasons ≡ Some refusal → first_refusal (reasons ++ more) ≡ Some refusal
-first_refusal-some [] refusal more e = absurd (cc)
-first_refusal-some (None ∷ reasons) refusal more e = first_refusal-some reasons refusal more e
-first_refusal-some (Some other ∷ reasons) refusal more e = e
-
--- where none of some applies, the others decide
-pub first_refusal-later : (reasons more : List (Option Refusal)) → first_refusal reasons ≡ None
-    → first_refusal (reasons ++ more) ≡ first_refusal more
-first_refusal-later [] more e = refl
-first_refusal-later (None ∷ reasons) more e = first_refusal-later reasons more e
-first_refusal-later (Some refusal ∷ reasons) more e = absurd (cc)

@@ -15,7 +15,7 @@ use Rattle.session.proofs.Enough.{is_sliced, not_after, Follows}
 use Rattle.session.proofs.Told.{tick_tells, with_one}
 use Rattle.debuggee.specs.Programs.{told}
 use Rattle.session.specs.declared.link.Link.{Link}
-use Rattle.session.specs.declared.pending.Pending.{Pending}
+use Rattle.queues.specs.declared.pending.Pending.{Pending}
 use Rattle.session.specs.Acts.{Now}
 use Rattle.session.proofs.Reaching.{if_keeps}
 

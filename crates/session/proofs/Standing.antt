@@ -7,7 +7,7 @@ use Rattle.replies.specs.declared.message.Message.{Message}
 use Rattle.replies.specs.declared.message.Message.TheVariants.{Response, Event as IsEvent}
 use Rattle.replies.specs.declared.response.Outcome.{Outcome}
 use Rattle.session.specs.declared.link.Link.{Link}
-use Rattle.session.specs.declared.pending.Pending.{Pending}
+use Rattle.queues.specs.declared.pending.Pending.{Pending}
 use Rattle.handlers.specs.declared.terms.Terms.{Terms}
 use Rattle.debuggee.specs.Programs.{Program}
 use Rattle.variables.specs.Laws.{Call}
@@ -15,7 +15,7 @@ use Rattle.session.specs.Acts.{Now, Act, Open, Close, Accept, Agree, Become, Ref
 use Rattle.session.specs.Config.{first_program}
 use Rattle.session.specs.Kept.{Kept, Stands, kept_said, kept_replied, kept_accepted, kept_agreed, kept_referred, kept_opened, kept_hung, kept_performed, keepings, nothing_kept}
 use Rattle.session.specs.Prefixes.{IsPrefixOf}
-use Rattle.session.specs.Refusals.{response_to}
+use Rattle.handlers.specs.Refusals.{response_to}
 use Rattle.session.specs.Sessions.{Beginning, Session, Said, bytes_of, nothing_with, frame_said, not_taken, waiting_of, said_on, said_next, replied_on, accepted_on, agreed_on, referred_on, opened_on, hung_on, performed_on, histories, start}
 use Rattle.session.proofs.Simulation.{Simulates}
 

@@ -7,7 +7,7 @@ use Rattle.replies.specs.declared.event.Event.{Event}
 use Rattle.replies.specs.declared.message.Message.{Message}
 use Rattle.replies.specs.declared.message.Message.TheVariants.{Event as IsEvent}
 use Rattle.session.specs.declared.link.Link.{Link}
-use Rattle.session.specs.declared.pending.Pending.{Pending}
+use Rattle.queues.specs.declared.pending.Pending.{Pending}
 use Rattle.session.specs.Acts.{Act, Become, Tell}
 use Rattle.session.specs.Beats.{concluded, outcome_events, queued_with, tick_events}
 use Rattle.session.specs.Effects.{performed}

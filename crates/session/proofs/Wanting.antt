@@ -2,12 +2,13 @@
 use Rattle.std.proofs.Common.{◌≡◌, ℕ, List, [], ◌∷◌, Option, Some, None, refl, sym, ap, ◌∙◌}
 use Rattle.debuggee.specs.declared.run.Run.{Run}
 use Rattle.session.specs.declared.link.Link.{Link}
-use Rattle.session.specs.declared.pending.Pending.{Pending}
+use Rattle.queues.specs.declared.pending.Pending.{Pending}
 use Rattle.handlers.specs.declared.phase.Phase.{Phase}
 use Rattle.session.specs.Acts.{Now}
-use Rattle.session.specs.Arrivals.{first_pending}
+use Rattle.queues.specs.Arrivals.{first_pending}
 use Rattle.handlers.specs.Demands.{run_of}
-use Rattle.session.specs.Refusals.{first_refusal, path_in, refusals, wanted_by, wanted_on}
+use Rattle.handlers.specs.Refusals.{first_refusal, path_in, refusals, wanted_by}
+use Rattle.session.specs.Outcomes.{wanted_on}
 
 by_first : (run : Option Run) (phase : Phase) (pending : List Pending) (p : Pending) → Some p ≡ first_pending pending
     → wanted_by run phase pending ≡ path_in (first_refusal (refusals run phase p)) p.ask

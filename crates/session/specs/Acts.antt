@@ -17,14 +17,14 @@ use Rattle.session.specs.declared.event.LinkFault.{LinkFault}
 use Rattle.session.specs.declared.event.LinkFault.TheVariants.{Frame, Message}
 use Rattle.session.specs.declared.limits.Limits.{Limits}
 use Rattle.session.specs.declared.link.Link.{Link}
-use Rattle.session.specs.declared.pending.Pending.{Pending}
+use Rattle.queues.specs.declared.pending.Pending.{Pending}
 use Rattle.handlers.specs.Given.{Given}
 use Rattle.handlers.specs.declared.terms.Terms.{Terms}
 use Rattle.handlers.specs.Phases.{first_terms}
 use Rattle.session.specs.References.{referred}
 use Rattle.variables.specs.Laws.{Call}
 use Rattle.variables.specs.Numbers.{Numbers, at_next_stop}
-use Rattle.session.specs.Arrivals.{Arrivals, no_arrivals, all_joined, asks_of, message_fault_of}
+use Rattle.queues.specs.Arrivals.{Arrivals, no_arrivals, all_joined, asks_of, message_fault_of}
 
 -- What a session is now, as far as no past is needed to say it: its limits, and how many bytes of memory a machine gets;
 -- how many connections were made; the present one, if there is one; the requests that came on it and wait for their

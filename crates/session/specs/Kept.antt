@@ -9,7 +9,7 @@ use Rattle.session.specs.declared.event.Event.{Event}
 use Rattle.session.specs.declared.event.EventError.{EventError}
 use Rattle.session.specs.declared.limits.Limits.{Limits}
 use Rattle.session.specs.declared.link.Link.{Link}
-use Rattle.session.specs.declared.pending.Pending.{Pending}
+use Rattle.queues.specs.declared.pending.Pending.{Pending}
 use Rattle.handlers.specs.declared.terms.Terms.{Terms}
 use Rattle.debuggee.specs.Programs.{Program}
 use Rattle.replies.specs.declared.event.Event.{Event as AnEvent}
@@ -24,9 +24,9 @@ use Rattle.session.specs.Acts.{opened, closed, agreed, hung, numbered, accepted,
 use Rattle.session.specs.Effects.{World, Ends}
 use Rattle.session.specs.Phases.{is_active}
 use Rattle.session.specs.Prefixes.{IsPrefixOf}
-use Rattle.session.specs.Refusals.{response_to}
+use Rattle.handlers.specs.Refusals.{response_to}
 use Rattle.session.specs.Sessions.{Session, bytes_of, waiting_of, histories, nothing_with}
-use Rattle.session.specs.Writing.{frame_of}
+use Rattle.queues.specs.Writing.{frame_of}
 
 -- what the session is now, and the bytes that wait
 pub record Kept : Type 0 where

@@ -1,19 +1,13 @@
--- What a session is, and what events do to it. First what a request is answered.
+-- What a session is, and what events do to it.
 
--- the requests that wait: which join, which are repeats, what a `cancel` does
-pub mod Arrivals
 -- how far the present connection has come
 pub mod Phases
 -- references to frames and variables: their numbers, and all that were ever issued
 pub mod References
 -- what a session is now, and the acts that events and answers are made of
 pub mod Acts
--- the answer to a request: the refusals in their order, or its success
-pub mod Refusals
 -- what kind of answer it is
 pub mod Kinds
--- the frame of a message with its number
-pub mod Writing
 -- ---- events
 -- the last numbers that a session gives
 pub mod Limits
@@ -27,10 +21,6 @@ pub mod Outcomes
 pub mod Effects
 -- a session with all of its past, act by act, and its bytes
 pub mod Sessions
--- what there is to see of the program that is debugged, as facts
-pub mod Shown
--- what a snapshot keeps of it
-pub mod Snapshots
 -- a prefix of a list
 pub mod Prefixes
 -- what the code keeps, which sessions that stands for (`Stands`), and what a call does for each of them (`Happens`);
@@ -50,7 +40,13 @@ pub use Rattle.framing.specs.Streams
 -- the table of the requests, and what comes of each
 pub use Rattle.protocol.specs.Commands
 pub use Rattle.handlers.specs.Requests
--- a message with its number, as text
+-- the requests that wait; why one is refused, and what it is answered else
+pub use Rattle.queues.specs.Arrivals
+pub use Rattle.handlers.specs.Refusals
+-- a message with its number, as text, and the frame of it
 pub use Rattle.replies.specs.Messages
--- what can be known of a machine
+pub use Rattle.queues.specs.Writing
+-- what can be known of a machine, what there is to see, and what a snapshot keeps of it
 pub use Rattle.facts.specs.Facts
+pub use Rattle.snapshots.specs.Shown
+pub use Rattle.snapshots.specs.Snapshots

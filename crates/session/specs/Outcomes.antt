@@ -25,12 +25,13 @@ use Rattle.session.specs.declared.event.EventError.TheVariants.{NotConnected, Al
 use Rattle.session.specs.declared.event.EventError.TheVariants.{PieceTooLong, Closing, Spent}
 use Rattle.session.specs.declared.event.Turned.TheVariants.{Answered, Nothing, Full}
 use Rattle.session.specs.declared.link.Link.{Link}
-use Rattle.session.specs.declared.pending.Pending.{Pending}
+use Rattle.queues.specs.declared.pending.Pending.{Pending}
 use Rattle.handlers.specs.declared.terms.Terms.{Terms}
 use Rattle.handlers.specs.Given.{Answering}
 use Rattle.session.specs.Acts.{Now, Seen, Act, Open, Close, Accept, Agree, Become, Refer, Reply, Tell, HangUp, Take}
-use Rattle.session.specs.Acts.{grows}
-use Rattle.session.specs.Refusals.{answer_to}
+use Rattle.session.specs.Acts.{given_of, grows}
+use Rattle.handlers.specs.Demands.{run_of}
+use Rattle.handlers.specs.Refusals.{answer_of, wanted_by}
 use Rattle.session.specs.Slices.{telling}
 use Rattle.stepping.specs.declared.tick.Tick.{Tick}
 
@@ -78,6 +79,10 @@ closing false = []
 abbrev pub answering : Answering → List Act
 answering a = Become a.debuggee ∷ Refer a.references ∷ Agree a.terms ∷ Reply a.outcome
     ∷ (map Tell a.events ++ closing a.closes)
+
+-- what a request is answered, with the file that it names
+abbrev pub answer_to : Now → Terms → Option (List ℕ) → Pending → Answering
+answer_to now terms file p = answer_of (record { given = given_of now; terms = terms; file = file }) p
 
 -- what a turn comes to, by the requests that wait
 abbrev pub next_turn : Now → Terms → Option (List ℕ) → List Pending → Outcome
@@ -150,6 +155,11 @@ is_finished_on (Some link) pending waits = link.is_closing && (length pending ==
 -- whether all is said, on a connection
 abbrev pub is_finished : Seen → Bool
 is_finished seen = is_finished_on seen.now.link seen.now.arrivals.pending seen.waits
+
+-- the file that the answer to the first request that waits wants, if it wants one
+abbrev pub wanted_on : Now → Option Link → Option (List ℕ)
+wanted_on now None = None
+wanted_on now (Some link) = wanted_by (run_of now.debuggee.program) link.terms.phase now.arrivals.pending
 
 -- ---- memory
 

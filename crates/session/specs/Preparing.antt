@@ -3,13 +3,13 @@ use Rattle.std.specs.Prelude.{◌≡◌, Option}
 use Rattle.replies.specs.declared.message.Message.TheVariants.{Response}
 use Rattle.session.specs.declared.limits.Limits.{Limits}
 use Rattle.session.specs.declared.link.Link.{Link}
-use Rattle.session.specs.declared.pending.Pending.{Pending}
+use Rattle.queues.specs.declared.pending.Pending.{Pending}
 use Rattle.session.specs.declared.prepared.Prepared.{Prepared}
 use Rattle.handlers.specs.Given.{Answering}
 use Rattle.session.specs.Acts.{Now}
 use Rattle.handlers.specs.Changes.{call_of, changed}
 use Rattle.session.specs.Kept.{Drafted, draft_on, drafted, drafted_all}
-use Rattle.session.specs.Refusals.{response_to}
+use Rattle.handlers.specs.Refusals.{response_to}
 
 -- an answer with what is told after it, by the answer to the first request
 abbrev pub draft_of : Limits → Option Link → Pending → Answering → Drafted

@@ -17,28 +17,23 @@ use Rattle.session.specs.declared.event.Event.{Event}
 use Rattle.session.specs.declared.event.EventError.{EventError}
 use Rattle.session.specs.declared.limits.Limits.{Limits}
 use Rattle.session.specs.declared.link.Link.{Link}
-use Rattle.session.specs.declared.pending.Ask.{Ask}
-use Rattle.session.specs.declared.pending.Pending.{Pending}
+use Rattle.queues.specs.declared.pending.Ask.{Ask}
+use Rattle.queues.specs.declared.pending.Pending.{Pending}
 use Rattle.handlers.specs.declared.terms.Terms.{Terms}
-use Rattle.debuggee.specs.Programs.{Debuggee, Program}
+use Rattle.debuggee.specs.Programs.{Program}
 use Rattle.session.specs.Acts.{Now, Act, Open, Close, Accept, Agree, Become, Refer, Reply, Tell, HangUp, Take, opened, closed}
 use Rattle.session.specs.Acts.{agreed, hung, refers}
 use Rattle.session.specs.References.{References, ended, no_numbers, no_references, past_referred}
 use Rattle.variables.specs.Laws.{Call}
-use Rattle.variables.specs.Numbers.{Numbers}
 use Rattle.session.specs.Acts.{numbered, accepted, read_on, fault_of_reading}
-use Rattle.session.specs.Arrivals.{no_arrivals, asks_of}
+use Rattle.queues.specs.Arrivals.{no_arrivals, asks_of}
 use Rattle.handlers.specs.Sizes.{is_size}
 use Rattle.session.specs.Config.{HasImage, first_program}
 use Rattle.session.specs.Effects.{World, effect, answer, after_all}
 use Rattle.session.specs.Limits.{are_limits}
-use Rattle.session.specs.Refusals.{response_to}
-use Rattle.session.specs.Writing.{frame_of}
-
--- what there is to see at one time: the program that is debugged, and the numbers of its frames and scopes
-pub record Snapshot : Type 0 where
-  pub debuggee : Debuggee
-  pub numbers : Numbers
+use Rattle.snapshots.specs.Shown.{Snapshot}
+use Rattle.handlers.specs.Refusals.{response_to}
+use Rattle.queues.specs.Writing.{frame_of}
 
 -- a message as it was queued, with its number, and what there was to see then
 pub record Said : Type 0 where

@@ -5,7 +5,7 @@ ghost use Rattle.session.specs.Kept.{draft_on, drafted};
 
 use crate::limits::Limits;
 use crate::link::Link;
-use crate::writing::framed;
+use queues::framed;
 use replies::{Event, Message};
 use std::alloc::{AllocError, Global};
 use std::marker::Model;

@@ -4,18 +4,17 @@ ghost use Rattle.std.specs.Option.{option_copied};
 ghost use Rattle.session.specs.declared.event.Event.TheVariants as event;
 ghost use Rattle.session.specs.declared.event.Applied.TheVariants as applied;
 ghost use Rattle.session.specs.Begins.{Begins};
-ghost use Rattle.session.specs.Refusals.{wanted_on};
+ghost use Rattle.session.specs.Outcomes.{is_finished, wanted_on};
 ghost use Rattle.session.specs.Slices.{is_runnable};
-ghost use Rattle.session.specs.Outcomes.{is_finished};
 ghost use Rattle.session.specs.Sessions.{snapshot_of, start, waiting_of, histories};
-ghost use Rattle.session.specs.Snapshots.{IsTaken};
+ghost use Rattle.snapshots.specs.Snapshots.{IsTaken};
 ghost use Rattle.session.specs.Kept.{Happens, OfEach, Stands, answered, see_kept};
 
 use crate::config::{Config, ConfigError, first_program, is_size};
 use crate::event::{Applied, Event, EventError, LinkFault, Sliced, Turned};
 use crate::limits::Limits;
-use crate::snapshot::Snapshot;
 use crate::state::State;
+use snapshots::Snapshot;
 use std::alloc::{AllocError, Global};
 use std::marker::Model;
 

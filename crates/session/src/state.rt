@@ -2,7 +2,7 @@
 ghost use Rattle.std.specs.Prelude.{◌≡◌, ◌≢◌, ◌≤◌, ◌^◌, None, true, [], Option, Some, Ok, Err, IfOk, OnOk, OnErr, IsSome, ◌++◌, ◌∷◌, List, ℕ, length};
 ghost use Rattle.std.specs.Option.{option_map};
 ghost use Rattle.session.specs.declared.event.Event.TheVariants as event;
-ghost use Rattle.session.specs.declared.pending.Pending.{Pending as APending};
+ghost use Rattle.queues.specs.declared.pending.Pending.{Pending as APending};
 ghost use Rattle.std.specs.Prelude.{if◌then◌else◌};
 ghost use Rattle.session.specs.declared.event.Applied.TheVariants as applied;
 ghost use Rattle.handlers.specs.Changes.{changed, events_of, call_of};
@@ -15,37 +15,35 @@ ghost use Rattle.debuggee.specs.Programs.{left, marked, with_program};
 ghost use Rattle.debuggee.specs.declared.run.Mark.TheVariants as a_mark;
 ghost use Rattle.session.specs.Acts as acts;
 ghost use Rattle.session.specs.Acts.{given_of, refers};
-ghost use Rattle.session.specs.Arrivals.{no_arrivals, others_pending};
+ghost use Rattle.queues.specs.Arrivals.{no_arrivals, others_pending};
 ghost use Rattle.framing.specs.Reading.Tail.{Partial};
 ghost use Rattle.session.specs.Outcomes as spec;
-ghost use Rattle.session.specs.Refusals.{response_to, wanted_on};
-ghost use Rattle.session.specs.Refusals as spec_answer;
+ghost use Rattle.handlers.specs.Refusals.{response_to};
+ghost use Rattle.session.specs.Outcomes.{wanted_on};
 ghost use Rattle.session.specs.Preparing.{IsPrepared};
 ghost use Rattle.handlers.specs.declared.change.Change.TheVariants as a_change;
 ghost use Rattle.session.specs.Sessions.{snapshot_of};
 ghost use Rattle.session.specs.Slices.{is_runnable};
-ghost use Rattle.session.specs.Snapshots.{IsTaken};
+ghost use Rattle.snapshots.specs.Snapshots.{IsTaken};
 ghost use Rattle.session.specs.Effects.{performed};
 ghost use Rattle.variables.specs.Laws.Call.{Issue};
 ghost use Rattle.variables.specs.Numbers.{has_room};
 
 use crate::BODY_LIMIT;
-use crate::arrivals::Arrivals;
-use crate::buffer::Buffer;
 use crate::draft::Draft;
 use crate::event::{EventError, LinkFault, Turned};
-use crate::feeding::feed;
 use crate::limits::Limits;
 use crate::link::Link;
-use crate::pending::Pending;
 use crate::prepared::Prepared;
-use crate::refusals::{answer_to, response_to, wanted_by};
-use crate::snapshot::Snapshot;
 use debuggee::{Mark, Program};
 use framing::{FrameError, Unframer};
-use handlers::{Answer, Change, Lent, Numbered, ProgramChange, Terms, run_of};
+use handlers::{
+    Answer, Change, Lent, Numbered, ProgramChange, Terms, answer_to, response_to, run_of, wanted_by,
+};
 use protocol::MessageError;
+use queues::{Arrivals, Buffer, Pending, feed};
 use replies::{Event, Message, Outcome};
+use snapshots::Snapshot;
 use std::alloc::{AllocError, Global};
 use std::marker::Model;
 use variables::{Handles, IssueError, Target};
@@ -274,7 +272,7 @@ impl State {
         first: &Pending,
     ) -> Result<Prepared, AllocError>
         ensures { IfOk result (λ r. IsPrepared self.now.now first.now
-            (spec_answer.answer_to self.now.now link.terms (option_copied file.entry) first.now)
+            (spec.answer_to self.now.now link.terms (option_copied file.entry) first.now)
             r) }
     {
         let answer = answer_to(self.alloc, &self.lent(link.terms, file), first)?;
@@ -636,7 +634,7 @@ impl State {
     }
 
     /// What there is to see. It fails where no memory is left.
-    #[tactic(auto, using(crate::proofs::Seeing::is_taken))]
+    #[tactic(auto, using(snapshots::proofs::Seeing::is_taken))]
     pub(crate) fn snapshot(&self) -> Result<Snapshot, AllocError>
         ensures ok { IfOk result (λ taken. IsTaken taken (snapshot_of self.now.now)) }
         ensures err { OnErr result (self.now.now.debuggee.program ≢ None) }

@@ -7,11 +7,11 @@ use Rattle.session.specs.declared.event.EventError.TheVariants.{NotConnected}
 use Rattle.session.specs.declared.event.Turned.{Turned}
 use Rattle.session.specs.declared.event.Turned.TheVariants as turned
 use Rattle.session.specs.declared.link.Link.{Link}
-use Rattle.session.specs.declared.pending.Pending.{Pending}
+use Rattle.queues.specs.declared.pending.Pending.{Pending}
 use Rattle.session.specs.declared.state.TheConstants.{FULL}
 use Rattle.session.specs.Acts.{Seen}
 use Rattle.session.specs.Outcomes.{Outcome, answering, answers_next, done, next_turn, outcome_at, refused, turn_by, turn_of}
-use Rattle.session.specs.Refusals.{answer_to}
+use Rattle.session.specs.Outcomes.{answer_to}
 use Rattle.session.specs.Slices.{telling}
 use Rattle.session_laws.specs.Turns.{Answered, answered_by, answered_on, answered_with, first_answered, next_answered}
 use Rattle.stepping.specs.declared.tick.Tick.{Tick}

@@ -11,10 +11,10 @@ use Rattle.protocol.specs.declared.request.Incoming.TheVariants.{Request as IsRe
 use Rattle.protocol.specs.declared.request.MessageError.{MessageError}
 use Rattle.range_laws.specs.Requests.{GivesBytes}
 use Rattle.range_laws.proofs.Requests.{BodyGives, body_gives}
-use Rattle.session.specs.declared.pending.Ask.{Ask}
-use Rattle.session.specs.declared.pending.Ask.TheVariants.{Request, Bad}
-use Rattle.session.specs.declared.pending.Pending.{Pending}
-use Rattle.session.specs.Arrivals.{Arrivals, all_joined, number_of, asks_in, asks_of}
+use Rattle.queues.specs.declared.pending.Ask.{Ask}
+use Rattle.queues.specs.declared.pending.Ask.TheVariants.{Request, Bad}
+use Rattle.queues.specs.declared.pending.Pending.{Pending}
+use Rattle.queues.specs.Arrivals.{Arrivals, all_joined, number_of, asks_in, asks_of}
 use Rattle.session_laws.proofs.Joining.{seen_as, all_joined_as}
 use Rattle.session.proofs.Serving.{IsRefusalOf}
 

@@ -4,14 +4,14 @@ use Rattle.replies.specs.declared.message.Message.{Message}
 use Rattle.replies.specs.declared.message.Message.TheVariants.{Response, Event as IsEvent}
 use Rattle.replies.specs.declared.response.Outcome.{Outcome}
 use Rattle.session.specs.declared.link.Link.{Link}
-use Rattle.session.specs.declared.pending.Pending.{Pending}
+use Rattle.queues.specs.declared.pending.Pending.{Pending}
 use Rattle.handlers.specs.declared.terms.Terms.{Terms}
 use Rattle.debuggee.specs.Programs.{Debuggee}
 use Rattle.replies.specs.declared.event.Event.{Event}
 use Rattle.handlers.specs.Given.{Answering}
 use Rattle.session.specs.Acts.{Open, Close, Accept, Agree, Become, Refer, Reply, Tell, HangUp, Take, numbered, accepted, read_on, refers}
 use Rattle.session.specs.References.{past_referred}
-use Rattle.session.specs.Refusals.{response_to}
+use Rattle.handlers.specs.Refusals.{response_to}
 use Rattle.variables.specs.Laws.{Call}
 use Rattle.session.specs.Sessions.{Session, said_next, with_said, with_piece, replied_on, accepted_on, agreed_on, said_on, opened_on, hung_on, referred_on, performed_on}
 use Rattle.session.proofs.Reaching.{if_keeps, KeptByActs}

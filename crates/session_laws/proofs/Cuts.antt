@@ -14,9 +14,9 @@ use Rattle.session.specs.declared.event.Event.TheVariants.{Recv}
 use Rattle.session.specs.declared.event.EventError.TheVariants.{Busy, PieceTooLong, Closing}
 use Rattle.session.specs.declared.event.LinkFault.{LinkFault}
 use Rattle.session.specs.declared.link.Link.{Link}
-use Rattle.session.specs.declared.pending.Ask.{Ask}
+use Rattle.queues.specs.declared.pending.Ask.{Ask}
 use Rattle.session.specs.Acts.{Accept, read_on, fault_or, fault_of_reading, tail_kept}
-use Rattle.session.specs.Arrivals.{Arrivals, joined, all_joined, asks_of, message_fault_of}
+use Rattle.queues.specs.Arrivals.{Arrivals, joined, all_joined, asks_of, message_fault_of}
 use Rattle.session.specs.Effects.{performed}
 use Rattle.session_laws.specs.Laws.{RequestsAreRead, FaultIsOfTheBytes, IsTaken, CutsDoNotMatter}
 use Rattle.session.specs.Outcomes.{Outcome, refused, done, outcome, outcome_at}

@@ -25,8 +25,8 @@ use Rattle.replies.specs.declared.response.Outcome.TheVariants.{Done, Refused}
 use Rattle.replies.specs.declared.response.ResponseBody.{ResponseBody}
 use Rattle.session.specs.declared.event.Event.{Event}
 use Rattle.session.specs.declared.link.Link.{Link}
-use Rattle.session.specs.declared.pending.Ask.TheVariants.{Request}
-use Rattle.session.specs.declared.pending.Fate.{Fate}
+use Rattle.queues.specs.declared.pending.Ask.TheVariants.{Request}
+use Rattle.queues.specs.declared.pending.Fate.{Fate}
 use Rattle.handlers.specs.declared.phase.Phase.{Phase}
 use Rattle.handlers.specs.declared.terms.Terms.{Terms}
 use Rattle.handlers.specs.Given.{Answering, Given}
@@ -37,12 +37,12 @@ use Rattle.expressions.specs.Values.{value_of}
 use Rattle.expressions.specs.declared.error.ExprFault.{ExprFault}
 use Rattle.rv32i.specs.declared.hart.Hart.{Hart}
 use Rattle.handlers.specs.declared.demand.Demand.{Demand}
-use Rattle.session.specs.Arrivals.{is_repeat}
+use Rattle.queues.specs.Arrivals.{is_repeat}
 use Rattle.handlers.specs.Looking.{demand}
 use Rattle.handlers.specs.Demands.{goes_on, has_ended, has_none, is_no_thread, run_of}
 use Rattle.handlers.specs.Looking.{looks_on, shows_by}
 use Rattle.handlers.specs.SetVariable.{sets_by, sets_on}
-use Rattle.session.specs.Refusals.{answer_by, first_refusal, is_cancelled, names_none, refusals, unmet, where_so}
+use Rattle.handlers.specs.Refusals.{answer_by, first_refusal, is_cancelled, names_none, refusals, unmet, where_so}
 use Rattle.handlers.specs.Requests.{demand_of, is_taken_in, success_of}
 use Rattle.stepping.specs.Ticks.{Debugged}
 use Rattle.rv32i.specs.Names.{number_named}

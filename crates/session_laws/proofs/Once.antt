@@ -11,7 +11,7 @@ use Rattle.replies.specs.declared.response.ResponseBody.{ResponseBody}
 use Rattle.replies.specs.declared.response.Outcome.{Outcome}
 use Rattle.session.specs.declared.event.Event.{Event as SessionEvent}
 use Rattle.session.specs.declared.link.Link.{Link}
-use Rattle.session.specs.declared.pending.Pending.{Pending}
+use Rattle.queues.specs.declared.pending.Pending.{Pending}
 use Rattle.handlers.specs.declared.phase.Phase.{Phase}
 use Rattle.handlers.specs.declared.phase.Phase.TheVariants.{Fresh, Initialized, Configuring, Active, Left}
 use Rattle.handlers.specs.declared.terms.Terms.{Terms}
@@ -20,9 +20,9 @@ use Rattle.session.specs.Acts.{Now, Tell, given_of}
 use Rattle.session.specs.Effects.{performed}
 use Rattle.session.specs.Kinds.{initializes}
 use Rattle.session_laws.specs.Laws.{initializes_by, times_initialized, InitializesOnce}
-use Rattle.session.specs.Outcomes.{answering, closing}
+use Rattle.session.specs.Outcomes.{answer_to, answering, closing}
 use Rattle.handlers.specs.Phases.{is_fresh_in}
-use Rattle.session.specs.Refusals.{answer_to, response_to}
+use Rattle.handlers.specs.Refusals.{response_to}
 use Rattle.handlers.specs.Requests.{is_taken_in}
 use Rattle.session.specs.Sessions.{Beginning, Session, Life, Said, said_next, said_on, replied_on, hung_on, performed_on, histories, After}
 use Rattle.session.proofs.Breaking.{IsPlain, answer_on, is_plain}

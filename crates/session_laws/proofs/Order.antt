@@ -7,13 +7,13 @@ use Rattle.std.proofs.lemmas.List.Concat.{flat_map-append}
 use Rattle.std.proofs.lemmas.List.Elements.{All-push, All-nil}
 use Rattle.replies.specs.declared.message.Message.TheVariants.{Response, Event as IsEvent}
 use Rattle.session.specs.declared.link.Link.{Link}
-use Rattle.session.specs.declared.pending.Ask.{Ask}
-use Rattle.session.specs.declared.pending.Pending.{Pending}
+use Rattle.queues.specs.declared.pending.Ask.{Ask}
+use Rattle.queues.specs.declared.pending.Pending.{Pending}
 use Rattle.session.specs.declared.event.Event.{Event}
 use Rattle.session.specs.Acts.{read_on}
-use Rattle.session.specs.Arrivals.{asks_of}
+use Rattle.queues.specs.Arrivals.{asks_of}
 use Rattle.session.specs.Prefixes.{IsPrefixOf}
-use Rattle.session.specs.Refusals.{response_to}
+use Rattle.handlers.specs.Refusals.{response_to}
 use Rattle.session.specs.Sessions.{Beginning, Session, Life, Said, said_next, After}
 use Rattle.session_laws.specs.Laws.{asked_as, answered_as, asked_in, answered_in, pending_as, AnswersInOrder, AreNumberedFrom, NumbersRise}
 use Rattle.session.proofs.Standing.{prefix_of_more}

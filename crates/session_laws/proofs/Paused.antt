@@ -28,19 +28,19 @@ use Rattle.session.specs.declared.event.Event.{Event}
 use Rattle.session.specs.declared.event.Event.TheVariants.{Connect, Recv, Turn, Slice, Hold, Sent, DropConnection}
 use Rattle.session.specs.declared.event.Turned.TheVariants as turned
 use Rattle.session.specs.declared.link.Link.{Link}
-use Rattle.session.specs.declared.pending.Pending.{Pending}
+use Rattle.queues.specs.declared.pending.Pending.{Pending}
 use Rattle.handlers.specs.declared.terms.Terms.{Terms}
 use Rattle.handlers.specs.Given.{Answering}
 use Rattle.session.specs.Acts.{Now, Become, Refer, Agree, Reply, Tell, given_of}
-use Rattle.session.specs.Arrivals.{name_asked}
+use Rattle.queues.specs.Arrivals.{name_asked}
 use Rattle.variables.specs.Laws.{Call}
 use Rattle.handlers.specs.Breaks.{with_list}
 use Rattle.handlers.specs.Demands.{goes_on, run_of}
 use Rattle.session.specs.Effects.{Slicing, beats, enough, next_by, performed}
 use Rattle.session.specs.Kinds.{is_success}
 use Rattle.session_laws.specs.Laws.{Disconnects, EditorLeaves, IsAtRest, IsMarked, MarkedRetiresNone, PauseMarks, Pauses, RetiresNone, RetiresNoneIn}
-use Rattle.session.specs.Outcomes.{Outcome, answering, closing, done, outcome_at}
-use Rattle.session.specs.Refusals.{answer_to, response_to}
+use Rattle.session.specs.Outcomes.{Outcome, answer_to, answering, closing, done, outcome_at}
+use Rattle.handlers.specs.Refusals.{response_to}
 use Rattle.session_laws.specs.Turns.{Answered as AnsweredRequest}
 use Rattle.handlers.specs.Requests.{demand_of}
 use Rattle.session.specs.Sessions.{Session, Effect, agreed_on, histories, hung_on, performed_on, referred_on, replied_on, waiting_of}

@@ -25,17 +25,17 @@ use Rattle.replies.specs.declared.response.Outcome.TheVariants.{Done}
 use Rattle.replies.specs.declared.response.ResponseBody.{ResponseBody}
 use Rattle.session.specs.declared.event.Event.{Event}
 use Rattle.session.specs.declared.link.Link.{Link}
-use Rattle.session.specs.declared.pending.Pending.{Pending}
+use Rattle.queues.specs.declared.pending.Pending.{Pending}
 use Rattle.handlers.specs.declared.terms.Terms.{Terms}
 use Rattle.handlers.specs.Given.{Answering}
 use Rattle.session.specs.Acts.{Now, Tell, given_of}
-use Rattle.session.specs.Arrivals.{number_of, name_asked}
+use Rattle.queues.specs.Arrivals.{number_of, name_asked}
 use Rattle.handlers.specs.Views.{view_of}
 use Rattle.handlers.specs.Demands.{run_of}
 use Rattle.session.specs.Effects.{performed}
 use Rattle.session_laws.specs.Laws.{AnswersAreProper}
-use Rattle.session.specs.Outcomes.{answering, closing}
-use Rattle.session.specs.Refusals.{answer_to, response_to}
+use Rattle.session.specs.Outcomes.{answer_to, answering, closing}
+use Rattle.handlers.specs.Refusals.{response_to}
 use Rattle.session.specs.Sessions.{Beginning, Session, Life, Said, said_next, said_on, replied_on, hung_on, performed_on, histories, After}
 use Rattle.session.proofs.Reaching.{if_keeps, each_life, performed_append}
 use Rattle.session_laws.proofs.ByForms.{on, on_with, saying, with_change}

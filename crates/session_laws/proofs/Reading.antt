@@ -13,8 +13,8 @@ use Rattle.protocol.specs.declared.request.MessageError.{MessageError}
 use Rattle.session.specs.declared.TheConstants.{BODY_LIMIT}
 use Rattle.session.specs.declared.event.LinkFault.{LinkFault}
 use Rattle.session.specs.declared.event.LinkFault.TheVariants.{Message}
-use Rattle.session.specs.declared.pending.Ask.{Ask}
-use Rattle.session.specs.Arrivals.{asks_in, asks_of, fault_in, message_fault_of}
+use Rattle.queues.specs.declared.pending.Ask.{Ask}
+use Rattle.queues.specs.Arrivals.{asks_in, asks_of, fault_in, message_fault_of}
 use Rattle.session.specs.Acts.{fault_or, fault_of_reading}
 use Rattle.session.specs.Sessions.{is_faulty, up_to_fault}
 

@@ -30,8 +30,7 @@ use Rattle.session.specs.Beats.{concluded}
 use Rattle.session.specs.Config.{first_program, given}
 use Rattle.session.specs.Effects.{Slicing, after_all, beats, enough, next_by, performed}
 use Rattle.session.specs.Kinds.{is_success}
-use Rattle.session.specs.Outcomes.{Outcome as Does, outcome_at}
-use Rattle.session.specs.Refusals.{answer_to}
+use Rattle.session.specs.Outcomes.{Outcome as Does, answer_to, outcome_at}
 use Rattle.session_laws.specs.Retiring.{FramesAreOfThePast, IsPast, PastIsRemembered, after_answer, after_move, after_next, and_next, and_retired, asks_to_load, at_address, at_pc, decoded, loads, moved_on, retired_after, retired_in, retired_of, without_last}
 use Rattle.session.specs.Sessions.{Effect, Session, histories, start, waiting_of}
 use Rattle.session.specs.Slices.{Beat, beat_by, beat_of, becomes, ending_of, ends, exits, goes, goes_unless, is_at_limit, is_runnable_by, makes_move, moves_by, stops, telling, tells}
@@ -41,7 +40,7 @@ use Rattle.session.specs.declared.event.Event.TheVariants.{Connect, Recv, Turn, 
 use Rattle.session.specs.declared.event.SliceEnd.{SliceEnd}
 use Rattle.session.specs.declared.event.SliceEnd.TheVariants as ending
 use Rattle.session.specs.declared.link.Link.{Link}
-use Rattle.session.specs.declared.pending.Pending.{Pending}
+use Rattle.queues.specs.declared.pending.Pending.{Pending}
 use Rattle.session.specs.declared.state.TheConstants.{MOST_PIECE, MOST_PENDING, FULL, LAST_CONNECTION}
 use Rattle.stepping.proofs.Determined.{one_fetched}
 use Rattle.stepping.proofs.Existing.{the_tick}

@@ -17,17 +17,17 @@ use Rattle.replies.specs.declared.response.ResponseBody.{ResponseBody}
 use Rattle.replies.specs.declared.response.ResponseBody.TheVariants as body
 use Rattle.session.specs.declared.event.Event.{Event}
 use Rattle.session.specs.declared.link.Link.{Link}
-use Rattle.session.specs.declared.pending.Pending.{Pending}
+use Rattle.queues.specs.declared.pending.Pending.{Pending}
 use Rattle.handlers.specs.declared.terms.Terms.{Terms}
 use Rattle.handlers.specs.Given.{Answering}
 use Rattle.session.specs.Acts.{Now, Tell, given_of}
-use Rattle.session.specs.Arrivals.{name_asked}
+use Rattle.queues.specs.Arrivals.{name_asked}
 use Rattle.handlers.specs.Demands.{has_none, run_of}
 use Rattle.session.specs.Effects.{performed}
 use Rattle.session.specs.Kinds.{is_resume, is_success}
 use Rattle.session_laws.specs.Laws.{IsStop, RunsAreTold, RunsAs, SaysItsRun}
-use Rattle.session.specs.Outcomes.{answering, closing}
-use Rattle.session.specs.Refusals.{answer_to, response_to}
+use Rattle.session.specs.Outcomes.{answer_to, answering, closing}
+use Rattle.handlers.specs.Refusals.{response_to}
 use Rattle.handlers.specs.Successes.{resuming, agreeing}
 use Rattle.session.specs.Sessions.{Beginning, Session, Life, Said, said_next, said_on, hung_on, performed_on, histories, After}
 use Rattle.session.proofs.Reaching.{if_keeps, each_life, performed_append}

@@ -23,7 +23,7 @@ use Rattle.session.specs.declared.event.Event.{Event}
 use Rattle.session.specs.declared.event.Event.TheVariants.{Connect, Recv, Turn, Slice, Hold, Sent, DropConnection}
 use Rattle.session.specs.declared.limits.Limits.{Limits}
 use Rattle.session.specs.declared.link.Link.{Link}
-use Rattle.session.specs.declared.pending.Pending.{Pending}
+use Rattle.queues.specs.declared.pending.Pending.{Pending}
 use Rattle.handlers.specs.declared.terms.Terms.{Terms}
 use Rattle.handlers.specs.Given.{Answering}
 use Rattle.session.specs.Acts.{Act, Now, Seen, read_on, Open, Close, Agree, Become, Refer, Reply, Tell, Take, given_of}
@@ -36,7 +36,8 @@ use Rattle.session_laws.specs.Laws.{SaysItsRun}
 use Rattle.session.specs.Limits.{are_limits, greatest_limits, is_within}
 use Rattle.session.specs.Outcomes.{Outcome, outcome_at, answers_next, closing, holding, leaving, next_turn, answering, turn_by, turn_of}
 use Rattle.session.specs.Phases.{is_active}
-use Rattle.session.specs.Refusals.{answer_to, response_to}
+use Rattle.handlers.specs.Refusals.{response_to}
+use Rattle.session.specs.Outcomes.{answer_to}
 use Rattle.session.specs.Sessions.{Beginning, Session, After, Effect, histories, agreed_on, hung_on, performed_on, referred_on, replied_on, said_on, start, waiting_of}
 use Rattle.session.specs.Slices.{Beat, beat, beat_by, beat_of, concludes, ends, exits, goes, goes_unless, halts, is_at_limit, is_runnable_by, logged, moves_by, output_events, makes_move, telling, tells}
 use Rattle.handlers.specs.Telling.{exit_events, log_event, stop_event}

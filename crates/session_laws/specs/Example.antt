@@ -14,7 +14,7 @@ use Rattle.session.specs.declared.event.Event.TheVariants.{Connect, Recv, Turn, 
 use Rattle.session.specs.Limits.{greatest_limits}
 use Rattle.session.specs.Outcomes.{is_finished}
 use Rattle.session.specs.Sessions.{After, Beginning, histories, waiting_of}
-use Rattle.session.specs.Writing.{frame_of}
+use Rattle.queues.specs.Writing.{frame_of}
 
 -- the header part of a frame, by the digits of its length
 abbrev header : List ℕ → List ℕ

@@ -25,11 +25,11 @@ use Rattle.session.specs.declared.event.Event.TheVariants.{Connect, Recv, Turn, 
 use Rattle.session.specs.declared.event.EventError.{EventError}
 use Rattle.session.specs.declared.event.EventError.TheVariants.{Closing}
 use Rattle.session.specs.declared.link.Link.{Link}
-use Rattle.session.specs.declared.pending.Ask.{Ask}
-use Rattle.session.specs.declared.pending.Pending.{Pending}
+use Rattle.queues.specs.declared.pending.Ask.{Ask}
+use Rattle.queues.specs.declared.pending.Pending.{Pending}
 use Rattle.session.specs.Kinds.{initializes, is_resume, is_success}
 use Rattle.session.specs.Acts.{fault_of_reading}
-use Rattle.session.specs.Arrivals.{number_of, name_asked, asks_of}
+use Rattle.queues.specs.Arrivals.{number_of, name_asked, asks_of}
 use Rattle.session.specs.Prefixes.{IsPrefixOf}
 use Rattle.session.specs.Sessions.{Session, Life, Said, life_of, bytes_of, waiting_of, histories, Effect, Answer}
 use Rattle.session.specs.Effects.{beats, enough, sliced}

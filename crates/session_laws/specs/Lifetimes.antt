@@ -11,12 +11,13 @@ use Rattle.replies.specs.declared.response.Outcome.{Outcome}
 use Rattle.replies.specs.declared.response.Outcome.TheVariants.{Done, Refused}
 use Rattle.replies.specs.declared.response.ResponseBody.{ResponseBody}
 use Rattle.session.specs.declared.link.Link.{Link}
-use Rattle.session.specs.declared.pending.Ask.TheVariants as ask
-use Rattle.session.specs.declared.pending.Fate.{Fate}
+use Rattle.queues.specs.declared.pending.Ask.TheVariants as ask
+use Rattle.queues.specs.declared.pending.Fate.{Fate}
 use Rattle.handlers.specs.Demands.{run_of}
 use Rattle.session.specs.References.{Reference, past_of}
 use Rattle.variables.specs.Numbers.{StandsFor}
-use Rattle.session.specs.Refusals.{answer_to, first_refusal, refusals}
+use Rattle.handlers.specs.Refusals.{first_refusal, refusals}
+use Rattle.session.specs.Outcomes.{answer_to}
 use Rattle.session.specs.Sessions.{Session}
 use Rattle.variables.specs.Laws.{down_from}
 use Rattle.variables.specs.declared.target.Target.{Target}

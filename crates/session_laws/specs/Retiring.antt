@@ -21,8 +21,8 @@ use Rattle.rv32i.specs.declared.instr.Instr.{Instr}
 use Rattle.session.specs.declared.event.Event.{Event}
 use Rattle.session.specs.declared.event.Event.TheVariants.{Connect, Recv, Turn, Slice, Hold, Sent, DropConnection}
 use Rattle.session.specs.declared.event.SliceEnd.{SliceEnd}
-use Rattle.session.specs.declared.pending.Ask.{Ask}
-use Rattle.session.specs.declared.pending.Ask.TheVariants.{Request, Bad}
+use Rattle.queues.specs.declared.pending.Ask.{Ask}
+use Rattle.queues.specs.declared.pending.Ask.TheVariants.{Request, Bad}
 use Rattle.session.specs.Effects.{Slicing, beats, enough}
 use Rattle.session.specs.Kinds.{is_success}
 use Rattle.session.specs.Sessions.{After, Beginning, Effect, Session, histories, start}

@@ -6,10 +6,10 @@ use Rattle.std.specs.Prelude.{nat_lt, if◌then◌else◌, List, [], ◌∷◌, 
 use Rattle.debuggee.specs.Programs.{Program}
 use Rattle.handlers.specs.Given.{Answering}
 use Rattle.session.specs.declared.link.Link.{Link}
-use Rattle.session.specs.declared.pending.Pending.{Pending}
+use Rattle.queues.specs.declared.pending.Pending.{Pending}
 use Rattle.session.specs.declared.state.TheConstants.{FULL}
 use Rattle.session.specs.Acts.{Seen}
-use Rattle.session.specs.Refusals.{answer_to}
+use Rattle.session.specs.Outcomes.{answer_to}
 use Rattle.stepping.specs.declared.tick.Tick.{Tick}
 
 -- a request that is answered, and its answer

@@ -4,7 +4,7 @@ use Rattle.std.specs.Io.KnownBytes.{Appends}
 use Rattle.std.proofs.KnownBytes.{Appends-nil, Appends-trans}
 use Rattle.protocol.specs.declared.request.Incoming.{Incoming}
 use Rattle.replies.specs.declared.message.Message.{Message as AMessage}
-use Rattle.session.specs.Writing.{frame_of}
+use Rattle.queues.specs.Writing.{frame_of}
 use Rattle.transport.specs.Outbox.{Queued}
 use Rattle.transport.specs.Servers.{Writes}
 use Rattle.transport.specs.declared.server.ServerError.{ServerError}

@@ -16,9 +16,8 @@ use Rattle.session.specs.declared.event.Sliced.{Sliced}
 use Rattle.session.specs.declared.event.Turned.{Turned}
 use Rattle.session.specs.Effects.{BreaksOff, sliced}
 use Rattle.session.specs.Kept.{Kept, OfEach, Stands, Happens, answered, see_kept}
-use Rattle.session.specs.Outcomes.{is_finished}
+use Rattle.session.specs.Outcomes.{is_finished, wanted_on}
 use Rattle.session.specs.Prefixes.{IsPrefixOf}
-use Rattle.session.specs.Refusals.{wanted_on}
 use Rattle.session.specs.Sessions.{Session, Effect, histories, waiting_of}
 use Rattle.session.specs.Slices.{is_runnable}
 use Rattle.wires.specs.Wires.{Line, Moved, one_more}

@@ -15,7 +15,7 @@ use Rattle.session.specs.declared.event.EventError.TheVariants.{NotConnected, Al
 use Rattle.session.specs.declared.event.Sliced.{Sliced}
 use Rattle.session.specs.Effects.{BreaksOff, EndsWell, ran_out, slice_answer, sliced}
 use Rattle.session.specs.Kept.{Kept, Stands, Happens, answered, see_kept}
-use Rattle.session.specs.Refusals.{wanted_on}
+use Rattle.session.specs.Outcomes.{wanted_on}
 use Rattle.session.specs.Sessions.{Session, Effect, Answer as answer_of, histories}
 use Rattle.session.proofs.Standing.{standing}
 use Rattle.transport.specs.Rounds.{Took, Due, due, due_in, Round, after_round, after_rounds, received_in, received, sent_in, sent, reads_in, reads, since_round, since_rounds, counted, moves_granted, wanted}

@@ -8,7 +8,7 @@ use Rattle.std.specs.Io.KnownBytes.{Appends}
 use Rattle.std.proofs.KnownBytes.{Appends-trans, Appends-kept}
 use Rattle.replies.specs.declared.message.Message.{Message}
 use Rattle.transport.specs.Outbox.{Queued, queued, Sends, SendsPrefix}
-use Rattle.session.specs.Writing.{frame_of}
+use Rattle.queues.specs.Writing.{frame_of}
 
 -- one write more
 pub sends_on : {E : Type 0} (held mid holds : Option (List ℕ)) (old now new : Queued) (r : Result ℕ E) → SendsPrefix held mid old now

@@ -6,7 +6,7 @@ use Rattle.session.specs.declared.event.Applied.TheVariants.{Turn as DidTurn}
 use Rattle.session.specs.declared.event.Turned.TheVariants.{Full}
 use Rattle.session.specs.declared.event.Event.TheVariants.{Recv, Turn, Sent}
 use Rattle.session.specs.declared.link.Link.{Link}
-use Rattle.session.specs.declared.pending.Pending.{Pending}
+use Rattle.queues.specs.declared.pending.Pending.{Pending}
 use Rattle.session.specs.Acts.{Seen}
 use Rattle.session.specs.Outcomes.{answers_next, done, is_finished, is_finished_on, next_turn, outcome, outcome_at, turn_by, turn_of}
 use Rattle.session.specs.Slices.{is_runnable}

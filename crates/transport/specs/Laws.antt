@@ -8,7 +8,7 @@ use Rattle.std.specs.Io.KnownBytes.{Appends}
 use Rattle.protocol.specs.declared.request.Incoming.{Incoming}
 use Rattle.replies.specs.declared.message.Message.{Message}
 use Rattle.session.specs.Prefixes.{IsPrefixOf}
-use Rattle.session.specs.Writing.{frame_of}
+use Rattle.queues.specs.Writing.{frame_of}
 use Rattle.transport.specs.Outbox.{Queued}
 use Rattle.transport.specs.Servers.{Writes, lasting}
 use Rattle.transport.specs.declared.server.ServerError.{ServerError}

@@ -26,7 +26,7 @@ pub use Rattle.session.specs.Sessions
 -- what the code keeps of it
 pub use Rattle.session.specs.Kept
 -- the frame of a message with its number
-pub use Rattle.session.specs.Writing
+pub use Rattle.queues.specs.Writing
 -- ---- of `wires`
 -- a wire, as it is seen
 pub use Rattle.wires.specs.Wires

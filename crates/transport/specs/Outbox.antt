@@ -6,7 +6,7 @@ use Rattle.std.specs.Prelude.{◌≡◌, ℕ, refl, ◌+◌, ◌≤◌, List, �
 use Rattle.std.specs.Io.KnownBytes.{Keeps, Appends}
 use Rattle.protocol.specs.declared.properties.TheConstants.{LAST_SEQ}
 use Rattle.replies.specs.declared.message.Message.{Message}
-use Rattle.session.specs.Writing.{frame_of}
+use Rattle.queues.specs.Writing.{frame_of}
 
 -- how many messages there were, and the bytes that still wait
 pub record Queued : Type 0 where

@@ -17,8 +17,7 @@ use Rattle.session.specs.declared.event.Event.TheVariants.{Connect, Recv, Turn, 
 use Rattle.session.specs.Acts.{Seen}
 use Rattle.session.specs.Effects.{BreaksOff, sliced}
 use Rattle.session.specs.Kept.{Kept, Stands}
-use Rattle.session.specs.Outcomes.{is_finished}
-use Rattle.session.specs.Refusals.{wanted_on}
+use Rattle.session.specs.Outcomes.{is_finished, wanted_on}
 use Rattle.session.specs.Sessions.{Session, Effect, Answer as answer_of, histories, waiting_of}
 use Rattle.session.specs.Slices.{is_runnable}
 use Rattle.transport.specs.Files.{FileRead, IsShort}

@@ -12,7 +12,7 @@ use Rattle.session.specs.declared.TheConstants.{BODY_LIMIT}
 use Rattle.transport.specs.Heard.{Heard, and_gave, Unread, HasRead, and_read, AllGiven, IsUnfinished, IsNoMessage}
 use Rattle.replies.specs.declared.message.Message.{Message as AMessage}
 use Rattle.transport.specs.Outbox.{Queued}
-use Rattle.session.specs.Writing.{frame_of}
+use Rattle.queues.specs.Writing.{frame_of}
 use Rattle.transport.specs.declared.server.TheConstants.{MOST_READS}
 use Rattle.transport.specs.declared.server.ServerError.{ServerError}
 use Rattle.transport.specs.declared.server.ServerError.TheVariants.{Frame, Message, Read, Write, TooManyReads}

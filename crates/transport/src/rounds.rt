@@ -3,7 +3,7 @@ ghost use Rattle.std.specs.Prelude.{◌≡◌, Err, OnErr, IfOk};
 ghost use Rattle.session.specs.declared.event.Event.TheVariants as event;
 ghost use Rattle.session.specs.declared.event.Applied.TheVariants as applied;
 ghost use Rattle.session.specs.Kept.{Happens, OfEach, Stands, answered};
-ghost use Rattle.session.specs.Refusals.{wanted_on};
+ghost use Rattle.session.specs.Outcomes.{wanted_on};
 ghost use Rattle.session.specs.Sessions.{Effect};
 ghost use Rattle.transport.specs.Files.{Records};
 ghost use Rattle.transport.specs.Rounds.{IsGiven, Took, reads_made};

@@ -2,7 +2,7 @@
 ghost use Rattle.std.specs.Prelude.{◌≡◌, ◌+◌, ◌<◌, ◌≤◌, ◌↔◌, [], None, Some, Err, Option, IfSome, OnOk, OnErr, IsErrOf};
 ghost use Rattle.std.specs.Io.KnownBytes.{Appends};
 ghost use Rattle.replies.specs.declared.message.Message.TheVariants as messages;
-ghost use Rattle.session.specs.Writing.{frame_of};
+ghost use Rattle.queues.specs.Writing.{frame_of};
 ghost use Rattle.transport.specs.Heard.{Heard, HasRead};
 ghost use Rattle.transport.specs.Laws.{Polled, Said};
 ghost use Rattle.transport.specs.Servers.{Polls, ReadSoOften, Writes, lasting};

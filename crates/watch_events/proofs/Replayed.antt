@@ -12,12 +12,13 @@ use Rattle.mirror.specs.Streams.Input.{Sent, Fed}
 use Rattle.protocol.specs.declared.request.Request.{Request as ARequest}
 use Rattle.session_laws.proofs.Cuts.{requests_are_read}
 use Rattle.session_laws.proofs.Reading.{asks_up_to}
-use Rattle.session.specs.Arrivals.{asks_of}
+use Rattle.queues.specs.Arrivals.{asks_of}
 use Rattle.session.specs.Begins.{AreRight, HasBegun}
 use Rattle.session.specs.Config.{HasImage}
 use Rattle.session.specs.Kept.{Kept as SessionKept, Stands}
-use Rattle.session.specs.Sessions.{After, Beginning, Life, Said, Session, Snapshot, bytes_of, life_of, no_life, start}
-use Rattle.session.specs.Snapshots.{Captured}
+use Rattle.session.specs.Sessions.{After, Beginning, Life, Said, Session, bytes_of, life_of, no_life, start}
+use Rattle.snapshots.specs.Shown.{Snapshot}
+use Rattle.snapshots.specs.Snapshots.{Captured}
 use Rattle.session.specs.declared.config.Config.{Config}
 use Rattle.session.specs.declared.event.Event.{Event}
 use Rattle.session.specs.declared.limits.Limits.{Limits}

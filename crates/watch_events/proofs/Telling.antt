@@ -14,7 +14,7 @@ use Rattle.protocol.specs.declared.request.Incoming.TheVariants.{Request as IsRe
 use Rattle.protocol.specs.declared.request.MessageError.{MessageError}
 use Rattle.protocol.specs.declared.request.MessageError.TheVariants as message
 use Rattle.protocol.specs.declared.request.Request.{Request as ARequest}
-use Rattle.session.specs.Arrivals.{asks_in, asks_of}
+use Rattle.queues.specs.Arrivals.{asks_in, asks_of}
 use Rattle.headline.specs.Editors.{requests_in}
 use Rattle.watch_events.specs.Replaying.{IsTold, TellsBody, TellsOne, requests_of}
 

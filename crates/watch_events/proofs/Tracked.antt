@@ -9,7 +9,7 @@ use Rattle.session.specs.Acts.{Now}
 use Rattle.session.specs.Effects.{EndsWell, Slicing, ended_as, enough, ran_out_at, slice_answer, sliced}
 use Rattle.session.specs.Kept.{Happens, Kept, Stands, answered}
 use Rattle.session.specs.Sessions.{Effect, Session, histories}
-use Rattle.session.specs.Snapshots.{Captured}
+use Rattle.snapshots.specs.Snapshots.{Captured}
 use Rattle.session.specs.declared.event.Applied.{Applied}
 use Rattle.session.specs.declared.event.Applied.TheVariants as applied
 use Rattle.session.specs.declared.event.SliceEnd.{SliceEnd}

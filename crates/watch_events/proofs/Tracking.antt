@@ -14,8 +14,9 @@ use Rattle.session_laws.proofs.Waiting.{all_counted}
 use Rattle.session_laws.proofs.Waiting.{every_byte_is_taken_or_waits}
 use Rattle.session.specs.Acts.{Now}
 use Rattle.session.specs.Kept.{Kept, Stands}
-use Rattle.session.specs.Sessions.{Life, Said, Session, Snapshot, bytes_of, frame_said, life_of, no_life, not_taken, snapshot_of, up_to_fault, waiting_of}
-use Rattle.session.specs.Snapshots.{Captured, IsTaken, as_running as captured_running}
+use Rattle.session.specs.Sessions.{Life, Said, Session, bytes_of, frame_said, life_of, no_life, not_taken, snapshot_of, up_to_fault, waiting_of}
+use Rattle.snapshots.specs.Shown.{Snapshot}
+use Rattle.snapshots.specs.Snapshots.{Captured, IsTaken, as_running as captured_running}
 use Rattle.session.specs.declared.link.Link.{Link}
 use Rattle.headline.proofs.Mirrored.{all_are_readable}
 use Rattle.headline.proofs.Readable.{IsReadable, framed_some, has_no_fault, messages_within, told_hold}

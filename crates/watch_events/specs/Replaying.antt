@@ -14,11 +14,11 @@ use Rattle.protocol.specs.declared.request.Incoming.{Incoming}
 use Rattle.protocol.specs.declared.request.Incoming.TheVariants.{Request as IsRequest, Bad as IsBad, Ignored}
 use Rattle.protocol.specs.declared.request.MessageError.{MessageError}
 use Rattle.protocol.specs.declared.request.Request.{Request as ARequest}
-use Rattle.session.specs.Arrivals.{asks_of}
+use Rattle.queues.specs.Arrivals.{asks_of}
 use Rattle.session.specs.Begins.{AreRight, Begins, beginning_of}
 use Rattle.session.specs.Config.{HasImage}
 use Rattle.session.specs.Sessions.{After, Beginning, Session, bytes_of, life_of}
-use Rattle.session.specs.Snapshots.{Captured, seen_of}
+use Rattle.snapshots.specs.Snapshots.{Captured, seen_of}
 use Rattle.session.specs.declared.config.Config.{Config}
 use Rattle.session.specs.declared.config.ConfigError.{ConfigError}
 use Rattle.session.specs.declared.config.ConfigError.TheVariants as config

@@ -7,7 +7,7 @@ use Rattle.session.specs.Acts.{Now}
 use Rattle.session.specs.Kept.{Kept, Stands}
 use Rattle.session.specs.Effects.{ended_as, sliced}
 use Rattle.session.specs.Sessions.{After, Beginning, Effect, Session, bytes_of, histories, life_of, snapshot_of, up_to_fault}
-use Rattle.session.specs.Snapshots.{Captured, IsTaken, as_running, path_of, seen_of}
+use Rattle.snapshots.specs.Snapshots.{Captured, IsTaken, as_running, path_of, seen_of}
 use Rattle.session.specs.declared.event.SliceEnd.{SliceEnd}
 use Rattle.session.specs.declared.event.Event.{Event}
 use Rattle.session.specs.declared.event.Event.TheVariants.{Slice}

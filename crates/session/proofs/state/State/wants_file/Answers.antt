@@ -1,6 +1,6 @@
 use Rattle.std.proofs.Common.{sym, ap, ◌∙◌}
 use Rattle.std.specs.Option.{option_copied}
-use Rattle.session.specs.Arrivals.{first_pending}
+use Rattle.queues.specs.Arrivals.{first_pending}
 use Rattle.handlers.specs.Demands.{run_of}
 use Rattle.session.specs.Kept.{Kept}
 use Rattle.session.proofs.Wanting.{wants_first}
