@@ -1,6 +1,8 @@
 -- Messages that are written first, and numbered at once, are those that are queued one after the other.
 use Rattle.std.proofs.Common.{◌≡◌, ℕ, ◌+◌, ◌<◌, ◌≤◌, Bool, true, false, cond, eqb, ltb, List, [], ◌∷◌, ◌++◌, map, Option, Some, None, refl, sym, ap, ◌∙◌, subst, arith, append-nil, append_assoc, lt-ltb}
 use Rattle.std.proofs.lemmas.Bool.Decides.{nat_tests}
+use Rattle.std.specs.Prelude.{IfOk, Result}
+use Rattle.std.specs.declared.alloc.AllocError.{AllocError}
 use Rattle.debuggee.specs.Programs.{Debuggee}
 use Rattle.replies.specs.declared.event.Event.{Event}
 use Rattle.replies.specs.declared.message.Message.{Message}
@@ -296,12 +298,11 @@ answer_needs now terms file [] p e = absurd (cc)
 answer_needs now terms file (q ∷ rest) p e = refl
 
 -- an answer that was written is the one to the request, where what it was lent is the session's
-pub prepared_so : (now : Now) (lent : Lent) (terms : Terms) (file : Option (List ℕ)) (p : Pending) (a : AnAnswer) (draft : Drafted)
-    → lent ≡ record { given = given_of now; terms = terms; file = file }
-    → answering_as lent.given.debuggee a ≡ answer_of lent p → draft ≡ draft_of now.limits now.link p (answering_as now.debuggee a)
-    → IsPrepared now p (answer_to now terms file p) (record { change = a.change; terms = a.terms; closes = a.closes; draft = draft })
-prepared_so now lent terms file p a draft is answers drafts =
+pub prepared_so : (now : Now) (lent : Lent) (terms : Terms) (file : Option (List ℕ)) (p : Pending) (a : AnAnswer)
+    (result : Result Prepared AllocError) → lent ≡ record { given = given_of now; terms = terms; file = file }
+    → answering_as lent.given.debuggee a ≡ answer_of lent p → IfOk result (λ r. IsPrepared now p (answering_as now.debuggee a) r)
+    → IfOk result (λ r. IsPrepared now p (answer_to now terms file p) r)
+prepared_so now lent terms file p a result is answers prepared =
     let e : answering_as now.debuggee a ≡ answer_to now terms file p = subst
     (λ (l : Lent). answering_as l.given.debuggee a ≡ answer_of l p) is answers in
-    subst (λ (x : Answering). IsPrepared now p x (record { change = a.change; terms = a.terms; closes = a.closes; draft = draft })) e
-    (record { debuggee = refl; references = refl; terms = refl; closes = refl; draft = drafts })
+    subst (λ (x : Answering). IfOk result (λ r. IsPrepared now p x r)) e prepared

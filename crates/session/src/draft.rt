@@ -1,7 +1,8 @@
 //! Messages that are written before any of them is queued.
-ghost use Rattle.std.specs.Prelude.{◌≡◌, ◌++◌, OnOk};
+ghost use Rattle.std.specs.Prelude.{◌≡◌, ◌++◌, IfOk, OnOk};
 ghost use Rattle.replies.specs.declared.message.Message.TheVariants as a_message;
-ghost use Rattle.session.specs.Kept.{draft_on, drafted};
+ghost use Rattle.handlers.specs.Changes.{events_of};
+ghost use Rattle.session.specs.Kept.{draft_on, drafted, drafted_all};
 
 use crate::limits::Limits;
 use crate::link::Link;
@@ -43,7 +44,14 @@ impl Draft {
     }
 
     /// One message more, if a number is left for it.
-    pub(crate) fn add(&mut self, limits: Limits, message: &Message) -> Result<(), AllocError>
+    pub(crate) fn add(&mut self, limits: Limits, message: Message) -> Result<(), AllocError>
+        ensures { OnOk result (self.new ≡ drafted limits message self.old) }
+    {
+        self.write(limits, &message)
+    }
+
+    // One message more, which is lent, if a number is left for it.
+    fn write(&mut self, limits: Limits, message: &Message) -> Result<(), AllocError>
         ensures { OnOk result (self.new ≡ drafted limits message.now self.old) }
     {
         if self.seq < limits.last_seq {
@@ -58,7 +66,21 @@ impl Draft {
     pub(crate) fn add_event(&mut self, limits: Limits, event: Event) -> Result<(), AllocError>
         ensures { OnOk result (self.new ≡ drafted limits (a_message.Event event) self.old) }
     {
-        self.add(limits, &Message::Event(event))
+        self.add(limits, Message::Event(event))
+    }
+
+    /// This with one event more, if there is one and a number is left for it.
+    pub(crate) fn with_event(
+        mut self,
+        limits: Limits,
+        event: Option<Event>,
+    ) -> Result<Draft, AllocError>
+        ensures { IfOk result (λ d. d ≡ drafted_all limits (events_of event) self) }
+    {
+        if let Some(event) = event {
+            self.add_event(limits, event)?;
+        }
+        Ok(self)
     }
 
     /// Their frames.

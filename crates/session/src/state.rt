@@ -5,7 +5,7 @@ ghost use Rattle.session.specs.declared.event.Event.TheVariants as event;
 ghost use Rattle.queues.specs.declared.pending.Pending.{Pending as APending};
 ghost use Rattle.std.specs.Prelude.{if◌then◌else◌};
 ghost use Rattle.session.specs.declared.event.Applied.TheVariants as applied;
-ghost use Rattle.handlers.specs.Changes.{changed, events_of, call_of};
+ghost use Rattle.handlers.specs.Changes.{answering_as, changed, events_of, call_of};
 ghost use Rattle.session.specs.Kept.{Drafted, Goes, HasNumbers, answered, draft_on, drafted, drafted_all, kept_agreed, kept_changed, kept_closing, now_changed, nothing_kept, keepings, see_kept, settled};
 ghost use Rattle.handlers.specs.Breaks.{Numbered as ANumbered};
 ghost use Rattle.handlers.specs.Sizes.{IsSize};
@@ -276,6 +276,14 @@ impl State {
             r) }
     {
         let answer = answer_to(self.alloc, &self.lent(link.terms, file), first)?;
+        self.write(first, answer)
+    }
+
+    // The answer to a request, written.
+    fn write(&self, pending: &Pending, answer: Answer) -> Result<Prepared, AllocError>
+        ensures { IfOk result (λ r. IsPrepared self.now.now pending.now
+            (answering_as self.now.now.debuggee answer) r) }
+    {
         let Answer {
             change,
             terms,
@@ -283,13 +291,18 @@ impl State {
             event,
             closes,
         } = answer;
-        let draft = self.draft_answer(first, outcome, event)?;
-        Ok(Prepared {
-            change,
-            terms,
-            closes,
-            draft,
-        })
+        match self.draft_answer(pending, outcome, event) {
+            Ok(draft) => Ok(Prepared {
+                change,
+                terms,
+                closes,
+                draft,
+            }),
+            Err(refused) => {
+                discard(change);
+                Err(refused)
+            }
+        }
     }
 
     // What an answer is lent.
@@ -322,12 +335,19 @@ impl State {
             (drafted self.now.now.limits (Message.Response (response_to pending.now.ask outcome))
             (draft_on self.now.now.limits self.now.now.link))) }
     {
-        let mut draft = Draft::new(self.alloc, self.limits, self.link);
+        let draft = self.draft_response(pending, outcome)?;
+        draft.with_event(self.limits, event)
+    }
+
+    // The response to a request, written.
+    fn draft_response(&self, pending: &Pending, outcome: Outcome) -> Result<Draft, AllocError>
+        ensures { IfOk result (λ d. d ≡ drafted self.now.now.limits
+            (Message.Response (response_to pending.now.ask outcome))
+            (draft_on self.now.now.limits self.now.now.link)) }
+    {
         let response = response_to(self.alloc, &pending.ask, outcome)?;
-        draft.add(self.limits, &Message::Response(response))?;
-        if let Some(event) = event {
-            draft.add_event(self.limits, event)?;
-        }
+        let mut draft = Draft::new(self.alloc, self.limits, self.link);
+        draft.add(self.limits, Message::Response(response))?;
         Ok(draft)
     }
 
@@ -339,7 +359,10 @@ impl State {
             (record self.old { waiting = self.old.waiting ++ draft.now.bytes })) }
         ensures err { OnErr result (self.new ≡ self.old) }
     {
-        self.buffer.push(draft.bytes())?;
+        if let Err(refused) = self.buffer.push(draft.bytes()) {
+            discard(change);
+            return Err(refused);
+        }
         match self.change(change) {
             Ok(()) => {
                 self.agree(terms);
@@ -360,25 +383,37 @@ impl State {
         ensures err { OnErr result (self.new ≡ self.old) }
     {
         match change {
-            Change::Nothing => {}
-            Change::Load(program) => self.program = Some(program),
-            Change::SetSource(breaks) => return self.set_source(breaks),
-            Change::SetInstructions(breaks) => return self.set_instructions(breaks),
-            Change::SetFunctions(breaks) => return self.set_functions(breaks),
-            Change::Issue(targets) => return self.issue(&targets),
-            Change::OfProgram(change) => return self.change_program(change),
+            Change::Nothing => Ok(()),
+            Change::Load(program) => {
+                self.load(program);
+                Ok(())
+            }
+            Change::SetSource(breaks) => self.set_source(breaks),
+            Change::SetInstructions(breaks) => self.set_instructions(breaks),
+            Change::SetFunctions(breaks) => self.set_functions(breaks),
+            Change::Issue(targets) => self.issue(targets),
+            Change::OfProgram(change) => self.change_program(change),
         }
-        Ok(())
+    }
+
+    // The program that is debugged is now this, and the one before it goes.
+    fn load(&mut self, program: Program)
+        ensures { self.new ≡ record self.old
+            { now = now_changed (a_change.Load program) self.old.now } }
+    {
+        if let Some(before) = self.program.replace(program) {
+            discard(Change::Load(before));
+        }
     }
 
     // References are issued for these targets.
-    fn issue(&mut self, targets: &[Target]) -> Result<(), AllocError>
-        requires { has_room self.old.now.numbers targets.now ≡ true }
+    fn issue(&mut self, targets: Vec<Target>) -> Result<(), AllocError>
+        requires { has_room self.old.now.numbers targets.items ≡ true }
         ensures ok { OnOk result
-            (self.new ≡ record self.old { now = refers self.old.now (Some (Issue targets.now)) }) }
+            (self.new ≡ record self.old { now = refers self.old.now (Some (Issue targets.items)) }) }
         ensures err { OnErr result (self.new ≡ self.old) }
     {
-        match self.handles.issue(targets) {
+        match self.handles.issue(targets.as_slice()) {
             Ok(_) => Ok(()),
             Err(IssueError::NoMemory) => Err(AllocError),
             Err(IssueError::Exhausted) => unreachable!(),
@@ -662,3 +697,6 @@ fn first_fault(message: Option<MessageError>, frame: Option<FrameError>) -> Opti
         },
     }
 }
+
+// A change is not made, or what it replaced goes. To prove that a program can be dropped is dear, so it is done here alone.
+fn discard(_change: Change) {}

@@ -5,4 +5,4 @@ use Rattle.session.proofs.state.State.prepare.Goals as goal
 pub returns : goal.returns
 returns c =
     prepared_so c.args.self.now.now c.lent.result c.args.link.terms
-    (option_copied c.args.file) c.args.first.now c.in_ok-answer.answer c.in_ok-draft.draft c.lent.ensures c.in_ok-answer.ensures c.in_ok-draft.ensures
+    (option_copied c.args.file) c.args.first.now c.in_ok-answer.answer c.write.result c.lent.ensures c.in_ok-answer.ensures c.write.ensures
