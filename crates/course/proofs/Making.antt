@@ -1,9 +1,10 @@
 -- What is kept of a move that was made undoes it.
-use Rattle.std.proofs.Common.{◌≡◌, ℕ, ◌+◌, ◌*◌, ◌/◌, true, false, List, length, take, Option, Some, None, Ok, refl, sym, ap, ◌∙◌, subst}
+use Rattle.std.proofs.Common.{◌≡◌, ℕ, ◌+◌, ◌*◌, ◌/◌, ◌%◌, ◌≤◌, true, false, List, [], ◌∷◌, length, take, Option, Some, None, Result, Ok, Err, refl, sym, ap, ◌∙◌, subst, arith}
+use Rattle.std.specs.Prelude.{OnErr}
 use Rattle.std.specs.Int.{to_le_bytes, w32}
-use Rattle.image.specs.Memory.{bytes_at, fault_at, memory_after, with_bytes}
+use Rattle.image.specs.Memory.{bytes_at, fault_at, halfword_bytes, memory_after, with_bytes, word_bytes}
 use Rattle.image.specs.declared.fault.MemFault.{MemFault}
-use Rattle.rv32i.specs.Machine.{Effect, Machine, machine_of, value}
+use Rattle.rv32i.specs.Machine.{Effect, Machine, machine_of, sum, value}
 use Rattle.rv32i.specs.declared.instr.Instr.{Instr}
 use Rattle.rv32i.specs.declared.instr.Instr.TheVariants.{Sb, Sh, Sw}
 use Rattle.rv32i.specs.Steps.{Performs}
@@ -13,7 +14,7 @@ use Rattle.rv32i.specs.declared.undo.Undo.{Undo}
 use Rattle.rv32i.specs.declared.stepped.Stepped.TheVariants.{Retired}
 use Rattle.rv32i.proofs.Undoing.{BackFrom, undoes}
 use Rattle.course.specs.Calls.{Kept, noted}
-use Rattle.course.specs.Moves.{CanBeKept, IsKeptBy, IsMade, IsOver, called_in, kept, machine_in, placed, undo_in, undo_of, unmade, unnoted, with_called}
+use Rattle.course.specs.Moves.{CanBeKept, IsKeptBy, IsMade, IsOfStore, IsOver, called_in, kept, machine_in, placed, undo_in, undo_of, unmade, unnoted, with_called}
 use Rattle.course.specs.declared.calls.Called.{Called}
 use Rattle.course.specs.declared.calls.Called.TheVariants.{Nothing, Pushed, PushedOut, Popped, PoppedFrom, Swapped, SwappedFrom}
 use Rattle.course.specs.Positions.{Position, machine_at, position_at}
@@ -23,7 +24,7 @@ use Rattle.course.specs.declared.moves.Deed.{Deed}
 use Rattle.course.specs.declared.moves.Kind.{Kind}
 use Rattle.course.specs.declared.moves.Kind.TheVariants as kind
 use Rattle.course.specs.declared.moves.Move.{Move}
-use Rattle.course.proofs.Moving.{harts_equal, retires}
+use Rattle.course.proofs.Moving.{decoded_at, harts_equal, retires}
 use Rattle.course.proofs.Remembering.{known_from, known_write}
 
 -- what stores nothing has no place
@@ -64,6 +65,7 @@ plain_kept i m was k none over e =
       same = λ after. refl;
       called = refl;
       alone = λ _. refl;
+      place = λ some. (let none : 1 ≤ 0 = some in absurd (omega (arith, none)));
     } in
     subst (λ (k : Kind). IsKeptBy (kept m.pc was (deed k)) i m) e by
 
@@ -92,6 +94,12 @@ store_kept (Sb rs1 rs2 imm) m was over e = record {
   same = λ after. refl;
   called = refl;
   alone = λ none. absurd (let never : true ≡ false = none in cc);
+  place = λ some. record {
+    store = record { address = sum (value rs1 m) imm; bytes = value rs2 m % 256 ∷ [] };
+    stores = refl;
+    address = refl;
+    count = refl;
+  };
 }
 store_kept (Sh rs1 rs2 imm) m was over e = record {
   undo = store_of (Sh rs1 rs2 imm) m was;
@@ -99,6 +107,12 @@ store_kept (Sh rs1 rs2 imm) m was over e = record {
   same = λ after. refl;
   called = refl;
   alone = λ none. absurd (let never : true ≡ false = none in cc);
+  place = λ some. record {
+    store = record { address = sum (value rs1 m) imm; bytes = halfword_bytes (value rs2 m) };
+    stores = refl;
+    address = refl;
+    count = refl;
+  };
 }
 store_kept (Sw rs1 rs2 imm) m was over e = record {
   undo = store_of (Sw rs1 rs2 imm) m was;
@@ -106,6 +120,12 @@ store_kept (Sw rs1 rs2 imm) m was over e = record {
   same = λ after. refl;
   called = refl;
   alone = λ none. absurd (let never : true ≡ false = none in cc);
+  place = λ some. record {
+    store = record { address = sum (value rs1 m) imm; bytes = word_bytes (value rs2 m) };
+    stores = refl;
+    address = refl;
+    count = refl;
+  };
 }
 store_kept i m was over e = absurd (let never : false ≡ true = e in cc)
 
@@ -151,6 +171,20 @@ called_as (PoppedFrom a) move none = refl
 called_as Swapped move none = refl
 called_as (SwappedFrom a) move none = refl
 
+-- nor does it put bytes back
+called_place : (called : Called) (move : Move) (q : Position) → IsOfStore move q → IsOfStore (with_called called move) q
+called_place Nothing move q h = h
+called_place Pushed move q h = λ some. (let none : 1 ≤ 0 = some in absurd (omega (arith, none)))
+called_place (PushedOut a) move q h = λ some. (let none : 1 ≤ 0 = some in absurd (omega (arith, none)))
+called_place Popped move q h = λ some. (let none : 1 ≤ 0 = some in absurd (omega (arith, none)))
+called_place (PoppedFrom a) move q h = λ some. (let none : 1 ≤ 0 = some in absurd (omega (arith, none)))
+called_place Swapped move q h = λ some. (let none : 1 ≤ 0 = some in absurd (omega (arith, none)))
+called_place (SwappedFrom a) move q h = λ some. (let none : 1 ≤ 0 = some in absurd (omega (arith, none)))
+
+of_store : (p : Position) (at : ℕ) (e : Entry) (move : Move) → Knows p.memory e → e.pc ≡ at → IsKeptBy move e.instr (machine_at at p)
+    → IsOfStore move (position_at at p)
+of_store p at e move knows named kept some = (e.instr, (decoded_at p at e knows named, kept.place some))
+
 pub makes : (p now q : Position) (at next : ℕ) (e : Entry) (move : Move) → p ≡ now → CanBeKept p.calls → Knows p.memory e → e.pc ≡ at
     → IsKeptBy move e.instr (machine_at at p) → Performs e.instr (machine_at at p) (Ok next) q.hart.x q.memory
     → q.calls ≡ noted p.calls e.instr at → q.hart.pc ≡ p.hart.pc → q.calls ≡ p.calls → IsMade at next now move q
@@ -159,6 +193,7 @@ makes p now q at next e move is fits knows named kept performs calls pc same = r
   undoes =
       unmade_is move p q at (machine_back p q at next e move kept performs)
       (ap (λ (called : Called). unnoted called q.calls) kept.called ∙ same) ∙ ap (position_at at) is;
+  stored = subst (λ (x : Position). IsOfStore move (position_at at x)) is (of_store p at e move knows named kept);
   kept = subst (λ (x : Position). CanBeKept x.calls) is fits;
 }
 
@@ -174,10 +209,18 @@ jumps p now q at next e move called none is fits knows named kept performs calls
       unmade_is (with_called called move) p q at
       (called_undo called move (machine_in q) kept.called (kept.alone none) ∙ machine_back p q at next e move kept performs)
       (ap (λ (c : Called). unnoted c q.calls) (called_as called move kept.called) ∙ back) ∙ ap (position_at at) is;
+  stored =
+      subst (λ (x : Position). IsOfStore (with_called called move) (position_at at x)) is
+      (called_place called move (position_at at p) (of_store p at e move knows named kept));
   kept = subst (λ (x : Position). CanBeKept x.calls) is fits;
 }
 
 -- ---- a move is undone
+
+-- of an error it is said
+pub on_err : {A E P : Type 0} (r : Result A E) → P → OnErr r P
+on_err (Ok value) p = tt
+on_err (Err error) p = p
 
 -- what is left then is the position before it
 pub unmade_by : (move : Move) (p : Position) (hart : Hart) (memory : List ℕ) (calls : Kept)

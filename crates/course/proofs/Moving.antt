@@ -1,7 +1,7 @@
 -- An instruction that was decoded is carried out: that is the move.
 use Rattle.std.proofs.Common.{◌≡◌, ℕ, ◌+◌, ◌*◌, ◌/◌, ◌%◌, ◌≤◌, Bool, true, false, cond, eqb, not, ◌&&◌, List, [], ◌∷◌, length, get_or, Option, Some, None, Ok, Err, refl, sym, ap, ◌∙◌, arith, subst}
 use Rattle.std.proofs.Math.Nat.{ℕ_set}
-use Rattle.std.specs.Prelude.{alloc_error, slice_index}
+use Rattle.std.specs.Prelude.{slice_index}
 use Rattle.image.specs.Memory.{fault_at, halfword_bytes, with_bytes, word_at, word_bytes}
 use Rattle.image.specs.declared.fault.MemFault.{MemFault}
 use Rattle.image.specs.declared.fault.MemFault.TheVariants.{Misaligned, Outside, NoMemory as NoRoom}
@@ -15,7 +15,7 @@ use Rattle.rv32i.specs.declared.performing.Halt.TheVariants.{Stopped, NoMemory, 
 use Rattle.rv32i.specs.declared.stepped.Cause.{Cause}
 use Rattle.rv32i.specs.declared.stepped.Cause.TheVariants.{JumpMisaligned, UnknownCall}
 use Rattle.rv32i.specs.declared.stepped.Stepped.TheVariants.{Retired, Printed, Exit, Trap}
-use Rattle.rv32i.proofs.Keeps.{step_answers, step_keeps}
+use Rattle.rv32i.proofs.Keeps.{step_keeps}
 use Rattle.rv32i.proofs.Moves.{moves}
 use Rattle.course.specs.Calls.{Kept, noted, with_marks}
 use Rattle.course.specs.Marks.{is_link, jalr_marks}
@@ -28,7 +28,7 @@ use Rattle.course.proofs.Remembering.{known_forgotten, known_from, known_written
 
 -- ---- what is remembered is the decoding
 
-decoded_at : (p : Position) (at : ℕ) (e : Entry) → Knows p.memory e → e.pc ≡ at → IsDecodedAtPc (machine_at at p) (Some e.instr)
+pub decoded_at : (p : Position) (at : ℕ) (e : Entry) → Knows p.memory e → e.pc ≡ at → IsDecodedAtPc (machine_at at p) (Some e.instr)
 decoded_at p at e n named = (n.word, (ap (word_at p.memory) (sym named) ∙ n.there, n.encodes))
 
 pub decoded_is_fetched : (m : Machine) (instr : Option Instr) → IsDecodedAtPc m instr → IsFetched m instr
@@ -72,9 +72,7 @@ lacks m i x memory d (Some store) e h = record {
   registers = h.1.0;
   bytes = h.1.1;
 }
-lacks m i x memory d None e h =
-    absurd (let never : false ≡ true = step_answers m
-    (record { answer = Err alloc_error; machine = record { pc = m.pc; x = x; memory = memory } }) i (sym h) in cc)
+lacks m i x memory d None e h = absurd h
 
 stays : (m : Machine) (i : Instr) (halt : Halt) (x memory : List ℕ) → IsDecodedAtPc m (Some i) → Performs i m (Err halt) x memory
     → Stays halt i m x memory

@@ -4,9 +4,9 @@
 -- so it is undone by that, and by the call that was kept no longer, since it returned, or since 256 newer ones are kept.
 use Rattle.std.specs.Prelude.{◌≡◌, ℕ, ◌+◌, ◌-◌, ◌^◌, ◌<◌, ◌≤◌, false, List, [], ◌∷◌, ◌++◌, reverse, take, drop, length, slice_index, true, Option, Some, None, Result, Ok, Err, ⊤}
 use Rattle.circular_buffer.specs.Buffer.{Buffer, keep_last}
-use Rattle.rv32i.specs.Machine.{Machine, machine_of}
+use Rattle.rv32i.specs.Machine.{IsDecodedAtPc, Machine, Store, machine_of, store_of}
 use Rattle.std.specs.Int.{to_le_bytes, w32}
-use Rattle.image.specs.Memory.{bytes_at, fault_at}
+use Rattle.image.specs.Memory.{NeedsPage, bytes_at, fault_at}
 use Rattle.rv32i.specs.Undoing.{IsKept, destination, stored, undone}
 use Rattle.rv32i.specs.declared.instr.Instr.{Instr}
 use Rattle.rv32i.specs.declared.undo.Undo.{Undo}
@@ -102,6 +102,10 @@ undo_by other move = undo_of move 0 0
 abbrev pub undo_in : Move → Undo
 undo_in move = undo_by move.deed.kind move
 
+-- one of the bytes that it puts back lies in a page of which each byte is 0
+abbrev pub PutsInBlank : Undo → List ℕ → Type 0
+PutsInBlank u memory = NeedsPage 1 memory u.address (length (take u.count u.bytes))
+
 -- and what it did to the calls
 abbrev pub called_by : Kind → ℕ → Called
 called_by kind.Pushed at = Pushed
@@ -125,6 +129,13 @@ pub record IsOver (was : ℕ) (i : Instr) (x memory : List ℕ) : Type 0 where
   pub value : stores_in i ≡ false → was ≡ slice_index x (destination i)
   pub bytes : stores_in i ≡ true → AreOver (to_le_bytes w32 was) (stored i x).address (stored i x).count memory
 
+-- It puts back as many bytes as this instruction stores, and where it does.
+pub record StoredBy (i : Instr) (m : Machine) (u : Undo) : Type 0 where
+  pub store : Store
+  pub stores : store_of i m ≡ Some store
+  pub address : u.address ≡ store.address
+  pub count : u.count ≡ length store.bytes
+
 -- It undoes the move of this instruction, and did nothing to the calls.
 pub record IsKeptBy (move : Move) (i : Instr) (m : Machine) : Type 0 where
   pub undo : Undo
@@ -132,6 +143,7 @@ pub record IsKeptBy (move : Move) (i : Instr) (m : Machine) : Type 0 where
   pub same : (after : Machine) → undone (undo_in move) after ≡ undone undo after
   pub called : called_in move ≡ Nothing
   pub alone : stores_in i ≡ false → undo_in move ≡ undo_of move 0 0
+  pub place : 1 ≤ (undo_in move).count → StoredBy i m (undo_in move)
 
 -- ---- of a position
 
@@ -149,10 +161,16 @@ unmade move p = let m = undone (undo_in move) (machine_in p) in record {
 abbrev pub CanBeUnmade : Move → Position → Type 0
 CanBeUnmade move p = CanBeKept (unmade move p).calls
 
+-- What puts bytes back is of a store, which the instruction at pc was.
+abbrev pub IsOfStore : Move → Position → Type 0
+IsOfStore move before = 1 ≤ (undo_in move).count
+    → (i : Instr) × (IsDecodedAtPc (machine_in before) (Some i) × StoredBy i (machine_in before) (undo_in move))
+
 -- An instruction at an address retires, the next one is at this one, and what is kept of its move undoes it.
 pub record IsMade (at next : ℕ) (before : Position) (made : Move) (after : Position) : Type 0 where
   pub retires : Retires at next before after
   pub undoes : unmade made after ≡ position_at at before
+  pub stored : IsOfStore made (position_at at before)
   pub kept : CanBeKept before.calls
 
 -- ---- what is recorded, the newest first, 65,536 at most
@@ -212,9 +230,11 @@ abbrev pub past_of : List Move → Position → List Position
 past_of [] p = []
 past_of (move ∷ moves) p = unmade move p ∷ past_of moves (unmade move p)
 
-abbrev pub AllCanBeKept : List Position → Type 0
-AllCanBeKept [] = ⊤
-AllCanBeKept (p ∷ past) = CanBeKept p.calls × AllCanBeKept past
+-- each of them has calls that can be kept, and what is kept of its move is of a store where it puts bytes back
+abbrev pub AllAreKept : List Move → Position → Type 0
+AllAreKept [] p = ⊤
+AllAreKept (move ∷ moves) p =
+    CanBeUnmade move p × (IsOfStore move (unmade move p) × AllAreKept moves (unmade move p))
 
 -- a position with its past, by what is kept
 abbrev pub course_of : Position → List Move → Course

@@ -2,18 +2,19 @@
 --
 -- The instruction at an address *retires*, and then the next one is at another address, the registers and memory are as
 -- the move says, and the calls have its marks; or it *halts*, and nothing has changed: it traps, it asks for the
--- environment, or it is the first to store into a page for which no memory was left.
+-- environment, or it stores into a page of which each byte is 0 and for which no memory was left.
 --
 -- Where a program runs, the hart's own pc is not looked at: the address is told, and the next one is answered.
 --
 -- A *course* is such a position with its past: those at which the last instructions were that retired, the newest
 -- first. 65,536 are kept at most, so that a debugger can go back.
-use Rattle.std.specs.Prelude.{◌≡◌, ℕ, ◌%◌, if◌then◌else◌, List, [], ◌∷◌, take, Option, Some, None, Result, Ok, Err}
-use Rattle.std.specs.Prelude.{MatchResult}
+use Rattle.std.specs.Prelude.{◌≡◌, ℕ, ◌+◌, ◌%◌, ◌<◌, ◌≤◌, if◌then◌else◌, List, [], ◌∷◌, length, take, Option, Some}
+use Rattle.std.specs.Prelude.{None, Result, Ok, Err, MatchResult}
 use Rattle.std.specs.declared.alloc.AllocError.{AllocError}
-use Rattle.image.specs.Memory.{word_at}
+use Rattle.image.specs.Memory.{IsBlank, word_at}
 use Rattle.rv32i.specs.Encoding.{IsDecoding}
-use Rattle.rv32i.specs.Machine.{IsDecodedAtPc, IsMove, Machine, MoveNeedsPage, effect_of, trapped}
+use Rattle.rv32i.specs.Machine.{IsDecodedAtPc, IsMove, Machine, MoveNeedsPage, Store, effect_of, machine_of, store_of}
+use Rattle.rv32i.specs.Machine.{trapped}
 use Rattle.rv32i.specs.declared.hart.Hart.{Hart}
 use Rattle.rv32i.specs.declared.instr.Instr.{Instr}
 use Rattle.rv32i.specs.declared.instr.Instr.TheVariants.{Ecall, Ebreak}
@@ -69,8 +70,8 @@ pub record Retires (at next : ℕ) (before after : Position) : Type 0 where
   pub calls : after.calls ≡ noted before.calls instr at
   pub pc : after.hart.pc ≡ before.hart.pc
 
--- what it says that an instruction, or none, halts: it traps; it is the first to store into a page, for which no memory
--- was left; it is an environment call, or EBREAK, and was not carried out
+-- what it says that an instruction, or none, halts: it traps; it stores into a page of which each byte is 0, for which no
+-- memory was left; it is an environment call, or EBREAK, and was not carried out
 abbrev pub Says : Halt → Option Instr → Machine → Type 0
 Says (Stopped cause) instr m = IsMove m (trapped cause m)
 Says NoMemory instr m = MoveNeedsPage m
@@ -116,3 +117,23 @@ undone_to (before ∷ past) c = record { now = before; past = past }
 
 abbrev pub gone_back : Course → Course
 gone_back c = undone_to c.past c
+
+-- ---- memory for a move back
+
+-- The instruction at pc stored, and one of the bytes over which it stored lies in a page of which each byte is 0 in this
+-- memory.
+pub record StoredInBlank (before : Machine) (memory : List ℕ) : Type 0 where
+  pub instr : Instr
+  pub decoded : IsDecodedAtPc before (Some instr)
+  pub store : Store
+  pub stores : store_of instr before ≡ Some store
+  pub at : ℕ
+  pub from : store.address ≤ at
+  pub below : at < store.address + length store.bytes
+  pub blank : IsBlank memory at
+
+-- Memory may be lacking for a move that is undone only where one is recorded, and it was such a store: its bytes are put
+-- back.
+abbrev pub UndoNeedsPage : List Position → List ℕ → Type 0
+UndoNeedsPage [] memory = ⊥
+UndoNeedsPage (before ∷ past) memory = StoredInBlank (machine_of before.hart before.memory) memory

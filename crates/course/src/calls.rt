@@ -116,8 +116,9 @@ impl Calls {
     }
 
     /// Notes an instruction that retired, and its address: a call is kept, and a return takes away the
-    /// newest one. A return at depth 0 does nothing. Of more than 256 calls the oldest are forgotten, for
-    /// good. It takes no memory. The depth is below 2^64 - 1 before it.
+    /// newest one. A return at depth 0 does nothing. Of more than 256 calls the oldest are kept no longer;
+    /// who undoes such a call (`Course::go_back`) has the oldest back. It takes no memory. The depth is
+    /// below 2^64 - 1 before it.
     #[inline]
     pub fn note(&mut self, instr: &Instr, pc: u32)
         requires { self.old.depth < 2 ^ 64 - 1 }

@@ -4,7 +4,7 @@ ghost use Rattle.std.specs.Prelude.{◌≡◌, ◌-◌, ◌^◌, ◌<◌, ◌≤
 ghost use Rattle.image.specs.Memory.{WritesOrLacks};
 ghost use Rattle.rv32i.specs.Steps.{settles};
 ghost use Rattle.rv32i.specs.Undoing.{retires};
-ghost use Rattle.course.specs.Positions.{GoesOn, gone_back, past_after, past_left, position_at, start_of};
+ghost use Rattle.course.specs.Positions.{GoesOn, Halts, UndoNeedsPage, gone_back, past_after, past_left, position_at, start_of};
 
 use crate::calls::Calls;
 use crate::machine::Machine;
@@ -24,14 +24,14 @@ pub struct Course {
 }
 
 impl Model for Course {
-    ghost use Rattle.course.specs.Moves.{AllCanBeKept, course_of, moves_of, past_of};
+    ghost use Rattle.course.specs.Moves.{AllAreKept, course_of, moves_of};
     ghost use Rattle.course.specs.Positions as positions;
 
     ghost Value = { positions.Course };
 
     ghost view = { λ c. course_of c.machine (moves_of c.log) };
 
-    ghost invariant = { λ c. AllCanBeKept (past_of (moves_of c.log) c.machine) };
+    ghost invariant = { λ c. AllAreKept (moves_of c.log) c.machine };
 }
 
 impl Course {
@@ -56,12 +56,13 @@ impl Course {
         self.machine.quick(pc, &mut self.log)
     }
 
-    /// What a step answers where the instruction at the hart's pc halts, for this reason, and the pc after
-    /// it: a trap, an exit and a lack of memory leave the hart as it is; a call that prints and EBREAK
+    /// What a step answers where the instruction at the hart's pc halts, for this reason, as `quick` has said, and the pc
+    /// after it: a trap, an exit and a lack of memory leave the hart as it is; a call that prints and EBREAK
     /// move it to the following instruction, which is recorded.
     #[cold]
     #[inline(never)]
     pub fn settle(&mut self, halt: Halt) -> Result<Stepped, AllocError>
+        requires { Halts self.old.now.hart.pc halt self.old.now }
         ensures pc { settles halt self.old.now.hart.pc self.old.now.hart.x
             result self.new.now.hart.pc }
         ensures rest { self.new ≡ record {
@@ -80,11 +81,12 @@ impl Course {
         Ok(stepped)
     }
 
-    /// Undoes the newest of the recorded moves, if there is one. `Err`: no memory was left, and nothing has
-    /// changed.
+    /// Undoes the newest of the recorded moves, if there is one. `Err`: it was a store, no memory was left for a page
+    /// of which each byte is 0, into which a byte is put back, and nothing has changed.
     pub fn go_back(&mut self) -> Result<(), AllocError>
         ensures ok { OnOk result (self.new ≡ gone_back self.old) }
         ensures err { OnErr result (self.new ≡ self.old) }
+        ensures lacks { OnErr result (UndoNeedsPage self.old.past self.old.now.memory) }
     {
         let Some(made) = self.log.newest() else {
             return Ok(());
@@ -139,10 +141,12 @@ impl Course {
         self.machine.set_hart(hart);
     }
 
-    /// Gives the hart another pc: where it is after instructions in a row. The recorded moves stay.
+    /// Gives the hart another pc: where it is after instructions in a row, which is the address that `quick` answered
+    /// last. The recorded moves stay, whatever the address is; who goes on elsewhere calls `set_hart`, which forgets
+    /// them.
     #[inline]
     pub fn set_pc(&mut self, pc: u32)
-        ensures { self.new ≡ record self.old { now = position_at pc self.old.now } }
+        ensures { self.new ≡ record { now = position_at pc self.old.now; past = self.old.past } }
     {
         self.machine.set_pc(pc);
     }

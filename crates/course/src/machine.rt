@@ -4,7 +4,7 @@ ghost use Rattle.std.specs.Prelude.{◌≡◌, ◌-◌, ◌^◌, ◌<◌, ◌≤
 ghost use Rattle.image.specs.Memory.{WritesOrLacks};
 ghost use Rattle.rv32i.specs.Steps.{settles};
 ghost use Rattle.course.specs.Marks.Mark.{Pop, Push};
-ghost use Rattle.course.specs.Moves.{CanBeKept, CanBeUnmade, GoesBy, NotesJump, moves_of, unmade};
+ghost use Rattle.course.specs.Moves.{CanBeKept, CanBeUnmade, GoesBy, NotesJump, PutsInBlank, moves_of, undo_in, unmade};
 ghost use Rattle.course.specs.Positions.{begun, position_at};
 ghost use Rattle.course.specs.Words.{with_mark_if};
 
@@ -103,6 +103,7 @@ impl Machine {
         requires { CanBeUnmade made.now self.old }
         ensures ok { OnOk result (self.new ≡ unmade made.now self.old) }
         ensures err { OnErr result (self.new ≡ self.old) }
+        ensures lacks { OnErr result (PutsInBlank (undo_in made.now) self.old.memory) }
     {
         let undo = made.undo();
         self.hart.undo(&mut self.memory, &undo)?;

@@ -64,8 +64,8 @@ pub enum Advanced {
     /// So many were made, and there is nothing to tell of them. The instruction that comes next was not made: it traps or ends the
     /// program, and would come to this.
     Meets(u32, Tick),
-    /// So many were made, and there is nothing to tell of them. The move that comes next was not made: no memory was left for it, as
-    /// for the page that it is the first to store into.
+    /// So many were made, and there is nothing to tell of them. The move that comes next was not made: no memory was left for a page
+    /// of which each byte is 0, into which it stores, or into which it puts a byte back.
     Lacks(u32),
 }
 

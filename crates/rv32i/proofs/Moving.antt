@@ -1,6 +1,6 @@
 -- Each word has a decoding, and each machine a move.
 use Rattle.std.proofs.Common.{◌≡◌, ℕ, ◌*◌, ◌/◌, ◌%◌, ◌^◌, ◌<◌, Bool, true, false, cond, eqb, ltb, List, Option, Some, None, Result, Ok, Err, refl, ap, ◌∙◌, arith, lit<, ltb-true, lt-ltb}
-use Rattle.std.specs.Prelude.{slice_index, slice_set}
+use Rattle.std.specs.Prelude.{MatchResult, is_ok, slice_index, slice_set}
 use Rattle.std.proofs.lemmas.List.{get_or-set_other}
 use Rattle.std.proofs.lemmas.Bool.Decides.{nat_tests}
 use Rattle.image.specs.Memory.{word_at}
@@ -9,11 +9,12 @@ use Rattle.image.specs.declared.fault.MemFault.TheVariants.{Misaligned, Outside,
 use Rattle.rv32i.specs.Encoding.{Encodes, IsDecoding, IsIllegal}
 use Rattle.rv32i.specs.Formats.{RType, IType, SType, BType, UType, JType, FenceType}
 use Rattle.rv32i.specs.Machine.{Machine, Effect, effect_of, fetch_fault, trapped, retired, gives, jumps, linked, branches, loads_unless, stores_unless, calls, with_register, sum, value}
-use Rattle.rv32i.specs.Laws.{HasDecoding, HasMove}
+use Rattle.rv32i.specs.Laws.{HasDecoding, HasMove, MovesAnswer}
 use Rattle.rv32i.specs.declared.instr.Instr.{Instr}
 use Rattle.rv32i.specs.declared.instr.Instr.TheVariants.{Lui, Auipc, Jal, Jalr, Beq, Bne, Blt, Bge, Bltu, Bgeu, Lb, Lh, Lw, Lbu, Lhu, Sb, Sh, Sw, Addi, Slti, Sltiu, Xori, Ori, Andi, Slli, Srli, Srai, Add, Sub, Sll, Slt, Sltu, Xor, Srl, Sra, Or, And, Fence, Ecall, Ebreak}
 use Rattle.rv32i.specs.declared.stepped.Cause.TheVariants.{Illegal, JumpMisaligned}
 use Rattle.rv32i.proofs.Decoded.{decoded, illegal, sound}
+use Rattle.rv32i.proofs.Keeps.{step_answers}
 use Rattle.rv32i.proofs.Unique.{one_instruction}
 
 -- ---- a word that encodes an instruction has 32 bits
@@ -200,6 +201,12 @@ decoding_by word (Some j) e false s =
 pub the_decoding : (word : ℕ) → HasDecoding word
 the_decoding word = decoding_by word (decoded word) refl (ltb word (2 ^ 32)) refl
 
+pub one_decoding : (word : ℕ) (a b : Option Instr) → IsDecoding word a → IsDecoding word b → a ≡ b
+one_decoding word None None h k = refl
+one_decoding word None (Some j) h k = absurd (h j k)
+one_decoding word (Some i) None h k = absurd (k i h)
+one_decoding word (Some i) (Some j) h k = ap (λ n. Some n) (one_instruction i j word h k)
+
 -- ---- the move
 
 record MoveAt (m : Machine) (word : ℕ) : Type 0 where
@@ -225,3 +232,23 @@ by_word m (Err fault) e = record { effect = fetch_fault fault m; is = rw e refl;
 
 pub the_move : (m : Machine) → HasMove m
 the_move m = by_word m (word_at m.memory m.pc) refl
+
+-- ---- it is answered
+
+fetch_answers : (fault : MemFault) (m : Machine) → is_ok (fetch_fault fault m).answer ≡ true
+fetch_answers Misaligned m = refl
+fetch_answers Outside m = refl
+fetch_answers NoMemory m = refl
+
+pub moves_answer : MovesAnswer
+moves_answer m e moves = go (word_at m.memory m.pc) moves where
+  by_decoding : (word : ℕ) (instr : Option Instr) → IsDecoding word instr
+      → ((i : Instr) → Encodes i word → e ≡ effect_of i m) × (IsIllegal word → e ≡ trapped Illegal m) → is_ok e.answer ≡ true
+  by_decoding word (Some i) d h = step_answers m e i (h.0 i d)
+  by_decoding word None d h = ap (λ (x : Effect). is_ok x.answer) (h.1 d)
+
+  go : (w : Result ℕ MemFault)
+      → MatchResult w (λ word. ((i : Instr) → Encodes i word → e ≡ effect_of i m) × (IsIllegal word → e ≡ trapped Illegal m)) (λ f. e ≡ fetch_fault f m)
+      → is_ok e.answer ≡ true
+  go (Ok word) h = let d = the_decoding word in by_decoding word d.instr d.is h
+  go (Err f) h = ap (λ (x : Effect). is_ok x.answer) h ∙ fetch_answers f m

@@ -1,6 +1,6 @@
 -- What holds of every word and of every machine. Each of these statements is the contract of a function of the
 -- module `laws`.
-use Rattle.std.specs.Prelude.{◌≡◌, ◌≤ℤ◌, ℕ, ℤ, pos, neg_ℤ, List, Option, Result, Ok, Err, slice_index, ⊤}
+use Rattle.std.specs.Prelude.{◌≡◌, ◌↔◌, ◌≤ℤ◌, ℕ, ℤ, pos, neg_ℤ, List, Option, Result, Ok, Err, IsOk, slice_index, ⊤}
 use Rattle.std.specs.declared.alloc.AllocError.{AllocError}
 use Rattle.rv32i.specs.Encoding.{Encodes, IsDecoding}
 use Rattle.rv32i.specs.Machine.{Machine, Effect, IsMove}
@@ -41,6 +41,11 @@ pub record HasDecoding (word : ℕ) : Type 0 where
 abbrev pub EachWordIsDecoded : Type 0
 EachWordIsDecoded = (word : ℕ) → HasDecoding word
 
+-- A word is decoded to what this decoding of it says, and to nothing else. So nobody has to know how it was found.
+abbrev pub DecodingIsUnique : Type 0
+DecodingIsUnique = (word : ℕ) (decoding : HasDecoding word) (instr : Option Instr) →
+    IsDecoding word instr ↔ (instr ≡ decoding.instr)
+
 -- A machine has a move: what a step of it answers and leaves. The move keeps x0 at 0.
 pub record HasMove (m : Machine) : Type 0 where
   pub effect : Effect
@@ -50,6 +55,10 @@ pub record HasMove (m : Machine) : Type 0 where
 -- Each machine has one.
 abbrev pub EachMachineMoves : Type 0
 EachMachineMoves = (m : Machine) → HasMove m
+
+-- A move is answered: it never says that no memory is left.
+abbrev pub MovesAnswer : Type 0
+MovesAnswer = (before : Machine) (effect : Effect) → IsMove before effect → IsOk effect.answer
 
 -- What an exit answers is a code of 32 bits, one of them for its sign.
 pub record IsSignedWord (code : ℤ) : Type 0 where

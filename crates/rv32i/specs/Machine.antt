@@ -4,18 +4,20 @@
 -- below 2 ^ 8, and sums wrap. x0 is hardwired to 0 (section 2.1): it is 0 in each hart, and a value for x0 is dropped.
 --
 -- A move fetches the word at pc and does what its instruction says, one clause for each instruction below. A trap is
--- precise: it leaves the machine as it was, and so does the end of the program. Where no memory is left for an access,
--- the answer says so; that is no trap, and leaves the machine as it was too.
+-- precise: it leaves the machine as it was, and so does the end of the program.
+--
+-- Each machine has one move, and that is answered. A step makes it, or finds no memory for a page and leaves the machine
+-- as it was: that is no effect of an instruction, so no clause speaks of it, and `MoveNeedsPage` says when it may be.
 use Rattle.std.specs.Prelude.{◌≡◌, ℕ, ℤ, ◌+◌, ◌-◌, ◌*◌, ◌/◌, ◌%◌, ◌^◌, Bool, ◌==◌, nat_lt, not, if◌then◌else◌, List, []}
 use Rattle.std.specs.Prelude.{◌∷◌, length, slice_index, slice_set, bit_and, bit_or, bit_xor, Option, Some, None, Result, Ok}
-use Rattle.std.specs.Prelude.{Err, MatchResult, ⊤, alloc_error}
+use Rattle.std.specs.Prelude.{Err, MatchResult, ⊤}
 use Rattle.std.specs.Int.{cast_signed, cast_unsigned, int_shr, w32}
 use Rattle.std.specs.Int.RustNames.{int_lt}
 use Rattle.std.specs.declared.alloc.AllocError.{AllocError}
 use Rattle.image.specs.Memory.{NeedsPage, fault_at, bytes_at, with_bytes, little_endian, halfword_bytes}
 use Rattle.image.specs.Memory.{word_bytes, word_at}
 use Rattle.image.specs.declared.fault.MemFault.{MemFault}
-use Rattle.image.specs.declared.fault.MemFault.TheVariants.{Misaligned, Outside, NoMemory}
+use Rattle.image.specs.declared.fault.MemFault.TheVariants.{Misaligned}
 use Rattle.rv32i.specs.Encoding.{Encodes, IsDecoding, IsIllegal}
 use Rattle.rv32i.specs.declared.stepped.Stepped.{Stepped}
 use Rattle.rv32i.specs.declared.stepped.Stepped.TheVariants.{Retired, Printed, Break, Exit, Trap}
@@ -39,7 +41,7 @@ pub record Machine : Type 0 where
 abbrev pub machine_of : Hart → List ℕ → Machine
 machine_of hart memory = record { pc = hart.pc; x = hart.x; memory = memory }
 
--- what a move answers, or that no memory is left for it, and the machine after it
+-- What a step answers, and the machine after it. That of a move is never an error (the law `moves_answer`).
 pub record Effect : Type 0 where
   pub answer : Result Stepped AllocError
   pub machine : Machine
@@ -117,10 +119,6 @@ gives rd v m = record { answer = Ok Retired; machine = record m { pc = sum m.pc 
 abbrev pub trapped : Cause → Machine → Effect
 trapped cause m = record { answer = Ok (Trap cause); machine = m }
 
--- no memory is left for it, and nothing changes
-abbrev pub out_of_memory : Machine → Effect
-out_of_memory m = record { answer = Err alloc_error; machine = m }
-
 -- "An instruction-address-misaligned exception is generated on a taken branch or unconditional jump if the target
 -- address is not four-byte aligned" (section 2.2): then nothing changes, rd neither.
 abbrev pub jumps : ℕ → Machine → Machine → Effect
@@ -134,11 +132,11 @@ linked rd m = record m { x = with_register rd (sum m.pc 4) m.x }
 abbrev pub branches : Bool → ℕ → Machine → Effect
 branches taken offset m = if taken then jumps (sum m.pc offset) m m else retired (sum m.pc 4) m
 
--- what comes of a fault of a load
+-- What comes of a fault of a load. An address has two: it is no multiple of what it has to be, or else there is a byte
+-- that it does not have (`fault_at`).
 abbrev pub load_fault : MemFault → Machine → Effect
 load_fault Misaligned m = trapped LoadMisaligned m
-load_fault Outside m = trapped LoadOutside m
-load_fault NoMemory m = out_of_memory m
+load_fault other m = trapped LoadOutside m
 
 -- a value goes into rd unless there is a fault
 abbrev pub loads_unless : Option MemFault → ℕ → ℕ → Machine → Effect
@@ -154,11 +152,10 @@ loads count extended rd address m = loads_unless (fault_at m.memory count addres
 abbrev pub as_it_is : ℕ → ℕ
 as_it_is a = a
 
--- what comes of a fault of a store
+-- what comes of a fault of a store, which has the same two
 abbrev pub store_fault : MemFault → Machine → Effect
 store_fault Misaligned m = trapped StoreMisaligned m
-store_fault Outside m = trapped StoreOutside m
-store_fault NoMemory m = out_of_memory m
+store_fault other m = trapped StoreOutside m
 
 -- bytes are stored unless there is a fault
 abbrev pub stores_unless : Option MemFault → List ℕ → ℕ → Machine → Effect
@@ -237,8 +234,7 @@ effect_of Ebreak m = record { answer = Ok Break; machine = record m { pc = sum m
 -- "An instruction-address-misaligned exception", or an access fault where there is no word
 abbrev pub fetch_fault : MemFault → Machine → Effect
 fetch_fault Misaligned m = trapped JumpMisaligned m
-fetch_fault Outside m = trapped FetchOutside m
-fetch_fault NoMemory m = out_of_memory m
+fetch_fault other m = trapped FetchOutside m
 
 -- The move: it fetches the word at pc, and does what the instruction that the word encodes says; a word that encodes
 -- none is illegal, and one that is not there cannot be fetched.
@@ -272,7 +268,8 @@ pub record StoreNeedsPage (instr : Instr) (m : Machine) : Type 0 where
   pub stores : store_of instr m ≡ Some store
   pub needs : NeedsPage (length store.bytes) m.memory store.address (length store.bytes)
 
--- Memory is made for a move only at the first store into a page: the instruction at pc is such a store.
+-- Memory is made for a move only where it stores into a page of which each byte is 0: the instruction at pc is such a
+-- store.
 pub record MoveNeedsPage (m : Machine) : Type 0 where
   pub instr : Instr
   pub decoded : IsDecodedAtPc m (Some instr)

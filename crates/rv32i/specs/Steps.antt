@@ -19,8 +19,7 @@ use Rattle.rv32i.specs.declared.instr.Instr.TheVariants.{Ecall, Ebreak}
 -- what comes of a fault of a load
 abbrev pub load_halt : MemFault → Halt
 load_halt Misaligned = Stopped LoadMisaligned
-load_halt Outside = Stopped LoadOutside
-load_halt NoRoom = NoMemory
+load_halt other = Stopped LoadOutside
 
 -- what a load gives: the value, or what comes of the fault
 abbrev pub loaded_unless : Option MemFault → ℕ → Result ℕ Halt
@@ -70,14 +69,12 @@ Stores count bytes address next before answer after =
     (answer ≡ stored_unless (fault_at before count address count) next)
     × (after ≡ memory_after (fault_at before count address count) (with_bytes before address bytes) before)
 
--- no memory is left: a store has found no room for its page, and nothing has changed; all else is as the effect says
+-- no memory is left: that is a store, which has found no room for its page, and nothing has changed
 abbrev pub Lacks : Option Store → Instr → Machine → List ℕ → List ℕ → Type 0
 Lacks (Some store) i before x memory =
     NeedsPage (length store.bytes) before.memory store.address (length store.bytes)
     × ((x ≡ before.x) × (memory ≡ before.memory))
-Lacks None i before x memory =
-    effect_of i before
-    ≡ record { answer = Err alloc_error; machine = record { pc = before.pc; x = x; memory = memory } }
+Lacks None i before x memory = ⊥
 
 -- what `perform` answers for an effect, and the registers and memory that it leaves
 abbrev pub Performs : Instr → Machine → Result ℕ Halt → List ℕ → List ℕ → Type 0

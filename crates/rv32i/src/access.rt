@@ -136,14 +136,13 @@ pub(crate) fn store_word(
     }
 }
 
-// What a fault of a load comes to.
+// What a fault of a load comes to, which takes no memory.
 fn load_halt(fault: MemFault) -> Halt
     ensures { result ≡ steps.load_halt fault }
 {
     match fault {
         MemFault::Misaligned => Halt::Stopped(Cause::LoadMisaligned),
-        MemFault::Outside => Halt::Stopped(Cause::LoadOutside),
-        MemFault::NoMemory => Halt::NoMemory,
+        MemFault::Outside | MemFault::NoMemory => Halt::Stopped(Cause::LoadOutside),
     }
 }
 

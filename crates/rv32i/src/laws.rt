@@ -1,7 +1,7 @@
 //! What holds of every word and of every move: each law is the contract of a function that does
 //! nothing.
 
-ghost use Rattle.rv32i.specs.Laws.{EachMachineMoves, EachWordIsDecoded, EncodingIsUnique, ExitCodesAreWords, InstructionIsUnique, MoveIsDeterministic, NameIsUnique, TextIsUnique, WordIsComputed};
+ghost use Rattle.rv32i.specs.Laws.{DecodingIsUnique, EachMachineMoves, EachWordIsDecoded, EncodingIsUnique, ExitCodesAreWords, InstructionIsUnique, MoveIsDeterministic, MovesAnswer, NameIsUnique, TextIsUnique, WordIsComputed};
 
 /// A word encodes at most one instruction.
 pub fn instruction_is_unique()
@@ -30,9 +30,19 @@ pub fn each_word_is_decoded()
     ensures { EachWordIsDecoded }
 {}
 
+/// A word is decoded to what a decoding of it says, and to nothing else. So it does not matter how that is found.
+pub fn decoding_is_unique()
+    ensures { DecodingIsUnique }
+{}
+
 /// Each machine has a move, and the move keeps x0 at 0.
 pub fn each_machine_moves()
     ensures { EachMachineMoves }
+{}
+
+/// A move is answered: that no memory was left for a step is none.
+pub fn moves_answer()
+    ensures { MovesAnswer }
 {}
 
 /// The code of an exit has 32 bits, one of them for its sign.

@@ -1,9 +1,9 @@
 -- Moves at which an instruction retires, and ticks: they are the same, and a machine has one.
-use Rattle.std.proofs.Common.{◌≡◌, ℕ, zero, suc, ◌%◌, ◌<◌, Bool, true, false, List, Option, None, Some, Result, Ok, Err, IsOk, IsTrue, is_ok, if◌then◌else◌, nat_eq, not, eqb, Decides, bytes_eq, MatchResult, refl, sym, ap, subst, ◌∙◌, arith}
+use Rattle.std.proofs.Common.{◌≡◌, ℕ, zero, suc, ◌<◌, Bool, true, false, List, Option, None, Some, Result, Ok, Err, IsOk, IsTrue, is_ok, eqb, Decides, bytes_eq, MatchResult, refl, sym, ap, subst, ◌∙◌, arith}
 use Rattle.std.proofs.lemmas.Bool.Decides.{Decides-eqb, not_from_Decides}
 use Rattle.std.proofs.lemmas.Slice.Eq.{bytes_eq-Decides}
 use Rattle.std.specs.declared.alloc.AllocError.{AllocError}
-use Rattle.image.specs.Memory.{bytes_at, has_bytes, little_endian, unless_fault, word_at}
+use Rattle.image.specs.Memory.{word_at}
 use Rattle.image.specs.declared.fault.MemFault.{MemFault}
 use Rattle.image.specs.declared.fault.MemFault.TheVariants as fault
 use Rattle.rv32i.specs.Encoding.{Encodes, IsIllegal}
@@ -12,7 +12,8 @@ use Rattle.rv32i.specs.declared.instr.Instr.{Instr}
 use Rattle.rv32i.specs.declared.stepped.Cause.TheVariants.{Illegal}
 use Rattle.rv32i.specs.declared.stepped.Stepped.{Stepped}
 use Rattle.rv32i.specs.declared.stepped.Stepped.TheVariants.{Retired, Printed, Break as Breakpoint, Exit, Trap}
-use Rattle.rv32i.proofs.Keeps.{step_answers, step_keeps}
+use Rattle.rv32i.proofs.Keeps.{step_keeps}
+use Rattle.rv32i.proofs.Moving.{moves_answer}
 use Rattle.rv32i.proofs.OneMove.{one_move}
 use Rattle.stepping.specs.Goals.{turns_back}
 use Rattle.stepping.specs.RunLaws.{EachTickAnswers}
@@ -38,30 +39,6 @@ advance_answers before after a = (machine_of after.hart after.memory, a.moved)
 
 -- ---- a tick answers
 
-no_fetch_lacks_memory : (aligned there : Bool) (word : ℕ)
-    → unless_fault (if not aligned then Some fault.Misaligned else if there then None else Some fault.Outside) word ≡ Err fault.NoMemory → ⊥
-no_fetch_lacks_memory true true word e = cc
-no_fetch_lacks_memory true false word e = cc
-no_fetch_lacks_memory false there word e = cc
-
-pub move_answers : (m : Machine) (e : Effect) → IsMove m e → is_ok e.answer ≡ true
-move_answers m e i = go (word_at m.memory m.pc) refl i where
-  decided : (ok : Bool) → is_ok e.answer ≡ ok → (word : ℕ)
-      → ((j : Instr) → Encodes j word → e ≡ effect_of j m) × (IsIllegal word → e ≡ trapped Illegal m) → is_ok e.answer ≡ true
-  decided true o word h = o
-  decided false o word h =
-      let none : IsIllegal word = λ j q. let never : false ≡ true = sym o ∙ step_answers m e j (h.0 j q) in cc in
-      ap (λ (x : Effect). is_ok x.answer) (h.1 none)
-
-  go : (w : Result ℕ MemFault) → word_at m.memory m.pc ≡ w
-      → MatchResult w (λ word. ((j : Instr) → Encodes j word → e ≡ effect_of j m) × (IsIllegal word → e ≡ trapped Illegal m)) (λ f. e ≡ fetch_fault f m)
-      → is_ok e.answer ≡ true
-  go (Ok word) w h = decided (is_ok e.answer) refl word h
-  go (Err fault.Misaligned) w h = ap (λ (x : Effect). is_ok x.answer) h
-  go (Err fault.Outside) w h = ap (λ (x : Effect). is_ok x.answer) h
-  go (Err fault.NoMemory) w h =
-      absurd (no_fetch_lacks_memory (nat_eq (m.pc % 4) 0) (has_bytes m.memory m.pc 4) (little_endian (bytes_at m.memory m.pc 4)) w)
-
 pub each_tick_answers : EachTickAnswers
 each_tick_answers before after answer t = by_tick before after answer t (λ due h. ap is_ok h.0) (λ due turns h. ap is_ok h.0) answers where
   moved : (s : Result Stepped AllocError) (instr : Option Instr) → is_ok s ≡ true → Settles before instr s answer after → IsOk answer
@@ -71,7 +48,7 @@ each_tick_answers before after answer t = by_tick before after answer t (λ due 
   answers : before.check_due ≡ false → turns_back before.goal ≡ false → Moves before answer after → IsOk answer
   answers due forward h =
       moved h.stepped h.instr
-      (move_answers (machine_of before.hart before.memory)
+      (moves_answer (machine_of before.hart before.memory)
       (record { answer = h.stepped; machine = machine_of after.hart after.memory }) h.moved) h.settles
 
 -- ---- one move more is one tick

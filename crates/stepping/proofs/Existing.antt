@@ -10,12 +10,11 @@ use Rattle.rv32i.specs.declared.hart.Hart.{Hart}
 use Rattle.rv32i.specs.declared.instr.Instr.{Instr}
 use Rattle.rv32i.specs.declared.stepped.Stepped.{Stepped}
 use Rattle.rv32i.specs.declared.stepped.Stepped.TheVariants.{Retired, Printed, Break, Exit, Trap}
-use Rattle.rv32i.proofs.Moving.{the_decoding, the_move}
+use Rattle.rv32i.proofs.Moving.{moves_answer, the_decoding, the_move}
 use Rattle.stepping.specs.RunLaws.{HasTick}
 use Rattle.course.specs.Positions.{IsFetched}
 use Rattle.stepping.specs.Goals.{turns_back}
 use Rattle.stepping.specs.Ticks.{Debugged, back_tick, entry_checked, entry_tick, gone_back, moved_as, settled, tick_of}
-use Rattle.stepping.proofs.Advancing.{move_answers}
 use Rattle.stepping.proofs.Cases.{tick_of_back, tick_of_entry, tick_of_move}
 
 -- what it fetches
@@ -46,7 +45,7 @@ abbrev moved_to : Debugged → Machine → Hart → Debugged
 moved_to d m hart = record d { hart = hart; memory = m.memory }
 
 moves : (d : Debugged) → d.check_due ≡ false → turns_back d.goal ≡ false → HasMove (machine_of d.hart d.memory) → HasTick d
-moves d due forward move = by_answer move.effect.answer refl (move_answers (machine_of d.hart d.memory) move.effect move.is) where
+moves d due forward move = by_answer move.effect.answer refl (moves_answer (machine_of d.hart d.memory) move.effect move.is) where
   m : Machine
   m = move.effect.machine
 

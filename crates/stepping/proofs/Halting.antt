@@ -148,7 +148,14 @@ halt_settles d (Stopped cause) answer pc due forward h s =
     }
 halt_settles d NoMemory answer pc due forward h s = record {
   ticks = λ t e. absurd (let never : Err alloc_error ≡ Ok t = sym s.0 ∙ e in cc);
-  lacks = λ error e. (ap (at_pc d) s.1, record { moves = due; needs = λ f. h.says });
+  lacks = λ error e. (
+    ap (at_pc d) s.1,
+    record {
+      moves = due;
+      needs = λ f. h.says;
+      back = λ t. absurd (let never : false ≡ true = sym forward ∙ t in cc);
+    },
+  );
 }
 halt_settles d Calls answer pc due forward h s =
     let m : Machine = machine_of d.hart d.memory in

@@ -72,7 +72,7 @@ none_retires m e f i = go (word_at m.memory m.pc) f i where
 fewer : (n : ℕ) (past : List Position) (retired : List Retired) → RemembersPast past retired → RemembersPast (take n past) retired
 fewer zero past retired h = tt
 fewer (suc n) [] retired h = tt
-fewer (suc n) (p ∷ past) retired h = (h.0, h.1, (h.2.0, h.2.1, fewer n past h.0 h.2.2))
+fewer (suc n) (p ∷ past) retired h = (h.0, h.1, (h.2.0, h.2.1, fewer n past h.0 h.2.2, h.2.3))
 
 -- an instruction retired
 one_more : (before after : Debugged) (retired : List Retired) (instr : Option Instr) (s : Result Stepped AllocError)
@@ -95,7 +95,8 @@ one_more before after retired (Some instr) s which f m a h =
     let calls = ap (λ (d : Debugged). d.calls) a in
     let count = ap (λ (d : Debugged). d.retired) a in
     let past = ap (λ (d : Debugged). d.past) a in
-    let more : RemembersPast (position_of before ∷ before.past) (retired ++ last ∷ []) = (retired, last, (refl, h.calls, h.past)) in (
+    let more : RemembersPast (position_of before ∷ before.past) (retired ++ last ∷ []) =
+    (retired, last, (refl, h.calls, h.past, (refl, f))) in (
       retired ++ last ∷ [],
       (
         inr (inl (instr, (f, refl))),

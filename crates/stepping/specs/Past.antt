@@ -16,11 +16,16 @@ use Rattle.course.specs.Positions.{IsFetched, Position}
 use Rattle.stepping.specs.Ticks.{Debugged, IsTick}
 use Rattle.stepping.specs.declared.tick.Tick.{Tick}
 
--- before each of these moves, the newest first, the calls kept were those of the instructions that had retired then
+-- the instruction that retired at a position is the one at its pc
+abbrev pub RetiredAt : Position → Retired → Type 0
+RetiredAt p one = (one.pc ≡ p.hart.pc) × IsFetched (machine_of p.hart p.memory) (Some one.instr)
+
+-- before each of these moves, the newest first, the calls kept were those of the instructions that had retired then; and the
+-- move retired one more
 abbrev pub RemembersPast : List Position → List Retired → Type 0
 RemembersPast [] retired = ⊤
 RemembersPast (p ∷ past) retired = (before : List Retired) × (last : Retired)
-    × ((retired ≡ before ++ last ∷ []) × StandsFor p.calls before × RemembersPast past before)
+    × ((retired ≡ before ++ last ∷ []) × StandsFor p.calls before × RemembersPast past before × RetiredAt p last)
 
 -- these are all the instructions that have retired, each with its address
 pub record Remembers (d : Debugged) (retired : List Retired) : Type 0 where

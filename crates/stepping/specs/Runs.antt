@@ -1,5 +1,6 @@
 -- Runs: many ticks.
-use Rattle.std.specs.Prelude.{◌≡◌, ℕ, zero, suc, ◌+◌, ◌^◌, ◌<◌, ◌≤◌, false, [], None, Ok}
+use Rattle.std.specs.Prelude.{◌≡◌, ℕ, zero, suc, ◌+◌, ◌^◌, ◌<◌, ◌≤◌, false, true, [], None, Ok}
+use Rattle.course.specs.Positions.{UndoNeedsPage}
 use Rattle.rv32i.specs.Machine.{MoveNeedsPage, machine_of}
 use Rattle.stepping.specs.Goals.{turns_back}
 use Rattle.stepping.specs.Plain.{IsPlain, plain_tick}
@@ -23,11 +24,12 @@ pub record HasMoved (before after : Debugged) : Type 0 where
 abbrev pub MayGo : ℕ → Debugged → Type 0
 MayGo most d = turns_back d.goal ≡ false → d.retired + most ≤ 2 ^ 62
 
--- Memory may be lacking for a tick only where it is a move that needs a page. Of one that goes back no more is said than
--- that nothing has changed.
+-- Memory may be lacking for a tick only where it is a move that needs a page; or, where the run goes back, where a move is
+-- recorded, it was a store, and a byte that is put back lies in a page of which each byte is 0.
 pub record MayLackMemory (d : Debugged) : Type 0 where
   pub moves : d.check_due ≡ false
   pub needs : turns_back d.goal ≡ false → MoveNeedsPage (machine_of d.hart d.memory)
+  pub back : turns_back d.goal ≡ true → UndoNeedsPage d.past d.memory
 
 -- and what ended them: that these were as many as were asked for, a tick of which there is something to report, or
 -- that no memory was left for one more, which was not made

@@ -175,7 +175,8 @@ gone_back d = looked_at d.goal (undone d)
 abbrev pub moved_as : Debugged → Debugged → Debugged
 moved_as before after = record before { hart = after.hart; memory = after.memory }
 
--- what a move comes to; where no memory was left for it, nothing has changed
+-- What a move comes to. A move is answered, and so is each tick (the laws `moves_answer` of `rv32i`, and
+-- `each_tick_answers`): the last line is of none.
 abbrev pub Settles : Debugged → Option Instr → Result Stepped AllocError → Result Tick AllocError → Debugged → Type 0
 Settles before instr (Ok stepped) answer after =
     (answer ≡ Ok (tick_of stepped instr before.hart.pc (moved_as before after)))

@@ -1,6 +1,7 @@
 //! The ticks of a run that goes back: each undoes the newest of the recorded moves.
 
 ghost use Rattle.std.specs.Prelude.{◌≡◌, ◌≤◌, OnErr, OnOk, true};
+ghost use Rattle.course.specs.Positions.{UndoNeedsPage};
 ghost use Rattle.stepping.specs.Goals.{turns_back};
 ghost use Rattle.stepping.specs.Runs.{IsRun, MayLackMemory};
 ghost use Rattle.stepping.specs.Ticks.{back_outcome, IsTick, looked_at, undone, unless_start};
@@ -58,6 +59,7 @@ impl Runner {
     fn undo(&mut self) -> Result<(), AllocError>
         ensures ok { OnOk result (self.new ≡ undone self.old) }
         ensures err { OnErr result (self.new ≡ self.old) }
+        ensures lacks { OnErr result (UndoNeedsPage self.old.past self.old.memory) }
     {
         let undoes = self.course.recorded() > 0;
         self.course.go_back()?;

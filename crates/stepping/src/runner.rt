@@ -122,8 +122,8 @@ impl Runner {
     }
 
     /// One tick: the check that is due at the entry; or, where the run goes back, the newest of the recorded moves is undone, if there is
-    /// one; or one move and what it comes to. `Err`: no memory was left, as for the page that the move is the first to store into, and
-    /// nothing changes. Fewer than 2^62 instructions have retired before one that does not go back.
+    /// one; or one move and what it comes to. `Err`: no memory was left for a page of which each byte is 0, into which the move stores, or
+    /// into which a byte is put back, and nothing changes. Fewer than 2^62 instructions have retired before one that does not go back.
     pub fn tick(&mut self) -> Result<Tick, AllocError>
         requires { MayGo 1 self.old }
         ensures tick { OnOk result (IsTick self.old result self.new) }

@@ -1,13 +1,15 @@
 use Rattle.std.proofs.Common.{◌≡◌, ◌∙◌, List, ap, drop, subst, sym}
-use Rattle.course.specs.Moves.{AllCanBeKept, course_of, moves_of, past_of, unmade}
-use Rattle.course.specs.Positions.{Course, Position, gone_back}
+use Rattle.course.specs.Moves.{AllAreKept, course_of, moves_of}
+use Rattle.course.specs.Positions.{Course, Position, UndoNeedsPage, gone_back}
 use Rattle.course.specs.declared.moves.Move.{Move}
 use Rattle.course.proofs.Coursing.{newest, none_back}
+use Rattle.course.proofs.Making.{on_err}
 use Rattle.course.proofs.course.Course.go_back.Goals as goal
 
 pub returns-in_default-clause-ok : goal.returns-in_default-clause-ok
 returns-in_default-clause-ok c =
-    let same : course_of c.self.inside.machine (moves_of c.newest.new.self) ≡ c.args.self.now = ap (course_of c.self.inside.machine) c.newest.ensures.same
+    let same : course_of c.self.inside.machine (moves_of c.newest.new.self) ≡ c.args.self.now = ap
+    (course_of c.self.inside.machine) c.newest.ensures.same
     ∙ c.self.view_is in
     same ∙ subst (λ (x : Course). x ≡ gone_back x) c.self.view_is
     (none_back (moves_of c.self.inside.log) c.self.inside.machine (sym c.in_default.ensures.newest))
@@ -23,9 +25,9 @@ invariant_of-self-2 c =
     let moves : List Move = moves_of c.self.inside.log in
     let made : Move = c.in-Some.made in
     let more : moves_of c.drop_newest.new.self ≡ drop 1 moves = c.drop_newest.ensures ∙ ap (drop 1) c.newest.ensures.same in
-    let past : past_of (moves_of c.drop_newest.new.self) c.undo.new.self ≡ past_of (drop 1 moves) (unmade made p) =
-    λ j. past_of (more j) (c.in_ok-undo.ensures.ok j) in
-    subst AllCanBeKept (sym past) (newest moves made p (sym c.in-Some.ensures.newest) c.self.invariant).rest
+    subst (λ (l : List Move). AllAreKept l c.undo.new.self) (sym more)
+    (subst (AllAreKept (drop 1 moves)) (sym c.in_ok-undo.ensures.ok)
+    (newest moves made p (sym c.in-Some.ensures.newest) c.self.invariant).rest)
 
 pub returns-clause-ok : goal.returns-clause-ok
 returns-clause-ok c =
@@ -35,3 +37,10 @@ returns-clause-ok c =
     (λ j. course_of (c.in_ok-undo.ensures.ok j) (more j))
     ∙ sym (newest moves c.in-Some.made p (sym c.in-Some.ensures.newest) c.self.invariant).back
     ∙ ap gone_back c.self.view_is
+
+pub returns-in_err-undo-clause-lacks : goal.returns-in_err-undo-clause-lacks
+returns-in_err-undo-clause-lacks c =
+    on_err c.from_residual.result
+    (subst (λ (x : Course). UndoNeedsPage x.past x.now.memory) c.self.view_is
+    ((newest (moves_of c.self.inside.log) c.in-Some.made c.self.inside.machine (sym c.in-Some.ensures.newest) c.self.invariant).lacks
+    c.in_err-undo.ensures.lacks))

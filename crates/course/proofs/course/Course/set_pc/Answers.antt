@@ -1,15 +1,14 @@
 use Rattle.std.proofs.Common.{◌∙◌, ap, sym, subst}
 use Rattle.course.specs.Positions.{Course, Position, position_at}
-use Rattle.course.specs.Moves.{AllCanBeKept, course_of, moves_of, past_of}
-use Rattle.course.proofs.Coursing.{same_past, settled}
+use Rattle.course.specs.Moves.{AllAreKept, course_of, moves_of}
+use Rattle.course.proofs.Coursing.{all_at, settled}
 use Rattle.course.proofs.course.Course.set_pc.Goals as goal
 
 pub invariant_of-self : goal.invariant_of-self
 invariant_of-self c =
     let p = c.self.inside.machine in
     let moves = moves_of c.self.inside.log in
-    subst (λ (q : Position). AllCanBeKept (past_of moves q)) (sym c.set_pc.ensures)
-    (subst AllCanBeKept (sym (same_past moves c.args.pc p)) c.self.invariant)
+    subst (AllAreKept moves) (sym c.set_pc.ensures) (all_at moves c.args.pc p c.self.invariant)
 
 pub returns : goal.returns
 returns c =

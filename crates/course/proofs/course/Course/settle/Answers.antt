@@ -1,10 +1,10 @@
-use Rattle.std.proofs.Common.{◌≡◌, ◌∙◌, Ok, Bool, true, false, cond, ap, sym, subst}
+use Rattle.std.proofs.Common.{◌≡◌, ◌≤◌, ◌∙◌, Ok, Bool, true, false, cond, ap, sym, subst, arith}
 use Rattle.rv32i.specs.Steps.{settles}
 use Rattle.rv32i.specs.Undoing.{retires}
 use Rattle.course.specs.Positions.{Course, Position, position_at, recorded}
-use Rattle.course.specs.Moves.{AllCanBeKept, course_of, kept_of_pc, moves_of, past_of, unmade}
+use Rattle.course.specs.Moves.{AllAreKept, IsOfStore, course_of, kept_of_pc, moves_of, undo_in, unmade}
 use Rattle.course.specs.declared.moves.Move.{Move}
-use Rattle.course.proofs.Coursing.{all_kept, same_past, settled, stepped_back, went}
+use Rattle.course.proofs.Coursing.{all_at, all_kept, settled, stepped_back, went}
 use Rattle.course.proofs.course.Course.settle.Goals as goal
 
 pub invariant_of-self : goal.invariant_of-self
@@ -12,8 +12,7 @@ invariant_of-self c =
     let p = c.self.inside.machine in
     let moves = moves_of c.self.inside.log in
     let next = c.settle.new.self.hart.pc in
-    subst (λ (q : Position). AllCanBeKept (past_of moves q)) (sym c.settle.ensures.rest)
-    (subst AllCanBeKept (sym (same_past moves next p)) c.self.invariant)
+    subst (AllAreKept moves) (sym c.settle.ensures.rest) (all_at moves next p c.self.invariant)
 
 pub returns-in-Err-clause-rest : goal.returns-in-Err-clause-rest
 returns-in-Err-clause-rest c =
@@ -32,7 +31,11 @@ invariant_of-self-then-has_retired c =
     let is : made ≡ kept_of_pc p.hart.pc = c.of_pc.ensures ∙ ap (λ (h : _). kept_of_pc h.pc) c.hart.ensures in
     let back : unmade made c.settle.new.self ≡ position_at p.hart.pc p = (λ j. unmade (is j) (c.settle.ensures.rest j))
     ∙ stepped_back next p in
-    all_kept moves (moves_of c.push.new.self) made p c.settle.new.self p.hart.pc c.push.ensures.moves back c.settle.ensures.kept c.self.invariant
+    let stored : IsOfStore made (position_at p.hart.pc p) = λ some.
+    (let none : 1 ≤ 0 = subst (λ (x : Move). 1 ≤ (undo_in x).count) is some in
+    absurd (omega (arith, none))) in
+    all_kept moves (moves_of c.push.new.self) made p c.settle.new.self p.hart.pc c.push.ensures.moves back c.settle.ensures.kept stored
+    c.self.invariant
 
 pub returns-then-has_retired-clause-rest : goal.returns-then-has_retired-clause-rest
 returns-then-has_retired-clause-rest c =
@@ -57,8 +60,7 @@ invariant_of-self-else-has_retired c =
     let p = c.self.inside.machine in
     let moves = moves_of c.self.inside.log in
     let next = c.settle.new.self.hart.pc in
-    subst (λ (q : Position). AllCanBeKept (past_of moves q)) (sym c.settle.ensures.rest)
-    (subst AllCanBeKept (sym (same_past moves next p)) c.self.invariant)
+    subst (AllAreKept moves) (sym c.settle.ensures.rest) (all_at moves next p c.self.invariant)
 
 pub returns-else-has_retired-clause-rest : goal.returns-else-has_retired-clause-rest
 returns-else-has_retired-clause-rest c =

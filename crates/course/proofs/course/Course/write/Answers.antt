@@ -1,5 +1,5 @@
 use Rattle.std.proofs.Common.{◌≡◌, ◌∙◌, List, ap, subst, sym, ℕ}
-use Rattle.course.specs.Moves.{AllCanBeKept, course_of, moves_of, past_of}
+use Rattle.course.specs.Moves.{AllAreKept, course_of, moves_of}
 use Rattle.course.specs.Positions.{Course, Position}
 use Rattle.course.proofs.Remembering.{unwritten}
 use Rattle.course.proofs.course.Course.write.Goals as goal
@@ -10,7 +10,7 @@ invariant_of-self-in-Err c =
     let p : Position = c.self.inside.machine in
     let bytes = unwritten 1 p.memory c.args.addr c.args.bytes.now c.in-Err.fault c.write.new.self.memory c.in-Err.ensures.writes in
     let same : c.write.new.self ≡ p = c.in-Err.ensures.rest ∙ ap (λ (m : List ℕ). record p { memory = m }) bytes in
-    subst (λ (q : Position). AllCanBeKept (past_of (moves_of c.self.inside.log) q)) (sym same) c.self.invariant
+    subst (AllAreKept (moves_of c.self.inside.log)) (sym same) c.self.invariant
 
 pub returns-in-Err-clause-rest : goal.returns-in-Err-clause-rest
 returns-in-Err-clause-rest c =

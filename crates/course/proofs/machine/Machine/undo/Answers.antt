@@ -2,10 +2,10 @@ use Rattle.std.proofs.Common.{◌∙◌, ap, subst, sym, arith}
 use Rattle.rv32i.specs.Undoing.{undone}
 use Rattle.rv32i.specs.declared.undo.Undo.{Undo}
 use Rattle.course.specs.Calls.{Kept}
-use Rattle.course.specs.Moves.{CanBeKept, CanBeUnmade, machine_in, unmade, unnoted}
+use Rattle.course.specs.Moves.{CanBeKept, CanBeUnmade, PutsInBlank, machine_in, undo_in, unmade, unnoted}
 use Rattle.course.specs.Positions.{Position}
 use Rattle.course.specs.declared.calls.Called.{Called}
-use Rattle.course.proofs.Making.{known_undone, unmade_by}
+use Rattle.course.proofs.Making.{known_undone, on_err, unmade_by}
 use Rattle.course.proofs.machine.Machine.undo.Goals as goal
 
 pub invariant_of-self-2 : goal.invariant_of-self-2
@@ -28,3 +28,9 @@ returns-clause-ok c =
     let machine = c.in_ok-undo.ensures.ok ∙ ap (λ (u : Undo). undone u (machine_in p)) c.undo-undo.ensures in
     unmade_by c.args.made.now p c.undo.new.self c.undo.new.memory c.unnote.new.self machine calls
     ∙ ap (unmade c.args.made.now) c.self.view_is
+
+pub returns-in_err-undo-clause-lacks : goal.returns-in_err-undo-clause-lacks
+returns-in_err-undo-clause-lacks c =
+    on_err c.from_residual.result
+    (subst (λ (q : Position). PutsInBlank (undo_in c.args.made.now) q.memory) c.self.view_is
+    (subst (λ (u : Undo). PutsInBlank u c.self.inside.memory) c.undo-undo.ensures c.in_err-undo.ensures.lacks))

@@ -57,6 +57,10 @@ invariant_of-self-in-Err c =
       unmet = c.self.invariant.unmet;
     }
 
+pub settle-requires : goal.settle-requires
+settle-requires c =
+    subst (λ (x : Debugged). Halts x.hart.pc c.args.halt (position_of x)) (sym c.self.view_is) c.requires.halts
+
 pub returns-in-Ok : goal.returns-in-Ok
 returns-in-Ok c =
     let d : Debugged = runner.the_view c.self.inside in

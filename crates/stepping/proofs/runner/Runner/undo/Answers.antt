@@ -1,6 +1,8 @@
 use Rattle.std.proofs.Common.{◌≡◌, ◌-◌, ◌<◌, length, sym, subst, arith}
-use Rattle.course.specs.Positions.{Course, gone_back}
+use Rattle.course.proofs.Making.{on_err}
+use Rattle.course.specs.Positions.{Course, UndoNeedsPage, gone_back}
 use Rattle.stepping.specs.Running.{AreCounted}
+use Rattle.stepping.specs.Ticks.{Debugged}
 use Rattle.stepping.proofs.Counting.{some_retired, undone_counts}
 use Rattle.stepping.proofs.runner.Runner.undo.Goals as goal
 
@@ -22,3 +24,8 @@ invariant_of-self-then-undoes c =
           (undone_counts c.self.inside.course c.self.inside.retired c.self.invariant.called some);
       unmet = c.self.invariant.unmet;
     }
+
+pub returns-in_err-go_back-clause-lacks : goal.returns-in_err-go_back-clause-lacks
+returns-in_err-go_back-clause-lacks c =
+    on_err c.from_residual.result
+    (subst (λ (d : Debugged). UndoNeedsPage d.past d.memory) c.self.view_is c.in_err-go_back.ensures.lacks)

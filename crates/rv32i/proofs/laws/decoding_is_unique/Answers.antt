@@ -1,0 +1,7 @@
+use Rattle.std.proofs.Common.{subst, sym}
+use Rattle.rv32i.specs.Encoding.{IsDecoding}
+use Rattle.rv32i.proofs.Moving.{one_decoding}
+use Rattle.rv32i.proofs.laws.decoding_is_unique.Goals as goal
+
+pub returns : goal.returns
+returns c = λ word d instr. (λ h. one_decoding word instr d.instr h d.is, λ e. subst (IsDecoding word) (sym e) d.is)
