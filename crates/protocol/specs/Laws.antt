@@ -9,7 +9,7 @@ use Rattle.protocol.specs.Arguments.{base64}
 use Rattle.protocol.specs.Commands.{command_of, name_of}
 use Rattle.protocol.specs.Reading.{incoming_of, message_of}
 use Rattle.protocol.specs.declared.command.Command.{Command}
-use Rattle.protocol.specs.declared.command.Command.TheVariants.{SetBreakpoints}
+use Rattle.protocol.specs.declared.command.Command.TheVariants as one
 use Rattle.protocol.specs.declared.refusal.Refusal.{Refusal}
 use Rattle.protocol.specs.declared.refusal.Refusal.TheVariants.{UnknownCommand, BadArguments}
 use Rattle.protocol.specs.declared.request.Request.{Request as ARequest}
@@ -52,8 +52,34 @@ BadNumbersWithinSeq =
 
 -- the lines for which breakpoints are asked are at most 2,147,483,647
 abbrev pub AsksLinesWithin : Command → Type 0
-AsksLinesWithin (SetBreakpoints arguments) = All (λ b. b.line ≤ 2147483647) arguments.breakpoints
-AsksLinesWithin other = ⊤
+AsksLinesWithin (one.Initialize arguments) = ⊤
+AsksLinesWithin (one.Launch arguments) = ⊤
+AsksLinesWithin one.Attach = ⊤
+AsksLinesWithin one.ConfigurationDone = ⊤
+AsksLinesWithin one.Threads = ⊤
+AsksLinesWithin (one.Cancel arguments) = ⊤
+AsksLinesWithin one.Restart = ⊤
+AsksLinesWithin one.Terminate = ⊤
+AsksLinesWithin (one.Disconnect arguments) = ⊤
+AsksLinesWithin (one.SetBreakpoints arguments) = All (λ b. b.line ≤ 2147483647) arguments.breakpoints
+AsksLinesWithin (one.SetFunctionBreakpoints arguments) = ⊤
+AsksLinesWithin (one.SetInstructionBreakpoints arguments) = ⊤
+AsksLinesWithin one.SetExceptionBreakpoints = ⊤
+AsksLinesWithin (one.Continue arguments) = ⊤
+AsksLinesWithin (one.Next arguments) = ⊤
+AsksLinesWithin (one.StepIn arguments) = ⊤
+AsksLinesWithin (one.StepOut arguments) = ⊤
+AsksLinesWithin (one.StepBack arguments) = ⊤
+AsksLinesWithin (one.ReverseContinue arguments) = ⊤
+AsksLinesWithin (one.Pause arguments) = ⊤
+AsksLinesWithin (one.StackTrace arguments) = ⊤
+AsksLinesWithin (one.Scopes arguments) = ⊤
+AsksLinesWithin (one.Variables arguments) = ⊤
+AsksLinesWithin (one.SetVariable arguments) = ⊤
+AsksLinesWithin (one.Evaluate arguments) = ⊤
+AsksLinesWithin (one.Disassemble arguments) = ⊤
+AsksLinesWithin (one.ReadMemory arguments) = ⊤
+AsksLinesWithin (one.WriteMemory arguments) = ⊤
 
 -- Each line that a request asks for is so.
 abbrev pub LinesWithinMax : Type 0

@@ -1,9 +1,10 @@
 //! Text that a message holds.
 ghost use Rattle.std.specs.Prelude.{◌≡◌, List, ℕ, string_bytes};
+ghost use Rattle.std.specs.Str.{IsUtf8};
 
 use std::marker::Model;
 
-/// A text in a message. A contract sees it as the list of its bytes, which are UTF-8.
+/// A text in a message. A contract sees it as the list of its bytes.
 #[derive(Debug, Drop)]
 pub struct Text {
     string: String,
@@ -37,9 +38,10 @@ impl Eq for Text {
 }
 
 impl Text {
-    /// The text that a `String` holds. It takes no memory.
+    /// The text that a `String` holds: its bytes, which are UTF-8. It takes no memory.
     pub fn from_string(string: String) -> Text
-        ensures { result ≡ string_bytes string }
+        ensures value { result ≡ string_bytes string }
+        ensures utf8 { IsUtf8 result }
     {
         Text { string }
     }

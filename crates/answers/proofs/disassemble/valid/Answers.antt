@@ -8,6 +8,6 @@ pub returns : goal.returns
 returns c =
     let text = string_bytes c.in_ok-text.text in
     ap (λ (t : List ℕ). Valid c.args.address t c.args.word)
-    (c.from_string.ensures
+    (c.from_string.ensures.value
     ∙ one_text c.args.word c.args.address text (text_at c.args.word c.args.address) c.in_ok-text.ensures
     (text_at-is c.args.word c.args.address))
