@@ -8,9 +8,10 @@ import time
 
 from support.files import file_of
 from support.interruptions import is_told_whatever_is_interrupted
-from support.launches import EXITED, TERMINATED, frames, started
-from support.program import PROGRAM, SECONDS, answered, expect, frame, run
-from support.programs import INCREMENT, INCREMENT_LISTING, LONG
+from support.launches import DONE, EXITED, STOPPED, TERMINATED, frames, started
+from support.preloading import preload
+from support.program import PROGRAM, SECONDS, Talk, answered, expect, frame, run
+from support.programs import CIRCLES, INCREMENT, INCREMENT_LISTING, LONG
 from support.streams import FAULT, KINDS, Streams, pipes
 from support.texts import ANSWERS, DISCONNECTED, FIRST, FIRST_ANSWER, SESSION, THREADS, request
 
@@ -68,6 +69,19 @@ def a_full_output_costs_no_processor_time():
         expect(time_used(streams.process.pid) - before < 0.5, True, "it waits")
         expect(streams.read(len(MANY_ANSWERS)), MANY_ANSWERS, "the answers")
         writer.join()
+
+
+def a_poll_that_finds_no_memory_leaves_a_pause_heard():
+    """An endless program runs on, and is not stopped by itself, as where nobody could be heard."""
+    with file_of(CIRCLES) as path, tempfile.TemporaryDirectory() as folder:
+        library = preload(folder, "abort")
+        for failed in (1, 2):
+            with Talk(environment=dict(os.environ, LD_PRELOAD=library, ABORT_POLLS=str(failed))) as talk:
+                sent, told = started(path)
+                expect(talk.answers(sent, told), told, "the start")
+                expect(talk.has_more(1), False, "a stop that nobody asked for")
+                told = frames(DONE % ("pause", 4, 5), STOPPED % ("pause", 6))
+                expect(talk.answers(request(4, "pause", threadId=1), told), told, "a pause")
 
 
 def time_used(process):
@@ -189,6 +203,7 @@ def checks():
         each_answer_comes_before_more_is_waited_for,
         a_slow_reader_of_an_output_that_does_not_block_gets_each_answer,
         a_full_output_costs_no_processor_time,
+        a_poll_that_finds_no_memory_leaves_a_pause_heard,
         a_process_that_was_stopped_while_it_waited_goes_on,
         the_end_of_an_input_that_does_not_block_is_its_end,
         an_editor_that_stops_listening_while_the_program_waits_is_a_fault,

@@ -1,10 +1,13 @@
 """The built program over TCP: `--listen`, editors one after the other, and peers that behave badly."""
+import contextlib
+import errno
 import os
 import signal
 import socket
 import struct
 import subprocess
 import tempfile
+import threading
 import time
 
 from support.files import file_of
@@ -14,7 +17,7 @@ from support.listening import JOINED, STARTED, Server, attaches, free_port, laun
 from support.preloading import preload
 from support.program import PROGRAM, SECONDS, expect, frame
 from support.programs import CALLS, CIRCLES, COUNTS, LONG
-from support.texts import ANSWERS, FIRST, FIRST_ANSWER, SESSION, request
+from support.texts import ANSWERS, DISCONNECTED, FIRST, FIRST_ANSWER, SESSION, THREADS, request
 
 FAULT = b"rvdap: read or write fault\n"
 BAD = b"rvdap: bad message\n"
@@ -157,6 +160,30 @@ def connections_that_break_before_they_are_accepted_are_passed_over():
                     expect(editor.sends(FIRST).reads(len(FIRST_ANSWER)), FIRST_ANSWER, "the next one's answer")
 
 
+def errors_of_the_network_before_an_accept_are_passed_over():
+    """Linux hands them on from the connection; the want of a descriptor ends the door."""
+    with tempfile.TemporaryDirectory() as folder:
+        environment = dict(os.environ, LD_PRELOAD=preload(folder, "abort"), ABORT_ACCEPTS="2")
+        for passed in (errno.ENONET, errno.EPROTO, errno.ENOPROTOOPT, errno.EOPNOTSUPP, errno.ENETDOWN, errno.ENETUNREACH, errno.EHOSTDOWN, errno.EHOSTUNREACH):
+            with Server(environment=dict(environment, ABORT_ERROR=str(passed))) as server, server.editor() as editor:
+                expect(editor.sends(FIRST).reads(len(FIRST_ANSWER)), FIRST_ANSWER, "an answer after " + errno.errorcode[passed])
+        for fault in (errno.EMFILE, errno.ENFILE, errno.ENOSYS):
+            with Server(environment=dict(environment, ABORT_ERROR=str(fault))) as server:
+                with contextlib.suppress(ConnectionResetError), server.editor():
+                    server.process.wait(SECONDS)
+                expect(server.end(), (1, b"", FAULT), "the end after " + errno.errorcode[fault])
+
+
+def polls_that_find_no_memory_are_made_again():
+    """One after the other, twice in a row: the program is heard and serves."""
+    with file_of(CIRCLES) as path, tempfile.TemporaryDirectory() as folder:
+        library = preload(folder, "abort")
+        for failed in (1, 2):
+            with Server(environment=dict(os.environ, LD_PRELOAD=library, ABORT_POLLS=str(failed))) as server, server.editor() as editor:
+                editor.sends(launches(path)).expects(*STARTED)
+                editor.sends(request(4, "pause", **THREAD)).expects('"pause"', '"stopped"')
+
+
 def two_at_once_are_served_in_the_order_in_which_they_came():
     with Server() as server:
         server.process.send_signal(signal.SIGSTOP)
@@ -217,6 +244,61 @@ def many_connections_at_constant_memory():
         serve(900)
         expect(server.memory() - before < 512, True, "the memory after 1,000 connections: %d KiB, and %d before" % (server.memory(), before))
         expect(len(os.listdir("/proc/%d/fd" % server.process.pid)) < 10, True, "the descriptors")
+
+
+# ---- the end of a connection
+
+def what_was_told_is_not_lost_where_more_was_sent():
+    """An editor that sends on after its `disconnect`, or after a bad message, and reads late, gets each answer and then the end."""
+    numbers = range(2, 61)
+    asked = FIRST + b"".join(request(n, "threads") for n in numbers)
+    told = FIRST_ANSWER + b"".join(frame(THREADS % (n, n)) for n in numbers)
+    ends = ((request(61, "disconnect"), frame(DISCONNECTED % (61, 61))), (frame("{}"), b""), (b"bogus\r\n\r\n", b""))
+    with Server() as server:
+        for small in (False, True):
+            for last, answer in ends:
+                for size in (0, 100, 70_000, 1_000_000):
+                    with server.editor() as editor:
+                        if small:
+                            editor.socket.setsockopt(socket.SOL_SOCKET, socket.SO_RCVBUF, 4096)
+                        editor.sends(asked + last + b"x" * size)
+                        time.sleep(0.2)
+                        what = "what is told, %d bytes after %r" % (size, last[-20:])
+                        expect(editor.reads(len(told + answer)), told + answer, what)
+                        expect(editor.is_ended(), True, "the end of the connection")
+
+
+def a_peer_that_sends_on_after_its_end_does_not_hold_the_door():
+    def sends_on(connection, is_over):
+        with contextlib.suppress(OSError):
+            while not is_over.is_set():
+                connection.sendall(b"x" * 4096)
+
+    with Server() as server, server.editor() as first:
+        first.sends(FIRST).expects('"initialize"')
+        leaves(first, 2)
+        is_over = threading.Event()
+        sender = threading.Thread(target=sends_on, args=(first.socket, is_over))
+        sender.start()
+        try:
+            with server.editor() as second:
+                begun = time.monotonic()
+                expect(second.sends(FIRST).reads(len(FIRST_ANSWER)), FIRST_ANSWER, "the next one's answer")
+                expect(time.monotonic() - begun < 5, True, "the door was not held")
+        finally:
+            is_over.set()
+            sender.join()
+
+
+def a_peer_that_stays_after_its_end_does_not_hold_the_door():
+    with Server() as server, server.editor() as first:
+        first.sends(FIRST).expects('"initialize"')
+        leaves(first, 2)
+        expect(first.is_ended(), True, "the end is told at once")
+        with server.editor() as second:
+            begun = time.monotonic()
+            expect(second.sends(FIRST).reads(len(FIRST_ANSWER)), FIRST_ANSWER, "the next one's answer")
+            expect(time.monotonic() - begun < 5, True, "the door was not held")
 
 
 # ---- time
@@ -319,8 +401,11 @@ def checks():
              a_bad_message_ends_its_connection_alone, a_given_program_is_joined, without_a_program_there_is_none_to_join,
              a_given_program_that_is_not_right_is_said, a_peer_that_vanishes_leaves_the_program_running,
              peers_that_reset_before_they_are_accepted_are_passed_over, connections_that_break_before_they_are_accepted_are_passed_over,
+             errors_of_the_network_before_an_accept_are_passed_over, polls_that_find_no_memory_are_made_again,
              two_at_once_are_served_in_the_order_in_which_they_came, a_peer_that_closes_its_side_is_answered_first,
              one_byte_at_a_time, a_peer_that_never_reads_costs_nothing, many_connections_at_constant_memory,
+             what_was_told_is_not_lost_where_more_was_sent, a_peer_that_sends_on_after_its_end_does_not_hold_the_door,
+             a_peer_that_stays_after_its_end_does_not_hold_the_door,
              a_pause_of_an_endless_program_is_answered_at_once, nothing_spins_while_nothing_runs, other_addresses, a_port_of_0_is_printed_as_given,
              an_address_that_cannot_be_listened_on_is_said, other_words_are_a_fault_of_usage, a_signal_ends_it_as_the_system_does,
              a_signal_at_any_call_leaves_a_session_as_it_is)

@@ -1,14 +1,16 @@
 /* Breaks connections of the process that it is preloaded into, as where a peer is gone before it is accepted: the first
-   ABORT_ACCEPTS calls of accept4 answer ECONNABORTED, and the first ABORT_SETS calls that set TCP_NODELAY fail. */
+   ABORT_ACCEPTS calls of accept4 answer ABORT_ERROR, or ECONNABORTED where none is given, and the first ABORT_SETS calls that set
+   TCP_NODELAY fail. The first ABORT_POLLS calls of poll find no memory. */
 #define _GNU_SOURCE
 #include <dlfcn.h>
 #include <errno.h>
 #include <netinet/in.h>
 #include <netinet/tcp.h>
+#include <poll.h>
 #include <stdlib.h>
 #include <sys/socket.h>
 
-static unsigned long accepts, sets;
+static unsigned long accepts, error, polls, sets;
 
 static unsigned long number(const char *name)
 {
@@ -19,15 +21,17 @@ static unsigned long number(const char *name)
 __attribute__((constructor)) static void start(void)
 {
     accepts = number("ABORT_ACCEPTS");
+    error = number("ABORT_ERROR");
+    polls = number("ABORT_POLLS");
     sets = number("ABORT_SETS");
 }
 
-static int is_broken(unsigned long *left, int error)
+static int is_broken(unsigned long *left, int why)
 {
     if (*left == 0)
         return 0;
     --*left;
-    errno = error;
+    errno = why;
     return 1;
 }
 
@@ -35,7 +39,7 @@ static int is_broken(unsigned long *left, int error)
 
 int accept4(int fd, struct sockaddr *address, socklen_t *size, int flags)
 {
-    return is_broken(&accepts, ECONNABORTED) ? -1 : REAL(accept4)(fd, address, size, flags);
+    return is_broken(&accepts, error ? (int)error : ECONNABORTED) ? -1 : REAL(accept4)(fd, address, size, flags);
 }
 
 int setsockopt(int fd, int level, int option, const void *value, socklen_t size)
@@ -43,4 +47,9 @@ int setsockopt(int fd, int level, int option, const void *value, socklen_t size)
     if (level == IPPROTO_TCP && option == TCP_NODELAY && is_broken(&sets, EINVAL))
         return -1;
     return REAL(setsockopt)(fd, level, option, value, size);
+}
+
+int poll(struct pollfd *asked, nfds_t count, int timeout)
+{
+    return is_broken(&polls, ENOMEM) ? -1 : REAL(poll)(asked, count, timeout);
 }

@@ -12,3 +12,8 @@ abbrev pub passes : ErrorKind → Bool
 passes Interrupted = true
 passes WouldBlock = true
 passes _ = false
+
+-- whether one of this kind is that of a signal, after which the call can be made again without a wait
+abbrev pub is_interrupted : ErrorKind → Bool
+is_interrupted Interrupted = true
+is_interrupted _ = false

@@ -6,7 +6,7 @@ mod retries;
 mod waiting;
 mod writing;
 
-pub use ready::can_read;
+pub use ready::{can_read, can_read_within};
 pub use retries::{Lasting, Retries};
 pub use waiting::Waiting;
 pub use writing::{write_some, write_whole};

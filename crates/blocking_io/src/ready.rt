@@ -25,7 +25,10 @@ pub(crate) enum Direction {
 const NO_LIMIT: i32 = -1;
 
 // The timeout of a `poll` that does not wait.
-const AT_ONCE: i32 = 0;
+const AT_ONCE: u16 = 0;
+
+// How often `poll` is asked at most: where the system had no memory for one call, it may have some for the next.
+const MOST_ASKS: u32 = 3;
 
 /// After an error that passes, waits until the call would not block, however long it takes: it is then
 /// to be made again, which is counted. A signal may end the wait early. Any other error stays.
@@ -49,20 +52,23 @@ pub(crate) fn wait_after(
 }
 
 /// Whether a read of the stream would not block: there is something to read, or its input has ended or is
-/// broken, which the read then tells. It does not wait; where a signal interrupts it, it found nothing.
+/// broken, which the read then tells. It does not wait; where a signal interrupts it, it found nothing. A `poll` that fails
+/// is asked again, twice at most.
 pub fn can_read<S: AsRawFd>(stream: &S) -> io::Result<bool>
     ensures err { IfErr result (λ e. passes (error_kind e) ≡ false) }
 {
-    let mut asked = [pollfd {
-        fd: stream.as_raw_fd(),
-        events: events_of(Direction::Read),
-        revents: 0,
-    }];
-    let count = net::poll(&mut asked, AT_ONCE);
-    found(count, os::errno())
+    can_read_within(stream, AT_ONCE)
 }
 
-// What a `poll` that does not wait found, by its answer and the number of its error.
+/// The same, and it waits for so many milliseconds at most where a read would block. A signal may end the wait early.
+pub fn can_read_within<S: AsRawFd>(stream: &S, milliseconds: u16) -> io::Result<bool>
+    ensures err { IfErr result (λ e. passes (error_kind e) ≡ false) }
+{
+    let (count, errno) = poll_one(stream.as_raw_fd(), Direction::Read, i32::from(milliseconds));
+    found(count, errno)
+}
+
+// What a `poll` found whose wait has a limit, by its answer and the number of its error.
 fn found(count: i32, errno: i32) -> io::Result<bool>
     ensures found { Found count errno result }
     ensures err { IfErr result (λ e. passes (error_kind e) ≡ false) }
@@ -71,7 +77,7 @@ fn found(count: i32, errno: i32) -> io::Result<bool>
     Ok(is_ready(count))
 }
 
-// Whether a descriptor is ready, by the answer of a `poll` that does not wait.
+// Whether a descriptor is ready, by the answer of a `poll` whose wait has a limit.
 fn is_ready(count: i32) -> bool
     ensures { result ≡ is_ready count }
 {
@@ -90,13 +96,30 @@ fn passes(error: &io::Error) -> bool
 fn wait(fd: RawFd, direction: Direction) -> io::Result<()>
     ensures { IfErr result (λ e. passes (error_kind e) ≡ false) }
 {
+    let (count, errno) = poll_one(fd, direction, NO_LIMIT);
+    after_poll(count, errno)
+}
+
+// Asks `poll` of one descriptor, and again where it failed: its last answer, and the number of its error.
+fn poll_one(fd: RawFd, direction: Direction, timeout: i32) -> (i32, i32) {
+    let mut answer = poll_once(fd, direction, timeout);
+    for _ in 1..MOST_ASKS {
+        if has_ended(answer.0, answer.1) {
+            return answer;
+        }
+        answer = poll_once(fd, direction, timeout);
+    }
+    answer
+}
+
+fn poll_once(fd: RawFd, direction: Direction, timeout: i32) -> (i32, i32) {
     let mut asked = [pollfd {
         fd,
         events: events_of(direction),
         revents: 0,
     }];
-    let count = net::poll(&mut asked, NO_LIMIT);
-    after_poll(count, os::errno())
+    let count = net::poll(&mut asked, timeout);
+    (count, os::errno())
 }
 
 // What `poll` is asked to wait for.
@@ -115,9 +138,16 @@ fn after_poll(count: i32, errno: i32) -> io::Result<()>
     ensures err { IfErr result
         (λ e. (raw_os_error e ≡ Some errno) × (passes (error_kind e) ≡ false)) }
 {
-    if count >= 0 {
-        return Ok(());
+    if has_ended(count, errno) {
+        Ok(())
+    } else {
+        Err(io::Error::from_raw_os_error(errno))
     }
-    let error = io::Error::from_raw_os_error(errno);
-    if passes(&error) { Ok(()) } else { Err(error) }
+}
+
+// Whether the wait of a `poll` has ended, by its answer and the number of its error: else it failed.
+fn has_ended(count: i32, errno: i32) -> bool
+    ensures { result ≡ has_ended count errno }
+{
+    count >= 0 || passes(&io::Error::from_raw_os_error(errno))
 }

@@ -21,7 +21,8 @@ impl Model for Retries {
 }
 
 /// An error that stays: that of a call that is not made again, or `TimedOut` where one was made again 2^64 - 1 times.
-/// Only `Retries::after` makes one, so a loop that makes a call again cannot end with another error.
+/// Only `Retries::after` makes one, so a loop that makes a call again and fails has asked it. That it asked of its own call's
+/// error no clause can say.
 #[derive(Debug, Drop)]
 pub struct Lasting {
     error: io::Error,

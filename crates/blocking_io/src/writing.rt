@@ -1,9 +1,11 @@
 //! Bytes to a writer, and what it has of them where it fails.
-ghost use Rattle.std.specs.Prelude.{◌≢◌, IfErr, OnErr, OnOk};
+ghost use Rattle.std.specs.Prelude.{◌≡◌, ◌≢◌, IfErr, OnErr, OnOk};
 ghost use Rattle.std.specs.Io.{WritesAtMost};
 ghost use Rattle.std.specs.Io.KnownBytes.{Appends, WriteAppends};
 ghost use Rattle.std.specs.IoError.{error_kind};
 ghost use Rattle.std.specs.declared.io.ErrorKind.TheVariants.{Interrupted};
+ghost use Rattle.blocking_io.specs.Passing.{is_interrupted};
+ghost use Rattle.blocking_io.specs.Retries.{IsAfter};
 ghost use Rattle.blocking_io.specs.Writing.{IsPartWritten};
 
 use crate::retries::{Lasting, Retries};
@@ -53,10 +55,23 @@ fn write_once<W: Write>(writer: &mut W, bytes: &[u8]) -> Result<usize, Lasting>
     'writing: loop {
         match writer.write(bytes) {
             Ok(count) => return Ok(count),
-            Err(error) => {
-                let interrupted = error.kind() == ErrorKind::Interrupted;
-                retries.after(error, interrupted)?;
-            }
+            Err(error) => after_write(error, &mut retries)?,
         }
     }
+}
+
+// After an error of a write: where a signal interrupted it, the write is to be made again, which is counted. Any other
+// error stays, also that of a write that would block: one that is made again at once would find the same.
+fn after_write(error: io::Error, retries: &mut Retries) -> Result<(), Lasting>
+    ensures { IsAfter retries.old error (is_interrupted (error_kind error)) result retries.new }
+{
+    let interrupted = is_interrupted(&error);
+    retries.after(error, interrupted)
+}
+
+// Whether a signal interrupted the call.
+fn is_interrupted(error: &io::Error) -> bool
+    ensures { result ≡ is_interrupted (error_kind error.now) }
+{
+    error.kind() == ErrorKind::Interrupted
 }

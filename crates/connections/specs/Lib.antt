@@ -5,3 +5,5 @@ pub mod Failures
 pub mod Outcomes
 -- what a look does to the bytes of a reader, and how a wire begins
 pub mod Readers
+-- how a connection ends that is to lose nothing of what was sent
+pub mod Lingering

@@ -2,7 +2,7 @@
 use Rattle.std.specs.Prelude.{◌≡◌, ◌≢◌, ℕ, zero, suc, Bool, true, false, Result, Ok, Err, IfErr, IsErrAnd}
 use Rattle.std.specs.declared.io.Error.{Error}
 use Rattle.std.specs.declared.io.ErrorKind.TheVariants.{WouldBlock}
-use Rattle.std.specs.IoError.{error_kind}
+use Rattle.std.specs.IoError.{error_kind, raw_os_error}
 use Rattle.wires.specs.declared.wire.Received.{Received}
 use Rattle.wires.specs.declared.wire.Received.TheVariants.{Bytes, Nothing, End}
 use Rattle.wires.specs.declared.wire.WireFault.{WireFault}
@@ -56,4 +56,4 @@ came_failed Fault = Err (record {})
 -- an accept that succeeded gives its wire
 abbrev pub came : {W : Type 0} → Result W Error → Result (Came W) DoorFault
 came (Ok wire) = Ok (Wire wire)
-came (Err e) = came_failed (failed_accept (error_kind e))
+came (Err e) = came_failed (failed_accept (error_kind e) (raw_os_error e))

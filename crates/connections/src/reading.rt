@@ -1,16 +1,16 @@
 //! Reads that do not fail where a signal interrupted them, and reads that wait.
 ghost use Rattle.std.specs.Prelude.{◌≡◌, ◌==◌, ◌<◌, ◌+◌, Err, IfErr, OnOk, ◌≢◌, Some, length, not, true, false};
-ghost use Rattle.blocking_io.specs.Retries.{most_retries};
+ghost use Rattle.blocking_io.specs.Retries.{most_retries, IsAfter};
 ghost use Rattle.std.specs.Io.{ReadsAtMost};
 ghost use Rattle.std.specs.Io.KnownBytes.{ReadConsumes};
 ghost use Rattle.std.specs.IoError.{error_kind};
 ghost use Rattle.connections.specs.declared.failure.Failure.TheVariants.{Again, Nothing};
-ghost use Rattle.connections.specs.Failures.{failed_read};
+ghost use Rattle.connections.specs.Failures.{failed_read, is_made_again};
 ghost use Rattle.connections.specs.Outcomes.{IsReadiness, Looked};
 ghost use Rattle.connections.specs.Readers.{LooksInto};
 ghost use Rattle.wires.specs.Wires.{IsWithin};
 
-use crate::failure::{Failure, failed_read};
+use crate::failure::{Failure, failed_read, is_made_again};
 use crate::outcome::received;
 use blocking_io::{Lasting, Retries, Waiting, can_read};
 use std::io;
@@ -28,12 +28,19 @@ pub(crate) fn read_once<R: Read>(reader: &mut R, room: &mut [u8]) -> Result<usiz
     'reading: loop {
         match reader.read(room) {
             Ok(count) => return Ok(count),
-            Err(error) => {
-                let again = failed_read(&error) == Failure::Again;
-                retries.after(error, again)?;
-            }
+            Err(error) => after_read(error, &mut retries)?,
         }
     }
+}
+
+// After an error of a read: where a signal interrupted it, the read is to be made again, which is counted. Any other
+// error stays, also that of a read that found nothing.
+fn after_read(error: io::Error, retries: &mut Retries) -> Result<(), Lasting>
+    ensures { IsAfter retries.old error (is_made_again (failed_read (error_kind error))) result
+        retries.new }
+{
+    let again = is_made_again(failed_read(&error));
+    retries.after(error, again)
 }
 
 /// Reads what has come, and does not wait.

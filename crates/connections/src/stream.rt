@@ -46,6 +46,21 @@ impl<R: Read + AsRawFd, W: Write + AsRawFd> StreamWire<R, W> {
             idle: 0,
         }
     }
+
+    /// The stream that is read. The one that is written is dropped.
+    pub(crate) fn into_reader(self) -> R
+    where
+        W: Drop,
+    {
+        let StreamWire {
+            reader,
+            writer: _,
+            polls: _,
+            faults: _,
+            idle: _,
+        } = self;
+        reader
+    }
 }
 
 impl<R: Read + AsRawFd, W: Write + AsRawFd> Wire for StreamWire<R, W> {

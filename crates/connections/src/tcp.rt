@@ -1,45 +1,19 @@
-//! Wires and doors over TCP.
+//! Doors over TCP.
 ghost use Rattle.std.specs.Prelude.{◌≡◌, ◌≢◌, IfOk, IfErr, IsSome, Ok, None, true};
-ghost use Rattle.std.specs.IoError.{error_kind};
+ghost use Rattle.std.specs.IoError.{error_kind, raw_os_error};
+ghost use Rattle.blocking_io.specs.Retries.{IsAfter};
 ghost use Rattle.wires.specs.Doors.{Knocks, Admits};
-ghost use Rattle.connections.specs.Failures.{failed_accept, IsStanding};
-ghost use Rattle.connections.specs.Readers.{Begins};
+ghost use Rattle.connections.specs.Failures.{failed_accept, is_made_again};
 
-use crate::failure::{Failure, failed_accept};
+use crate::connection::{TcpWire, tcp_wire};
+use crate::failure::{Failure, failed_accept, is_made_again};
 use crate::outcome::came;
 use crate::reading::wait_after;
-use crate::stream::StreamWire;
 use blocking_io::{Lasting, Retries};
 use std::io;
-use std::io::ErrorKind;
-use std::net::{TcpListener, TcpStream};
+use std::net::TcpListener;
 use std::os::fd::AsRawFd;
 use wires::{Came, Door, DoorFault, Wire};
-
-/// A wire over a connection of TCP. It can poll. The connection is closed where the wire is dropped.
-pub type TcpWire = StreamWire<TcpStream, TcpStream>;
-
-/// A wire over this connection. What is sent goes out at once, and does not wait for what the peer acknowledges
-/// (RFC 9293, section 3.7.4: the Nagle algorithm is off). The error is `ConnectionAborted` where that cannot be set, as
-/// of a connection that broke, and else that of the system where it has no descriptor left.
-pub fn tcp_wire(stream: TcpStream) -> io::Result<TcpWire>
-    ensures line { IfOk result (λ wire. Begins (⟦<TcpWire as Wire>⟧.line wire) None None) }
-    ensures polls { IfOk result (λ wire. (⟦<TcpWire as Wire>⟧.line wire).polls ≡ true) }
-{
-    standing(stream.set_nodelay(true))?;
-    let writer = stream.try_clone()?;
-    Ok(StreamWire::with_polling(stream, writer, true))
-}
-
-// Whether a connection stands, by whether it could be set to send at once: where it could not, it broke before it was accepted.
-fn standing(set: io::Result<()>) -> io::Result<()>
-    ensures { IsStanding set result }
-{
-    match set {
-        Ok(()) => Ok(()),
-        Err(_) => Err(ErrorKind::ConnectionAborted.into()),
-    }
-}
 
 /// A door where the peers of a listener come in. It never says that nobody will come any more.
 #[derive(Drop)]
@@ -66,18 +40,25 @@ impl TcpDoor {
 
 // Takes the peer that is first of those who wait, and passes over those whose connection broke.
 fn accept_once(listener: &TcpListener) -> Result<TcpWire, Lasting>
-    ensures { IfErr result (λ e. failed_accept (error_kind e) ≢ Failure.Again) }
+    ensures { IfErr result (λ e. failed_accept (error_kind e) (raw_os_error e) ≢ Failure.Again) }
 {
     let mut retries = Retries::none();
     'accepting: loop {
         match first_peer(listener) {
             Ok(wire) => return Ok(wire),
-            Err(error) => {
-                let again = failed_accept(&error) == Failure::Again;
-                retries.after(error, again)?;
-            }
+            Err(error) => after_accept(error, &mut retries)?,
         }
     }
+}
+
+// After an error of an accept: where the peer is passed over, or a signal interrupted it, the accept is to be made again,
+// which is counted. Any other error stays, also that of an accept that found nobody.
+fn after_accept(error: io::Error, retries: &mut Retries) -> Result<(), Lasting>
+    ensures { IsAfter retries.old error
+        (is_made_again (failed_accept (error_kind error) (raw_os_error error))) result retries.new }
+{
+    let again = is_made_again(failed_accept(&error));
+    retries.after(error, again)
 }
 
 // Takes the peer that is first of those who wait, where its connection stands.
@@ -88,7 +69,7 @@ fn first_peer(listener: &TcpListener) -> io::Result<TcpWire> {
 
 // Takes the next peer, and waits for it.
 fn accept_waiting(listener: &TcpListener) -> Result<TcpWire, Lasting>
-    ensures { IfErr result (λ e. failed_accept (error_kind e) ≢ Failure.Nothing) }
+    ensures { IfErr result (λ e. failed_accept (error_kind e) (raw_os_error e) ≢ Failure.Nothing) }
 {
     let mut retries = Retries::none();
     'accepting: loop {

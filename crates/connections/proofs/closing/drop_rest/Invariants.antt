@@ -1,0 +1,15 @@
+-- Before each look so many pieces were dropped, and there were not more of them, nor of the waits, than there may be.
+use Rattle.std.proofs.Common.{◌≡◌, ◌+◌, ◌*◌, ◌-◌, ◌≤◌, length}
+use Rattle.connections.specs.Lingering.{most_pieces, most_waits, Dropped}
+use Rattle.connections.proofs.closing.drop_rest.Given as goal
+
+abbrev pub invariant-lingering : goal.invariant-lingering
+invariant-lingering g l = record {
+  long : length l.room ≡ length l.initial.room;
+  pieces : l.lingering.pieces ≤ most_pieces;
+  waits : l.lingering.waits ≤ most_waits;
+  dropped : Dropped (g.R.Read.remaining l.initial.reader) (g.R.Read.remaining l.reader) (l.lingering.pieces * length l.initial.room);
+}
+
+abbrev pub decreases-lingering : goal.decreases-lingering
+decreases-lingering g l = (most_pieces - l.lingering.pieces) + (most_waits - l.lingering.waits)
