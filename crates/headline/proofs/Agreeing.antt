@@ -1,22 +1,11 @@
 -- What an editor knows fits to what there is now, so that what comes next can be told.
-use Rattle.std.proofs.Common.{◌≡◌, ℕ, Bool, true, List, [], Option, Some, None, refl, sym, ◌∙◌, subst}
-use Rattle.std.specs.Prelude.{⊤, slice_get}
-use Rattle.debuggee.specs.Programs.{Program, is_running, marked, marked_by, on_program}
-use Rattle.debuggee.specs.declared.run.Mark.{Mark}
-use Rattle.debuggee.specs.declared.run.Run.{Run}
+use Rattle.headline.proofs.Common.{Active, Bool, Configuring, Facts, Fresh, Holds, HoldsAt, HoldsRun, in_state, Initialized, is_running, Left, List, Mark, marked, marked_by, None, nothing_known, number_in, Numbers, on_program, Option, Phase, Program, refl, Run, Running, RunState, shown_by, shown_of, slice_get, Some, subst, sym, Terms, true, Unknown, ℕ, ⊤, ◌∙◌, ◌≡◌}
+use Rattle.std.proofs.Common.{[]}
 use Rattle.debuggee.specs.declared.run.Run.TheVariants as a_run
-use Rattle.facts.specs.Facts.{Facts, nothing_known, unknown}
-use Rattle.mirror.specs.Folding.{in_state}
+use Rattle.facts.specs.Facts.{unknown}
 use Rattle.facts.specs.declared.frame.FrameInfo.{FrameInfo}
-use Rattle.facts.specs.declared.run.RunState.{RunState}
-use Rattle.facts.specs.declared.run.RunState.TheVariants.{Unknown, Running, Stopped, Ended}
-use Rattle.handlers.specs.declared.phase.Phase.{Phase}
-use Rattle.handlers.specs.declared.phase.Phase.TheVariants.{Fresh, Initialized, Configuring, Active, Left}
-use Rattle.handlers.specs.declared.terms.Terms.{Terms}
-use Rattle.variables.specs.Numbers.{Numbers, number_in}
+use Rattle.facts.specs.declared.run.RunState.TheVariants.{Stopped, Ended}
 use Rattle.variables.specs.declared.target.Target.TheVariants.{Frame}
-use Rattle.headline.specs.Holding.{Holds, HoldsAt, HoldsRun}
-use Rattle.snapshots.specs.Shown.{shown_by, shown_of}
 
 -- nothing is known of the machine as it stands still
 pub record KnowsNoStand (f : Facts) : Type 0 where

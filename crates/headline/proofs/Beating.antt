@@ -1,25 +1,15 @@
 -- Each beat of a slice leads to what is known and fits.
-use Rattle.std.proofs.Common.{◌≡◌, ℕ, Bool, true, ltb, List, [], ◌∷◌, map, Option, Some, None, Result, Ok, Err, refl, sym, ap, ◌∙◌, subst}
-use Rattle.std.specs.Prelude.{not}
+use Rattle.headline.proofs.Common.{ap, Beat, beat_by, beat_of, Bool, by_move, ends, entered, Err, Facts, FULL, goes, goes_unless, HoldsRun, if_keeps, info_of, is_active, is_active_in, is_at_limit, is_configuring, is_runnable_by, is_running, List, listed_at, ltb, map, Mark, moved, moves_by, next_tick, None, not, Now, Numbers, Ok, Option, Placed, Program, refl, Result, Run, Seen, shown_of, Some, state_of, subst, sym, Terms, Tick, true, why_marked, ℕ, ◌∙◌, ◌∷◌, ◌≡◌}
+use Rattle.std.proofs.Common.{[]}
 use Rattle.std.specs.declared.alloc.AllocError.{AllocError}
-use Rattle.breakpoints.specs.Stops.{Lists, Placed, checked, counted, is_hit, with_hit}
-use Rattle.debuggee.specs.Programs.{Program, entered, is_running, moved, next_tick, why_marked}
-use Rattle.debuggee.specs.declared.run.Mark.{Mark}
-use Rattle.debuggee.specs.declared.run.Run.{Run}
+use Rattle.breakpoints.specs.Stops.{Lists, checked, counted, is_hit, with_hit}
 use Rattle.debuggee.specs.declared.run.Why.TheVariants as why
-use Rattle.facts.specs.Facts.{Facts}
 use Rattle.facts.specs.declared.breakpoint.BreakInfo.{BreakInfo}
 use Rattle.rv32i.specs.declared.hart.Hart.{Hart}
 use Rattle.rv32i.specs.declared.instr.Instr.{Instr}
 use Rattle.rv32i.specs.declared.stepped.Stepped.{Stepped}
 use Rattle.rv32i.specs.declared.stepped.Stepped.TheVariants as stepped
-use Rattle.session.proofs.Reaching.{if_keeps}
-use Rattle.session.specs.Acts.{Now, Seen}
-use Rattle.handlers.specs.Phases.{is_active_in}
-use Rattle.session.specs.Phases.{is_active, is_configuring}
-use Rattle.session.specs.Slices.{Beat, beat_by, beat_of, ends, goes, goes_unless, is_at_limit, is_runnable_by, moves_by, runs}
-use Rattle.session.specs.declared.state.TheConstants.{FULL}
-use Rattle.handlers.specs.declared.terms.Terms.{Terms}
+use Rattle.session.specs.Slices.{runs}
 use Rattle.stepping.proofs.Existing.{the_tick}
 use Rattle.course.specs.Positions.{Position}
 use Rattle.stepping.specs.Ticks.{Debugged, IsTick, Settles, entry_checked, looked_at, moved_as, settled, stayed, undone_by}
@@ -28,14 +18,9 @@ use Rattle.stepping.specs.declared.goal.Goal.TheVariants as goal
 use Rattle.stepping.proofs.Cases.{by_tick}
 use Rattle.stepping.specs.declared.tick.Outcome.{Outcome as CameTo}
 use Rattle.stepping.specs.declared.tick.Reason.TheVariants as met
-use Rattle.stepping.specs.declared.tick.Tick.{Tick}
-use Rattle.variables.specs.Numbers.{Numbers}
 use Rattle.headline.proofs.Agreeing.{Agrees, OwesOf, OwesRunning, holds_moving, never}
 use Rattle.headline.proofs.Leading.{Leads, SameBut, exits_lead, halts_lead, telling_leads}
 use Rattle.headline.proofs.Owing.{both_true}
-use Rattle.headline.specs.Holding.{HoldsRun}
-use Rattle.snapshots.specs.Shown.{info_of, listed_at, shown_of, state_of}
-use Rattle.session.proofs.ByMove.{by_move}
 
 -- ---- a tick leaves the breakpoints where they are
 

@@ -1,8 +1,7 @@
 -- `setVariable` and `writeMemory`: what is known of registers and of memory is so after the change.
-use Rattle.std.proofs.Common.{◌≡◌, ℕ, ◌+◌, ◌-◌, ◌<◌, ◌≤◌, zero, suc, min, Bool, true, false, cond, eqb, leb, ltb, List, [], ◌∷◌, length, take, drop, Option, Some, None, Result, Ok, Err, inl, inr, refl, sym, ap, ◌∙◌, subst, arith}
-use Rattle.std.specs.Prelude.{◌⊎◌, slice_get, slice_index, slice_set, find, ◌&&◌, not, ◌%◌, bytes_eq, codes, IfOk, ◌^◌}
-use Rattle.std.specs.List.{range_with_len}
-use Rattle.std.proofs.lemmas.Bool.Decides.{nat_tests}
+use Rattle.headline.proofs.Common.{ap, arith, Bool, bytes_eq, codes, cond, eqb, Err, Facts, false, HoldsAt, if_keeps, IfOk, inl, inr, is_active_in, is_running, leb, length, List, ltb, min, nat_tests, None, not, Numbers, Ok, Option, Program, range_with_len, refl, Refusal, register_at, register_of, Result, slice_get, slice_index, Some, subst, suc, succeeded, sym, Target, Terms, true, valued, with_hart, written, zero, ℕ, ◌&&◌, ◌+◌, ◌<◌, ◌∙◌, ◌∷◌, ◌≡◌, ◌≤◌, ◌⊎◌}
+use Rattle.std.proofs.Common.{◌-◌, [], take, drop}
+use Rattle.std.specs.Prelude.{slice_set, find, ◌%◌, ◌^◌}
 use Rattle.std.proofs.lemmas.List.{length-take}
 use Rattle.answers.proofs.ProperValues.{writings_fit}
 use Rattle.answers.specs.ReadMemory.{can_begin, start_at}
@@ -12,36 +11,25 @@ use Rattle.answers.specs.SetVariable.{set_in, setting_of, with_register}
 use Rattle.answers.specs.WriteMemory.{fitting, start_by, write_memory, written as written_by, written_at, writing_of}
 use Rattle.answers.specs.declared.set_variable.Setting.{Setting}
 use Rattle.answers.specs.declared.write_memory.Writing.{Writing}
-use Rattle.debuggee.specs.Programs.{Program, is_running, with_hart, written}
 use Rattle.image.proofs.Maps.{keeps_above, keeps_below, writes_bytes}
 use Rattle.image.specs.Memory.{byte_at, fault_at, has_bytes, memory_after, with_bytes}
 use Rattle.image.specs.declared.fault.MemFault.{MemFault}
 use Rattle.image.specs.declared.fault.MemFault.TheVariants.{Misaligned, Outside}
-use Rattle.facts.specs.Facts.{Facts}
-use Rattle.mirror.specs.Folding.{over, succeeded, valued}
-use Rattle.mirror.specs.Requests.{register_of}
+use Rattle.mirror.specs.Folding.{over}
 use Rattle.mirror.specs.declared.asked.Asked.TheVariants as asks
-use Rattle.protocol.specs.declared.refusal.Refusal.{Refusal}
 use Rattle.protocol.specs.declared.refusal.Refusal.TheVariants.{NotWritable, OutsideMemory, TooMuch}
 use Rattle.protocol.specs.declared.set_variable.SetVariableArguments.{SetVariableArguments}
 use Rattle.protocol.specs.declared.write_memory.WriteMemoryArguments.{WriteMemoryArguments}
 use Rattle.range_laws.specs.Machines.{AreRegisters}
 use Rattle.rv32i.specs.Names.{name_of, number_named}
 use Rattle.rv32i.specs.declared.hart.Hart.{Hart}
-use Rattle.session.proofs.Reaching.{if_keeps}
-use Rattle.handlers.specs.Phases.{is_active_in}
-use Rattle.handlers.specs.declared.terms.Terms.{Terms}
-use Rattle.variables.specs.Numbers.{Numbers}
 use Rattle.variables.specs.Registers.{name_answer, unless_zero}
 use Rattle.variables.specs.Values.{value_of}
-use Rattle.variables.specs.declared.target.Target.{Target}
 use Rattle.variables.specs.declared.target.Target.TheVariants as target
 use Rattle.headline.proofs.Agreeing.{Agrees, never}
 use Rattle.headline.proofs.Leading.{suits_as}
 use Rattle.headline.proofs.Placing.{first_test, not_below}
 use Rattle.headline.proofs.Valuing.{same_number, still_moving, value_at}
-use Rattle.headline.specs.Holding.{HoldsAt}
-use Rattle.snapshots.specs.Shown.{register_at}
 
 -- ---- one register is set
 

@@ -1,28 +1,15 @@
 -- What there is to show of the success of a command: that what it tells is so, and that what is known then fits.
-use Rattle.std.proofs.Common.{◌≡◌, ℕ, true, List, map, Option, Some, None, sym, subst}
-use Rattle.debuggee.specs.Programs.{Program}
-use Rattle.facts.specs.Facts.{Facts}
-use Rattle.mirror.specs.Folding.{answered}
+use Rattle.headline.proofs.Common.{answered, Answering, Asked, BoundsIn, Facts, given_of, Holds, List, map, Meets, None, Now, Option, Program, Refusal, run_of, shown_by, Some, subst, sym, Tell, Terms, true, ℕ, ◌≡◌}
 use Rattle.mirror.specs.Requests.{asked_of}
-use Rattle.mirror.specs.declared.asked.Asked.{Asked}
 use Rattle.protocol.specs.declared.command.Command.{Command}
-use Rattle.protocol.specs.declared.refusal.Refusal.{Refusal}
 use Rattle.session.proofs.Orderly.{OrderlyIn}
-use Rattle.session.proofs.Serving.{Meets}
-use Rattle.session_laws.proofs.Turning.{BoundsIn}
 use Rattle.range_laws.specs.Requests.{GivesBytes}
-use Rattle.handlers.specs.Given.{Answering}
-use Rattle.session.specs.Acts.{Now, Tell, given_of}
-use Rattle.handlers.specs.Demands.{run_of}
 use Rattle.session.specs.References.{referred}
 use Rattle.handlers.specs.Requests.{demand_of, is_taken_in, success_of}
 use Rattle.handlers.specs.Successes.{refusing}
-use Rattle.handlers.specs.declared.terms.Terms.{Terms}
 use Rattle.headline.proofs.Agreeing.{Agrees, OwesOf}
 use Rattle.headline.proofs.Leading.{Leads}
 use Rattle.headline.proofs.Remembering.{refused_tells}
-use Rattle.headline.specs.Holding.{Holds}
-use Rattle.snapshots.specs.Shown.{shown_by}
 
 -- an answer is so, and so is what is told after it
 abbrev pub AnswerLeads : Now → Facts → Option Asked → Answering → Type 0

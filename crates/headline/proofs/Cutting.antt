@@ -1,14 +1,8 @@
 -- What was so at each message was so at the last one of any prefix.
-use Rattle.std.proofs.Common.{◌≡◌, ℕ, List, [], ◌∷◌, ◌++◌, length, Option, Some, refl}
-use Rattle.std.specs.Prelude.{⊤, nat_le, ◌-◌}
-use Rattle.facts.specs.Facts.{Facts}
-use Rattle.mirror.specs.Folding.{folded}
-use Rattle.mirror.specs.declared.asked.Asked.{Asked}
-use Rattle.session.proofs.Reaching.{if_keeps}
-use Rattle.session.specs.Sessions.{Said, frame_said}
-use Rattle.snapshots.specs.Shown.{Snapshot, shown}
-use Rattle.headline.specs.Concluding.{WasSo, known_after, last_seen, told_within}
-use Rattle.headline.specs.Holding.{Holds}
+use Rattle.headline.proofs.Common.{Asked, Facts, folded, frame_said, Holds, if_keeps, known_after, length, List, nat_le, Option, refl, Said, shown, Snapshot, Some, told_within, ℕ, ⊤, ◌++◌, ◌∷◌, ◌≡◌}
+use Rattle.std.proofs.Common.{[]}
+use Rattle.std.specs.Prelude.{◌-◌}
+use Rattle.headline.specs.Concluding.{WasSo, last_seen}
 
 -- what is known after each of these messages was so when it was queued
 abbrev pub AllHold : (ℕ → Option Asked) → Facts → List Said → Type 0

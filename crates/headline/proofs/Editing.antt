@@ -1,33 +1,23 @@
 -- An editor tells its mirror requests and feeds it bytes, in turn: the facts are those of the whole messages among these bytes.
-use Rattle.std.proofs.Common.{◌≡◌, ℕ, ◌+◌, ◌-◌, ◌<◌, ◌≤◌, Bool, true, false, cond, eqb, leb, List, [], ◌∷◌, ◌++◌, map, fold, length, take, drop, Option, Some, None, option_map, refl, sym, ap, ◌∙◌, subst, arith, append-nil, append_assoc, length-append, inl, inr}
-use Rattle.std.specs.Prelude.{All, ◌⊎◌}
+use Rattle.headline.proofs.Common.{All, All-cons, All-head, All-nil, All-tail, answered, ap, arith, Ask, Asked, Bool, cond, Done, eqb, Facts, false, first_asked, folded, frame_said, inl, inr, known_after, leb, length, length-append, Life, List, map, Message, nat_tests, None, nothing_known, Option, refl, Refused, remembered, Said, Some, subst, sym, take-append-drop, told_within, true, ℕ, ◌++◌, ◌+◌, ◌<◌, ◌∙◌, ◌∷◌, ◌≡◌, ◌≤◌, ◌⊎◌}
+use Rattle.std.proofs.Common.{◌-◌, [], fold, take, drop, option_map, append-nil, append_assoc}
 use Rattle.std.proofs.Math.Seq.{drop-append_seam}
-use Rattle.std.proofs.lemmas.List.{map-append, take-append-drop}
-use Rattle.std.proofs.lemmas.List.Elements.{All-head, All-tail, All-nil, All-cons}
-use Rattle.std.proofs.lemmas.Bool.Decides.{nat_tests}
-use Rattle.facts.specs.Facts.{Facts, nothing_known}
+use Rattle.std.proofs.lemmas.List.{map-append}
 use Rattle.mirror.proofs.Lawful.{inputs_make_pasts}
-use Rattle.mirror.specs.Folding.{answered, folded}
 use Rattle.mirror.specs.Requests.{asked_of, kept_first, told_of}
 use Rattle.mirror.specs.Streams.{Input, Past, after, messages_so_far, newly_whole, stream_fault}
 use Rattle.mirror.specs.Streams.Input.{Sent, Fed}
-use Rattle.mirror.specs.declared.asked.Asked.{Asked}
 use Rattle.protocol.specs.declared.request.Request.{Request as ARequest}
-use Rattle.replies.specs.declared.message.Message.{Message}
 use Rattle.replies.specs.declared.message.Message.TheVariants.{Response as IsResponse, Event as IsEvent}
 use Rattle.replies.specs.declared.response.Outcome.{Outcome}
-use Rattle.replies.specs.declared.response.Outcome.TheVariants.{Done, Refused}
 use Rattle.session.specs.Kinds.{is_success}
 use Rattle.session.specs.Prefixes.{IsPrefixOf}
-use Rattle.session.specs.Sessions.{Life, Said, bytes_of, frame_said}
-use Rattle.queues.specs.declared.pending.Ask.{Ask}
+use Rattle.session.specs.Sessions.{bytes_of}
 use Rattle.queues.specs.declared.pending.Ask.TheVariants.{Request, Bad}
 use Rattle.headline.proofs.Readable.{IsReadable, framed_some, has_no_fault, messages_within}
 use Rattle.headline.proofs.Remembering.{refused_tells}
-use Rattle.headline.specs.Concluding.{known_after, remembered, told_within}
 use Rattle.headline.specs.Editors.{AreTold, IsEditor, IsTold, fed_in, first_told, requests_in, sent_in, told_first}
 use Rattle.headline.specs.Headline.{known_within}
-use Rattle.headline.specs.Known.{first_asked}
 
 -- ---- lists
 

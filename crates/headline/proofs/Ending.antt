@@ -1,31 +1,19 @@
 -- `configurationDone`, `terminate` and `disconnect`: what their successes tell is so.
-use Rattle.std.proofs.Common.{◌≡◌, ℕ, Bool, true, false, cond, List, [], ◌∷◌, map, Option, Some, None, refl, sym, ap, subst}
-use Rattle.debuggee.specs.Programs.{Program, ended, first_run, is_ended, on_program}
-use Rattle.debuggee.specs.declared.run.Run.{Run}
+use Rattle.headline.proofs.Common.{Active, ap, begins, Bool, cond, Configuring, ended, Facts, false, first_run, Fresh, given_of, has_none, Holds, HoldsRun, in_state, Initialized, is_debugging_in, is_ended, joins, Left, List, map, Meets, None, Now, Numbers, on_program, Option, Phase, Program, refl, Run, run_events, run_of, Running, RunState, shown_by, shown_of, Some, state_of, subst, sym, Tell, Terms, true, Unknown, ℕ, ◌∷◌, ◌≡◌}
+use Rattle.std.proofs.Common.{[]}
 use Rattle.debuggee.specs.declared.run.Run.TheVariants as a_run
-use Rattle.facts.specs.Facts.{Facts}
-use Rattle.mirror.specs.Folding.{in_state, ended as ended_as}
+use Rattle.mirror.specs.Folding.{ended as ended_as}
 use Rattle.mirror.specs.declared.asked.Asked.TheVariants as asks
-use Rattle.facts.specs.declared.run.RunState.{RunState}
-use Rattle.facts.specs.declared.run.RunState.TheVariants.{Unknown, Running, Stopped, Ended}
+use Rattle.facts.specs.declared.run.RunState.TheVariants.{Stopped, Ended}
 use Rattle.replies.specs.declared.event.Event.TheVariants as event
-use Rattle.session.proofs.Serving.{Meets}
-use Rattle.session.specs.Acts.{Now, Tell, given_of}
-use Rattle.handlers.specs.ConfigurationDone.{begins, joins, run_events}
-use Rattle.handlers.specs.Demands.{has_ended, has_none, run_of}
+use Rattle.handlers.specs.Demands.{has_ended}
 use Rattle.handlers.specs.Terminate.{demand}
-use Rattle.handlers.specs.Phases.{is_configuring_in, is_debugging_in}
+use Rattle.handlers.specs.Phases.{is_configuring_in}
 use Rattle.handlers.specs.Terminate as terminate
-use Rattle.handlers.specs.declared.phase.Phase.{Phase}
-use Rattle.handlers.specs.declared.phase.Phase.TheVariants.{Fresh, Initialized, Configuring, Active, Left}
-use Rattle.handlers.specs.declared.terms.Terms.{Terms}
-use Rattle.variables.specs.Numbers.{Numbers}
 use Rattle.headline.proofs.Agreeing.{Agrees, SuitsPhase, WhileConfiguring, holds_in, no_stand_in, none_numbered}
 use Rattle.headline.proofs.Commands.{AnswerLeads}
 use Rattle.headline.proofs.Leading.{Leads}
 use Rattle.headline.proofs.Resuming.{alone, no_program, with_event}
-use Rattle.headline.specs.Holding.{Holds, HoldsRun}
-use Rattle.snapshots.specs.Shown.{shown_by, shown_of, state_of}
 
 while_configuring : (phase : Phase) (launched : Bool) (f : Facts) → is_configuring_in phase ≡ true → SuitsPhase phase launched f
     → WhileConfiguring launched f

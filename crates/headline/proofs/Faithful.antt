@@ -1,34 +1,15 @@
 -- Whatever happens on a connection, each message was so when it was queued, and what is known fits.
-use Rattle.std.proofs.Common.{◌≡◌, ℕ, ◌<◌, Bool, true, false, ltb, List, [], ◌∷◌, map, Option, Some, None, sym, subst, arith, ltb-true}
-use Rattle.std.specs.Prelude.{All, ⊤}
-use Rattle.std.proofs.lemmas.Bool.Decides.{nat_tests}
-use Rattle.debuggee.specs.Programs.{Program}
-use Rattle.facts.specs.Facts.{Facts, nothing_known}
-use Rattle.mirror.specs.Folding.{folded}
+use Rattle.headline.proofs.Common.{Act, All, Answering, answering, arith, Become, Bool, closing, Facts, false, folded, histories, Holds, hung_on, if_keeps, known_after, Life, Link, List, ltb, map, Message, nat_tests, None, nothing_known, number_of, Numbers, on, on_with, Option, Pending, performed, performed_append, Program, remembered, replied_on, response_to, said_next, saying, Session, shown, snapshot_of, Some, subst, sym, Tell, true, with_change, ℕ, ⊤, ◌<◌, ◌∷◌, ◌≡◌}
+use Rattle.std.proofs.Common.{[], ltb-true}
 use Rattle.replies.specs.declared.event.Event.{Event as Told}
-use Rattle.replies.specs.declared.message.Message.{Message}
 use Rattle.replies.specs.declared.message.Message.TheVariants.{Response as IsResponse, Event as IsEvent}
-use Rattle.session_laws.proofs.ByForms.{on, on_with, saying, with_change}
-use Rattle.session.proofs.Reaching.{if_keeps, performed_append}
-use Rattle.handlers.specs.Given.{Answering}
-use Rattle.session.specs.Acts.{Act, Become, Tell}
-use Rattle.queues.specs.Arrivals.{number_of}
-use Rattle.session.specs.Effects.{performed}
-use Rattle.session.specs.Outcomes.{answering, closing}
 use Rattle.session.specs.References.{referred}
-use Rattle.handlers.specs.Refusals.{response_to}
-use Rattle.session.specs.Sessions.{Life, Session, histories, hung_on, replied_on, said_next, snapshot_of, with_said}
-use Rattle.session.specs.declared.link.Link.{Link}
-use Rattle.queues.specs.declared.pending.Pending.{Pending}
-use Rattle.variables.specs.Numbers.{Numbers}
+use Rattle.session.specs.Sessions.{with_said}
 use Rattle.headline.proofs.Agreeing.{Agrees, OwesOf}
 use Rattle.headline.proofs.Commands.{AnswerLeads}
 use Rattle.headline.proofs.Cutting.{AllHold, all_hold_more, known_more}
 use Rattle.headline.proofs.Leading.{Leads}
 use Rattle.headline.proofs.Owing.{AllOwe}
-use Rattle.headline.specs.Concluding.{known_after, remembered}
-use Rattle.headline.specs.Holding.{Holds}
-use Rattle.snapshots.specs.Shown.{shown}
 
 -- ---- what is so of a session
 

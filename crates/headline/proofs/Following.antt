@@ -1,32 +1,18 @@
 -- What the beats of a slice queue, where it makes no move, or one that comes first.
-use Rattle.std.proofs.Common.{◌≡◌, ℕ, ℤ, Bool, true, false, cond, ltb, List, [], ◌∷◌, Option, Some, None, refl, sym, ap, ◌∙◌, subst}
-use Rattle.std.specs.Prelude.{not}
+use Rattle.headline.proofs.Common.{Act, after_beat, ap, Beat, beat, beat_by, beat_of, becomes, Bool, by_move, concludes, cond, ends, entered, exits, false, FULL, goes, goes_unless, histories, if_keeps, is_at_limit, is_runnable_by, is_running, IsFollowed, List, logged, ltb, Mark, moved, moves_by, next_tick, None, not, Now, Option, output_events, performed, performed_append, performed_on, Program, program_of, refl, Running, Session, shown_of, sight_by, SliceEnd, Snapshot, Some, subst, sym, telling, tells, Tick, told, true, Went, why_marked, ℕ, ℤ, ◌∙◌, ◌∷◌, ◌≡◌}
+use Rattle.std.proofs.Common.{[]}
 use mathlib.Core.Path.{fun_ext}
-use Rattle.debuggee.specs.Programs.{Program, entered, is_running, moved, next_tick, told, why_marked}
-use Rattle.debuggee.specs.declared.run.Mark.{Mark}
 use Rattle.debuggee.specs.declared.run.Why.TheVariants as why
 use Rattle.replies.specs.declared.event.Event.{Event}
-use Rattle.session_laws.proofs.Joined.{program_of}
-use Rattle.session.proofs.Reaching.{if_keeps, performed_append}
-use Rattle.session.specs.Acts.{Act, Now}
-use Rattle.session.specs.Effects.{after_beat, performed}
-use Rattle.session.specs.Sessions.{Session, histories, performed_on}
-use Rattle.snapshots.specs.Shown.{Snapshot, shown_of}
-use Rattle.session.specs.Slices.{Beat, beat, beat_by, beat_of, becomes, concludes, ending_of, ends, exits, goes, goes_unless, is_at_limit, is_runnable_by, logged, moves_by, output_events, makes_move, stops, telling, tells}
-use Rattle.session.specs.declared.event.SliceEnd.{SliceEnd}
+use Rattle.session.specs.Slices.{ending_of, makes_move, stops}
 use Rattle.session.specs.declared.event.SliceEnd.TheVariants as ending
-use Rattle.session.specs.declared.state.TheConstants.{FULL}
 use Rattle.stepping.specs.declared.tick.Outcome.{Outcome as CameTo}
-use Rattle.stepping.specs.declared.tick.Outcome.TheVariants.{Went, Stopped, Ended}
+use Rattle.stepping.specs.declared.tick.Outcome.TheVariants.{Stopped, Ended}
 use Rattle.stepping.specs.declared.tick.Reason.TheVariants as met
-use Rattle.stepping.specs.declared.tick.Tick.{Tick}
 use Rattle.headline.proofs.Agreeing.{OwesOf, OwesRunning, never}
 use Rattle.headline.proofs.Beating.{entered_same}
 use Rattle.headline.proofs.Newly.{Printed, Same, became, became_first, exits_told, halts_told, just_told, nothing_newly, outputs_printed, tells_snapshot}
 use Rattle.headline.proofs.Outputs.{tick_is_output}
-use Rattle.facts.specs.declared.run.RunState.TheVariants.{Running}
-use Rattle.headline.specs.News.{IsFollowed, sight_by}
-use Rattle.session.proofs.ByMove.{by_move}
 
 -- ---- what is the same to see
 

@@ -1,10 +1,8 @@
 -- The bodies in the first bytes of frames: those of the frames that lie wholly in them.
-use Rattle.std.proofs.Common.{◌≡◌, ℕ, zero, suc, ◌+◌, ◌-◌, ◌^◌, ◌<◌, ◌≤◌, Bool, true, false, List, [], ◌∷◌, ◌++◌, map, length, take, drop, refl, sym, ap, ◌∙◌, arith, length-append}
-use Rattle.std.specs.Prelude.{All, nat_le, if◌then◌else◌}
-use Rattle.std.specs.List.{flat_map}
-use Rattle.std.proofs.lemmas.Bool.Decides.{nat_tests}
-use Rattle.std.proofs.lemmas.List.{take-append-drop, take-append-le, length-take-le, append-nil, append_assoc}
-use Rattle.std.proofs.lemmas.List.Elements.{All-head, All-tail}
+use Rattle.headline.proofs.Common.{All, All-head, All-tail, ap, arith, Bool, false, flat_map, length, length-append, List, map, nat_le, nat_tests, refl, suc, sym, take-append-drop, true, zero, ℕ, ◌++◌, ◌+◌, ◌<◌, ◌∙◌, ◌∷◌, ◌≡◌, ◌≤◌}
+use Rattle.std.proofs.Common.{◌-◌, ◌^◌, [], take, drop}
+use Rattle.std.specs.Prelude.{if◌then◌else◌}
+use Rattle.std.proofs.lemmas.List.{take-append-le, length-take-le, append-nil, append_assoc}
 use Rattle.framing.specs.Frames.{AreFrames, minimal_frame}
 use Rattle.framing.specs.Reading.{Reading, Tail, reading_of, with_body}
 use Rattle.framing.specs.Reading.Tail.{Partial, Faulty}

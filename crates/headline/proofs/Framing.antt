@@ -1,31 +1,23 @@
 -- `stackTrace`: the frames that its success tells are those of the call stack, by the numbers that they have.
-use Rattle.std.proofs.Common.{◌≡◌, ℕ, ◌+◌, ◌<◌, zero, suc, Bool, true, false, cond, eqb, List, [], ◌∷◌, ◌++◌, length, take, drop, map, Option, Some, None, refl, sym, ap, ◌∙◌, subst, arith}
-use Rattle.std.specs.Prelude.{slice_get, slice_index, ◌||◌, unwrap_or}
-use Rattle.std.specs.List.{list_any, range_with_len}
-use Rattle.std.proofs.lemmas.Bool.Decides.{nat_tests}
+use Rattle.headline.proofs.Common.{ap, arith, Bool, cond, eqb, Facts, false, frame_at, frame_in, has, if_keeps, is_active_in, is_running, length, List, map, nat_tests, None, number_from, number_in, Numbers, Option, Program, range_with_len, refl, shown_of, slice_get, slice_index, Some, subst, suc, sym, Target, Terms, true, with_all, with_one, with_targets, zero, ℕ, ◌++◌, ◌+◌, ◌<◌, ◌||◌, ◌∙◌, ◌∷◌, ◌≡◌}
+use Rattle.std.proofs.Common.{[], take, drop}
+use Rattle.std.specs.Prelude.{unwrap_or}
+use Rattle.std.specs.List.{list_any}
 use Rattle.answers.specs.Parts.{part}
 use Rattle.answers.specs.StackTrace.{addresses, frame_at as frame_told, frames_given, indices}
 use Rattle.answers.specs.Targets.{number_for}
 use Rattle.answers.specs.declared.view.View.{View}
-use Rattle.debuggee.specs.Programs.{Program, is_running}
-use Rattle.facts.specs.Facts.{Facts}
 use Rattle.mirror.specs.Folding.{frame_of, over}
 use Rattle.facts.specs.declared.frame.FrameInfo.{FrameInfo}
 use Rattle.protocol.specs.declared.stack_trace.StackTraceArguments.{StackTraceArguments}
-use Rattle.handlers.specs.Phases.{is_active_in}
-use Rattle.handlers.specs.declared.terms.Terms.{Terms}
-use Rattle.variables.specs.Numbers.{Numbers, has, number_from, number_in, with_all, with_one, with_targets}
 use Rattle.variables.specs.References.{is_same}
-use Rattle.variables.specs.declared.target.Target.{Target}
 use Rattle.variables.specs.declared.target.Target.TheVariants as target
 use Rattle.variables.specs.declared.target.Target.TheVariants.{Frame}
-use Rattle.session.proofs.Reaching.{if_keeps}
 use Rattle.headline.proofs.Agreeing.{Agrees}
 use Rattle.headline.proofs.Leading.{suits_as}
 use Rattle.headline.proofs.Placing.{get_take, over_all}
 use Rattle.headline.proofs.Showing.{issued_agrees, number_all}
 use Rattle.headline.proofs.Valuing.{still_moving}
-use Rattle.snapshots.specs.Shown.{frame_at, frame_in, shown_of}
 
 -- ---- lists
 

@@ -1,35 +1,17 @@
 -- Each success answers the first request that came with its number.
-use Rattle.std.proofs.Common.{◌≡◌, ℕ, ◌+◌, ◌<◌, ◌≤◌, Bool, true, false, cond, eqb, ltb, List, [], ◌∷◌, ◌++◌, map, Option, Some, None, refl, sym, ap, ◌∙◌, subst, arith, append-nil, append_assoc}
-use Rattle.std.specs.Prelude.{All, ⊤, ◌&&◌, not}
-use Rattle.std.proofs.lemmas.Bool.Decides.{nat_tests}
-use Rattle.std.proofs.lemmas.List.Elements.{All-cons, All-push, All-nil, All-head, All-tail}
+use Rattle.headline.proofs.Common.{All, All-cons, All-head, All-nil, All-push, All-tail, AllKnown, answer_to, Answering, answering, ap, arith, Ask, asks_of, Beginning, Bool, closing, cond, Done, each_life, eqb, false, first_asked, Happened, histories, hung_on, if_keeps, is_repeat, IsKnownBy, IsKnownIn, Link, List, ltb, map, Message, nat_tests, no_life, None, not, Now, number_of, of_answer, on, on_with, Option, Pending, performed, performed_append, performed_on, Reached, reached_by_events, read_on, refl, Refused, replied_on, response_to, Said, said_next, said_on, saying, Session, Some, subst, sym, Tell, Terms, true, with_change, ℕ, ⊤, ◌&&◌, ◌++◌, ◌+◌, ◌<◌, ◌∙◌, ◌∷◌, ◌≡◌, ◌≤◌}
+use Rattle.std.proofs.Common.{[], append-nil, append_assoc}
 use Rattle.protocol.specs.Commands.{name_of}
 use Rattle.protocol.specs.declared.request.Request.{Request as ARequest}
 use Rattle.replies.specs.declared.event.Event.{Event as Told}
-use Rattle.replies.specs.declared.message.Message.{Message}
 use Rattle.replies.specs.declared.message.Message.TheVariants.{Response as IsResponse, Event as IsEvent}
 use Rattle.replies.specs.declared.response.Outcome.{Outcome}
-use Rattle.replies.specs.declared.response.Outcome.TheVariants.{Done, Refused}
-use Rattle.session.specs.declared.event.Event.{Event}
-use Rattle.session.specs.declared.link.Link.{Link}
-use Rattle.queues.specs.declared.pending.Ask.{Ask}
 use Rattle.queues.specs.declared.pending.Ask.TheVariants.{Request, Bad}
 use Rattle.queues.specs.declared.pending.Fate.{Fate}
 use Rattle.queues.specs.declared.pending.Fate.TheVariants.{Waits, Repeated, Cancelled, NamesNone}
-use Rattle.queues.specs.declared.pending.Pending.{Pending}
-use Rattle.handlers.specs.Given.{Answering}
-use Rattle.session.specs.Acts.{Now, Tell, read_on}
-use Rattle.queues.specs.Arrivals.{Arrivals, all_joined, asks_of, cancelled_by, cancels, fate_of_cancel, is_above, is_named, is_repeat, joined, number_of, pending_with}
-use Rattle.session.specs.Effects.{performed}
-use Rattle.session.specs.Outcomes.{answer_to, answering, closing}
-use Rattle.handlers.specs.Refusals.{response_to}
-use Rattle.session.specs.Sessions.{After, Beginning, Said, Session, histories, hung_on, no_life, performed_on, replied_on, said_next, said_on}
-use Rattle.handlers.specs.declared.terms.Terms.{Terms}
-use Rattle.session_laws.proofs.ByForms.{on, on_with, saying, with_change}
-use Rattle.session.proofs.Reaching.{each_life, if_keeps, performed_append}
-use Rattle.session.proofs.Serving.{of_answer}
-use Rattle.session_laws.proofs.Turning.{KeptByEvents, reached_by_events}
-use Rattle.headline.specs.Known.{AllKnown, IsKnown, IsKnownBy, IsKnownIn, SuccessesAreKnown, first_asked}
+use Rattle.queues.specs.Arrivals.{Arrivals, all_joined, cancelled_by, cancels, fate_of_cancel, is_above, is_named, joined, pending_with}
+use Rattle.session_laws.proofs.Turning.{KeptByEvents}
+use Rattle.headline.specs.Known.{IsKnown, SuccessesAreKnown}
 
 -- ---- more requests come
 
@@ -326,8 +308,8 @@ knows = record {
 pub none_said : AllKnown no_life
 none_said = All-nil (λ (m : Said). IsKnownIn [] m.message)
 
-pub successes_are_known : (from : Beginning) (events : List Event) → SuccessesAreKnown (After from events)
+pub successes_are_known : (from : Beginning) (events : List Happened) → SuccessesAreKnown (Reached from events)
 successes_are_known from events =
-    let s = After from events in
+    let s = Reached from events in
     let h : Knows s = reached_by_events Knows knows from (record { before = All-nil AllKnown; present = none_said; asks = tt }) events in
     each_life AllKnown s none_said h.before h.present

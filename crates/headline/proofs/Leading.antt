@@ -1,33 +1,16 @@
 -- What a program does and tells, act by act: each thing that is told is so, and in the end what is known fits.
-use Rattle.std.proofs.Common.{◌≡◌, ℕ, ℤ, Bool, true, false, cond, List, [], ◌∷◌, ◌++◌, map, Option, Some, None, refl, sym, ap, ◌∙◌, subst}
-use Rattle.std.specs.Prelude.{⊤}
-use Rattle.debuggee.specs.Programs.{Program, ended, is_running, stopped, told}
-use Rattle.debuggee.specs.declared.run.Run.{Run}
+use Rattle.headline.proofs.Common.{Act, Active, ap, Become, Bool, concludes, cond, Configuring, ended, exit_events, exits, Facts, false, Fresh, halts, happened, Holds, HoldsRun, in_state, Initialized, is_active, is_active_in, is_running, Left, List, logged, map, None, Now, Numbers, Option, output_events, Phase, Program, refl, Run, Running, RunState, shown_by, shown_of, Some, state_of, stop_event, stopped, subst, sym, Tell, telling, tells, Terms, Tick, told, true, Unknown, Went, Why, ℕ, ℤ, ⊤, ◌++◌, ◌∙◌, ◌∷◌, ◌≡◌}
+use Rattle.std.proofs.Common.{[]}
 use Rattle.debuggee.specs.declared.run.Run.TheVariants as a_run
-use Rattle.debuggee.specs.declared.run.Why.{Why}
 use Rattle.debuggee.specs.declared.run.Why.TheVariants as why
-use Rattle.facts.specs.Facts.{Facts}
-use Rattle.mirror.specs.Folding.{happened, in_state}
-use Rattle.facts.specs.declared.run.RunState.{RunState}
-use Rattle.facts.specs.declared.run.RunState.TheVariants.{Unknown, Running, Stopped, Ended}
+use Rattle.facts.specs.declared.run.RunState.TheVariants.{Stopped, Ended}
 use Rattle.replies.specs.declared.event.Event.{Event as Told}
 use Rattle.replies.specs.declared.event.Event.TheVariants as event
-use Rattle.handlers.specs.declared.phase.Phase.{Phase}
-use Rattle.handlers.specs.declared.phase.Phase.TheVariants.{Fresh, Initialized, Configuring, Active, Left}
-use Rattle.handlers.specs.declared.terms.Terms.{Terms}
-use Rattle.session.specs.Acts.{Act, Become, Now, Tell}
-use Rattle.handlers.specs.Phases.{is_active_in}
-use Rattle.session.specs.Phases.{is_active}
-use Rattle.session.specs.Slices.{concludes, exits, halts, logged, output_events, telling, tells}
-use Rattle.handlers.specs.Telling.{exit_events, stop_event}
 use Rattle.stepping.specs.declared.tick.Outcome.{Outcome as CameTo}
-use Rattle.stepping.specs.declared.tick.Outcome.TheVariants.{Went, Stopped as HasStopped, Ended as HasEnded}
-use Rattle.stepping.specs.declared.tick.Tick.{Tick}
-use Rattle.variables.specs.Numbers.{Numbers}
+use Rattle.stepping.specs.declared.tick.Outcome.TheVariants.{Stopped as HasStopped, Ended as HasEnded}
 use Rattle.headline.proofs.Agreeing.{Agrees, IsQuiet, SuitsPhase, holds_in, holds_moving, no_stand_in, none_numbered, nothing_holds}
 use Rattle.headline.proofs.Outputs.{AreOutput, IsOutput, tick_is_output}
-use Rattle.headline.specs.Holding.{HasEnded as HasEndedSo, Holds, HoldsRun}
-use Rattle.snapshots.specs.Shown.{shown_by, shown_of, state_of}
+use Rattle.headline.specs.Holding.{HasEnded as HasEndedSo}
 
 -- what these acts tell is so, and what is known after them fits
 unfoldable pub Leads : Terms → Numbers → Facts → Option Program → List Act → Type 0

@@ -1,38 +1,30 @@
 -- The success of each command: what it tells is so, and what it leaves owes as it may.
-use Rattle.std.proofs.Common.{◌≡◌, ◌+◌, IsTrue, Bool, true, false, List, Option, Some, None, Result, refl, sym, ap, ◌∙◌, subst, Ok, cond, length}
-use Rattle.std.specs.Prelude.{[], IfOk, take, ◌&&◌, not}
+use Rattle.headline.proofs.Common.{Active, Answering, ap, Asked, begins, Bool, cond, ended, Facts, false, first_run, given_of, has_none, Holds, if_keeps, IfOk, in_state, is_active_in, is_ended, is_running, joins, left, length, List, marked, None, not, nothing_known, Now, Ok, on_program, Option, Program, refl, Refusal, ResponseBody, restarted, Result, resumed, run_of, Running, shown_by, Some, stopped, subst, succeeded, sym, Terms, true, Wanted, with_functions, with_hart, with_instructions, with_source, with_targets, written, ◌&&◌, ◌+◌, ◌∙◌, ◌≡◌}
+use Rattle.std.proofs.Common.{IsTrue}
+use Rattle.std.specs.Prelude.{[], take}
 use Rattle.numerals.specs.Words.{word_of}
 use Rattle.answers.specs.Targets.{target_of}
 use Rattle.answers.specs.declared.set_variable.Setting.{Setting}
 use Rattle.answers.specs.declared.write_memory.Writing.{Writing}
-use Rattle.debuggee.specs.Programs.{Program, ended, first_run, is_ended, is_running, left, marked, on_program, restarted, resumed, stopped, with_functions, with_hart, with_instructions, with_source, written}
 use Rattle.debuggee.specs.declared.run.Mark.TheVariants as mark
 use Rattle.debuggee.specs.declared.run.Why.TheVariants as why
 use Rattle.headline.proofs.Leading.{Leads, SameBut}
-use Rattle.headline.specs.Holding.{Holds}
 use Rattle.debuggee.specs.declared.run.Run.TheVariants as a_run
 use Rattle.replies.specs.declared.response.ResponseBody.TheVariants as body
-use Rattle.facts.specs.Facts.{Facts, nothing_known}
-use Rattle.mirror.specs.Folding.{in_state, succeeded}
 use Rattle.mirror.specs.declared.asked.Asked.TheVariants as asks
-use Rattle.facts.specs.declared.run.RunState.TheVariants.{Running}
 use Rattle.protocol.specs.declared.command.Command.{Command}
 use Rattle.protocol.specs.declared.command.Command.TheVariants.{ConfigurationDone, Threads, Cancel, SetBreakpoints, SetFunctionBreakpoints, SetInstructionBreakpoints, SetExceptionBreakpoints, Continue, Next, StepIn, StepOut, StepBack, ReverseContinue, StackTrace, Variables, SetVariable, ReadMemory, WriteMemory}
 use Rattle.replies.specs.declared.event.Event.TheVariants as event
 use Rattle.session.proofs.Orderly.{Orderly, OrderlyIn, OrderlyOf}
-use Rattle.session.proofs.Reaching.{if_keeps}
-use Rattle.handlers.specs.Given.{Answering}
-use Rattle.session.specs.Acts.{Now, given_of}
 use Rattle.handlers.specs.Breaks.{with_list, replaces}
 use Rattle.handlers.specs.Views.{view_of}
-use Rattle.handlers.specs.Demands.{goes_on as still_goes, run_of, has_none}
+use Rattle.handlers.specs.Demands.{goes_on as still_goes}
 use Rattle.handlers.specs.Disconnect.{departed, is_to_end, is_to_stand}
 use Rattle.handlers.specs.Initialize.{agreed}
 use Rattle.handlers.specs.Launch.{error_text, loads}
 use Rattle.protocol.specs.declared.refusal.Refusal.TheVariants.{AssemblyFailed, FileUnreadable}
-use Rattle.handlers.specs.declared.terms.Terms.{Terms}
 use Rattle.answers.specs.StackTrace.{frames_given}
-use Rattle.variables.specs.Numbers.{at_next_stop, with_targets}
+use Rattle.variables.specs.Numbers.{at_next_stop}
 use Rattle.headline.proofs.Agreeing.{Agrees, OwesOf, OwesRunning, marked_agrees, nothing_agrees}
 use Rattle.headline.proofs.Changing.{setting_so, writing_so}
 use Rattle.headline.proofs.Commands.{AnswerLeads, Comes, CommandsLead, CommandsOwe, OwesNothing, refusal_leads}
@@ -46,18 +38,10 @@ use Rattle.headline.proofs.Truth.{owes_nothing}
 use Rattle.headline.proofs.Valuing.{that_body, variables_agree}
 use Rattle.session.proofs.BySuccess.{BySuccess, by_success, SetsList, Looks, not_absent, has_program, agreed_body, step_body, agrees, steps}
 use Rattle.handlers.specs.Successes.{agreeing, resuming, changing}
-use Rattle.protocol.specs.declared.refusal.Refusal.{Refusal}
 use Rattle.answers.specs.SetVariable.{set_variable}
 use Rattle.session.proofs.Breaking.{answer_on}
-use Rattle.replies.specs.declared.response.ResponseBody.{ResponseBody}
 use Rattle.handlers.specs.Looking.{seen_in}
-use Rattle.mirror.specs.declared.asked.Asked.{Asked}
 use Rattle.mirror.specs.Requests.{asked_of}
-use Rattle.breakpoints.specs.Stops.{Wanted}
-use Rattle.handlers.specs.ConfigurationDone.{begins, joins}
-use Rattle.handlers.specs.Phases.{is_active_in}
-use Rattle.handlers.specs.declared.phase.Phase.TheVariants.{Active}
-use Rattle.snapshots.specs.Shown.{shown_by}
 use Rattle.protocol.specs.declared.set_variable.SetVariableArguments.{SetVariableArguments}
 use Rattle.protocol.specs.declared.write_memory.WriteMemoryArguments.{WriteMemoryArguments}
 use Rattle.answers.specs.WriteMemory.{write_memory}

@@ -1,3 +1,4 @@
+pub mod Common
 pub mod Knowing
 pub mod Cutting
 pub mod Remembering

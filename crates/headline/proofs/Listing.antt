@@ -1,7 +1,7 @@
 -- `setBreakpoints`, `setFunctionBreakpoints` and `setInstructionBreakpoints`: the breakpoints that their successes tell
 -- are those that are set.
-use Rattle.std.proofs.Common.{◌≡◌, ℕ, ◌+◌, Bool, true, false, cond, ltb, List, [], ◌∷◌, length, map, Option, Some, None, Result, Ok, Err, refl, sym, ap, ◌∙◌, subst}
-use Rattle.std.specs.Prelude.{slice_get, bytes_eq}
+use Rattle.headline.proofs.Common.{Active, ap, Asked, Bool, bytes_eq, cond, Configuring, Err, Facts, false, Fresh, HoldsAt, HoldsRun, if_keeps, info_of, Initialized, is_debugging_in, is_running, Left, length, List, ltb, map, None, Numbers, Ok, Option, Phase, Program, refl, Refusal, ResponseBody, Result, Run, RunState, shown_of, slice_get, Some, state_of, subst, succeeded, sym, Terms, true, Wanted, with_functions, with_instructions, with_source, ℕ, ◌+◌, ◌∙◌, ◌∷◌, ◌≡◌}
+use Rattle.std.proofs.Common.{[]}
 use Rattle.std.specs.List.{cons_option, filter_map}
 use Rattle.std.proofs.lemmas.Slice.Eq.{bytes_eq-Decides}
 use Rattle.answers.specs.Breakpoints.{Answer, entries_of, followed_by, list_of, next_after}
@@ -12,34 +12,19 @@ use Rattle.answers.specs.SetFunctionBreakpoints.{set_function_breakpoints}
 use Rattle.answers.specs.SetInstructionBreakpoints as instruction
 use Rattle.answers.specs.SetInstructionBreakpoints.{Place, set_instruction_breakpoints}
 use Rattle.answers.specs.declared.view.View.{View}
-use Rattle.breakpoints.specs.Stops.{Wanted, fresh}
-use Rattle.debuggee.specs.Programs.{Program, is_running, with_functions, with_instructions, with_source}
+use Rattle.breakpoints.specs.Stops.{fresh}
 use Rattle.image.specs.Lines.{Table}
-use Rattle.facts.specs.Facts.{Facts}
-use Rattle.mirror.specs.Folding.{listed, source_listed, succeeded, verified_at, verified_instruction}
-use Rattle.mirror.specs.declared.asked.Asked.{Asked}
+use Rattle.mirror.specs.Folding.{listed, source_listed, verified_at, verified_instruction}
 use Rattle.mirror.specs.declared.asked.Asked.TheVariants as asks
 use Rattle.facts.specs.declared.breakpoint.BreakInfo.{BreakInfo}
-use Rattle.protocol.specs.declared.refusal.Refusal.{Refusal}
 use Rattle.protocol.specs.declared.set_breakpoints.SetBreakpointsArguments.{SetBreakpointsArguments}
 use Rattle.protocol.specs.declared.set_breakpoints.SourceBreakpoint.{SourceBreakpoint}
 use Rattle.protocol.specs.declared.set_function_breakpoints.SetFunctionBreakpointsArguments.{SetFunctionBreakpointsArguments}
 use Rattle.protocol.specs.declared.set_instruction_breakpoints.SetInstructionBreakpointsArguments.{SetInstructionBreakpointsArguments}
 use Rattle.message_parts.specs.declared.set_instruction_breakpoints.InstructionBreakpoint.{InstructionBreakpoint}
-use Rattle.replies.specs.declared.response.ResponseBody.{ResponseBody}
 use Rattle.replies.specs.declared.response.ResponseBody.TheVariants as body
-use Rattle.handlers.specs.Phases.{is_debugging_in}
-use Rattle.handlers.specs.declared.phase.Phase.{Phase}
-use Rattle.handlers.specs.declared.phase.Phase.TheVariants.{Fresh, Initialized, Configuring, Active, Left}
-use Rattle.handlers.specs.declared.terms.Terms.{Terms}
-use Rattle.variables.specs.Numbers.{Numbers}
-use Rattle.session.proofs.Reaching.{if_keeps}
 use Rattle.headline.proofs.Agreeing.{Agrees, IsQuiet, KnowsNoStand, SuitsPhase, never}
 use Rattle.headline.proofs.Valuing.{no_body, that_body}
-use Rattle.headline.specs.Holding.{HoldsAt, HoldsRun}
-use Rattle.snapshots.specs.Shown.{info_of, shown_of, state_of}
-use Rattle.facts.specs.declared.run.RunState.{RunState}
-use Rattle.debuggee.specs.declared.run.Run.{Run}
 
 -- ---- the entries of an answer, and the list that is set
 

@@ -1,10 +1,7 @@
 -- What an editor's mirror holds was so.
-use Rattle.std.proofs.Common.{ℕ, ◌≤◌, List, [], ◌∷◌, length, sym, subst, arith}
-use Rattle.std.specs.Prelude.{All}
-use Rattle.std.proofs.lemmas.List.Elements.{All-head, All-tail, All-nil, All-cons}
+use Rattle.headline.proofs.Common.{All, All-cons, All-head, All-nil, All-tail, arith, Beginning, Happened, length, life_of, List, Reached, Said, subst, sym, ℕ, ◌∷◌, ◌≤◌}
+use Rattle.std.proofs.Common.{[]}
 use Rattle.replies.specs.Messages.{IsProper}
-use Rattle.session.specs.Sessions.{After, Beginning, Said, life_of}
-use Rattle.session.specs.declared.event.Event.{Event}
 use Rattle.session_laws.proofs.Proper.{answers_are_proper}
 use Rattle.headline.proofs.Editing.{facts_made, no_fault}
 use Rattle.headline.proofs.Leaving.{commands_lead, commands_owe}
@@ -24,9 +21,9 @@ all_good last (m ∷ said) few numbers proper =
     (all_good last said few (All-tail (IsIn last) m said numbers) (All-tail (λ (m : Said). IsProper m.message) m said proper))
 
 -- each message has a number, and is one that an adapter may send
-all_are_good : (from : Beginning) (events : List Event) (c : ℕ) → All Good (life_of c (After from events)).said
+all_are_good : (from : Beginning) (events : List Happened) (c : ℕ) → All Good (life_of c (Reached from events)).said
 all_are_good from events c =
-    let life = life_of c (After from events) in
+    let life = life_of c (Reached from events) in
     let range = in_range from events c in
     all_good from.limits.last_seq life.said range.few range.all (answers_are_proper from events c)
 
@@ -36,14 +33,14 @@ both (m ∷ said) good short =
     All-cons IsReadable m said (All-head Good m said good, All-head IsShort m said short)
     (both said (All-tail Good m said good) (All-tail IsShort m said short))
 
-pub all_are_readable : (from : Beginning) (events : List Event) → ((c : ℕ) → All IsShort (life_of c (After from events)).said)
-    → (c : ℕ) → All IsReadable (life_of c (After from events)).said
-all_are_readable from events short c = both (life_of c (After from events)).said (all_are_good from events c) (short c)
+pub all_are_readable : (from : Beginning) (events : List Happened) → ((c : ℕ) → All IsShort (life_of c (Reached from events)).said)
+    → (c : ℕ) → All IsReadable (life_of c (Reached from events)).said
+all_are_readable from events short c = both (life_of c (Reached from events)).said (all_are_good from events c) (short c)
 
-pub mirrors_hold : (from : Beginning) (events : List Event) → ((c : ℕ) → All IsShort (life_of c (After from events)).said)
-    → MirrorsHoldWhatWasSo (After from events)
+pub mirrors_hold : (from : Beginning) (events : List Happened) → ((c : ℕ) → All IsShort (life_of c (Reached from events)).said)
+    → MirrorsHoldWhatWasSo (Reached from events)
 mirrors_hold from events short c inputs editor =
-    let life = life_of c (After from events) in
+    let life = life_of c (Reached from events) in
     let readable = all_are_readable from events short c in
     let count = length (fed_in inputs) in
     let facts = facts_made life readable inputs editor in

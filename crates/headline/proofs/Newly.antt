@@ -2,32 +2,14 @@
 --
 -- What there was to see when a message was queued is what there is to see then, with one exception: what the program
 -- printed, and what its logpoints say, was told while it ran, and it may have stopped since.
-use Rattle.std.proofs.Common.{◌≡◌, ℕ, ℤ, Bool, true, false, ltb, List, [], ◌∷◌, ◌++◌, map, Option, Some, None, is_some, refl, sym, ap, ◌∙◌, subst, append-nil, append_assoc}
-use Rattle.std.specs.Prelude.{All}
-use Rattle.std.proofs.lemmas.List.Elements.{All-cons, All-head, All-nil, All-push, All-tail}
-use Rattle.debuggee.specs.Programs.{Debuggee, Program, ended, is_running, stopped}
-use Rattle.debuggee.specs.declared.run.Run.{Run}
+use Rattle.headline.proofs.Common.{Act, All, All-cons, All-head, All-nil, All-push, All-tail, ap, Become, becomes, Bool, Debuggee, ended, exit_events, exits, false, Fits, halts, histories, if_keeps, is_active, is_running, IsFollowed, Life, Link, List, ltb, map, Message, None, Now, Numbers, on, Option, Pending, performed, performed_on, Program, refl, Run, Running, Said, said_next, said_on, says_output, Session, shown_of, sight_by, Snapshot, snapshot_of, Some, state_of, stop_event, stopped, subst, sym, Tell, tells, true, Why, ℕ, ℤ, ◌++◌, ◌∙◌, ◌∷◌, ◌≡◌}
+use Rattle.std.proofs.Common.{[], is_some, append-nil, append_assoc}
 use Rattle.debuggee.specs.declared.run.Run.TheVariants as a_run
-use Rattle.debuggee.specs.declared.run.Why.{Why}
-use Rattle.facts.specs.declared.run.RunState.TheVariants.{Running}
 use Rattle.replies.specs.declared.event.Event.{Event}
 use Rattle.replies.specs.declared.event.Event.TheVariants as event
-use Rattle.replies.specs.declared.message.Message.{Message}
 use Rattle.replies.specs.declared.message.Message.TheVariants.{Event as IsEvent}
-use Rattle.session_laws.proofs.ByForms.{on}
-use Rattle.session.proofs.Reaching.{if_keeps}
-use Rattle.session.specs.Acts.{Act, Become, Now, Tell}
-use Rattle.session.specs.Effects.{performed}
-use Rattle.session.specs.Phases.{is_active}
-use Rattle.session.specs.Sessions.{Life, Said, Session, histories, performed_on, said_next, said_on, snapshot_of}
-use Rattle.snapshots.specs.Shown.{Snapshot, shown_of, state_of}
-use Rattle.session.specs.Slices.{becomes, exits, halts, tells}
-use Rattle.handlers.specs.Telling.{exit_events, stop_event}
-use Rattle.session.specs.declared.link.Link.{Link}
-use Rattle.queues.specs.declared.pending.Pending.{Pending}
-use Rattle.variables.specs.Numbers.{Numbers}
 use Rattle.headline.proofs.Outputs.{AreOutput, IsOutput}
-use Rattle.headline.specs.News.{Fits, IsFollowed, Newly, Sight, as_running, says_output, seen_at, seen_now, sight, sight_by}
+use Rattle.headline.specs.News.{Newly, Sight, as_running, seen_at, seen_now, sight}
 
 -- all that was queued is what the program printed, and what its logpoints say
 pub record Printed (s t : Session) : Type 0 where

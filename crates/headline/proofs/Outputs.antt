@@ -1,11 +1,9 @@
 -- The events of output: what a program printed, and what its logpoints say.
-use Rattle.std.proofs.Common.{◌≡◌, ℕ, ℤ, true, List, [], ◌∷◌, map, Option, Some, None, refl}
-use Rattle.std.specs.Prelude.{⊤}
+use Rattle.headline.proofs.Common.{List, map, None, Option, output_events, refl, says_output, Some, true, ℕ, ℤ, ⊤, ◌∷◌, ◌≡◌}
+use Rattle.std.proofs.Common.{[]}
 use Rattle.handlers.specs.Telling.{log_event}
-use Rattle.headline.specs.News.{says_output}
 use Rattle.replies.specs.declared.event.Event.{Event}
 use Rattle.replies.specs.declared.message.Message.TheVariants.{Event as IsEvent}
-use Rattle.session.specs.Slices.{output_events}
 
 abbrev pub IsOutput : Event → Type 0
 IsOutput e = says_output (IsEvent e) ≡ true

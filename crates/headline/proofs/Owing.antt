@@ -1,25 +1,13 @@
 -- A program that owes something runs: whatever is done to it.
-use Rattle.std.proofs.Common.{◌≡◌, ℕ, ℤ, Bool, true, false, cond, ltb, List, [], ◌∷◌, ◌++◌, map, Option, Some, None, refl}
-use Rattle.std.specs.Prelude.{⊤, ◌&&◌, not}
-use Rattle.debuggee.specs.Programs.{Program, ended, is_running, left, marked, marked_by, next_tick, on_program, stopped, told, why_marked}
-use Rattle.debuggee.specs.declared.run.Mark.{Mark}
-use Rattle.debuggee.specs.declared.run.Run.{Run}
+use Rattle.headline.proofs.Common.{Act, Beat, beat_by, beat_of, Become, Bool, by_move, concludes, cond, ended, exit_events, exits, false, FULL, goes, goes_unless, halts, if_keeps, is_active, is_at_limit, is_configuring, is_runnable_by, is_running, left, List, logged, ltb, map, Mark, marked, marked_by, moves_by, next_tick, None, not, Now, on_program, Option, output_events, Program, refl, Run, Seen, Some, stop_event, stopped, Tell, telling, Tick, told, true, Went, Why, why_marked, ℕ, ℤ, ⊤, ◌&&◌, ◌++◌, ◌∷◌, ◌≡◌}
+use Rattle.std.proofs.Common.{[]}
 use Rattle.debuggee.specs.declared.run.Run.TheVariants as a_run
-use Rattle.debuggee.specs.declared.run.Why.{Why}
 use Rattle.debuggee.specs.declared.run.Why.TheVariants as why
 use Rattle.replies.specs.declared.event.Event.{Event as Told}
-use Rattle.session.proofs.Reaching.{if_keeps}
-use Rattle.session.specs.Acts.{Act, Become, Now, Seen, Tell}
-use Rattle.session.specs.Phases.{is_active, is_configuring}
-use Rattle.session.specs.Slices.{Beat, beat_by, beat_of, concludes, exits, goes, goes_unless, halts, is_at_limit, is_runnable_by, logged, moves_by, output_events, telling}
-use Rattle.handlers.specs.Telling.{exit_events, stop_event}
-use Rattle.session.specs.declared.state.TheConstants.{FULL}
 use Rattle.stepping.specs.declared.tick.Outcome.{Outcome as CameTo}
-use Rattle.stepping.specs.declared.tick.Outcome.TheVariants.{Went, Stopped as HasStopped, Ended as HasEnded}
+use Rattle.stepping.specs.declared.tick.Outcome.TheVariants.{Stopped as HasStopped, Ended as HasEnded}
 use Rattle.stepping.specs.declared.tick.Reason.TheVariants as met
-use Rattle.stepping.specs.declared.tick.Tick.{Tick}
 use Rattle.headline.proofs.Agreeing.{OwesOf, OwesRunning}
-use Rattle.session.proofs.ByMove.{by_move}
 
 -- each program that these acts leave owes as it may
 unfoldable pub AllOwe : List Act → Type 0

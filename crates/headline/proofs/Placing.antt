@@ -1,22 +1,14 @@
 -- What a list tells of places that follow each other; and `readMemory`.
-use Rattle.std.proofs.Common.{◌≡◌, ℕ, ◌+◌, ◌-◌, ◌<◌, ◌≤◌, zero, suc, min, Bool, true, false, cond, leb, ltb, List, [], ◌∷◌, length, take, drop, Option, Some, None, Result, Ok, IsTrue, refl, sym, ◌∙◌, subst, arith}
-use Rattle.std.specs.Prelude.{slice_get, ◌&&◌, ◌^◌}
-use Rattle.std.proofs.lemmas.Bool.Decides.{nat_tests}
+use Rattle.headline.proofs.Common.{arith, Bool, cond, Facts, false, if_keeps, is_active_in, is_running, leb, length, List, ltb, min, nat_tests, None, Numbers, Ok, Option, Program, refl, Refusal, ResponseBody, Result, slice_get, Some, subst, suc, succeeded, sym, Terms, true, zero, ℕ, ◌&&◌, ◌+◌, ◌<◌, ◌∙◌, ◌∷◌, ◌≡◌, ◌≤◌}
+use Rattle.std.proofs.Common.{◌-◌, [], take, drop, IsTrue}
+use Rattle.std.specs.Prelude.{◌^◌}
 use Rattle.answers.proofs.MemoryBytes.{begins_inside, byte_there}
 use Rattle.answers.specs.ReadMemory.{bytes_from, can_begin, read, start_at, start_by}
 use Rattle.numerals.specs.MemoryReferences.{offset_by}
-use Rattle.debuggee.specs.Programs.{Program, is_running}
 use Rattle.image.specs.Memory.{byte_at, first_address}
-use Rattle.facts.specs.Facts.{Facts}
-use Rattle.mirror.specs.Folding.{over, succeeded}
+use Rattle.mirror.specs.Folding.{over}
 use Rattle.mirror.specs.declared.asked.Asked.TheVariants as asks
 use Rattle.protocol.specs.declared.read_memory.ReadMemoryArguments.{ReadMemoryArguments}
-use Rattle.protocol.specs.declared.refusal.Refusal.{Refusal}
-use Rattle.replies.specs.declared.response.ResponseBody.{ResponseBody}
-use Rattle.handlers.specs.Phases.{is_active_in}
-use Rattle.handlers.specs.declared.terms.Terms.{Terms}
-use Rattle.variables.specs.Numbers.{Numbers}
-use Rattle.session.proofs.Reaching.{if_keeps}
 use Rattle.headline.proofs.Agreeing.{Agrees}
 use Rattle.headline.proofs.Leading.{suits_as}
 use Rattle.headline.proofs.Valuing.{no_body, still_moving, that_body}

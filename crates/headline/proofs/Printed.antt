@@ -1,52 +1,24 @@
 -- What is printed, and what a logpoint says, is told while the program runs: only what is owed is told so, and a program
 -- that owes something runs.
-use Rattle.std.proofs.Common.{◌≡◌, ℕ, ℤ, zero, suc, Bool, true, false, eqb, leb, ltb, List, [], ◌∷◌, ◌++◌, length, map, Option, Some, None, refl, sym, ◌∙◌, subst}
-use Rattle.std.specs.Prelude.{All, ⊤, not}
-use Rattle.std.proofs.lemmas.List.Elements.{All-push, All-nil}
-use Rattle.debuggee.specs.Programs.{Debuggee, Program, ended, is_running, next_tick, stopped, told, why_marked}
-use Rattle.debuggee.specs.declared.run.Mark.{Mark}
-use Rattle.debuggee.specs.declared.run.Run.{Run}
+use Rattle.headline.proofs.Common.{accepting, Act, All, All-nil, All-push, answer_to, Answering, answering, answers_next, Beat, beat, beat_by, beat_of, beats, Become, Beginning, Bool, by_move, closing, concludes, Connect, Debuggee, DropConnection, each_life, Effect, ended, enough, eqb, exit_events, exits, false, FULL, given_of, goes, goes_unless, halts, Happened, histories, Hold, hung_on, if_keeps, is_active, is_at_limit, is_runnable_by, is_running, LAST_CONNECTION, leb, length, Life, Link, List, logged, ltb, map, Mark, Message, MOST_PENDING, MOST_PIECE, moves_by, next_by, next_tick, next_turn, None, not, Now, of_answer, on, on_with, Option, outcome_at, output_events, Pending, performed, performed_append, performed_on, Program, Reached, reached, Recv, refl, response_to, Run, run_events, run_of, Said, said_debuggee, said_next, said_on, Seen, Session, Slice, SliceEnd, Some, stop_event, stopped, subst, suc, sym, Tell, telling, tells, Terms, Tick, told, true, Turn, turn_by, turn_of, waiting_of, Went, Why, why_marked, with_change, zero, ℕ, ℤ, ⊤, ◌++◌, ◌∙◌, ◌∷◌, ◌≡◌}
+use Rattle.std.proofs.Common.{[]}
 use Rattle.debuggee.specs.declared.run.Run.TheVariants as a_run
-use Rattle.debuggee.specs.declared.run.Why.{Why}
 use Rattle.debuggee.specs.declared.run.Why.TheVariants as why
 use Rattle.replies.specs.declared.event.Event.{Event as Told}
 use Rattle.replies.specs.declared.event.Event.TheVariants as event
-use Rattle.replies.specs.declared.message.Message.{Message}
 use Rattle.replies.specs.declared.message.Message.TheVariants.{Response as IsResponse, Event as IsEvent}
-use Rattle.session_laws.proofs.ByForms.{accepting, on, on_with, with_change}
-use Rattle.session.proofs.Reaching.{each_life, if_keeps, performed_append, reached}
-use Rattle.session.proofs.Serving.{of_answer}
-use Rattle.session_laws.proofs.Turning.{said_debuggee}
-use Rattle.handlers.specs.Given.{Answering}
-use Rattle.session.specs.Acts.{Act, Become, Now, Seen, Tell, given_of}
-use Rattle.handlers.specs.ConfigurationDone.{run_events}
-use Rattle.handlers.specs.Demands.{run_of}
-use Rattle.session.specs.Effects.{beats, enough, next_by, performed}
 use Rattle.session_laws.specs.Laws.{RunsAs}
-use Rattle.session.specs.Outcomes.{Outcome, answering, answers_next, closing, next_turn, outcome_at, turn_by, turn_of}
-use Rattle.session.specs.Phases.{is_active}
-use Rattle.handlers.specs.Refusals.{response_to}
-use Rattle.session.specs.Outcomes.{answer_to}
-use Rattle.session.specs.Sessions.{After, Beginning, Effect, Life, Said, Session, histories, hung_on, performed_on, said_next, said_on, waiting_of}
-use Rattle.session.specs.Slices.{Beat, beat, beat_by, beat_of, concludes, exits, goes, goes_unless, halts, is_at_limit, is_runnable_by, logged, moves_by, output_events, telling, tells}
-use Rattle.handlers.specs.Telling.{exit_events, stop_event}
-use Rattle.session.specs.declared.event.SliceEnd.{SliceEnd}
+use Rattle.session.specs.Outcomes.{Outcome}
 use Rattle.session.specs.declared.event.Event.{Event}
-use Rattle.session.specs.declared.event.Event.TheVariants.{Connect, Recv, Turn, Slice, Hold, Sent, DropConnection}
-use Rattle.session.specs.declared.link.Link.{Link}
-use Rattle.queues.specs.declared.pending.Pending.{Pending}
-use Rattle.session.specs.declared.state.TheConstants.{FULL, LAST_CONNECTION, MOST_PENDING, MOST_PIECE}
-use Rattle.handlers.specs.declared.terms.Terms.{Terms}
+use Rattle.session.specs.declared.event.Event.TheVariants.{Sent}
 use Rattle.stepping.specs.declared.tick.Outcome.{Outcome as CameTo}
-use Rattle.stepping.specs.declared.tick.Outcome.TheVariants.{Went, Stopped as HasStopped, Ended as HasEnded}
+use Rattle.stepping.specs.declared.tick.Outcome.TheVariants.{Stopped as HasStopped, Ended as HasEnded}
 use Rattle.stepping.specs.declared.tick.Reason.TheVariants as met
-use Rattle.stepping.specs.declared.tick.Tick.{Tick}
 use Rattle.headline.proofs.Agreeing.{OwesOf, OwesRunning, never}
 use Rattle.headline.proofs.Leaving.{commands_lead, commands_owe}
 use Rattle.headline.proofs.Truth.{Told as HasTold, beats_so, event_so, told_at_first}
 use Rattle.headline.specs.Printed.{PrintsRunning, WhatIsPrintedRuns}
 use Rattle.session.proofs.BySuccess.{BySuccess, by_success}
-use Rattle.session.proofs.ByMove.{by_move}
 
 -- ---- what an answer tells is nothing printed
 
@@ -343,9 +315,10 @@ event_prints Hold s h = outcome_prints s.now.link Hold s h.0.1.was.owes h.1
 event_prints (Sent n) s h = outcome_prints s.now.link (Sent n) s h.0.1.was.owes h.1
 event_prints DropConnection s h = outcome_prints s.now.link DropConnection s h.0.1.was.owes h.1
 
-pub what_is_printed_runs : (from : Beginning) (events : List Event) → WhatIsPrintedRuns (After from events)
+pub what_is_printed_runs : (from : Beginning) (events : List Happened) → WhatIsPrintedRuns (Reached from events)
 what_is_printed_runs from events =
-    let s = After from events in
-    let both = reached So (λ e t h. (event_so commands_lead commands_owe e t h.0, event_prints e t h)) from
+    let s = Reached from events in
+    let both = reached So (λ e t h. (event_so commands_lead commands_owe e t h.0, event_prints e t h))
+    (λ n i t h. (beats_so commands_lead commands_owe n i t h.0, beats_print n i t h)) from
     (told_at_first commands_lead commands_owe from, record { before = All-nil AllSaid; present = All-nil IsSaid }) events in
     each_life AllSaid s (All-nil IsSaid) both.1.before both.1.present

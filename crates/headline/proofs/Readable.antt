@@ -1,9 +1,6 @@
 -- The first bytes of messages that can be read: they have no fault, and the messages in them are those that lie wholly in them.
-use Rattle.std.proofs.Common.{◌≡◌, ℕ, ◌-◌, ◌^◌, ◌<◌, ◌≤◌, cond, leb, List, [], ◌∷◌, ◌++◌, map, length, take, drop, Option, Some, None, Ok, refl, sym, ap, ◌∙◌, subst, arith}
-use Rattle.std.specs.Prelude.{All}
-use Rattle.std.specs.List.{flat_map}
-use Rattle.std.proofs.lemmas.List.{take-append-drop}
-use Rattle.std.proofs.lemmas.List.Elements.{All-head, All-tail, All-nil, All-cons}
+use Rattle.headline.proofs.Common.{All, All-cons, All-head, All-nil, All-tail, ap, arith, cond, flat_map, frame_said, if_keeps, leb, length, List, map, Message, None, Ok, Option, refl, Said, Some, subst, sym, take-append-drop, told_within, ℕ, ◌++◌, ◌<◌, ◌∙◌, ◌∷◌, ◌≡◌, ◌≤◌}
+use Rattle.std.proofs.Common.{◌-◌, ◌^◌, [], take, drop}
 use Rattle.framing.proofs.Minimal.{minimal_is_read}
 use Rattle.framing.specs.Frames.{minimal_frame}
 use Rattle.framing.specs.Reading.{reading_of, with_body}
@@ -16,12 +13,8 @@ use Rattle.replies.proofs.Finding.{reading_of-message_data}
 use Rattle.replies.proofs.Values.{json_of-text_of}
 use Rattle.replies.specs.Laws.{HasTexts}
 use Rattle.replies.specs.Messages.{IsNumber, IsProper, text_of}
-use Rattle.replies.specs.declared.message.Message.{Message}
-use Rattle.session.proofs.Reaching.{if_keeps}
-use Rattle.session.specs.Sessions.{Said, frame_said}
 use Rattle.queues.specs.Writing.{frame_of}
 use Rattle.headline.proofs.Frames.{bodies_within, within}
-use Rattle.headline.specs.Concluding.{told_within}
 
 -- ---- messages that can be read
 

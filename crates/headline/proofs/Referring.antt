@@ -1,47 +1,28 @@
 -- A success of a request that names a reference was queued by a turn, and the reference was good when the turn came.
-use Rattle.std.proofs.Common.{◌≡◌, ℕ, ℤ, zero, suc, Bool, true, false, eqb, leb, ltb, List, [], ◌∷◌, ◌++◌, map, length, Option, Some, None, get_or, refl, sym, ap, ◌∙◌, subst, arith, append-nil, append_assoc}
-use Rattle.std.specs.Prelude.{All, ⊤, option_and_then}
-use Rattle.std.proofs.lemmas.List.Elements.{All-head, All-tail, All-nil, All-cons}
-use Rattle.debuggee.specs.Programs.{Program}
-use Rattle.handlers.specs.Given.{Answering}
+use Rattle.headline.proofs.Common.{Act, All, All-cons, All-head, All-nil, All-tail, AllKnown, answer_to, Answering, answering, answers_next, ap, arith, Ask, asks_of, beat, beats, Become, Beginning, Bool, closing, Connect, Done, DropConnection, Effect, enough, eqb, false, first_asked, FULL, Happened, histories, Hold, holding, hung_on, if_keeps, is_repeat, LAST_CONNECTION, leaving, leb, length, Life, life_of, Link, List, ltb, map, Message, MOST_PENDING, MOST_PIECE, next_by, next_turn, no_life, None, Now, number_of, of_answer, on, on_with, Option, outcome_at, Pending, performed, performed_on, Program, Reached, reached_by_events, read_on, Recv, refl, Refused, replied_on, response_to, ResponseBody, Said, said_next, said_on, Seen, Session, Slice, SliceEnd, Some, start, subst, suc, sym, Tell, telling, Terms, Tick, true, Turn, turn_by, turn_of, waiting_of, with_change, zero, ℕ, ℤ, ⊤, ◌++◌, ◌∙◌, ◌∷◌, ◌≡◌}
+use Rattle.std.proofs.Common.{[], get_or, append-nil, append_assoc}
+use Rattle.std.specs.Prelude.{is_some, option_and_then}
 use Rattle.protocol.specs.declared.request.Request.{Request as ARequest}
 use Rattle.replies.specs.declared.event.Event.{Event as Told}
-use Rattle.replies.specs.declared.message.Message.{Message}
 use Rattle.replies.specs.declared.message.Message.TheVariants.{Response as IsResponse, Event as IsEvent}
 use Rattle.replies.specs.declared.response.Outcome.{Outcome}
-use Rattle.replies.specs.declared.response.Outcome.TheVariants.{Done, Refused}
-use Rattle.replies.specs.declared.response.ResponseBody.{ResponseBody}
-use Rattle.session.proofs.Reaching.{if_keeps}
-use Rattle.session.proofs.Serving.{of_answer}
-use Rattle.session.specs.Acts.{Act, Open, Close, Accept, Agree, Become, Refer, Reply, Tell, HangUp, Take, Now, Seen, numbered, read_on}
-use Rattle.queues.specs.Arrivals.{asks_of, is_repeat, number_of}
-use Rattle.session.specs.Effects.{after_all, beats, enough, next_by, performed}
-use Rattle.session.specs.Outcomes.{Outcome as CameTo, answering, answers_next, closing, holding, leaving, next_turn, outcome_at, turn_by, turn_of}
-use Rattle.handlers.specs.Refusals.{response_to}
-use Rattle.session.specs.Outcomes.{answer_to}
-use Rattle.session.specs.Sessions.{After, Beginning, Effect, Life, Said, Session, accepted_on, agreed_on, histories, hung_on, life_of, no_life, opened_on, performed_on, referred_on, replied_on, said_next, said_on, start, waiting_of}
-use Rattle.session.specs.Slices.{beat, telling}
+use Rattle.session.proofs.Reaching.{led_append}
+use Rattle.session.specs.Acts.{Open, Close, Accept, Agree, Refer, Reply, HangUp, Take, numbered}
+use Rattle.session.specs.Outcomes.{Outcome as CameTo}
+use Rattle.session.specs.Prefixes.{IsPrefixOf}
+use Rattle.session.specs.Reached.{Whole, Cut, leaves}
+use Rattle.session.specs.Sessions.{accepted_on, agreed_on, opened_on, referred_on}
 use Rattle.session.specs.declared.event.Event.{Event}
-use Rattle.session.specs.declared.event.Event.TheVariants.{Connect, Recv, Turn, Slice, Hold, Sent, DropConnection}
-use Rattle.session.specs.declared.event.SliceEnd.{SliceEnd}
-use Rattle.session.specs.declared.link.Link.{Link}
-use Rattle.queues.specs.declared.pending.Ask.{Ask}
+use Rattle.session.specs.declared.event.Event.TheVariants.{Sent}
 use Rattle.queues.specs.declared.pending.Ask.TheVariants.{Request, Bad}
 use Rattle.queues.specs.declared.pending.Fate.{Fate}
 use Rattle.queues.specs.declared.pending.Fate.TheVariants.{Waits, Repeated, Cancelled, NamesNone}
-use Rattle.queues.specs.declared.pending.Pending.{Pending}
-use Rattle.session.specs.declared.state.TheConstants.{FULL, MOST_PIECE, MOST_PENDING, LAST_CONNECTION}
-use Rattle.session_laws.proofs.ByForms.{on, on_with, with_change}
 use Rattle.session_laws.proofs.Lasting.{references_last}
-use Rattle.session_laws.proofs.Turning.{reached_by_events}
 use Rattle.session_laws.proofs.Waiting.{all_counted}
 use Rattle.session_laws.specs.Lifetimes.{outcome_next, reference_in}
-use Rattle.handlers.specs.declared.terms.Terms.{Terms}
-use Rattle.stepping.specs.declared.tick.Tick.{Tick}
 use Rattle.variables.specs.Laws.{Call}
 use Rattle.headline.proofs.Knowing.{KeptOn, Knows, WaitsFirst, first_more, knows, none_said}
 use Rattle.headline.proofs.Owing.{AllOwe, beat_owes, telling_owes}
-use Rattle.headline.specs.Known.{AllKnown, first_asked}
 use Rattle.headline.specs.References.{ReferencesWereGood, WasGood, named_by, reference_of}
 
 -- ---- what is so of each message
@@ -61,9 +42,9 @@ IsSo heard (IsResponse r) G = AnswersBy heard r.request_seq r.outcome G
 IsSo heard (IsEvent e) G = ⊤
 
 -- of these messages, which came after earlier ones
-abbrev AllSo : (List Said → ℤ → Type 0) → List Ask → List Said → List Said → Type 0
+abbrev AllSo : (List Said → Said → ℤ → Type 0) → List Ask → List Said → List Said → Type 0
 AllSo G heard earlier [] = ⊤
-AllSo G heard earlier (m ∷ said) = IsSo heard m.message (G earlier) × AllSo G heard (earlier ++ m ∷ []) said
+AllSo G heard earlier (m ∷ said) = IsSo heard m.message (G earlier m) × AllSo G heard (earlier ++ m ∷ []) said
 
 by_heard : (heard more : List Ask) (number : ℕ) (o : Outcome) (G H : ℤ → Type 0) → ((n : ℤ) → G n → H n) → AnswersBy heard number o G
     → AnswersBy (heard ++ more) number o H
@@ -75,18 +56,18 @@ so_heard : (heard more : List Ask) (m : Message) (G H : ℤ → Type 0) → ((n 
 so_heard heard more (IsResponse r) G H f h = by_heard heard more r.request_seq r.outcome G H f h
 so_heard heard more (IsEvent e) G H f h = tt
 
-module _ (G H : List Said → ℤ → Type 0) (f : (earlier : List Said) (n : ℤ) → G earlier n → H earlier n) where
+module _ (G H : List Said → Said → ℤ → Type 0) (f : (earlier : List Said) (m : Said) (n : ℤ) → G earlier m n → H earlier m n) where
   -- more requests have come
   all_heard : (heard more : List Ask) (earlier said : List Said) → AllSo G heard earlier said → AllSo H (heard ++ more) earlier said
   all_heard heard more earlier [] h = tt
   all_heard heard more earlier (m ∷ said) h =
-      (so_heard heard more m.message (G earlier) (H earlier) (f earlier) h.0, all_heard heard more (earlier ++ m ∷ []) said h.1)
+      (so_heard heard more m.message (G earlier m) (H earlier m) (f earlier m) h.0, all_heard heard more (earlier ++ m ∷ []) said h.1)
 
-all_weaker : (G H : List Said → ℤ → Type 0) → ((earlier : List Said) (n : ℤ) → G earlier n → H earlier n) → (heard : List Ask)
-    → (said : List Said) → AllSo G heard [] said → AllSo H heard [] said
+all_weaker : (G H : List Said → Said → ℤ → Type 0) → ((earlier : List Said) (m : Said) (n : ℤ) → G earlier m n → H earlier m n)
+    → (heard : List Ask) (said : List Said) → AllSo G heard [] said → AllSo H heard [] said
 all_weaker G H f heard said h = subst (λ (l : List Ask). AllSo H l [] said) (append-nil heard) (all_heard G H f heard [] [] said h)
 
-module _ (G : List Said → ℤ → Type 0) (heard : List Ask) where
+module _ (G : List Said → Said → ℤ → Type 0) (heard : List Ask) where
   so_append : (earlier said news : List Said) → AllSo G heard earlier said → AllSo G heard (earlier ++ said) news
       → AllSo G heard earlier (said ++ news)
   so_append earlier [] news h more = subst (λ (l : List Said). AllSo G heard l news) (append-nil earlier) more
@@ -97,10 +78,10 @@ module _ (G : List Said → ℤ → Type 0) (heard : List Ask) where
   )
 
   so_at : (earlier before later : List Said) (m : Said) → AllSo G heard earlier (before ++ m ∷ later)
-      → IsSo heard m.message (G (earlier ++ before))
-  so_at earlier [] later m h = subst (λ (l : List Said). IsSo heard m.message (G l)) (sym (append-nil earlier)) h.0
+      → IsSo heard m.message (G (earlier ++ before) m)
+  so_at earlier [] later m h = subst (λ (l : List Said). IsSo heard m.message (G l m)) (sym (append-nil earlier)) h.0
   so_at earlier (x ∷ before) later m h =
-      subst (λ (l : List Said). IsSo heard m.message (G l)) (append_assoc earlier (x ∷ []) before)
+      subst (λ (l : List Said). IsSo heard m.message (G l m)) (append_assoc earlier (x ∷ []) before)
       (so_at (earlier ++ x ∷ []) before later m h.1)
 
 -- an event
@@ -115,10 +96,10 @@ event_so : (heard : List Ask) (m : Message) (G : ℤ → Type 0) → TellsEvent 
 event_so heard (IsResponse r) G h = absurd h
 event_so heard (IsEvent e) G h = tt
 
-events_so : (G : List Said → ℤ → Type 0) (heard : List Ask) (earlier news : List Said) → All IsTelling news → AllSo G heard earlier news
+events_so : (G : List Said → Said → ℤ → Type 0) (heard : List Ask) (earlier news : List Said) → All IsTelling news → AllSo G heard earlier news
 events_so G heard earlier [] h = tt
 events_so G heard earlier (m ∷ news) h = (
-  event_so heard m.message (G earlier) (All-head IsTelling m news h),
+  event_so heard m.message (G earlier m) (All-head IsTelling m news h),
   events_so G heard (earlier ++ m ∷ []) news (All-tail IsTelling m news h),
 )
 
@@ -264,7 +245,11 @@ last_of : (xs : List Life) (x : Life) → get_or (xs ++ x ∷ []) (length xs) no
 last_of [] x = refl
 last_of (y ∷ xs) x = last_of xs x
 
-module _ (G : ℕ → List Said → ℤ → Type 0) where
+-- a message more was queued on the present connection
+abbrev Queues : Session → Said → Session → Type 0
+Queues s m t = (t.before ≡ s.before) × IsPrefixOf (s.life.said ++ m ∷ []) t.life.said
+
+module _ (G : ℕ → List Said → Said → ℤ → Type 0) where
   abbrev LifeSo : ℕ → Life → Type 0
   LifeSo c life = AllSo (G c) life.heard [] life.said
 
@@ -277,7 +262,7 @@ module _ (G : ℕ → List Said → ℤ → Type 0) where
       (at_last (LifeSo c) s.before s.life t.life c (λ _ k. grown k) (h c)) where
         grown : LifeSo c s.life → LifeSo c t.life
         grown k =
-            let heard = all_heard (G c) (G c) (λ _ _ x. x) s.life.heard g.more [] s.life.said k in
+            let heard = all_heard (G c) (G c) (λ _ _ _ x. x) s.life.heard g.more [] s.life.said k in
             let all = so_append (G c) (s.life.heard ++ g.more) [] s.life.said g.news heard
             (events_so (G c) (s.life.heard ++ g.more) s.life.said g.news g.tells) in
             subst (λ (l : List Ask). AllSo (G c) l [] t.life.said) (sym g.heard)
@@ -287,12 +272,12 @@ module _ (G : ℕ → List Said → ℤ → Type 0) where
   acts_so acts s a h = lives_grow s (performed histories acts s) (acts_grow acts s a) h
 
   -- one message more
-  said_so : (s : Session) (now : Now) (m : Said) → IsSo s.life.heard m.message (G (length s.before) s.life.said) → LivesSo s
+  said_so : (s : Session) (now : Now) (m : Said) → IsSo s.life.heard m.message (G (length s.before) s.life.said m) → LivesSo s
       → LivesSo (record s { now = now; life = record s.life { said = s.life.said ++ m ∷ [] } })
   said_so s now m so h c =
       at_last (LifeSo c) s.before s.life (record s.life { said = s.life.said ++ m ∷ [] }) c
       (λ is k. so_append (G c) s.life.heard [] s.life.said (m ∷ []) k
-      (subst (λ (n : ℕ). IsSo s.life.heard m.message (G n s.life.said)) (sym is) so, tt)) (h c)
+      (subst (λ (n : ℕ). IsSo s.life.heard m.message (G n s.life.said m)) (sym is) so, tt)) (h c)
 
   opened_so : (l : Option Link) (s : Session) → LivesSo s → LivesSo (opened_on l s)
   opened_so (Some l) s h = h
@@ -300,12 +285,13 @@ module _ (G : ℕ → List Said → ℤ → Type 0) where
 
   -- ---- a turn
 
-  -- whatever request names a number is answered with success only where that number is good, and those that wait are the first of their
-  -- numbers
-  record Ready (s : Session) (file : Option (List ℕ)) : Type 0 where
+  -- whatever request names a number is answered with success only where that number is good of the message that says so and is queued by
+  -- then, and those that wait are the first of their numbers
+  record Ready (s : Session) (file : Option (List ℕ)) (t : Session) : Type 0 where
     waits : KeptOn s.now.link s.life.heard s.now.arrivals
-    good : (l : Link) (r : ARequest) (fate : Fate) (number : ℤ) (body : ResponseBody) → s.now.link ≡ Some l
-        → reference_in r.command ≡ Some number → outcome_next s l file r fate ≡ Done body → G (length s.before) s.life.said number
+    good : (l : Link) (r : ARequest) (fate : Fate) (number : ℤ) (body : ResponseBody) (m : Said) → s.now.link ≡ Some l
+        → reference_in r.command ≡ Some number → outcome_next s l file r fate ≡ Done body → Queues s m t
+        → G (length s.before) s.life.said m number
 
   refused_apart : (refusal : _) (text : _) (body : ResponseBody) → Refused refusal text ≡ Done body → ⊥
   refused_apart refusal text body e = cc
@@ -333,66 +319,74 @@ module _ (G : ℕ → List Said → ℤ → Type 0) where
   repeats_refused now terms file ask NamesNone body e = refl
 
   module _ (l : Link) (rest : List Pending) (file : Option (List ℕ)) (s : Session) where
-    reply_so : (ask : Ask) (fate : Fate) (o : Outcome) → let t =
-        on_with (Some l) (record { ask = ask; fate = fate } ∷ rest) s in Ready t file
-        → (answer_to t.now l.terms file (record { ask = ask; fate = fate })).outcome ≡ o
-        → AnswersBy s.life.heard (number_of ask) o (G (length s.before) s.life.said)
-    reply_so ask fate (Refused refusal text) ready e = tt
-    reply_so (Request r) fate (Done body) ready e =
+    reply_so : (ask : Ask) (fate : Fate) (o : Outcome) (m : Said) (u : Session) → let t =
+        on_with (Some l) (record { ask = ask; fate = fate } ∷ rest) s in Ready t file u
+        → (answer_to t.now l.terms file (record { ask = ask; fate = fate })).outcome ≡ o → Queues s m u
+        → AnswersBy s.life.heard (number_of ask) o (G (length s.before) s.life.said m)
+    reply_so ask fate (Refused refusal text) m u ready e queues = tt
+    reply_so (Request r) fate (Done body) m u ready e queues =
         let t = on_with (Some l) (record { ask = Request r; fate = fate } ∷ rest) s in
         record {
           request = r;
           first =
               All-head (WaitsFirst s.life.heard) (record { ask = Request r; fate = fate }) rest ready.waits.waits
               (repeats_refused t.now l.terms file (Request r) fate body e);
-          good = λ n named. ready.good l r fate n body refl named e;
+          good = λ n named. ready.good l r fate n body m refl named e queues;
         }
-    reply_so (Bad seq command refusal) fate (Done body) ready e =
+    reply_so (Bad seq command refusal) fate (Done body) m u ready e queues =
         let t = on_with (Some l) (record { ask = Bad seq command refusal; fate = fate } ∷ rest) s in
         absurd (bad_refused t.now l.terms file (Bad seq command refusal) fate body e)
 
-    answering_so : (p : Pending) → let t = on_with (Some l) (p ∷ rest) s in Ready t file → LivesSo t
+    answering_so : (p : Pending) → let t = on_with (Some l) (p ∷ rest) s in
+        Ready t file (performed histories (answering (answer_to t.now l.terms file p)) t) → LivesSo t
         → LivesSo (performed histories (answering (answer_to t.now l.terms file p)) t)
     answering_so p ready h =
         let t = on_with (Some l) (p ∷ rest) s in
         let a : Answering = answer_to t.now l.terms file p in
         let k : Link = record l { terms = a.terms } in
         let u = on_with (Some k) (p ∷ rest) (with_change a s) in
-        acts_so (map Tell a.events ++ closing a.closes) (replied_on (p ∷ rest) a.outcome u) (after_reply a.events a.closes)
-        (if_keeps LivesSo (ltb l.seq s.now.limits.last_seq) _ u
-        (λ _. said_so u (numbered u.now k rest) (said_next u.now k (IsResponse (response_to p.ask a.outcome)))
-        (reply_so p.ask p.fate a.outcome ready refl) h)
-        (λ _. h))
+        let after : List Act = map Tell a.events ++ closing a.closes in
+        let m : Said = said_next u.now k (IsResponse (response_to p.ask a.outcome)) in
+        let said : Session = record u { now = numbered u.now k rest; life = record u.life { said = u.life.said ++ m ∷ [] } } in
+        let grown = acts_grow after said (after_reply a.events a.closes) in
+        acts_so after (replied_on (p ∷ rest) a.outcome u) (after_reply a.events a.closes)
+        (if_keeps (λ (x : Session). Ready t file (performed histories after x) → LivesSo x) (ltb l.seq s.now.limits.last_seq) said u
+        (λ _ r. said_so u (numbered u.now k rest) m
+        (reply_so p.ask p.fate a.outcome m (performed histories after said) r refl (grown.before, (grown.news, grown.said))) h)
+        (λ _ _. h) ready)
 
   turn_pending : (l : Link) (file : Option (List ℕ)) (pending : List Pending) (s : Session) → let t =
-      on_with (Some l) pending s in Ready t file
+      on_with (Some l) pending s in Ready t file (performed histories (next_turn t.now l.terms file pending).acts t)
       → LivesSo t → LivesSo (performed histories (next_turn t.now l.terms file pending).acts t)
   turn_pending l file [] s ready h = h
   turn_pending l file (p ∷ rest) s ready h = answering_so l rest file s p ready h
 
-  turn_answers : (l : Link) (file : Option (List ℕ)) (s : Session) → Ready (on (Some l) s) file → LivesSo (on (Some l) s)
-      → LivesSo (performed histories (answers_next (histories.see (on (Some l) s)) l file).acts (on (Some l) s))
-  turn_answers l file s ready h =
-      if_keeps (λ (o : CameTo). LivesSo (performed histories o.acts (on (Some l) s))) (ltb FULL (length (waiting_of (on (Some l) s)))) _ _
-      (λ _. h) (λ _. turn_pending l file s.now.arrivals.pending s ready h)
+  -- what comes to this leaves lives of which it is so, too
+  abbrev Comes : Session → Option (List ℕ) → CameTo → Type 0
+  Comes s file o = Ready s file (performed histories o.acts s) → LivesSo (performed histories o.acts s)
 
-  turn_owed : (owed : Option Tick) (l : Link) (file : Option (List ℕ)) (p : Program) (s : Session) → Ready (on (Some l) s) file
-      → LivesSo (on (Some l) s) → LivesSo (performed histories (turn_by owed (histories.see (on (Some l) s)) l p file).acts (on (Some l) s))
-  turn_owed None l file p s ready h = turn_answers l file s ready h
-  turn_owed (Some tick) l file p s ready h =
+  turn_answers : (l : Link) (file : Option (List ℕ)) (s : Session) → LivesSo (on (Some l) s)
+      → Comes (on (Some l) s) file (answers_next (histories.see (on (Some l) s)) l file)
+  turn_answers l file s h =
+      if_keeps (Comes (on (Some l) s) file) (ltb FULL (length (waiting_of (on (Some l) s)))) _ _
+      (λ _ _. h) (λ _ ready. turn_pending l file s.now.arrivals.pending s ready h)
+
+  turn_owed : (owed : Option Tick) (l : Link) (file : Option (List ℕ)) (p : Program) (s : Session) → LivesSo (on (Some l) s)
+      → Comes (on (Some l) s) file (turn_by owed (histories.see (on (Some l) s)) l p file)
+  turn_owed None l file p s h = turn_answers l file s h
+  turn_owed (Some tick) l file p s h = λ _.
       acts_so (telling (on (Some l) s).now p tick) (on (Some l) s)
       (owing_answers (telling (on (Some l) s).now p tick) (telling_owes (on (Some l) s).now p tick)) h
 
-  turn_program : (program : Option Program) (l : Link) (file : Option (List ℕ)) (s : Session) → Ready (on (Some l) s) file
-      → LivesSo (on (Some l) s)
-      → LivesSo (performed histories (turn_of program (histories.see (on (Some l) s)) l file).acts (on (Some l) s))
-  turn_program None l file s ready h = turn_answers l file s ready h
-  turn_program (Some p) l file s ready h = turn_owed p.owed l file p s ready h
+  turn_program : (program : Option Program) (l : Link) (file : Option (List ℕ)) (s : Session) → LivesSo (on (Some l) s)
+      → Comes (on (Some l) s) file (turn_of program (histories.see (on (Some l) s)) l file)
+  turn_program None l file s h = turn_answers l file s h
+  turn_program (Some p) l file s h = turn_owed p.owed l file p s h
 
-  turn_so : (l : Option Link) (file : Option (List ℕ)) (s : Session) → Ready (on l s) file → LivesSo (on l s)
-      → LivesSo (performed histories (outcome_at (histories.see (on l s)) l (Turn file)).acts (on l s))
-  turn_so None file s ready h = h
-  turn_so (Some l) file s ready h = turn_program s.now.debuggee.program l file s ready h
+  turn_so : (l : Option Link) (file : Option (List ℕ)) (s : Session) → LivesSo (on l s)
+      → Comes (on l s) file (outcome_at (histories.see (on l s)) l (Turn file))
+  turn_so None file s h = λ _. h
+  turn_so (Some l) file s h = turn_program s.now.debuggee.program l file s h
 
   -- ---- the other events
 
@@ -443,7 +437,7 @@ module _ (G : ℕ → List Said → ℤ → Type 0) where
   abbrev ReadyFor : Session → Event → Type 0
   ReadyFor s Connect = ⊤
   ReadyFor s (Recv piece) = ⊤
-  ReadyFor s (Turn file) = Ready s file
+  ReadyFor s (Turn file) = Ready s file (Effect s (Turn file))
   ReadyFor s (Slice n) = ⊤
   ReadyFor s Hold = ⊤
   ReadyFor s (Sent n) = ⊤
@@ -452,79 +446,101 @@ module _ (G : ℕ → List Said → ℤ → Type 0) where
   event_keeps : (e : Event) (s : Session) → ReadyFor s e → LivesSo s → LivesSo (Effect s e)
   event_keeps Connect s ready h = connect_so (histories.see s) s.now.link s h
   event_keeps (Recv piece) s ready h = piece_so (histories.see s) s.now.link piece s h
-  event_keeps (Turn file) s ready h = turn_so s.now.link file s ready h
+  event_keeps (Turn file) s ready h = turn_so s.now.link file s h ready
   event_keeps (Slice n) s ready h = beats_so n (enough n) s h
   event_keeps Hold s ready h = hold_so (histories.see s) s.now.link s h
   event_keeps (Sent n) s ready h = sent_so (histories.see s) s.now.link n s h
   event_keeps DropConnection s ready h = drop_so (histories.see s) s.now.link s h
 
--- ---- all events
+  abbrev ReadyBy : Session → Happened → Type 0
+  ReadyBy s (Whole e) = ReadyFor s e
+  ReadyBy s (Cut n count) = ⊤
 
-after_more : (events : List Event) (e : Event) (s : Session)
-    → after_all histories (events ++ e ∷ []) s ≡ Effect (after_all histories events s) e
-after_more [] e s = refl
-after_more (x ∷ events) e s = after_more events e (Effect s x)
+  each_keeps : (x : Happened) (s : Session) → ReadyBy s x → LivesSo s → LivesSo (leaves s x)
+  each_keeps (Whole e) s ready h = event_keeps e s ready h
+  each_keeps (Cut n count) s ready h = beats_so n count s h
 
-knows_then : (from : Beginning) (events : List Event) → Knows (After from events)
+-- ---- all that happened
+
+knows_then : (from : Beginning) (events : List Happened) → Knows (Reached from events)
 knows_then from events = reached_by_events Knows knows from (record { before = All-nil AllKnown; present = none_said; asks = tt }) events
 
 module _ (from : Beginning) where
   -- a message that was queued by then
-  abbrev Good : List Event → ℕ → List Said → ℤ → Type 0
-  Good events c earlier number = WasGood from events c earlier number
+  abbrev Good : List Happened → ℕ → List Said → Said → ℤ → Type 0
+  Good events c earlier m number = WasGood from events c earlier m number
 
-  abbrev SoAfter : List Event → Type 0
-  SoAfter events = LivesSo (Good events) (After from events)
+  abbrev SoAfter : List Happened → Type 0
+  SoAfter events = LivesSo (Good events) (Reached from events)
 
-  good_still : (events : List Event) (e : Event) (c : ℕ) (earlier : List Said) (number : ℤ) → WasGood from events c earlier number
-      → WasGood from (events ++ e ∷ []) c earlier number
-  good_still events e c earlier number g = record {
+  good_still : (events : List Happened) (x : Happened) (c : ℕ) (earlier : List Said) (m : Said) (number : ℤ)
+      → WasGood from events c earlier m number → WasGood from (events ++ x ∷ []) c earlier m number
+  good_still events x c earlier m number g = record {
     before = g.before;
     file = g.file;
-    rest = g.rest ++ e ∷ [];
-    turn = sym (append_assoc g.before (Turn g.file ∷ g.rest) (e ∷ [])) ∙ ap (λ (l : List Event). l ++ e ∷ []) g.turn;
+    rest = g.rest ++ x ∷ [];
+    turn = sym (append_assoc g.before (Whole (Turn g.file) ∷ g.rest) (x ∷ [])) ∙ ap (λ (l : List Happened). l ++ x ∷ []) g.turn;
     connection = g.connection;
+    lasts = g.lasts;
     said = g.said;
+    queued = g.queued;
     good = g.good;
   }
 
-  good_now : (events : List Event) (file : Option (List ℕ)) → Ready (Good (events ++ Turn file ∷ [])) (After from events) file
+  -- what a turn queued on the present connection is in its life
+  queued_there : (events : List Happened) (file : Option (List ℕ)) (m : Said) → (let s = Reached from events in
+      Queues s m (Effect s (Turn file))
+      → IsPrefixOf (s.life.said ++ m ∷ []) (life_of (length s.before) (Reached from (events ++ Whole (Turn file) ∷ []))).said)
+  queued_there events file m q =
+      let s = Reached from events in
+      let t = Effect s (Turn file) in
+      let there : life_of (length s.before) t ≡ t.life =
+      ap (λ (b : List Life). get_or (t.before ++ t.life ∷ []) (length b) no_life) (sym q.0) ∙ last_of t.before t.life in
+      subst (λ (u : Session). IsPrefixOf (s.life.said ++ m ∷ []) (life_of (length s.before) u).said)
+      (sym (led_append events (Whole (Turn file) ∷ []) (start from)))
+      (subst (λ (life : Life). IsPrefixOf (s.life.said ++ m ∷ []) life.said) (sym there) q.1)
+
+  good_now : (events : List Happened) (file : Option (List ℕ)) → (let s = Reached from events in
+      Ready (Good (events ++ Whole (Turn file) ∷ [])) s file (Effect s (Turn file)))
   good_now events file =
-      let s = After from events in
+      let s = Reached from events in
       record {
         waits = (knows_then from events).asks;
         good =
-            λ l r fate number body is named e. record {
+            λ l r fate number body m is named e queues. record {
               before = events;
               file = file;
               rest = [];
               turn = refl;
               connection = sym (all_counted from events);
+              lasts = ap is_some is;
               said = ap (λ (life : Life). life.said) (last_of s.before s.life);
+              queued = queued_there events file m queues;
               good = (references_last from events l file r fate number is named).good body e;
             };
       }
 
-  ready_now : (events : List Event) (e : Event) → ReadyFor (Good (events ++ e ∷ [])) (After from events) e
-  ready_now events Connect = tt
-  ready_now events (Recv piece) = tt
-  ready_now events (Turn file) = good_now events file
-  ready_now events (Slice n) = tt
-  ready_now events Hold = tt
-  ready_now events (Sent n) = tt
-  ready_now events DropConnection = tt
+  ready_now : (events : List Happened) (x : Happened) → ReadyBy (Good (events ++ x ∷ [])) (Reached from events) x
+  ready_now events (Whole Connect) = tt
+  ready_now events (Whole (Recv piece)) = tt
+  ready_now events (Whole (Turn file)) = good_now events file
+  ready_now events (Whole (Slice n)) = tt
+  ready_now events (Whole Hold) = tt
+  ready_now events (Whole (Sent n)) = tt
+  ready_now events (Whole DropConnection) = tt
+  ready_now events (Cut n count) = tt
 
-  so_more : (events : List Event) (e : Event) → SoAfter events → SoAfter (events ++ e ∷ [])
-  so_more events e h =
-      subst (LivesSo (Good (events ++ e ∷ []))) (sym (after_more events e (start from)))
-      (event_keeps (Good (events ++ e ∷ [])) e (After from events) (ready_now events e)
-      (λ c. all_weaker (Good events c) (Good (events ++ e ∷ []) c) (good_still events e c) (life_of c (After from events)).heard
-      (life_of c (After from events)).said (h c)))
+  so_more : (events : List Happened) (x : Happened) → SoAfter events → SoAfter (events ++ x ∷ [])
+  so_more events x h =
+      subst (LivesSo (Good (events ++ x ∷ []))) (sym (led_append events (x ∷ []) (start from)))
+      (each_keeps (Good (events ++ x ∷ [])) x (Reached from events) (ready_now events x)
+      (λ c. all_weaker (Good events c) (Good (events ++ x ∷ []) c) (good_still events x c) (life_of c (Reached from events)).heard
+      (life_of c (Reached from events)).said (h c)))
 
-  so_and_these : (events others : List Event) → SoAfter events → SoAfter (events ++ others)
+  so_and_these : (events others : List Happened) → SoAfter events → SoAfter (events ++ others)
   so_and_these events [] h = subst SoAfter (sym (append-nil events)) h
-  so_and_these events (e ∷ others) h =
-      subst SoAfter (append_assoc events (e ∷ []) others) (so_and_these (events ++ e ∷ []) others (so_more events e h))
+  so_and_these events (x ∷ others) h =
+      subst SoAfter (append_assoc events (x ∷ []) others) (so_and_these (events ++ x ∷ []) others (so_more events x h))
 
   so_at_first : SoAfter []
   so_at_first zero = tt
@@ -541,10 +557,10 @@ message_named : (heard : List Ask) (m : Message) (G : ℤ → Type 0) (number : 
 message_named heard (IsResponse r) G number h e = named heard r.request_seq r.outcome G number h e
 message_named heard (IsEvent event) G number h e = absurd (let no : None ≡ Some number = e in cc)
 
-pub references_were_good : (from : Beginning) (events : List Event) → ReferencesWereGood from events
+pub references_were_good : (from : Beginning) (events : List Happened) → ReferencesWereGood from events
 references_were_good from events c earlier later m number is named =
-    let life = life_of c (After from events) in
+    let life = life_of c (Reached from events) in
     let all : AllSo (WasGood from events c) life.heard [] life.said = so_and_these from [] events (so_at_first from) c in
-    message_named life.heard m.message (WasGood from events c earlier) number
+    message_named life.heard m.message (WasGood from events c earlier m) number
     (so_at (WasGood from events c) life.heard [] earlier later m
     (subst (AllSo (WasGood from events c) life.heard []) is all)) named

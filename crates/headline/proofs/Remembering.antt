@@ -1,24 +1,13 @@
 -- What is known stays, whatever is asked later.
-use Rattle.std.proofs.Common.{◌≡◌, ℕ, List, [], ◌∷◌, ◌++◌, Option, Some, None, refl, sym, ap, ◌∙◌, subst}
-use Rattle.std.specs.Prelude.{All, option_map}
-use Rattle.std.proofs.lemmas.List.Elements.{All-head, All-tail}
-use Rattle.facts.specs.Facts.{Facts}
-use Rattle.mirror.specs.Folding.{answered, folded}
+use Rattle.headline.proofs.Common.{All, All-head, All-tail, answered, ap, Ask, Asked, Done, Facts, first_asked, folded, Holds, IsKnownBy, IsKnownIn, known_after, List, Message, None, Option, refl, Refused, remembered, Said, shown, Some, subst, sym, ℕ, ◌++◌, ◌∙◌, ◌∷◌, ◌≡◌}
+use Rattle.std.proofs.Common.{[]}
+use Rattle.std.specs.Prelude.{option_map}
 use Rattle.mirror.specs.Requests.{asked_of}
-use Rattle.mirror.specs.declared.asked.Asked.{Asked}
 use Rattle.protocol.specs.declared.request.Request.{Request as ARequest}
-use Rattle.replies.specs.declared.message.Message.{Message}
 use Rattle.replies.specs.declared.message.Message.TheVariants.{Response as IsResponse, Event as IsEvent}
 use Rattle.replies.specs.declared.response.Outcome.{Outcome}
-use Rattle.replies.specs.declared.response.Outcome.TheVariants.{Done, Refused}
-use Rattle.queues.specs.declared.pending.Ask.{Ask}
-use Rattle.session.specs.Sessions.{Said}
 use Rattle.headline.proofs.Cutting.{AllHold}
 use Rattle.headline.proofs.Knowing.{first_more}
-use Rattle.headline.specs.Concluding.{known_after, remembered}
-use Rattle.headline.specs.Holding.{Holds}
-use Rattle.headline.specs.Known.{IsKnownBy, IsKnownIn, first_asked}
-use Rattle.snapshots.specs.Shown.{shown}
 
 -- what is remembered of a request that is the first of its number
 pub remembers : (asks : List Ask) (number : ℕ) (r : ARequest) → first_asked asks number ≡ Some r

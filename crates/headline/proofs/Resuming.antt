@@ -1,23 +1,12 @@
 -- Requests that let the program go on, end it, or join it: what their successes tell is so.
-use Rattle.std.proofs.Common.{◌≡◌, Bool, true, false, List, [], ◌∷◌, map, Option, Some, None, refl, sym, ap, subst}
-use Rattle.breakpoints.specs.Stops.{Placed, reset}
-use Rattle.debuggee.specs.Programs.{Program, first_run, on_program, restarted, resumed}
+use Rattle.headline.proofs.Common.{Active, ap, Bool, Configuring, Facts, false, first_run, Fresh, happened, has_none, Holds, in_state, info_of, Initialized, is_active_in, Left, List, listed_at, map, None, nothing_known, Now, Numbers, on_program, Option, Phase, Placed, Program, refl, restarted, resumed, run_of, Running, shown_by, shown_of, Some, state_of, subst, sym, Tell, Terms, true, ◌∷◌, ◌≡◌}
+use Rattle.std.proofs.Common.{[]}
+use Rattle.breakpoints.specs.Stops.{reset}
 use Rattle.debuggee.specs.declared.run.Run.TheVariants as a_run
-use Rattle.facts.specs.Facts.{Facts, nothing_known}
-use Rattle.mirror.specs.Folding.{happened, in_state}
 use Rattle.facts.specs.declared.breakpoint.BreakInfo.{BreakInfo}
-use Rattle.facts.specs.declared.run.RunState.TheVariants.{Running}
-use Rattle.session.specs.Acts.{Now, Tell}
-use Rattle.handlers.specs.Demands.{has_none, run_of}
-use Rattle.handlers.specs.Phases.{is_active_in, is_fresh_in, is_initialized_in}
-use Rattle.handlers.specs.declared.phase.Phase.{Phase}
-use Rattle.handlers.specs.declared.phase.Phase.TheVariants.{Fresh, Initialized, Configuring, Active, Left}
-use Rattle.handlers.specs.declared.terms.Terms.{Terms}
-use Rattle.variables.specs.Numbers.{Numbers}
+use Rattle.handlers.specs.Phases.{is_fresh_in, is_initialized_in}
 use Rattle.headline.proofs.Agreeing.{Agrees, KnowsNoStand, MovesUnknown, SuitsPhase, holds_in, no_stand_in, none_numbered, nothing_holds}
 use Rattle.headline.proofs.Leading.{Leads, SameBut, suits_as}
-use Rattle.headline.specs.Holding.{Holds}
-use Rattle.snapshots.specs.Shown.{info_of, listed_at, shown_by, shown_of, state_of}
 
 -- an answer after which nothing is told
 pub alone : (f : Facts) (program : Option Program) (numbers : Numbers) (terms : Terms) → Agrees f program numbers terms

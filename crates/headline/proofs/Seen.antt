@@ -1,23 +1,18 @@
 -- There is to see at the end of an event what there was at each message that it queued.
-use Rattle.std.proofs.Common.{ℕ, List, Some, sym, ap, ◌∙◌}
-use Rattle.session_laws.proofs.Joined.{at_end, program_of, histories_follow}
-use Rattle.session.proofs.Reaching.{reached}
-use Rattle.session.specs.Effects.{ended_as, enough}
-use Rattle.session.specs.Sessions.{After, Beginning, Effect, Session, histories}
-use Rattle.session.specs.declared.event.SliceEnd.{SliceEnd}
-use Rattle.session.specs.declared.event.Event.{Event}
-use Rattle.session.specs.declared.event.Event.TheVariants.{Slice}
+use Rattle.headline.proofs.Common.{ap, Beginning, Effect, enough, Happened, histories, List, program_of, Reached, reached, Session, Slice, SliceEnd, Some, sym, ℕ, ◌∙◌}
+use Rattle.session_laws.proofs.Joined.{at_end, histories_follow}
+use Rattle.session.specs.Effects.{ended_as}
 use Rattle.headline.proofs.Agreeing.{OwesOf}
 use Rattle.headline.proofs.Leaving.{commands_lead, commands_owe}
 use Rattle.headline.proofs.Slicing.{none_told, one_told}
-use Rattle.headline.proofs.Truth.{Told, event_so, told_at_first}
+use Rattle.headline.proofs.Truth.{Told, beats_so, event_so, told_at_first}
 use Rattle.headline.proofs.Turned.{turn_told}
 use Rattle.headline.specs.News.{IsAtRest, IsSeenAfter, Spends}
 use Rattle.session.proofs.Enough.{each_ends}
 
-owes : (from : Beginning) (events : List Event) → OwesOf (program_of (After from events))
+owes : (from : Beginning) (events : List Happened) → OwesOf (program_of (Reached from events))
 owes from events =
-    (reached (Told commands_lead commands_owe) (event_so commands_lead commands_owe) from
+    (reached (Told commands_lead commands_owe) (event_so commands_lead commands_owe) (beats_so commands_lead commands_owe) from
     (told_at_first commands_lead commands_owe from) events).1.was.owes
 
 pub rests : (s : Session) (n : ℕ) → Spends n s → IsAtRest (Effect s (Slice n))
@@ -25,8 +20,8 @@ rests s n spent =
     let e = each_ends histories histories_follow n s in
     ((at_end n (enough n) s).spent (e.1 ∙ ap (λ (x : SliceEnd). Some x) (sym (ap ended_as e.1) ∙ spent))).1
 
-pub seen_after : (from : Beginning) (events : List Event) → IsSeenAfter (After from events)
+pub seen_after : (from : Beginning) (events : List Happened) → IsSeenAfter (Reached from events)
 seen_after from events =
-    let s = After from events in
+    let s = Reached from events in
     let o = owes from events in
     record { turn = λ file. turn_told s file o; none = none_told s o; one = λ rest. one_told s o rest; rests = λ n spent. rests s n spent }

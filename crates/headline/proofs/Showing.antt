@@ -1,31 +1,21 @@
 -- Requests that look in: what their successes tell is so, and numbers that are issued leave what is known.
-use Rattle.std.proofs.Common.{◌≡◌, ℕ, ◌+◌, Bool, true, false, cond, List, [], ◌∷◌, ◌++◌, Option, Some, None, refl, sym, ap, ◌∙◌, subst}
-use Rattle.std.specs.Prelude.{◌||◌, not, IsTrue, slice_get}
+use Rattle.headline.proofs.Common.{ap, Asked, Bool, cond, Facts, false, frame_at, frame_in, given_of, has, HoldsAt, if_keeps, List, None, not, Now, number_from, number_in, Numbers, Option, Program, refl, ResponseBody, shown_of, slice_get, Some, subst, succeeded, sym, Target, Terms, true, with_all, with_one, with_targets, ℕ, ◌++◌, ◌+◌, ◌||◌, ◌∙◌, ◌∷◌, ◌≡◌}
+use Rattle.std.proofs.Common.{[]}
+use Rattle.std.specs.Prelude.{IsTrue}
 use Rattle.answers.specs.Looking.{looks_in}
 use Rattle.answers.specs.StackTrace.{addresses}
-use Rattle.debuggee.specs.Programs.{Program}
 use Rattle.image.specs.Lines.{Table}
-use Rattle.facts.specs.Facts.{Facts}
-use Rattle.mirror.specs.Folding.{succeeded}
-use Rattle.mirror.specs.declared.asked.Asked.{Asked}
 use Rattle.mirror.specs.declared.asked.Asked.TheVariants as asks
 use Rattle.facts.specs.declared.frame.FrameInfo.{FrameInfo}
 use Rattle.protocol.specs.declared.command.Command.{Command}
-use Rattle.replies.specs.declared.response.ResponseBody.{ResponseBody}
 use Rattle.replies.specs.declared.response.ResponseBody.TheVariants as body
-use Rattle.session.specs.Acts.{Now, given_of}
 use Rattle.handlers.specs.Looking.{issues, seen_in}
-use Rattle.handlers.specs.declared.terms.Terms.{Terms}
-use Rattle.variables.specs.Numbers.{Numbers, has, number_from, number_in, with_all, with_one, with_targets}
 use Rattle.variables.specs.References.{is_same}
-use Rattle.variables.specs.declared.target.Target.{Target}
 use Rattle.variables.specs.declared.target.Target.TheVariants.{Frame}
-use Rattle.session.proofs.Reaching.{if_keeps}
 use Rattle.headline.proofs.Agreeing.{Agrees, FramesNumbered, never}
 use Rattle.headline.proofs.Commands.{AnswerLeads}
 use Rattle.headline.proofs.Resuming.{alone}
-use Rattle.headline.specs.Holding.{HoldsAt}
-use Rattle.snapshots.specs.Shown.{frame_at, frame_in, or_zero, shown_of}
+use Rattle.snapshots.specs.Shown.{or_zero}
 
 -- ---- numbers that were issued stay
 

@@ -1,24 +1,12 @@
 -- What a slice queues that makes no move, or one move from where nothing is owed: there is to see at its end what there was to see at each message.
-use Rattle.std.proofs.Common.{◌≡◌, ℕ, zero, suc, ◌+◌, Bool, true, false, ltb, List, [], ◌∷◌, Option, Some, None, refl, sym, ap, ◌∙◌, subst, arith}
-use Rattle.std.specs.Prelude.{not}
-use Rattle.debuggee.specs.Programs.{Debuggee, Program}
-use Rattle.debuggee.specs.declared.run.Mark.{Mark}
+use Rattle.headline.proofs.Common.{Act, after_beat, ap, arith, Beat, beat, beat_by, beat_of, beats, Become, Bool, Debuggee, ends, enough, false, FULL, goes_unless, histories, if_keeps, is_runnable_by, IsFollowed, List, ltb, Mark, next_by, None, not, Option, performed, performed_on, Program, program_of, refl, said_debuggee, Seen, Session, SliceEnd, Some, subst, suc, sym, Tell, Tick, true, zero, ℕ, ◌+◌, ◌∙◌, ◌∷◌, ◌≡◌}
+use Rattle.std.proofs.Common.{[]}
 use Rattle.replies.specs.declared.message.Message.TheVariants.{Event as IsEvent}
-use Rattle.session_laws.proofs.Joined.{program_of}
-use Rattle.session.proofs.Reaching.{if_keeps}
-use Rattle.session_laws.proofs.Turning.{said_debuggee}
-use Rattle.session.specs.Acts.{Act, Become, Seen, Tell}
-use Rattle.session.specs.Effects.{Slicing, after_beat, beats, enough, from_here, next_by, performed, sliced}
-use Rattle.session.specs.Sessions.{Session, histories, performed_on}
-use Rattle.session.specs.Slices.{Beat, beat, beat_by, beat_of, ends, goes_unless, is_runnable_by}
-use Rattle.session.specs.declared.event.SliceEnd.{SliceEnd}
+use Rattle.session.specs.Effects.{Slicing, from_here, sliced}
 use Rattle.session.specs.declared.event.SliceEnd.TheVariants as ending
-use Rattle.session.specs.declared.state.TheConstants.{FULL}
-use Rattle.stepping.specs.declared.tick.Tick.{Tick}
 use Rattle.headline.proofs.Agreeing.{OwesOf}
 use Rattle.headline.proofs.Following.{first_begins, still_follows}
 use Rattle.headline.proofs.Newly.{Printed, just_told, nothing_newly}
-use Rattle.headline.specs.News.{IsFollowed}
 use Rattle.headline.proofs.Owing.{AllOwe, beat_owes}
 
 -- ---- what is owed

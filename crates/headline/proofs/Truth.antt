@@ -1,38 +1,19 @@
 -- What an editor knows was so, whatever happens: if it is so of each command.
-use Rattle.std.proofs.Common.{◌≡◌, ℕ, zero, suc, Bool, true, eqb, leb, ltb, List, [], ◌∷◌, length, Option, Some, None, refl, sym, ◌∙◌, subst}
-use Rattle.std.proofs.lemmas.List.Elements.{All-push, All-nil, All-head}
-use Rattle.debuggee.specs.Programs.{Debuggee, Program, left, marked, on_program, with_program}
+use Rattle.headline.proofs.Common.{accepting, All-head, All-nil, All-push, AllKnown, answer_to, Answering, answers_next, Ask, Asked, asks_of, beat, beats, Beginning, Bool, BoundsIn, Connect, DropConnection, each_life, Effect, enough, eqb, Facts, FULL, given_of, Happened, histories, Hold, holding, if_keeps, LAST_CONNECTION, leaving, leb, left, length, life_of, Link, List, ltb, marked, MOST_PENDING, MOST_PIECE, next_by, next_turn, None, nothing_known, Now, number_of, of_answer, on, on_program, on_with, Option, outcome_at, Pending, performed, Program, Reached, reached, read_on, Recv, refl, remembered, Session, Slice, SliceEnd, Some, start, subst, suc, sym, telling, Terms, Tick, true, Turn, turn_by, turn_of, waiting_of, zero, ℕ, ◌∙◌, ◌∷◌, ◌≡◌}
+use Rattle.std.proofs.Common.{[]}
+use Rattle.debuggee.specs.Programs.{with_program}
 use Rattle.debuggee.specs.declared.run.Mark.TheVariants as mark
-use Rattle.facts.specs.Facts.{Facts, nothing_known}
-use Rattle.mirror.specs.declared.asked.Asked.{Asked}
 use Rattle.session_laws.proofs.Asked.{IsRead}
-use Rattle.session_laws.proofs.ByForms.{accepting, on, on_with}
 use Rattle.session.proofs.Orderly.{OrderlyIn}
-use Rattle.session.proofs.Reaching.{each_life, if_keeps, reached}
-use Rattle.session.proofs.Serving.{of_answer}
-use Rattle.session_laws.proofs.Turning.{Both, BoundsIn, beat_keeps, begins_so, outcome_keeps}
-use Rattle.handlers.specs.Given.{Answering}
-use Rattle.session.specs.Acts.{Now, read_on, given_of}
-use Rattle.queues.specs.Arrivals.{asks_of, number_of}
+use Rattle.session_laws.proofs.Turning.{Both, beat_keeps, begins_so, outcome_keeps}
 use Rattle.session.specs.Config.{first_program}
-use Rattle.session.specs.Effects.{beats, enough, next_by, performed}
-use Rattle.session.specs.Outcomes.{Outcome, answers_next, holding, leaving, next_turn, outcome_at, turn_by, turn_of}
+use Rattle.session.specs.Outcomes.{Outcome}
 use Rattle.handlers.specs.Phases.{first_terms}
-use Rattle.session.specs.Outcomes.{answer_to}
 use Rattle.handlers.specs.Requests.{success_of}
-use Rattle.session.specs.Sessions.{After, Beginning, Effect, Session, histories, life_of, start, waiting_of}
-use Rattle.session.specs.Slices.{beat, telling}
-use Rattle.session.specs.declared.event.SliceEnd.{SliceEnd}
 use Rattle.session.specs.declared.event.Event.{Event}
-use Rattle.session.specs.declared.event.Event.TheVariants.{Connect, Recv, Turn, Slice, Hold, Sent, DropConnection}
-use Rattle.session.specs.declared.link.Link.{Link}
-use Rattle.queues.specs.declared.pending.Ask.{Ask}
+use Rattle.session.specs.declared.event.Event.TheVariants.{Sent}
 use Rattle.queues.specs.declared.pending.Fate.{Fate}
 use Rattle.queues.specs.declared.pending.Fate.TheVariants.{Waits, Repeated, Cancelled, NamesNone}
-use Rattle.queues.specs.declared.pending.Pending.{Pending}
-use Rattle.session.specs.declared.state.TheConstants.{FULL, MOST_PIECE, MOST_PENDING, LAST_CONNECTION}
-use Rattle.handlers.specs.declared.terms.Terms.{Terms}
-use Rattle.stepping.specs.declared.tick.Tick.{Tick}
 use Rattle.headline.proofs.Agreeing.{Agrees, OwesOf, OwesRunning, marked_agrees, never, nothing_agrees}
 use Rattle.headline.proofs.Beating.{program_leads}
 use Rattle.headline.proofs.Commands.{AnswerLeads, CommandsLead, CommandsOwe, OwesNothing, refusal_leads}
@@ -42,8 +23,7 @@ use Rattle.headline.proofs.Knowing.{IsFirst, Knows, WaitsFirst, knows, none_said
 use Rattle.headline.proofs.Leading.{Leads, telling_leads}
 use Rattle.headline.proofs.Owing.{beat_owes, left_owes, marked_owes, owes_after, telling_owes}
 use Rattle.headline.proofs.Remembering.{all_hold_same, known_same, remembers}
-use Rattle.headline.specs.Concluding.{WhatIsKnownWasSo, remembered}
-use Rattle.headline.specs.Known.{AllKnown}
+use Rattle.headline.specs.Concluding.{WhatIsKnownWasSo}
 
 -- ---- what leaves a session faithful that tells nothing
 
@@ -257,9 +237,9 @@ module _ (lead : CommandsLead) (owe : CommandsOwe) where
     record { was = record { before = All-nil Held; present = tt; owes = owes_first from.program from.size }; agrees = tt },
   )
 
-  pub headline : (from : Beginning) (events : List Event) (c count : ℕ) → WhatIsKnownWasSo (After from events) c count
+  pub headline : (from : Beginning) (events : List Happened) (c count : ℕ) → WhatIsKnownWasSo (Reached from events) c count
   headline from events c count =
-      let s = After from events in
-      let h : Told s = reached Told event_so from (told_at_first from) events in
+      let s = Reached from events in
+      let h : Told s = reached Told event_so beats_so from (told_at_first from) events in
       let life = life_of c s in
       within_was_so (remembered life.heard) nothing_known life.said count None tt (each_life Held s tt h.1.was.before h.1.was.present c)

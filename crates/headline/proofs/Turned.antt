@@ -1,39 +1,15 @@
 -- What a turn queues: there is to see at its end what there was to see at each message.
-use Rattle.std.proofs.Common.{◌≡◌, ℕ, Bool, true, false, ltb, List, [], ◌∷◌, map, Option, Some, None, refl, sym, ◌∙◌, subst}
-use Rattle.std.specs.Prelude.{All}
-use Rattle.std.proofs.lemmas.List.Elements.{All-cons, All-nil}
-use Rattle.debuggee.specs.Programs.{Program}
-use Rattle.debuggee.specs.declared.run.Run.{Run}
+use Rattle.headline.proofs.Common.{All, All-cons, All-nil, answer_to, Answering, answering, answers_next, Bool, closing, Effect, false, Fits, FULL, given_of, histories, hung_on, if_keeps, IsFollowed, Link, List, ltb, map, Message, next_turn, None, Now, of_answer, on, on_with, Option, outcome_at, Pending, performed, performed_append, Program, program_of, refl, replied_on, response_to, Run, run_events, run_of, Session, Some, stop_event, subst, sym, Terms, Tick, true, Turn, turn_by, turn_of, with_change, ℕ, ◌∙◌, ◌∷◌, ◌≡◌}
+use Rattle.std.proofs.Common.{[]}
 use Rattle.debuggee.specs.declared.run.Run.TheVariants as a_run
 use Rattle.replies.specs.declared.event.Event.{Event as Told}
 use Rattle.replies.specs.declared.event.Event.TheVariants as event
-use Rattle.replies.specs.declared.message.Message.{Message}
 use Rattle.replies.specs.declared.message.Message.TheVariants.{Response as IsResponse}
-use Rattle.session_laws.proofs.ByForms.{on, on_with, with_change}
-use Rattle.session_laws.proofs.Joined.{program_of}
-use Rattle.session.proofs.Reaching.{if_keeps, performed_append}
-use Rattle.session.proofs.Serving.{of_answer}
-use Rattle.handlers.specs.Given.{Answering}
-use Rattle.session.specs.Acts.{Now, given_of}
-use Rattle.handlers.specs.ConfigurationDone.{run_events}
-use Rattle.handlers.specs.Demands.{run_of}
-use Rattle.session.specs.Effects.{performed}
-use Rattle.session.specs.Outcomes.{Outcome, answering, answers_next, closing, done, next_turn, outcome_at, turn_by, turn_of}
-use Rattle.handlers.specs.Refusals.{response_to}
-use Rattle.session.specs.Outcomes.{answer_to}
-use Rattle.session.specs.Sessions.{Effect, Session, histories, hung_on, replied_on}
-use Rattle.handlers.specs.Telling.{stop_event}
+use Rattle.session.specs.Outcomes.{Outcome, done}
 use Rattle.session.specs.declared.event.Applied.TheVariants.{Turn as DidTurn}
-use Rattle.session.specs.declared.event.Event.TheVariants.{Turn}
 use Rattle.session.specs.declared.event.Turned.TheVariants.{Full}
-use Rattle.session.specs.declared.link.Link.{Link}
-use Rattle.queues.specs.declared.pending.Pending.{Pending}
-use Rattle.session.specs.declared.state.TheConstants.{FULL}
-use Rattle.handlers.specs.declared.terms.Terms.{Terms}
-use Rattle.stepping.specs.declared.tick.Tick.{Tick}
 use Rattle.headline.proofs.Agreeing.{OwesOf, OwesRunning, never}
 use Rattle.headline.proofs.Following.{tells_follow}
-use Rattle.headline.specs.News.{Fits, IsFollowed}
 use Rattle.headline.proofs.Newly.{Plain, just_told, nothing_newly, plain_told, said_told, same_life}
 use Rattle.session.proofs.BySuccess.{BySuccess, by_success}
 

@@ -1,34 +1,22 @@
 -- `variables`: the registers that its success tells have these values.
-use Rattle.std.proofs.Common.{◌≡◌, ℕ, zero, suc, Bool, true, false, cond, eqb, ltb, List, [], ◌∷◌, ◌++◌, map, Option, Some, None, Result, Ok, Err, refl, sym, ap, ◌∙◌, subst, arith}
-use Rattle.std.specs.Prelude.{slice_index, ◌&&◌, All, codes, drop, take}
-use Rattle.std.proofs.lemmas.Bool.Decides.{nat_tests}
-use Rattle.std.proofs.lemmas.List.Elements.{All-cons, All-push, All-nil, All-head, All-tail}
+use Rattle.headline.proofs.Common.{All, All-cons, All-head, All-nil, All-push, All-tail, ap, arith, Bool, codes, cond, eqb, Err, Facts, false, HoldsAt, is_active_in, is_running, List, ltb, map, nat_tests, None, Numbers, Ok, Option, Program, refl, Refusal, register_at, register_of, ResponseBody, Result, slice_index, Some, subst, suc, sym, Target, Terms, true, valued, zero, ℕ, ◌&&◌, ◌++◌, ◌∙◌, ◌∷◌, ◌≡◌}
+use Rattle.std.proofs.Common.{[]}
+use Rattle.std.specs.Prelude.{drop, take}
 use Rattle.answers.specs.Parts.{at_most}
 use Rattle.answers.specs.Variables.{asked_of, body_by, of_kind, variables_in}
-use Rattle.debuggee.specs.Programs.{Program, is_running}
-use Rattle.facts.specs.Facts.{Facts}
-use Rattle.mirror.specs.Folding.{after_variable, after_variables, valued}
-use Rattle.mirror.specs.Requests.{register_of}
+use Rattle.mirror.specs.Folding.{after_variable, after_variables}
 use Rattle.mirror.specs.declared.asked.Asked.TheVariants as asks
-use Rattle.protocol.specs.declared.refusal.Refusal.{Refusal}
 use Rattle.protocol.specs.declared.filter.Filter.{Filter}
 use Rattle.protocol.specs.declared.filter.Filter.TheVariants.{Indexed, Named}
 use Rattle.protocol.specs.declared.variables.VariablesArguments.{VariablesArguments}
 use Rattle.message_parts.specs.declared.variables.Variable.{Variable}
-use Rattle.replies.specs.declared.response.ResponseBody.{ResponseBody}
 use Rattle.rv32i.specs.Names.{name_of, number_named}
 use Rattle.rv32i.specs.declared.hart.Hart.{Hart}
-use Rattle.handlers.specs.Phases.{is_active_in}
-use Rattle.handlers.specs.declared.terms.Terms.{Terms}
-use Rattle.variables.specs.Numbers.{Numbers}
 use Rattle.variables.specs.Registers.{counter, numbers as register_numbers, register, registers}
 use Rattle.variables.specs.Stack.{stack_words, word}
-use Rattle.variables.specs.declared.target.Target.{Target}
 use Rattle.variables.specs.declared.target.Target.TheVariants as target
 use Rattle.headline.proofs.Agreeing.{Agrees, never}
 use Rattle.headline.proofs.Leading.{suits_as}
-use Rattle.headline.specs.Holding.{HoldsAt}
-use Rattle.snapshots.specs.Shown.{register_at}
 
 -- a variable that has a register's name has its value
 abbrev pub IsTrueOf : Hart → Variable → Type 0

@@ -1,9 +1,7 @@
 -- Texts whose bytes are below 128: numbers, and what is joined of such texts.
-use Rattle.std.proofs.Common.{◌≡◌, ℕ, ℤ, zero, suc, pos, negsuc, ◌+◌, ◌/◌, ◌%◌, ◌<◌, ◌≤◌, Bool, true, false, cond, ltb, eqb, lt-ltb, List, [], ◌∷◌, ◌++◌, length, decimal, refl, arith}
-use Rattle.std.specs.Prelude.{◌&&◌}
-use Rattle.std.specs.Fmt.{digits, digit_glyph, digits_onto, signed_decimal}
-use Rattle.std.proofs.lemmas.Bool.{and_parts}
-use Rattle.json.proofs.Printed.Utf8.{are_ascii}
+use Rattle.message_laws.proofs.Common.{[], and_parts, are_ascii, arith, Bool, cond, decimal, digit_glyph, digits_onto, eqb, false, length, List, lt-ltb, ltb, pos, refl, signed_decimal, suc, true, zero, ℕ, ℤ, ◌%◌, ◌&&◌, ◌++◌, ◌+◌, ◌/◌, ◌<◌, ◌∷◌, ◌≡◌, ◌≤◌}
+use Rattle.std.proofs.Common.{negsuc}
+use Rattle.std.specs.Fmt.{digits}
 
 pub both : (x y : Bool) → x ≡ true → y ≡ true → (x && y) ≡ true
 both true y a b = b

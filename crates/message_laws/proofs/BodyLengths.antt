@@ -1,14 +1,10 @@
 -- Each body that answers a request is written in fewer than 4,000,000,000 bytes.
-use Rattle.std.proofs.Common.{◌≡◌, ℕ, ℤ, zero, suc, pos, ◌+◌, ◌*◌, ◌-◌, ◌+ℤ◌, ◌<◌, ◌≤◌, min, Bool, true, false, cond, not, eqb, ltb, List, [], ◌∷◌, ◌++◌, map, length, take, drop, reverse, Option, Some, None, Result, Ok, Err, IfOk, decimal, refl, ap, arith}
-use Rattle.std.specs.Prelude.{All, IfSome, codes, slice_index, ◌^◌}
-use Rattle.std.specs.List.{prefix_len, range_with_len, sum_by, take_while}
-use Rattle.std.proofs.lemmas.Bool.Decides.{nat_tests}
-use Rattle.std.proofs.lemmas.List.{length-append, length-drop, length-map, length-reverse, length-take}
-use Rattle.std.proofs.lemmas.List.Elements.{All-append, All-cons, All-drop, All-map, All-nil, All-take}
+use Rattle.message_laws.proofs.Common.{[], All, All-append, All-cons, All-drop, All-map, All-nil, All-take, Answer, ap, arith, bind, Bool, codes, Command, cond, conditions_of, decimal, drop, entries_of, eqb, Err, false, Hart, if_keeps, IfOk, IfSome, IsPlain, IsPlainByte, label_address, label_at, length, length-append, length-map, length-take, line_of, List, ltb, map, message_of, nat_tests, None, Ok, Option, OutsideMemory, pos, range_with_len, refl, Refusal, ResponseBody, Result, slice_index, Some, SourceBreakpoint, suc, Table, take_while, true, zero, ℕ, ℤ, ◌*◌, ◌++◌, ◌+ℤ◌, ◌+◌, ◌-◌, ◌<◌, ◌^◌, ◌∷◌, ◌≡◌, ◌≤◌}
+use Rattle.std.proofs.Common.{min, not, take, reverse}
+use Rattle.std.specs.List.{prefix_len, sum_by}
+use Rattle.std.proofs.lemmas.List.{length-drop, length-reverse}
 use Rattle.std.proofs.lemmas.List.Sums.{sum_by-le}
 use Rattle.answers.specs.Answers.{breaks_answer}
-use Rattle.answers.specs.Breakpoints.{Answer, entries_of, message_of}
-use Rattle.answers.specs.Conditions.{conditions_of}
 use Rattle.answers.specs.EditorLines.{line_in_image}
 use Rattle.answers.specs.Disassemble.{disassembled, entries_from, entry, entry_by, first_place, start_by as places_by, word_in, wrapped}
 use Rattle.answers.specs.Evaluate.{if_valued, unless_refused, valued}
@@ -34,19 +30,15 @@ use Rattle.answers.proofs.Words.{all_bytes}
 use Rattle.expressions.specs.Trees.{Tree}
 use Rattle.expressions.specs.Values.{value_of}
 use Rattle.expressions.specs.declared.error.ExprFault.{ExprFault}
-use Rattle.image.specs.Lines.{bind, Table, label_address, label_at, line_of}
 use Rattle.image.specs.Memory.{first_address}
 use Rattle.numerals.specs.MemoryReferences.{address_of, offset_by}
 use Rattle.numerals.specs.Words.{word_of}
-use Rattle.protocol.specs.declared.command.Command.{Command}
 use Rattle.protocol.specs.declared.command.Command.TheVariants as command
 use Rattle.protocol.specs.declared.disassemble.DisassembleArguments.{DisassembleArguments}
 use Rattle.protocol.specs.declared.filter.Filter.{Filter}
 use Rattle.protocol.specs.declared.filter.Filter.TheVariants.{Indexed, Named}
 use Rattle.protocol.specs.declared.read_memory.ReadMemoryArguments.{ReadMemoryArguments}
-use Rattle.protocol.specs.declared.refusal.Refusal.{Refusal}
-use Rattle.protocol.specs.declared.refusal.Refusal.TheVariants.{TooMuch, OutsideMemory}
-use Rattle.protocol.specs.declared.set_breakpoints.SourceBreakpoint.{SourceBreakpoint}
+use Rattle.protocol.specs.declared.refusal.Refusal.TheVariants.{TooMuch}
 use Rattle.protocol.specs.declared.set_function_breakpoints.FunctionBreakpoint.{FunctionBreakpoint}
 use Rattle.protocol.specs.declared.set_instruction_breakpoints.InstructionBreakpoint.{InstructionBreakpoint}
 use Rattle.protocol.specs.declared.set_variable.SetVariableArguments.{SetVariableArguments}
@@ -59,14 +51,11 @@ use Rattle.message_parts.specs.declared.set_breakpoints.SourceBreakpoint.TheVari
 use Rattle.message_parts.specs.declared.set_instruction_breakpoints.InstructionBreakpoint.TheVariants as at_instruction
 use Rattle.message_parts.specs.declared.stack_trace.StackFrame.{StackFrame}
 use Rattle.message_parts.specs.declared.variables.Variable.{Variable}
-use Rattle.replies.specs.declared.response.ResponseBody.{ResponseBody}
 use Rattle.replies.specs.declared.response.ResponseBody.TheVariants.{SetBreakpoints}
 use Rattle.rv32i.specs.Texts.{address_text}
-use Rattle.rv32i.specs.declared.hart.Hart.{Hart}
 use Rattle.stepping.specs.Ticks.{Debugged}
 use Rattle.text_laws.specs.Lengths.{most_of_body, most_of_frame, most_of_instruction, most_of_instruction_breakpoint, most_of_source, most_of_source_breakpoint, most_of_variable, written_length}
 use Rattle.text_laws.specs.Labels.{IsNameWithin}
-use Rattle.text_laws.specs.Texts.{IsPlain, IsPlainByte}
 use Rattle.text_laws.proofs.Sizes.{plain_texts_stand, texts_are_escaped}
 use Rattle.variables.specs.Numbers.{Numbers, with_targets}
 use Rattle.variables.specs.Registers.{counter, name_answer, numbers, register, registers}
@@ -78,7 +67,6 @@ use Rattle.message_laws.proofs.Ascii.{decimal_few}
 use Rattle.message_laws.proofs.BodyTexts.{each, label_found, word_small}
 use Rattle.message_laws.proofs.Instructions.{disassembly_ascii, name_few}
 use Rattle.message_laws.proofs.Named.{IsShortLabel, IsShortText}
-use Rattle.session.proofs.Reaching.{if_keeps}
 use Rattle.message_laws.proofs.Problems.{by_conditions, entries_all, entries_count, is_few, not_much}
 use Rattle.message_laws.proofs.Plain.{number_plain, plus_plain}
 

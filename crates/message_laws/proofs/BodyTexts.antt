@@ -1,14 +1,10 @@
 -- The texts of each body that answers a request are UTF-8.
+use Rattle.message_laws.proofs.Common.{[], All, All-append, All-cons, All-drop, All-head, All-map, All-nil, All-tail, All-take, Answer, bind, Bool, codes, Command, cond, conditions_of, decimal, drop, entries_of, eqb, Err, false, Hart, if_keeps, IfOk, IfSome, IsUtf8, IsUtf8-are_ascii, Label, label_address, label_at, leb, length, line_of, List, list_all, ltb, map, None, Ok, Option, OutsideMemory, pos, range_with_len, refl, Refusal, ResponseBody, Result, slice_index, Some, SourceBreakpoint, suc, Table, take_while, true, zero, ℕ, ℤ, ◌*◌, ◌++◌, ◌+ℤ◌, ◌-◌, ◌<◌, ◌^◌, ◌∷◌, ◌≡◌}
 use Rattle.std.proofs.lemmas.Str.{IsUtf8-append}
-use Rattle.std.proofs.Common.{◌≡◌, ℕ, ℤ, zero, suc, pos, ◌*◌, ◌+ℤ◌, ◌<◌, ◌-◌, Bool, true, false, cond, eqb, leb, ltb, List, [], ◌∷◌, ◌++◌, map, length, take, drop, Option, Some, None, Result, Ok, Err, IfOk, IsUtf8, decimal, option_map, refl}
-use Rattle.std.specs.Prelude.{All, IfSome, codes, filter, find, slice_index, ◌^◌}
-use Rattle.std.specs.List.{list_all, take_while, range_with_len}
+use Rattle.std.proofs.Common.{take, option_map}
+use Rattle.std.specs.Prelude.{filter, find}
 use Rattle.std.specs.Result.{result_ok}
-use Rattle.std.proofs.lemmas.List.Elements.{All-append, All-cons, All-drop, All-head, All-map, All-nil, All-tail, All-take}
-use Rattle.json.proofs.Printed.Utf8.{IsUtf8-are_ascii}
 use Rattle.answers.specs.Answers.{breaks_answer}
-use Rattle.answers.specs.Breakpoints.{Answer, entries_of}
-use Rattle.answers.specs.Conditions.{conditions_of}
 use Rattle.answers.specs.EditorLines.{line_in_image}
 use Rattle.answers.specs.Disassemble.{disassembled, entries_from, entry, entry_by, start as place_of_first, word_in, wrapped}
 use Rattle.answers.specs.Evaluate.{if_valued, unless_refused, valued}
@@ -34,17 +30,13 @@ use Rattle.answers.proofs.Words.{all_bytes, small_at}
 use Rattle.expressions.specs.Trees.{Tree}
 use Rattle.expressions.specs.Values.{value_of}
 use Rattle.expressions.specs.declared.error.ExprFault.{ExprFault}
-use Rattle.image.specs.Lines.{bind, Label, Table, first_greatest, in_image, label_address, label_at, line_of, place_of, up_to}
+use Rattle.image.specs.Lines.{first_greatest, in_image, place_of, up_to}
 use Rattle.image.specs.Memory.{bytes_at, fault_at, first_address, little_endian, unless_fault}
 use Rattle.image.specs.declared.fault.MemFault.{MemFault}
 use Rattle.numerals.specs.MemoryReferences.{address_of}
-use Rattle.protocol.specs.declared.command.Command.{Command}
 use Rattle.protocol.specs.declared.command.Command.TheVariants as command
 use Rattle.protocol.specs.declared.filter.Filter.{Filter}
 use Rattle.protocol.specs.declared.filter.Filter.TheVariants.{Indexed, Named}
-use Rattle.protocol.specs.declared.refusal.Refusal.{Refusal}
-use Rattle.protocol.specs.declared.refusal.Refusal.TheVariants.{OutsideMemory}
-use Rattle.protocol.specs.declared.set_breakpoints.SourceBreakpoint.{SourceBreakpoint}
 use Rattle.protocol.specs.declared.set_function_breakpoints.FunctionBreakpoint.{FunctionBreakpoint}
 use Rattle.protocol.specs.declared.set_instruction_breakpoints.InstructionBreakpoint.{InstructionBreakpoint}
 use Rattle.protocol.specs.declared.set_variable.SetVariableArguments.{SetVariableArguments}
@@ -60,10 +52,8 @@ use Rattle.message_parts.specs.StackTrace.{source as source_form, stack_frame}
 use Rattle.message_parts.specs.Variables.{variable}
 use Rattle.message_parts.specs.declared.variables.Variable.{Variable}
 use Rattle.replies.specs.Bodies.{texts_in}
-use Rattle.replies.specs.declared.response.ResponseBody.{ResponseBody}
 use Rattle.rv32i.specs.Names.{name_of}
 use Rattle.rv32i.specs.Texts.{address_text}
-use Rattle.rv32i.specs.declared.hart.Hart.{Hart}
 use Rattle.stepping.specs.Ticks.{Debugged}
 use Rattle.variables.specs.Numbers.{Numbers, with_targets}
 use Rattle.variables.specs.Registers.{counter, name_answer, numbers, register, registers}
@@ -73,7 +63,6 @@ use Rattle.variables.specs.declared.target.Target.{Target}
 use Rattle.variables.specs.declared.target.Target.TheVariants as target
 use Rattle.message_laws.proofs.Ascii.{append_ascii, decimal_ascii, if_either}
 use Rattle.message_laws.proofs.FileNames.{file_name_utf8}
-use Rattle.session.proofs.Reaching.{if_keeps}
 use Rattle.message_laws.proofs.Problems.{by_conditions, entries_all}
 use Rattle.message_laws.proofs.Instructions.{address_ascii, disassembly_ascii, name_ascii}
 

@@ -1,23 +1,17 @@
 -- A program has no more than 1,024 breakpoints of each kind, so no more than three times as many stop it at once; and
 -- what its logpoints say are short texts.
-use Rattle.std.proofs.Common.{◌≡◌, ℕ, zero, suc, ◌+◌, ◌≤◌, Bool, true, false, cond, List, [], ◌∷◌, ◌++◌, map, filter, length, Option, Some, None, Result, Ok, Err, refl, sym, subst, arith}
-use Rattle.std.specs.Prelude.{IfSome, filter_map, slice_get}
+use Rattle.message_laws.proofs.Common.{[], arith, Bool, Command, cond, Err, false, Hart, if_keeps, IfSome, length, length-append, length-map, List, map, Mark, marked, marked_by, moved, None, Ok, Option, Program, refl, Result, Some, subst, suc, sym, true, Wanted, with_list, zero, ℕ, ◌++◌, ◌+◌, ◌∷◌, ◌≡◌, ◌≤◌}
+use Rattle.std.proofs.Common.{filter}
+use Rattle.std.specs.Prelude.{filter_map, slice_get}
 use Rattle.std.specs.List.{cons_option}
 use Rattle.std.specs.declared.alloc.AllocError.{AllocError}
-use Rattle.std.proofs.lemmas.List.{length-append, length-map}
-use Rattle.breakpoints.specs.Stops.{Lists, Placed, Wanted, checked, counted, fresh, ids_where, is_hit, log_at, log_of, reset, stands, stops}
-use Rattle.debuggee.specs.Programs.{Program, marked, marked_by, moved}
-use Rattle.debuggee.specs.declared.run.Mark.{Mark}
+use Rattle.breakpoints.specs.Stops.{Lists, Placed, checked, counted, fresh, ids_where, is_hit, log_at, log_of, reset, stands, stops}
 use Rattle.debuggee.specs.declared.run.Run.{Run}
 use Rattle.debuggee.specs.declared.run.Run.TheVariants as run
-use Rattle.handlers.specs.Breaks.{with_list}
-use Rattle.protocol.specs.declared.command.Command.{Command}
 use Rattle.protocol.specs.declared.command.Command.TheVariants as command
-use Rattle.rv32i.specs.declared.hart.Hart.{Hart}
 use Rattle.rv32i.specs.declared.instr.Instr.{Instr}
 use Rattle.rv32i.specs.declared.stepped.Stepped.{Stepped}
 use Rattle.rv32i.specs.declared.stepped.Stepped.TheVariants as stepped
-use Rattle.session.proofs.Reaching.{if_keeps}
 use Rattle.stepping.specs.Loading.{no_breakpoints}
 use Rattle.course.specs.Positions.{Position}
 use Rattle.stepping.specs.Ticks.{Debugged, IsTick, Settles, entry_checked, looked_at, moved_as, settled, undone, undone_by}

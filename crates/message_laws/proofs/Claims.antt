@@ -1,38 +1,29 @@
 -- What holds of every message: it does where it holds of each body, refusal and event that there can be.
-use Rattle.std.proofs.Common.{◌≡◌, ℕ, ℤ, zero, suc, ◌+◌, Bool, true, false, eqb, leb, ltb, List, [], ◌∷◌, ◌++◌, map, length, Option, Some, None, Ok, sym, ap, ◌∙◌, subst}
-use Rattle.std.specs.Prelude.{All, ◌&&◌, not, take}
+use Rattle.message_laws.proofs.Common.{[], All, All-nil, All-push, answer_on, ap, assembled, AssemblyFailed, Beginning, Bool, Command, each_life, ended, entered, eqb, Event, false, first_run, Given, Happened, Hart, if_keeps, just_loaded, leb, left, length, Life, life_of, List, ltb, map, Mark, marked, moved, None, Ok, Option, Program, Reached, Refusal, ResponseBody, restarted, resumed, Said, said_next, Session, Some, stopped, subst, suc, sym, Terms, told, true, Wanted, Why, with_hart, with_list, written, zero, ℕ, ℤ, ◌&&◌, ◌++◌, ◌+◌, ◌∙◌, ◌∷◌, ◌≡◌}
+use Rattle.std.specs.Prelude.{not, take}
 use Rattle.std.proofs.lemmas.List.{map-id}
-use Rattle.std.proofs.lemmas.List.Elements.{All-nil, All-push}
 use Rattle.answers.specs.SetVariable.{set_variable}
 use Rattle.answers.specs.WriteMemory.{write_memory}
 use Rattle.answers.specs.declared.set_variable.Setting.{Setting}
 use Rattle.answers.specs.declared.write_memory.Writing.{Writing}
-use Rattle.assembler.specs.Assembled.{assembled}
 use Rattle.assembler.specs.Placed.{error_of}
 use Rattle.assembler.specs.declared.error.AsmError.{AsmError}
-use Rattle.breakpoints.specs.Stops.{Wanted}
-use Rattle.debuggee.specs.Programs.{Program, ended, entered, first_run, is_ended, is_running, just_loaded, left, marked, moved, next_tick, on_program, restarted, resumed, stopped, told, why_marked, with_hart, written}
-use Rattle.debuggee.specs.declared.run.Mark.{Mark}
+use Rattle.debuggee.specs.Programs.{is_ended, is_running, next_tick, on_program, why_marked}
 use Rattle.debuggee.specs.declared.run.Mark.TheVariants as mark
 use Rattle.debuggee.specs.declared.run.Run.{Run}
 use Rattle.debuggee.specs.declared.run.Run.TheVariants as run
-use Rattle.debuggee.specs.declared.run.Why.{Why}
 use Rattle.debuggee.specs.declared.run.Why.TheVariants as why
-use Rattle.handlers.specs.Breaks.{with_list}
 use Rattle.handlers.specs.ConfigurationDone.{run_events}
 use Rattle.handlers.specs.Demands.{run_of}
 use Rattle.handlers.specs.Disconnect.{departed, is_to_end, is_to_stand}
-use Rattle.handlers.specs.Given.{Answering, Given}
+use Rattle.handlers.specs.Given.{Answering}
 use Rattle.handlers.specs.Launch.{error_text}
 use Rattle.handlers.specs.Looking.{seen_in}
 use Rattle.handlers.specs.Telling.{exit_events, log_event, output_event, stop_event}
-use Rattle.handlers.specs.declared.terms.Terms.{Terms}
 use Rattle.protocol.specs.Commands.{name_of}
-use Rattle.protocol.specs.declared.command.Command.{Command}
 use Rattle.protocol.specs.declared.command.Command.TheVariants as command
 use Rattle.protocol.specs.declared.launch.LaunchArguments.{LaunchArguments}
-use Rattle.protocol.specs.declared.refusal.Refusal.{Refusal}
-use Rattle.protocol.specs.declared.refusal.Refusal.TheVariants.{AssemblyFailed, FileUnreadable}
+use Rattle.protocol.specs.declared.refusal.Refusal.TheVariants.{FileUnreadable}
 use Rattle.protocol.specs.declared.set_variable.SetVariableArguments.{SetVariableArguments}
 use Rattle.protocol.specs.declared.write_memory.WriteMemoryArguments.{WriteMemoryArguments}
 use Rattle.replies.specs.declared.event.Event.{Event as Told}
@@ -41,9 +32,7 @@ use Rattle.replies.specs.declared.message.Message.{Message}
 use Rattle.replies.specs.declared.message.Message.TheVariants.{Response as IsResponse, Event as IsEvent}
 use Rattle.replies.specs.declared.response.Outcome.{Outcome as Answered}
 use Rattle.replies.specs.declared.response.Outcome.TheVariants.{Done, Refused}
-use Rattle.replies.specs.declared.response.ResponseBody.{ResponseBody}
 use Rattle.replies.specs.declared.response.ResponseBody.TheVariants as body
-use Rattle.rv32i.specs.declared.hart.Hart.{Hart}
 use Rattle.session.specs.Acts.{Act, Now, Seen, Open, Close, Accept, Agree, Become, Refer, Reply, Tell, HangUp, Take, given_of, read_on}
 use Rattle.queues.specs.Arrivals.{Arrivals, all_joined, asks_of, name_asked}
 use Rattle.session.specs.Config.{first_program}
@@ -52,9 +41,8 @@ use Rattle.session.specs.Outcomes.{Outcome, answering, answers_next, closing, ne
 use Rattle.session.specs.Phases.{is_active}
 use Rattle.handlers.specs.Refusals.{response_to}
 use Rattle.session.specs.Outcomes.{answer_to}
-use Rattle.session.specs.Sessions.{After, Beginning, Effect, Life, Said, Session, accepted_on, agreed_on, histories, hung_on, life_of, opened_on, performed_on, referred_on, replied_on, said_next, said_on, start}
+use Rattle.session.specs.Sessions.{Effect, accepted_on, agreed_on, histories, hung_on, opened_on, performed_on, referred_on, replied_on, said_on, start}
 use Rattle.session.specs.Slices.{Beat, beat, beat_by, beat_of, concludes, exits, goes, goes_unless, halts, is_at_limit, is_runnable_by, logged, moves_by, output_events, telling, tells}
-use Rattle.session.specs.declared.event.Event.{Event}
 use Rattle.session.specs.declared.event.Event.TheVariants.{Connect, Recv, Turn, Slice, Hold, Sent, DropConnection}
 use Rattle.session.specs.declared.event.SliceEnd.{SliceEnd}
 use Rattle.session.specs.declared.link.Link.{Link}
@@ -62,11 +50,10 @@ use Rattle.queues.specs.declared.pending.Ask.{Ask}
 use Rattle.queues.specs.declared.pending.Ask.TheVariants.{Request, Bad}
 use Rattle.queues.specs.declared.pending.Pending.{Pending}
 use Rattle.session.specs.declared.state.TheConstants.{FULL, LAST_CONNECTION, MOST_PENDING, MOST_PIECE}
-use Rattle.session.proofs.Breaking.{answer_on}
 use Rattle.session.proofs.ByMove.{by_move}
 use Rattle.session.proofs.BySuccess.{BySuccess, agreed_body, by_success, step_body}
 use Rattle.session.proofs.Orderly.{Orderly, OrderlyIn, OrderlyOf}
-use Rattle.session.proofs.Reaching.{each_life, if_keeps, reached}
+use Rattle.session.proofs.Reaching.{reached}
 use Rattle.session.proofs.Serving.{of_answer}
 use Rattle.session_laws.proofs.Asked.{asks_that_wait}
 use Rattle.session_laws.proofs.ByForms.{on}
@@ -567,8 +554,8 @@ module _ (q : Claim) (h : Holds q) where
   by_event DropConnection s r = by_outcome DropConnection s r
 
   -- Where it holds of the program that is given at the start, it holds of each message of each connection.
-  pub of_messages : (from : Beginning) → OfProgram q (first_program from.program from.size) → (events : List Event) (c : ℕ)
-      → OfLife q (life_of c (After from events))
+  pub of_messages : (from : Beginning) → OfProgram q (first_program from.program from.size) → (events : List Happened) (c : ℕ)
+      → OfLife q (life_of c (Reached from events))
   of_messages from g events c =
       let begun : OfSession q (start from) = record {
         program = g;
@@ -576,6 +563,6 @@ module _ (q : Claim) (h : Holds q) where
         before = All-nil (OfLife q);
         present = All-nil (λ (m : Said). OfMessage q m.message);
       } in
-      let s : Session = After from events in
-      let r : OfSession q s = (reached Stays by_event from (begun, begins_so from) events).0 in
+      let s : Session = Reached from events in
+      let r : OfSession q s = (reached Stays by_event by_beats from (begun, begins_so from) events).0 in
       each_life (OfLife q) s (All-nil (λ (m : Said). OfMessage q m.message)) r.before r.present c

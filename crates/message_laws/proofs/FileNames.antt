@@ -1,8 +1,7 @@
 -- The last part of a path is UTF-8 where the path is.
-use Rattle.std.proofs.Common.{◌≡◌, ℕ, zero, suc, ◌+◌, ◌<◌, Bool, true, false, eqb, List, [], ◌∷◌, ◌++◌, length, get_or, drop, ◌⊎◌, inl, inr, IsUtf8, refl, sym, ap, ◌∙◌, subst, arith}
+use Rattle.message_laws.proofs.Common.{[], ap, arith, Bool, drop, eqb, false, get_or, IsUtf8, length, length-append, List, nat_tests, refl, subst, suc, sym, true, zero, ℕ, ◌++◌, ◌+◌, ◌<◌, ◌∙◌, ◌∷◌, ◌≡◌}
+use Rattle.std.proofs.Common.{◌⊎◌, inl, inr}
 use Rattle.std.proofs.lemmas.Bool.{eqb-true}
-use Rattle.std.proofs.lemmas.Bool.Decides.{nat_tests}
-use Rattle.std.proofs.lemmas.List.{length-append}
 use Rattle.std.proofs.lemmas.Str.{IsUtf8-drop, IsCharBoundary-after_ascii}
 use Rattle.answers.specs.StackTrace.{file_name}
 use Rattle.answers.proofs.FileNames.{HasNoSlash, after_slash, whole}

@@ -1,13 +1,7 @@
 -- The disassembly of a word is ASCII, and has at most 300 bytes.
-use Rattle.std.proofs.Common.{◌≡◌, ℕ, zero, suc, ◌+◌, ◌/◌, ◌%◌, ◌<◌, ◌≤◌, Bool, true, false, cond, leb, ltb, eqb, lt-ltb, List, [], ◌∷◌, ◌++◌, get_or, length, refl, sym, subst, arith, decimal}
+use Rattle.message_laws.proofs.Common.{[], and_parts, are_ascii, arith, Bool, codes, cond, decimal, eqb, false, get_or, leb, length, length-append, List, list_all, lt-ltb, ltb, nat_tests, refl, signed_decimal, subst, suc, sym, true, zero, ℕ, ◌%◌, ◌++◌, ◌+◌, ◌/◌, ◌<◌, ◌^◌, ◌∷◌, ◌≡◌, ◌≤◌}
 use Rattle.std.specs.Bool.{MatchBool}
-use Rattle.std.specs.Fmt.{digits, signed_decimal}
-use Rattle.std.specs.List.{list_all}
-use Rattle.std.specs.Prelude.{codes, ◌^◌}
-use Rattle.std.proofs.lemmas.Bool.{and_parts}
-use Rattle.std.proofs.lemmas.Bool.Decides.{nat_tests}
-use Rattle.std.proofs.lemmas.List.{length-append}
-use Rattle.json.proofs.Printed.Utf8.{are_ascii}
+use Rattle.std.specs.Fmt.{digits}
 use Rattle.answers.specs.Texts.{text_at, text_at-is}
 use Rattle.rv32i.specs.Encoding.{Encodes}
 use Rattle.rv32i.specs.Machine.{signed, sum}

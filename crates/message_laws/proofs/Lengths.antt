@@ -1,37 +1,23 @@
 -- Each message is written in fewer bytes than a mirror reads.
-use Rattle.std.proofs.Common.{◌≡◌, ℕ, ℤ, ◌+◌, ◌<◌, ◌≤◌, List, ◌++◌, get_or, length, Some, Result, Ok, IfOk, decimal, subst, arith}
-use Rattle.std.specs.Prelude.{codes}
-use Rattle.std.specs.Fmt.{signed_decimal}
-use Rattle.std.proofs.lemmas.List.{length-append}
+use Rattle.message_laws.proofs.Common.{answer_on, arith, AssemblyFailed, Beginning, codes, Command, decimal, get_or, Given, Happened, IfOk, length, length-append, life_of, List, Ok, Program, Reached, Refusal, ResponseBody, Result, Said, signed_decimal, Some, subst, Terms, Why, ℕ, ℤ, ◌++◌, ◌+◌, ◌<◌, ◌≡◌, ◌≤◌}
 use Rattle.answers.specs.declared.set_variable.Setting.{Setting}
 use Rattle.answers.specs.declared.write_memory.Writing.{Writing}
 use Rattle.assembler.specs.declared.error.AsmError.{AsmError}
 use Rattle.assembler.specs.declared.error.AsmErrorKind.{AsmErrorKind}
 use Rattle.assembler.specs.declared.error.AsmErrorKind.TheVariants as kind
-use Rattle.debuggee.specs.Programs.{Program}
-use Rattle.debuggee.specs.declared.run.Why.{Why}
 use Rattle.debuggee.specs.declared.run.Why.TheVariants as why
-use Rattle.handlers.specs.Given.{Given}
 use Rattle.handlers.specs.Launch.{error_text, kind_name}
 use Rattle.handlers.specs.Looking.{seen_in}
 use Rattle.handlers.specs.Telling.{log_event, output_event, stop_event, text_of}
 use Rattle.rv32i.specs.Causes.{cause_text}
 use Rattle.handlers.specs.Views.{view_of}
-use Rattle.handlers.specs.declared.terms.Terms.{Terms}
-use Rattle.protocol.specs.declared.command.Command.{Command}
-use Rattle.protocol.specs.declared.refusal.Refusal.{Refusal}
-use Rattle.protocol.specs.declared.refusal.Refusal.TheVariants.{AssemblyFailed}
 use Rattle.replies.specs.Messages.{text_of as text_said}
 use Rattle.replies.specs.declared.message.Message.{Message}
 use Rattle.replies.specs.declared.message.Message.TheVariants.{Response as IsResponse, Event as IsEvent}
 use Rattle.replies.specs.declared.response.Outcome.{Outcome}
 use Rattle.replies.specs.declared.response.Outcome.TheVariants.{Done, Refused}
-use Rattle.replies.specs.declared.response.ResponseBody.{ResponseBody}
 use Rattle.rv32i.specs.declared.stepped.Cause.{Cause}
 use Rattle.rv32i.specs.declared.stepped.Cause.TheVariants as cause
-use Rattle.session.specs.Sessions.{After, Beginning, Said, life_of}
-use Rattle.session.specs.declared.event.Event.{Event}
-use Rattle.session.proofs.Breaking.{answer_on}
 use Rattle.session.proofs.Orderly.{Orderly}
 use Rattle.session_laws.proofs.Proper.{answers_are_proper}
 use Rattle.stepping.specs.declared.tick.Reason.TheVariants as met
@@ -193,9 +179,9 @@ message_few (IsResponse r) h =
     let outcome = outcome_few r.outcome h.1 in omega (arith, name, outcome)
 message_few (IsEvent e) h = omega (arith, h)
 
-pub messages_are_short : (from : Beginning) (events : List Event) → HasPath from → MessagesAreShort (After from events)
+pub messages_are_short : (from : Beginning) (events : List Happened) → HasPath from → MessagesAreShort (Reached from events)
 messages_are_short from events path c k d below =
-    let life = life_of c (After from events) in
+    let life = life_of c (Reached from events) in
     let m : Said = get_or life.said k d in
     let right = of_messages lengths holds from
     (first_named lengths fresh_short from.program from.size from.image path) events c k d below in

@@ -1,3 +1,4 @@
+pub mod Common
 pub mod Ascii
 pub mod Plain
 pub mod Instructions

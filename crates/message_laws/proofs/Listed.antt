@@ -1,26 +1,13 @@
 -- The list that a request sets is short, and so are the texts that its logpoints say.
-use Rattle.std.proofs.Common.{◌≡◌, ℕ, ◌+◌, ◌≤◌, Bool, true, false, ltb, List, [], ◌∷◌, length, Option, Some, None, Result, Ok, Err, IfOk, subst, arith}
-use Rattle.std.specs.Prelude.{All, IfSome}
-use Rattle.std.proofs.lemmas.List.Elements.{All-head, All-tail}
+use Rattle.message_laws.proofs.Common.{[], All, All-head, All-tail, Answer, answer_on, arith, bind, Bool, Command, Conditions, conditions_of, Err, false, followed_by, Given, if_keeps, IfOk, IfSome, length, List, list_of, ltb, next_after, None, Ok, Option, Program, Result, Some, SourceBreakpoint, subst, Table, Terms, true, Wanted, ℕ, ◌+◌, ◌∷◌, ◌≡◌, ◌≤◌}
 use Rattle.answers.specs.Answers.{breaks_answer}
-use Rattle.answers.specs.Breakpoints.{Answer, followed_by, list_of, next_after}
-use Rattle.answers.specs.Conditions.{Conditions, conditions_of}
 use Rattle.answers.specs.EditorLines.{line_in_image}
 use Rattle.answers.specs.SetBreakpoints as source
 use Rattle.answers.specs.SetFunctionBreakpoints as function
 use Rattle.answers.specs.SetInstructionBreakpoints as instruction
 use Rattle.answers.specs.declared.view.View.{View}
-use Rattle.breakpoints.specs.Stops.{Wanted}
-use Rattle.debuggee.specs.Programs.{Program}
-use Rattle.handlers.specs.Given.{Given}
 use Rattle.handlers.specs.Views.{view_of}
-use Rattle.handlers.specs.declared.terms.Terms.{Terms}
-use Rattle.image.specs.Lines.{Table, bind}
-use Rattle.protocol.specs.declared.command.Command.{Command}
 use Rattle.protocol.specs.declared.command.Command.TheVariants as command
-use Rattle.protocol.specs.declared.set_breakpoints.SourceBreakpoint.{SourceBreakpoint}
-use Rattle.session.proofs.Breaking.{answer_on}
-use Rattle.session.proofs.Reaching.{if_keeps}
 use Rattle.message_laws.proofs.Breaks.{AskShort}
 use Rattle.message_laws.proofs.Named.{IsShortText}
 use Rattle.message_laws.proofs.Problems.{is_few, list_few, not_much}

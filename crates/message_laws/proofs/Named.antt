@@ -1,21 +1,11 @@
 -- A program whose path is a text, and whose labels are: whatever is done to it.
-use Rattle.std.proofs.Common.{◌≡◌, ℕ, ◌≤◌, Bool, List, length, None, refl, sym, subst, arith}
-use Rattle.std.specs.Prelude.{All}
-use Rattle.std.proofs.lemmas.List.Elements.{All-weaker}
-use Rattle.assembler.specs.Assembled.{assembled}
+use Rattle.message_laws.proofs.Common.{All, All-weaker, arith, assembled, Bool, Command, IsTextWithin, just_loaded, Label, length, List, Mark, marked, marked_by, None, Program, refl, subst, sym, Wanted, with_list, ℕ, ◌≡◌, ◌≤◌}
 use Rattle.assembler.specs.Placed.{error_of}
-use Rattle.breakpoints.specs.Stops.{Wanted}
-use Rattle.debuggee.specs.Programs.{Program, just_loaded, marked, marked_by}
-use Rattle.debuggee.specs.declared.run.Mark.{Mark}
 use Rattle.debuggee.specs.declared.run.Run.{Run}
 use Rattle.debuggee.specs.declared.run.Run.TheVariants as run
-use Rattle.handlers.specs.Breaks.{with_list}
-use Rattle.image.specs.Lines.{Label}
 use Rattle.image.specs.declared.Image.{Image}
-use Rattle.protocol.specs.declared.command.Command.{Command}
 use Rattle.protocol.specs.declared.command.Command.TheVariants as command
 use Rattle.text_laws.specs.Labels.{IsNameWithin}
-use Rattle.text_laws.specs.Texts.{IsTextWithin}
 use Rattle.text_laws.proofs.Labels.{labels_are_texts, programs_are_short}
 
 -- a text of a request or of a program

@@ -1,11 +1,6 @@
 -- The names of requests are ASCII, and short.
-use Rattle.std.proofs.Common.{◌≡◌, ◌≤◌, true, leb, length, refl, arith}
-use Rattle.std.specs.Prelude.{◌&&◌}
-use Rattle.std.proofs.lemmas.Bool.{and_parts}
-use Rattle.std.proofs.lemmas.Bool.Decides.{nat_tests}
-use Rattle.json.proofs.Printed.Utf8.{are_ascii}
+use Rattle.message_laws.proofs.Common.{and_parts, are_ascii, arith, Command, leb, length, nat_tests, refl, true, ◌&&◌, ◌≡◌, ◌≤◌}
 use Rattle.protocol.specs.Commands.{name_of}
-use Rattle.protocol.specs.declared.command.Command.{Command}
 use Rattle.protocol.specs.declared.command.Command.TheVariants as command
 
 fits : (c : Command) → (are_ascii (name_of c) && leb (length (name_of c)) 100) ≡ true

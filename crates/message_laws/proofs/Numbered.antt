@@ -1,14 +1,9 @@
 -- Each message has a number that the protocol can have.
-use Rattle.std.proofs.Common.{◌≡◌, ℕ, ◌≤◌, true, List, refl, arith}
-use Rattle.std.specs.Prelude.{All, nat_le}
-use Rattle.std.proofs.lemmas.Bool.{and_parts}
-use Rattle.std.proofs.lemmas.Bool.Decides.{nat_tests}
-use Rattle.std.proofs.lemmas.List.Elements.{All-push, All-nil}
+use Rattle.message_laws.proofs.Common.{All, All-nil, All-push, and_parts, arith, Beginning, each_life, Happened, Life, life_of, List, nat_tests, Reached, refl, Said, said_next, Session, true, ℕ, ◌≡◌, ◌≤◌}
+use Rattle.std.specs.Prelude.{nat_le}
 use Rattle.session_laws.proofs.ByForms.{KeptByAnswers, KeptByOthers, by_forms}
-use Rattle.session.proofs.Reaching.{each_life, reached_by_acts}
+use Rattle.session.proofs.Reaching.{reached_by_acts}
 use Rattle.session.specs.Limits.{are_limits}
-use Rattle.session.specs.Sessions.{After, Beginning, Life, Said, Session, life_of, said_next}
-use Rattle.session.specs.declared.event.Event.{Event}
 use Rattle.session.specs.declared.limits.Limits.{Limits}
 
 abbrev pub IsIn : ℕ → Said → Type 0
@@ -60,10 +55,10 @@ pub record InRange (last : ℕ) (life : Life) : Type 0 where
   pub few : last ≤ 2147483647
   pub all : AllIn last life
 
-pub in_range : (from : Beginning) (events : List Event) (c : ℕ) → InRange from.limits.last_seq (life_of c (After from events))
+pub in_range : (from : Beginning) (events : List Happened) (c : ℕ) → InRange from.limits.last_seq (life_of c (Reached from events))
 in_range from events c =
     let last = from.limits.last_seq in
-    let s = After from events in
+    let s = Reached from events in
     let h : Numbered last s = reached_by_acts (Numbered last) (by_forms (Numbered last) (others last) (answers last)) from
     (record { limit = refl; before = All-nil (AllIn last); present = All-nil (IsIn last) }) events in
     record { few = few_messages from.limits from.numbers; all = each_life (AllIn last) s (All-nil (IsIn last)) h.before h.present c }

@@ -1,10 +1,6 @@
 -- Digits are printed characters.
-use Rattle.std.proofs.Common.{◌≡◌, ℕ, zero, suc, ◌+◌, ◌/◌, ◌%◌, ◌<◌, ◌≤◌, Bool, true, false, cond, ltb, eqb, List, [], ◌∷◌, decimal, refl, arith}
-use Rattle.std.specs.Prelude.{codes}
-use Rattle.std.specs.Fmt.{digits, digit_glyph, digits_onto}
-use Rattle.std.proofs.lemmas.Bool.Decides.{nat_tests}
-use Rattle.std.proofs.lemmas.List.Elements.{All-cons, All-nil}
-use Rattle.text_laws.specs.Texts.{IsPlain, IsPlainByte}
+use Rattle.message_laws.proofs.Common.{[], All-cons, All-nil, arith, Bool, codes, cond, decimal, digit_glyph, digits_onto, eqb, false, IsPlain, IsPlainByte, List, ltb, nat_tests, refl, suc, true, zero, ℕ, ◌%◌, ◌+◌, ◌/◌, ◌<◌, ◌∷◌, ◌≡◌, ◌≤◌}
+use Rattle.std.specs.Fmt.{digits}
 use Rattle.message_laws.proofs.Ascii.{if_either}
 
 plain_byte : (b : ℕ) → 43 ≤ b → b ≤ 57 → IsPlainByte b

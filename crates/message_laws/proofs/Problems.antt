@@ -1,20 +1,14 @@
 -- What is said of a breakpoint that cannot be set.
-use Rattle.std.proofs.Common.{◌≡◌, ℕ, ◌≤◌, Bool, true, false, leb, ltb, List, [], ◌∷◌, length, ap, suc, Option, Some, None, Result, Ok, Err, IsUtf8, refl, arith}
-use Rattle.std.specs.Prelude.{All, codes, ◌||◌}
+use Rattle.message_laws.proofs.Common.{[], All, All-cons, All-nil, ap, arith, Bool, codes, Conditions, conditions_of, entries_of, Err, false, followed_by, IsUtf8, IsUtf8-are_ascii, leb, length, List, list_of, ltb, message_of, nat_tests, next_after, None, Ok, Option, refl, Result, Some, SourceBreakpoint, suc, true, Wanted, ℕ, ◌∷◌, ◌≡◌, ◌≤◌}
+use Rattle.std.specs.Prelude.{◌||◌}
 use Rattle.std.specs.List.{list_any}
-use Rattle.std.proofs.lemmas.Bool.Decides.{nat_tests}
-use Rattle.std.proofs.lemmas.List.Elements.{All-cons, All-nil}
-use Rattle.json.proofs.Printed.Utf8.{IsUtf8-are_ascii}
-use Rattle.answers.specs.Breakpoints.{entries_of, followed_by, list_of, message_of, next_after}
-use Rattle.answers.specs.Conditions.{Conditions, both, condition_of, conditions_of, hit_of, if_expression, if_positive}
+use Rattle.answers.specs.Conditions.{both, condition_of, hit_of, if_expression, if_positive}
 use Rattle.answers.specs.Expressions.{expression_of}
 use Rattle.answers.specs.SetBreakpoints.{is_long, is_too_much}
 use Rattle.answers.specs.Spaces.{said}
-use Rattle.breakpoints.specs.Stops.{Wanted}
 use Rattle.expressions.specs.Trees.{Tree}
 use Rattle.numerals.specs.Numerals.{numeral}
 use Rattle.numerals.specs.declared.NumeralError.{NumeralError}
-use Rattle.protocol.specs.declared.set_breakpoints.SourceBreakpoint.{SourceBreakpoint}
 use Rattle.message_laws.proofs.Ascii.{if_either}
 
 -- what is said of it: a text of a few bytes

@@ -1,15 +1,7 @@
 -- A program whose path, labels and logpoints are short texts, and whose lists are short: whatever is done to it.
-use Rattle.std.proofs.Common.{◌≡◌, ℕ, ℤ, ◌≤◌, Bool, false, List, length, Option, None, refl}
-use Rattle.assembler.specs.Assembled.{assembled}
+use Rattle.message_laws.proofs.Common.{assembled, Bool, Command, ended, entered, false, first_run, Hart, just_loaded, left, length, List, Mark, marked, moved, None, Option, Program, refl, restarted, resumed, stopped, told, Wanted, Why, with_hart, with_list, written, ℕ, ℤ, ◌≡◌, ◌≤◌}
 use Rattle.assembler.specs.Placed.{error_of}
-use Rattle.breakpoints.specs.Stops.{Wanted}
-use Rattle.debuggee.specs.Programs.{Program, ended, entered, first_run, just_loaded, left, marked, moved, restarted, resumed, stopped, told, with_hart, written}
-use Rattle.debuggee.specs.declared.run.Mark.{Mark}
-use Rattle.debuggee.specs.declared.run.Why.{Why}
-use Rattle.handlers.specs.Breaks.{with_list}
 use Rattle.image.specs.declared.Image.{Image}
-use Rattle.protocol.specs.declared.command.Command.{Command}
-use Rattle.rv32i.specs.declared.hart.Hart.{Hart}
 use Rattle.stepping.specs.declared.goal.Goal.{Goal}
 use Rattle.message_laws.proofs.Breaks.{AskShort, HasFew, HasFewBreaks, entered_few, listed_few, marked_few, moved_few, no_breaks, none_named, reset_few}
 use Rattle.message_laws.proofs.Named.{IsNamed, IsShortText, listed_named, loaded_named, marked_named, named_as}

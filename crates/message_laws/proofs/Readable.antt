@@ -1,11 +1,9 @@
 -- Each message can be read.
-use Rattle.std.proofs.Common.{List}
-use Rattle.session.specs.Sessions.{After, Beginning}
-use Rattle.session.specs.declared.event.Event.{Event}
+use Rattle.message_laws.proofs.Common.{Beginning, Happened, List, Reached}
 use Rattle.message_laws.specs.Messages.{HasPath, MessagesAreReadable}
 use Rattle.message_laws.proofs.Lengths.{messages_are_short}
 use Rattle.message_laws.proofs.Texts.{texts_are_utf8}
 
-pub messages_are_readable : (from : Beginning) (events : List Event) → HasPath from → MessagesAreReadable (After from events)
+pub messages_are_readable : (from : Beginning) (events : List Happened) → HasPath from → MessagesAreReadable (Reached from events)
 messages_are_readable from events path c k d below =
     (texts_are_utf8 from events path c k d below, messages_are_short from events path c k d below)

@@ -1,19 +1,14 @@
 -- The requests that come have texts that are UTF-8, and no longer than a body may be.
-use Rattle.std.proofs.Common.{ℕ, ◌≤◌, List, [], ◌∷◌, map, length, Option, Some, None, Result, Ok, Err, arith}
-use Rattle.std.specs.Prelude.{All, IfSome}
-use Rattle.std.proofs.lemmas.List.Elements.{All-head, All-tail, All-weaker}
+use Rattle.message_laws.proofs.Common.{[], All, All-head, All-tail, All-weaker, arith, Command, Err, IfSome, IsTextWithin, length, List, map, None, Ok, Option, Result, Some, SourceBreakpoint, ℕ, ◌∷◌, ◌≤◌}
 use Rattle.protocol.specs.Reading.{incoming_of}
-use Rattle.protocol.specs.declared.command.Command.{Command}
 use Rattle.protocol.specs.declared.command.Command.TheVariants as command
 use Rattle.protocol.specs.declared.request.Incoming.{Incoming}
 use Rattle.protocol.specs.declared.request.Incoming.TheVariants.{Request as IsRequest, Bad as IsBad, Ignored}
 use Rattle.protocol.specs.declared.request.MessageError.{MessageError}
-use Rattle.protocol.specs.declared.set_breakpoints.SourceBreakpoint.{SourceBreakpoint}
 use Rattle.session.specs.Acts.{Now, read_on}
 use Rattle.queues.specs.Arrivals.{asks_in, asks_of}
 use Rattle.session.specs.declared.TheConstants.{BODY_LIMIT}
 use Rattle.text_laws.specs.Requests.{AsksWithin, MeansWithin, WritesWithin}
-use Rattle.text_laws.specs.Texts.{IsTextWithin}
 use Rattle.text_laws.proofs.Requests.{requests_have_texts}
 use Rattle.message_laws.proofs.Claims.{Claim, OfAsks}
 use Rattle.message_laws.proofs.Frames.{AreWithin, bodies_within}

@@ -1,32 +1,20 @@
 -- The texts of each message are UTF-8.
-use Rattle.std.proofs.Common.{◌≡◌, ℕ, ℤ, ◌+◌, ◌≤◌, true, false, List, [], ◌∷◌, ◌++◌, length, Option, Some, None, Result, Ok, IfOk, IsUtf8, decimal, refl, subst}
-use Rattle.std.specs.Prelude.{IfSome, codes}
-use Rattle.std.specs.Fmt.{signed_decimal}
-use Rattle.std.proofs.lemmas.List.Elements.{All-weaker}
+use Rattle.message_laws.proofs.Common.{[], All-weaker, answer_on, are_ascii, assembled, Beginning, codes, Command, decimal, false, Given, Happened, IfOk, IfSome, IsUtf8, IsUtf8-are_ascii, just_loaded, Label, length, life_of, List, None, Ok, Option, Program, Reached, refl, Refusal, ResponseBody, Result, Said, signed_decimal, Some, subst, Terms, true, Why, ℕ, ℤ, ◌++◌, ◌+◌, ◌∷◌, ◌≡◌, ◌≤◌}
 use Rattle.std.proofs.lemmas.Str.{IsUtf8-append}
-use Rattle.json.proofs.Printed.Utf8.{are_ascii, IsUtf8-are_ascii}
 use Rattle.answers.specs.Laws.{HoldsWords}
 use Rattle.answers.specs.declared.set_variable.Setting.{Setting}
 use Rattle.answers.specs.declared.write_memory.Writing.{Writing}
-use Rattle.assembler.specs.Assembled.{assembled}
 use Rattle.assembler.specs.declared.error.AsmError.{AsmError}
 use Rattle.assembler.specs.declared.error.AsmErrorKind.{AsmErrorKind}
 use Rattle.assembler.specs.declared.error.AsmErrorKind.TheVariants as kind
-use Rattle.debuggee.specs.Programs.{Program, just_loaded}
-use Rattle.debuggee.specs.declared.run.Why.{Why}
 use Rattle.debuggee.specs.declared.run.Why.TheVariants as why
-use Rattle.handlers.specs.Given.{Given}
 use Rattle.handlers.specs.Launch.{error_text, kind_name}
 use Rattle.handlers.specs.Looking.{seen_in}
 use Rattle.handlers.specs.Telling.{log_event, output_event, stop_event, text_of}
 use Rattle.rv32i.specs.Causes.{cause_text}
 use Rattle.handlers.specs.Views.{view_of}
-use Rattle.handlers.specs.declared.terms.Terms.{Terms}
-use Rattle.image.specs.Lines.{Label}
 use Rattle.image.specs.declared.Image.{Image}
 use Rattle.protocol.specs.Commands.{name_of}
-use Rattle.protocol.specs.declared.command.Command.{Command}
-use Rattle.protocol.specs.declared.refusal.Refusal.{Refusal}
 use Rattle.message_parts.specs.Forms.{AreTexts, text, texts_if, texts_of, whole}
 use Rattle.replies.specs.Events.{event_texts}
 use Rattle.replies.specs.Laws.{HasOutcomeTexts, HasTexts}
@@ -34,13 +22,9 @@ use Rattle.replies.specs.declared.message.Message.{Message}
 use Rattle.replies.specs.declared.message.Message.TheVariants.{Response as IsResponse, Event as IsEvent}
 use Rattle.replies.specs.declared.response.Outcome.{Outcome}
 use Rattle.replies.specs.declared.response.Outcome.TheVariants.{Done, Refused}
-use Rattle.replies.specs.declared.response.ResponseBody.{ResponseBody}
 use Rattle.rv32i.specs.declared.stepped.Cause.{Cause}
 use Rattle.rv32i.specs.declared.stepped.Cause.TheVariants as cause
 use Rattle.session.specs.Config.{HasImage, first_program}
-use Rattle.session.specs.Sessions.{After, Beginning, Said, life_of}
-use Rattle.session.specs.declared.event.Event.{Event}
-use Rattle.session.proofs.Breaking.{answer_on}
 use Rattle.session.proofs.Orderly.{Orderly}
 use Rattle.stepping.specs.declared.tick.Reason.TheVariants as met
 use Rattle.message_laws.specs.Messages.{HasPath, TextsAreUtf8}
@@ -219,8 +203,8 @@ first_named q of None size image path = tt
 first_named q of (Some program) size image path =
     of (assembled program.1) program.0 size (loaded_named program.0 program.1 false size image path)
 
-pub texts_are_utf8 : (from : Beginning) (events : List Event) → HasPath from → TextsAreUtf8 (After from events)
+pub texts_are_utf8 : (from : Beginning) (events : List Happened) → HasPath from → TextsAreUtf8 (Reached from events)
 texts_are_utf8 from events path c =
     All-weaker (λ (m : Said). OfMessage texts m.message) (λ (m : Said). HasTexts m.message) (λ m h. message_texts m.message h)
-    (life_of c (After from events)).said
+    (life_of c (Reached from events)).said
     (of_messages texts holds from (first_named texts fresh_short from.program from.size from.image path) events c)

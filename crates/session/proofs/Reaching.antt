@@ -1,5 +1,5 @@
--- What holds at the start, and is kept by each event, holds after any list of events; and what each act keeps, each event does.
-use Rattle.std.proofs.Common.{◌≡◌, ℕ, zero, suc, Bool, true, false, cond, ltb, List, [], ◌∷◌, ◌++◌, Option, Some, None, get_or, refl}
+-- What holds at the start, and is kept by each event and by each cut slice, holds of whatever is reached; and what each act keeps, these do.
+use Rattle.std.proofs.Common.{◌≡◌, ℕ, zero, suc, Bool, true, false, cond, ltb, List, [], ◌∷◌, ◌++◌, map, Option, Some, None, get_or, refl}
 use Rattle.std.specs.Prelude.{All}
 use Rattle.std.proofs.lemmas.List.Elements.{All-push, All-head, All-tail}
 use Rattle.session.specs.declared.event.Event.{Event}
@@ -9,20 +9,35 @@ use Rattle.session.specs.declared.event.Event.TheVariants.{Connect, Recv, Turn, 
 use Rattle.session.specs.Slices.{beat}
 use Rattle.session.specs.Effects.{performed, after_all, beats, enough, next_by}
 use Rattle.session.specs.Outcomes.{outcome}
-use Rattle.session.specs.Sessions.{Beginning, Session, Life, no_life, lives, life_of, performed_on, histories, Effect, start, After}
+use Rattle.session.specs.Reached.{Happened, Whole, Cut, Reached, leaves, led_to}
+use Rattle.session.specs.Sessions.{Beginning, Session, Life, no_life, lives, life_of, performed_on, histories, Effect, start}
 
 -- what holds of either choice holds of the one that is made
 pub if_keeps : {A : Type 0} (P : A → Type 0) (b : Bool) (x y : A) → (b ≡ true → P x) → (b ≡ false → P y) → P (cond b x y)
 if_keeps P true x y f g = f refl
 if_keeps P false x y f g = g refl
 
-module _ (P : Session → Type 0) (by_event : (e : Event) (s : Session) → P s → P (Effect s e)) where
-  pub all_keep : (events : List Event) (s : Session) → P s → P (after_all histories events s)
-  all_keep [] s h = h
-  all_keep (e ∷ events) s h = all_keep events (Effect s e) (by_event e s h)
+module _ (P : Session → Type 0) (by_event : (e : Event) (s : Session) → P s → P (Effect s e))
+    (by_beats : (n count : ℕ) (s : Session) → P s → P (beats histories n count s).state) where
+  pub each_keeps : (x : Happened) (s : Session) → P s → P (leaves s x)
+  each_keeps (Whole e) s h = by_event e s h
+  each_keeps (Cut n count) s h = by_beats n count s h
 
-  pub reached : (from : Beginning) → P (start from) → (events : List Event) → P (After from events)
-  reached from h events = all_keep events (start from) h
+  all_keep : (happened : List Happened) (s : Session) → P s → P (led_to happened s)
+  all_keep [] s h = h
+  all_keep (x ∷ happened) s h = all_keep happened (leaves s x) (each_keeps x s h)
+
+  pub reached : (from : Beginning) → P (start from) → (happened : List Happened) → P (Reached from happened)
+  reached from h happened = all_keep happened (start from) h
+
+-- events that are done are such
+pub whole_events : (events : List Event) (s : Session) → led_to (map Whole events) s ≡ after_all histories events s
+whole_events [] s = refl
+whole_events (e ∷ events) s = whole_events events (Effect s e)
+
+pub led_append : (xs ys : List Happened) (s : Session) → led_to (xs ++ ys) s ≡ led_to ys (led_to xs s)
+led_append [] ys s = refl
+led_append (x ∷ xs) ys s = led_append xs ys (leaves s x)
 
 -- acts, one after the other
 pub performed_append : (xs ys : List Act) (s : Session)
@@ -58,8 +73,8 @@ module _ (P : Session → Type 0) (k : KeptByActs P) where
   event_keeps (Sent n) s h = acts_keep (outcome (histories.see s) (Sent n)).acts s h
   event_keeps DropConnection s h = acts_keep (outcome (histories.see s) DropConnection).acts s h
 
-  pub reached_by_acts : (from : Beginning) → P (start from) → (events : List Event) → P (After from events)
-  reached_by_acts from h events = reached P event_keeps from h events
+  pub reached_by_acts : (from : Beginning) → P (start from) → (happened : List Happened) → P (Reached from happened)
+  reached_by_acts from h happened = reached P event_keeps beats_keep from h happened
 
 -- ---- lives
 

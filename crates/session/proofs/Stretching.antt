@@ -1,11 +1,11 @@
 -- Beats of a slice: one, or many of which there is nothing to tell.
-use Rattle.std.proofs.Common.{◌≡◌, ℕ, ◌+◌, Bool, true, false, cond, ltb, List, [], ◌∷◌, map, Option, Some, None, inl, refl, sym, ap, ◌∙◌, subst, arith}
+use Rattle.std.proofs.Common.{◌≡◌, ℕ, ◌+◌, Bool, true, false, ◌&&◌, cond, ltb, List, [], ◌∷◌, map, Option, Some, None, inl, refl, sym, ap, ◌∙◌, subst, arith}
 use Rattle.std.proofs.lemmas.Bool.{or_left, or_right}
 use Rattle.replies.specs.declared.event.Event.{Event as Told}
 use Rattle.replies.specs.declared.event.Event.TheVariants as event
 use Rattle.handlers.specs.Telling.{stop_event}
 use Rattle.session.specs.Acts.{Now, Tell}
-use Rattle.session.specs.Outcomes.{is_owed, is_owed_by, needs_memory}
+use Rattle.session.specs.Outcomes.{is_owed, is_owed_by, is_to_tell, needs_memory}
 use Rattle.session.specs.Phases.{is_active}
 use Rattle.std.proofs.lemmas.Bool.Decides.{nat_tests}
 use Rattle.debuggee.specs.Programs.{Program, ended, entered, next_tick, stays, stopped}
@@ -71,11 +71,12 @@ owes_some : (program : Option Program) (tick : Tick) → owed_of program ≡ Som
 owes_some None tick e = absurd (cc)
 owes_some (Some p) tick e = ap is_owed_by e
 
--- something was owed
-pub lacks_telling : (n m : ℕ) (k new : Kept) (tick : Tick) → owed_of k.now.debuggee.program ≡ Some tick → new ≡ k
-    → Stretches n m k (record { moved = 0; ending = Some ending.NoMemory }) new
-lacks_telling n m k new tick owes e =
-    lacks_memory n m (ltb m n) k new refl e (inl (or_left _ _ (owes_some k.now.debuggee.program tick owes)))
+-- something was owed to an editor that has said all
+pub lacks_telling : (n m : ℕ) (k new : Kept) (tick : Tick) → owed_of k.now.debuggee.program ≡ Some tick
+    → is_active k.now.link ≡ true → new ≡ k → Stretches n m k (record { moved = 0; ending = Some ending.NoMemory }) new
+lacks_telling n m k new tick owes active e =
+    lacks_memory n m (ltb m n) k new refl e
+    (inl (or_left _ _ (ap (λ (b : Bool). b && is_owed k.now.debuggee.program) active ∙ owes_some k.now.debuggee.program tick owes)))
 
 -- an editor that has said all would have been told
 acts_need : (now : Now) (p : Program) (e : Told) (es : List Told) → is_active now.link ≡ true
@@ -86,7 +87,7 @@ pub lacks_stopping : (n m : ℕ) (k new : Kept) (reason : Why) (more : Bool) →
     → is_active k.now.link ≡ true → new ≡ k → Stretches n m k (record { moved = 0; ending = Some ending.NoMemory }) new
 lacks_stopping n m k new reason more lt d active e =
     lacks_memory n m more k new lt e
-    (inl (or_right (is_owed k.now.debuggee.program) _
+    (inl (or_right (is_to_tell k.now) _
     (ap (λ (b : Beat). needs_memory b.acts) d.1.1 ∙ acts_need k.now (stopped reason d.0) (stop_event reason []) [] active)))
 
 -- the slice ends
@@ -183,7 +184,7 @@ unfolding concluding
 lacks_meeting n m k new tick lt d active e =
     let p = d.0 in
     lacks_memory n m true k new lt e
-    (inl (or_right (is_owed k.now.debuggee.program) _
+    (inl (or_right (is_to_tell k.now) _
     (ap (λ (b : Beat). needs_memory b.acts)
     (free_beat p k d.1.0 ∙ ap (λ (t : Tick). moves_by k.now p t.outcome) d.1.1.0 ∙ stays_beat k p tick.outcome d.1.1.1)
     ∙ concluding_needs k.now p tick.outcome d.1.1.1 active)))

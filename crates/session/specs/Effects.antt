@@ -19,7 +19,7 @@ use Rattle.session.specs.declared.event.EventError.TheVariants.{NotConnected, Al
 use Rattle.session.specs.declared.event.EventError.TheVariants.{PieceTooLong, Closing, NoMemory, Spent}
 use Rattle.session.specs.Acts.{Seen, Act}
 use Rattle.session.specs.declared.event.Sliced.{Sliced}
-use Rattle.session.specs.Outcomes.{is_owed, may_lack, needs_memory, outcome}
+use Rattle.session.specs.Outcomes.{is_to_tell, may_lack, needs_memory, outcome}
 use Rattle.session.specs.Slices.{Beat, IsFree, beat}
 use Rattle.stepping.specs.Runs.{MayLackMemory}
 
@@ -138,11 +138,11 @@ moves_asked Hold = 0
 moves_asked (Sent n) = 0
 moves_asked DropConnection = 0
 
--- whether a beat may lack memory for what it tells: something is owed, or the beat tells something
+-- whether a beat may lack memory for what it tells: something is owed to somebody, or the beat tells something
 abbrev pub telling_may_lack : Seen → Bool → Bool
-telling_may_lack seen more = is_owed seen.now.debuggee.program || needs_memory (beat seen more).acts
+telling_may_lack seen more = is_to_tell seen.now || needs_memory (beat seen more).acts
 
--- A beat is a move that may lack memory: it is the first to store into a page, or it is undone.
+-- A beat is a move that may lack memory: it stores into a page of which each byte is 0, or undoes such a store.
 pub record MoveMayLack (seen : Seen) (more : Bool) : Type 0 where
   pub goes : more ≡ true
   pub program : Program
@@ -167,8 +167,8 @@ abbrev pub EndsWell : {S : Type 0} → World S → S → Event → Applied → O
 EndsWell w s e x None P = (answer w e s ≡ Ok x) × P (effect w e s)
 EndsWell w s e x (Some moved) P = BreaksOff w (moves_asked e) moved s P
 
--- What a call answers, and that P holds of what it leaves. Memory runs out only where something is owed that a turn
--- tells, or the event would be done and needs some; then nothing happened.
+-- What a call answers, and that P holds of what it leaves. Memory runs out only where a turn has to tell somebody what is
+-- owed, or the event would be done and needs some; then nothing happened.
 abbrev pub Ends : {S : Type 0} → World S → S → Event → Result Applied EventError → (S → Type 0) → Type 0
 Ends w s e (Ok x) P = EndsWell w s e x (ran_out x) P
 Ends w s e (Err NoMemory) P = (may_lack (w.see s) e ≡ true) × P s

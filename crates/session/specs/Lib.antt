@@ -21,6 +21,8 @@ pub mod Outcomes
 pub mod Effects
 -- a session with all of its past, act by act, and its bytes
 pub mod Sessions
+-- what calls lead to, also where a slice finds no memory
+pub mod Reached
 -- a prefix of a list
 pub mod Prefixes
 -- what the code keeps, which sessions that stands for (`Stands`), and what a call does for each of them (`Happens`);

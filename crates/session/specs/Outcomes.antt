@@ -32,6 +32,7 @@ use Rattle.session.specs.Acts.{Now, Seen, Act, Open, Close, Accept, Agree, Becom
 use Rattle.session.specs.Acts.{given_of, grows}
 use Rattle.handlers.specs.Demands.{run_of}
 use Rattle.handlers.specs.Refusals.{answer_of, wanted_by}
+use Rattle.session.specs.Phases.{is_active}
 use Rattle.session.specs.Slices.{telling}
 use Rattle.stepping.specs.declared.tick.Tick.{Tick}
 
@@ -143,7 +144,7 @@ abbrev pub outcome_at : Seen → Option Link → Event → Outcome
 outcome_at seen None e = with_no_link seen e
 outcome_at seen (Some link) e = on_link seen link e
 
--- What an event does and answers. A slice goes beat by beat, and is not looked at here.
+-- What an event does and answers, but for a slice, which goes beat by beat (`Effects`): its row is never asked for.
 abbrev pub outcome : Seen → Event → Outcome
 outcome seen e = outcome_at seen seen.now.link e
 
@@ -172,11 +173,15 @@ abbrev pub is_owed : Option Program → Bool
 is_owed None = false
 is_owed (Some p) = is_owed_by p.owed
 
+-- whether something is owed to an editor that has said all: it is told first
+abbrev pub is_to_tell : Now → Bool
+is_to_tell now = is_active now.link && is_owed now.debuggee.program
+
 -- whether an event may lack memory: a turn tells what is owed, and acts may need some
 abbrev pub may_lack : Seen → Event → Bool
 may_lack seen Connect = needs_memory (outcome seen Connect).acts
 may_lack seen (Recv piece) = needs_memory (outcome seen (Recv piece)).acts
-may_lack seen (Turn file) = is_owed seen.now.debuggee.program || needs_memory (outcome seen (Turn file)).acts
+may_lack seen (Turn file) = is_to_tell seen.now || needs_memory (outcome seen (Turn file)).acts
 may_lack seen (Slice n) = false
 may_lack seen Hold = needs_memory (outcome seen Hold).acts
 may_lack seen (Sent n) = needs_memory (outcome seen (Sent n)).acts

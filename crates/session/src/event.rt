@@ -77,8 +77,8 @@ pub enum SliceEnd {
     /// The program ended.
     Ended,
     /// No memory was left: to tell what the program did, or for a move. What is owed will be told first by the next slice, or
-    /// the next turn; a stop that no move made was not made, nor was the move that no memory was left for, as one that is the
-    /// first to store into a page.
+    /// the next turn; a stop that no move made was not made, nor was the move that no memory was left for: one that
+    /// stores into a page of zeros, or undoes such a store.
     NoMemory,
 }
 

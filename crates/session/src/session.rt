@@ -106,8 +106,8 @@ impl Session {
     /// Gives the program time for so many moves. First what it owes is told. It ends with `Stopped` or
     /// `Ended` where the program does; with `Idle` where there is nothing to do; with `Full` where more
     /// than 65,536 bytes wait to be sent; with `Spent` where so many moves were made; and with `NoMemory`
-    /// where none was left: to tell what the program did, which is then owed; or for the next move, as for the page that it is the
-    /// first to store into, and then that move was not made.
+    /// where none was left: to tell what the program did, which is then owed; or for the next move, which stores into a page of zeros,
+    /// or undoes such a store, and then that move was not made.
     pub fn slice(&mut self, moves: u32) -> Sliced
         ensures stands { Happens self.old (event.Slice moves) (Ok (applied.Slice result)) self.new }
     {

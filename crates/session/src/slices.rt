@@ -67,7 +67,7 @@ pub enum Ahead {
     Open,
     /// It traps or ends the program, and would answer this.
     Meets(Tick),
-    /// No memory was left for it, as for the page that it is the first to store into.
+    /// No memory was left for it: for a page of zeros into which it stores, or such a store that it undoes.
     Lacks,
 }
 

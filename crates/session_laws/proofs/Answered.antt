@@ -1,20 +1,11 @@
 -- What a turn does, in four: it is refused, it tells what is owed, it has nothing to answer, or it answers the first request that waits.
-use Rattle.std.proofs.Common.{◌≡◌, ℕ, Bool, true, false, cond, ltb, List, [], ◌∷◌, Option, Some, None, refl}
-use Rattle.debuggee.specs.Programs.{Program}
+use Rattle.session_laws.proofs.Common.{[], answer_to, answering, answers_next, Bool, cond, done, false, FULL, Link, List, ltb, next_turn, None, Option, outcome_at, Pending, Program, refl, Seen, Some, telling, Tick, true, Turn, turn_by, turn_of, ℕ, ◌∷◌, ◌≡◌}
 use Rattle.session.specs.declared.event.Applied.TheVariants.{Turn as DidTurn}
-use Rattle.session.specs.declared.event.Event.TheVariants.{Turn}
 use Rattle.session.specs.declared.event.EventError.TheVariants.{NotConnected}
 use Rattle.session.specs.declared.event.Turned.{Turned}
 use Rattle.session.specs.declared.event.Turned.TheVariants as turned
-use Rattle.session.specs.declared.link.Link.{Link}
-use Rattle.queues.specs.declared.pending.Pending.{Pending}
-use Rattle.session.specs.declared.state.TheConstants.{FULL}
-use Rattle.session.specs.Acts.{Seen}
-use Rattle.session.specs.Outcomes.{Outcome, answering, answers_next, done, next_turn, outcome_at, refused, turn_by, turn_of}
-use Rattle.session.specs.Outcomes.{answer_to}
-use Rattle.session.specs.Slices.{telling}
+use Rattle.session.specs.Outcomes.{Outcome, refused}
 use Rattle.session_laws.specs.Turns.{Answered, answered_by, answered_on, answered_with, first_answered, next_answered}
-use Rattle.stepping.specs.declared.tick.Tick.{Tick}
 
 -- a request that is answered
 abbrev pub the_answered : Seen → Link → Option (List ℕ) → Pending → Answered

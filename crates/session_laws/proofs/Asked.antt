@@ -1,20 +1,18 @@
 -- Requests as they come: with numbers and bytes that a request may have, and no refusal that has a text of its own.
-use Rattle.std.proofs.Common.{◌≡◌, ℕ, ◌≤◌, false, List, [], ◌∷◌, ◌++◌, map, Some, None, Result, Ok, Err, inl, inr, sym, ap, ◌∙◌, subst}
+use Rattle.session_laws.proofs.Common.{[], all_joined, ap, Arrivals, Ask, asks_in, asks_of, Err, false, inl, inr, List, map, None, Pending, Refusal, Result, Some, subst, sym, ℕ, ◌++◌, ◌∙◌, ◌∷◌, ◌≡◌, ◌≤◌}
+use Rattle.std.proofs.Common.{Ok}
 use Rattle.std.proofs.lemmas.List.{map-id}
 use Rattle.protocol.proofs.Meanings.{IsSound, IsOfNameOrArguments, incoming_of-sound}
 use Rattle.protocol.specs.Laws.{AsksLinesWithin}
 use Rattle.protocol.specs.Reading.{incoming_of}
 use Rattle.protocol.specs.Refusals.{has_text}
-use Rattle.protocol.specs.declared.refusal.Refusal.{Refusal}
 use Rattle.protocol.specs.declared.request.Incoming.{Incoming}
 use Rattle.protocol.specs.declared.request.Incoming.TheVariants.{Request as IsRequest, Bad as IsBad, Ignored}
 use Rattle.protocol.specs.declared.request.MessageError.{MessageError}
 use Rattle.range_laws.specs.Requests.{GivesBytes}
 use Rattle.range_laws.proofs.Requests.{BodyGives, body_gives}
-use Rattle.queues.specs.declared.pending.Ask.{Ask}
 use Rattle.queues.specs.declared.pending.Ask.TheVariants.{Request, Bad}
-use Rattle.queues.specs.declared.pending.Pending.{Pending}
-use Rattle.queues.specs.Arrivals.{Arrivals, all_joined, number_of, asks_in, asks_of}
+use Rattle.queues.specs.Arrivals.{number_of}
 use Rattle.session_laws.proofs.Joining.{seen_as, all_joined_as}
 use Rattle.session.proofs.Serving.{IsRefusalOf}
 

@@ -1,20 +1,12 @@
 -- What is kept where an act does something is kept by acts.
-use Rattle.std.proofs.Common.{◌≡◌, ℕ, ◌<◌, false, ltb, List, [], ◌∷◌, Option, Some, None, ltb-true}
+use Rattle.session_laws.proofs.Common.{[], Accept, accepted_on, Agree, agreed_on, Answering, Become, Call, Close, Debuggee, false, hung_on, if_keeps, Link, List, ltb, ltb-true, None, Open, Option, past_referred, Pending, performed_on, read_on, Refer, referred_on, replied_on, Reply, Response, response_to, said_next, said_on, Session, Some, Take, Tell, Terms, ℕ, ◌<◌, ◌∷◌, ◌≡◌}
 use Rattle.replies.specs.declared.message.Message.{Message}
-use Rattle.replies.specs.declared.message.Message.TheVariants.{Response, Event as IsEvent}
+use Rattle.replies.specs.declared.message.Message.TheVariants.{Event as IsEvent}
 use Rattle.replies.specs.declared.response.Outcome.{Outcome}
-use Rattle.session.specs.declared.link.Link.{Link}
-use Rattle.queues.specs.declared.pending.Pending.{Pending}
-use Rattle.handlers.specs.declared.terms.Terms.{Terms}
-use Rattle.debuggee.specs.Programs.{Debuggee}
 use Rattle.replies.specs.declared.event.Event.{Event}
-use Rattle.handlers.specs.Given.{Answering}
-use Rattle.session.specs.Acts.{Open, Close, Accept, Agree, Become, Refer, Reply, Tell, HangUp, Take, numbered, accepted, read_on, refers}
-use Rattle.session.specs.References.{past_referred}
-use Rattle.handlers.specs.Refusals.{response_to}
-use Rattle.variables.specs.Laws.{Call}
-use Rattle.session.specs.Sessions.{Session, said_next, with_said, with_piece, replied_on, accepted_on, agreed_on, said_on, opened_on, hung_on, referred_on, performed_on}
-use Rattle.session.proofs.Reaching.{if_keeps, KeptByActs}
+use Rattle.session.specs.Acts.{HangUp, numbered, accepted, refers}
+use Rattle.session.specs.Sessions.{with_said, with_piece, opened_on}
+use Rattle.session.proofs.Reaching.{KeptByActs}
 
 -- a session once an answer's change is made and its references are issued, before it is queued
 abbrev pub with_change : Answering → Session → Session

@@ -1,27 +1,18 @@
 -- Wherever what an editor sends is cut, the session takes the same of it.
-use Rattle.std.proofs.Common.{◌≡◌, ℕ, Bool, true, false, cond, ltb, leb, List, [], ◌∷◌, ◌++◌, length, Option, Some, None, is_some, Ok, Err, ◌⊎◌, inl, inr, refl, sym, ap, ◌∙◌, subst, append_assoc}
-use Rattle.std.specs.Prelude.{All}
-use Rattle.std.proofs.lemmas.List.Elements.{All-push, All-nil}
+use Rattle.session_laws.proofs.Common.{[], Accept, accepted_on, All, All-nil, All-push, all_joined, ap, append_assoc, Arrivals, Ask, asks_of, Beginning, Bool, cond, done, each_life, Effect, Err, false, fault_of_reading, fault_or, Happened, histories, inl, inr, is_faulty, joined, leb, length, Life, Link, List, ltb, message_fault_of, MOST_PENDING, MOST_PIECE, None, Option, outcome_at, performed, Reached, reached_by_acts, read_on, Recv, refl, Session, Some, subst, sym, true, up_to_fault, ℕ, ◌++◌, ◌∙◌, ◌∷◌, ◌≡◌, ◌⊎◌}
+use Rattle.std.proofs.Common.{is_some, Ok}
 use Rattle.framing.specs.Reading.{Reading, Tail, reading_of, with_bodies}
 use Rattle.framing.specs.Streams.{reading_after, fault_of}
 use Rattle.framing.proofs.Cutting.{reading_of-append}
 use Rattle.framing.proofs.Pasts.{nothing_stands}
 use Rattle.session.specs.declared.TheConstants.{BODY_LIMIT}
-use Rattle.session.specs.declared.state.TheConstants.{MOST_PIECE, MOST_PENDING}
 use Rattle.session.specs.declared.event.Applied.TheVariants.{Recv as Received}
-use Rattle.session.specs.declared.event.Event.{Event}
-use Rattle.session.specs.declared.event.Event.TheVariants.{Recv}
 use Rattle.session.specs.declared.event.EventError.TheVariants.{Busy, PieceTooLong, Closing}
 use Rattle.session.specs.declared.event.LinkFault.{LinkFault}
-use Rattle.session.specs.declared.link.Link.{Link}
-use Rattle.queues.specs.declared.pending.Ask.{Ask}
-use Rattle.session.specs.Acts.{Accept, read_on, fault_or, fault_of_reading, tail_kept}
-use Rattle.queues.specs.Arrivals.{Arrivals, joined, all_joined, asks_of, message_fault_of}
-use Rattle.session.specs.Effects.{performed}
+use Rattle.session.specs.Acts.{tail_kept}
 use Rattle.session_laws.specs.Laws.{RequestsAreRead, FaultIsOfTheBytes, IsTaken, CutsDoNotMatter}
-use Rattle.session.specs.Outcomes.{Outcome, refused, done, outcome, outcome_at}
-use Rattle.session.specs.Sessions.{Beginning, Session, Life, Effect, Answer, histories, After, up_to_fault, is_faulty, accepted_on}
-use Rattle.session.proofs.Reaching.{each_life, reached_by_acts}
+use Rattle.session.specs.Outcomes.{Outcome, refused, outcome}
+use Rattle.session.specs.Sessions.{Answer}
 use Rattle.session_laws.proofs.ByForms.{on, accepting, KeptByOthers, KeptByAnswers, by_forms}
 use Rattle.session_laws.proofs.Reading.{asks_of-append, message_fault_of-append, fault_stays, asks_up_to, fault_up_to, up_to_fault_all, up_to_fault-append, ends_at_fault, reading_after-append, no_message_fault, none_if}
 
@@ -124,16 +115,16 @@ reads_answers =
       fault = h.fault;
     }
 
-always_reads : (from : Beginning) (events : List Event) → Reads (After from events)
+always_reads : (from : Beginning) (events : List Happened) → Reads (Reached from events)
 always_reads from events =
     reached_by_acts Reads (by_forms Reads reads reads_answers) from
     (record { before = All-nil IsRead; present = sym nothing_is_read; goes_on = tt; fault = sym nothing_is_wrong }) events
 
-pub requests_are_read : (from : Beginning) (events : List Event) → RequestsAreRead (After from events)
+pub requests_are_read : (from : Beginning) (events : List Happened) → RequestsAreRead (Reached from events)
 requests_are_read from events =
-    let h = always_reads from events in each_life IsRead (After from events) (sym nothing_is_read) h.before h.present
+    let h = always_reads from events in each_life IsRead (Reached from events) (sym nothing_is_read) h.before h.present
 
-pub fault_is_of_the_bytes : (from : Beginning) (events : List Event) → FaultIsOfTheBytes (After from events)
+pub fault_is_of_the_bytes : (from : Beginning) (events : List Happened) → FaultIsOfTheBytes (Reached from events)
 fault_is_of_the_bytes from events = (always_reads from events).fault
 
 -- ---- a piece that is taken
@@ -301,5 +292,5 @@ cut s h prefix after taken as_one then =
           let c = closed_to mid after (record l { is_closing = is_some (fault_of_reading (read_on s.now prefix)) }) refl t in
           c.1 ∙ closes s l prefix after tail fine c.0
 
-pub cuts_do_not_matter : (from : Beginning) (events : List Event) → CutsDoNotMatter (After from events)
-cuts_do_not_matter from events = cut (After from events) (always_reads from events)
+pub cuts_do_not_matter : (from : Beginning) (events : List Happened) → CutsDoNotMatter (Reached from events)
+cuts_do_not_matter from events = cut (Reached from events) (always_reads from events)

@@ -1,5 +1,5 @@
 -- The first of a list, where there is one.
-use Rattle.std.proofs.Common.{◌≡◌, ℕ, List, [], ◌∷◌, Some, None, refl, ap}
+use Rattle.session_laws.proofs.Common.{[], ap, List, None, refl, Some, ℕ, ◌∷◌, ◌≡◌}
 use Rattle.framing.specs.Streams.{first_of}
 
 pub first_some : (waiting : List (List ℕ)) (b : List ℕ) → Some b ≡ first_of waiting → (bs : List (List ℕ)) × (waiting ≡ b ∷ bs)

@@ -1,16 +1,11 @@
 -- What is kept of references stands for all that were ever issued, each on its connection.
-use Rattle.std.proofs.Common.{◌≡◌, ℕ, ◌+◌, ◌≤◌, List, [], ◌∷◌, map, Option, Some, None, refl, sym, ap, ◌∙◌, subst, arith}
-use Rattle.std.specs.Prelude.{All, ⊤}
+use Rattle.session_laws.proofs.Common.{[], All, All-nil, All-weaker, ap, arith, Beginning, Call, Happened, Link, List, map, None, Option, past_referred, Reached, reached_by_acts, Reference, referred, refl, Session, Some, subst, sym, without_connection, ℕ, ⊤, ◌+◌, ◌∙◌, ◌∷◌, ◌≡◌, ◌≤◌}
 use Rattle.std.proofs.lemmas.List.{length-map}
-use Rattle.std.proofs.lemmas.List.Elements.{All-cons, All-nil, All-weaker}
-use Rattle.session.specs.declared.event.Event.{Event}
-use Rattle.session.specs.declared.link.Link.{Link}
+use Rattle.std.proofs.lemmas.List.Elements.{All-cons}
 use Rattle.session_laws.specs.Lifetimes.{ReferencesRise, ReferencesStand}
-use Rattle.session.specs.References.{Reference, References, ended, issued_all, issued_one, past_of, past_referred, referred, unless_issued, without_connection}
-use Rattle.session.specs.Sessions.{Beginning, Session, After}
+use Rattle.session.specs.References.{References, ended, issued_all, issued_one, past_of, unless_issued}
 use Rattle.session_laws.proofs.ByForms.{KeptByAnswers, KeptByOthers, by_forms}
-use Rattle.session.proofs.Reaching.{reached_by_acts}
-use Rattle.variables.specs.Laws.{Call, down_from}
+use Rattle.variables.specs.Laws.{down_from}
 use Rattle.variables.specs.Laws.Call.{EndStop, Issue}
 use Rattle.variables.specs.Numbers.{Numbers, StandsFor}
 use Rattle.variables.specs.References as variables
@@ -117,7 +112,7 @@ refers = record {
 refers_answers : KeptByAnswers Refers
 refers_answers = λ l p rest outcome s few h. record { stands = h.stands; made = h.made }
 
-pub always_refers : (from : Beginning) (events : List Event) → Refers (After from events)
+pub always_refers : (from : Beginning) (events : List Happened) → Refers (Reached from events)
 always_refers from events =
     reached_by_acts Refers (by_forms Refers refers refers_answers) from
     (record { stands = nothing_stands from.limits.last_ref; made = All-nil (IsMade None 0 0) }) events
@@ -129,13 +124,13 @@ same_numbers : (issued : List Reference)
 same_numbers [] = refl
 same_numbers (r ∷ issued) = ap (λ (l : List ℕ). r.number ∷ l) (same_numbers issued)
 
-pub references_rise : (from : Beginning) (events : List Event) → ReferencesRise (After from events)
+pub references_rise : (from : Beginning) (events : List Happened) → ReferencesRise (Reached from events)
 references_rise from events =
-    let s = After from events in
+    let s = Reached from events in
     let issued = s.references.issued in
     let h : Falls (map without_connection issued) = falls s.references.stop (map without_connection issued)
     (always_refers from events).stands.order in
     sym (same_numbers issued) ∙ h.numbers ∙ ap down_from (length-map issued without_connection)
 
-pub references_stand : (from : Beginning) (events : List Event) → ReferencesStand (After from events)
+pub references_stand : (from : Beginning) (events : List Happened) → ReferencesStand (Reached from events)
 references_stand from events = (always_refers from events).stands

@@ -1,32 +1,19 @@
 -- Two slices, one after the other, leave what one of all their moves leaves.
-use Rattle.std.proofs.Common.{◌≡◌, ℕ, ℤ, zero, suc, ◌+◌, ◌<◌, ◌≤◌, Bool, true, false, cond, ltb, List, [], ◌∷◌, map, length, Option, Some, None, ◌⊎◌, inl, inr, refl, sym, ap, ◌∙◌, subst, arith}
-use Rattle.std.specs.Prelude.{not, ◌&&◌}
-use Rattle.std.proofs.lemmas.Bool.Decides.{nat_tests}
-use Rattle.debuggee.specs.Programs.{Debuggee, Program, ended, is_running, moved, next_tick, stopped, told, why_marked}
-use Rattle.debuggee.specs.declared.run.Mark.{Mark}
-use Rattle.debuggee.specs.declared.run.Why.{Why}
+use Rattle.session_laws.proofs.Common.{[], Act, ap, arith, Beat, beat, beat_by, beat_of, beats, becomes, Bool, by_move, concluded, concludes, cond, Debuggee, ending_of, ends, enough, exit_events, exits, false, FULL, goes, goes_unless, halts, histories, if_keeps, inl, inr, is_at_limit, is_runnable_by, is_running, length, List, logged, ltb, makes_move, map, Mark, moved, moves_by, nat_tests, next_by, next_tick, None, not, Now, Option, output_events, performed, performed_append, performed_on, Program, refl, Seen, Session, sliced, SliceEnd, Slicing, Some, stop_event, stopped, stops, subst, suc, sym, Tell, telling, tells, Tick, told, true, waiting_of, Went, Why, why_marked, zero, ℕ, ℤ, ◌&&◌, ◌+◌, ◌<◌, ◌∙◌, ◌∷◌, ◌≡◌, ◌≤◌, ◌⊎◌}
+use Rattle.debuggee.specs.Programs.{ended}
 use Rattle.debuggee.specs.declared.run.Why.TheVariants as why
 use Rattle.replies.specs.declared.event.Event.{Event as Told}
 use Rattle.replies.specs.declared.message.Message.TheVariants.{Event as IsEvent}
-use Rattle.session.specs.declared.event.SliceEnd.{SliceEnd}
 use Rattle.session.specs.declared.event.SliceEnd.TheVariants as ending
-use Rattle.session.specs.declared.state.TheConstants.{FULL}
-use Rattle.session.specs.Acts.{Act, Now, Seen, Tell}
-use Rattle.session.specs.Effects.{Slicing, after_beat, beats, beats_on, enough, from_here, next_beat, next_by, performed, sliced, with_beat}
+use Rattle.session.specs.Effects.{after_beat, beats_on, from_here, next_beat, with_beat}
 use Rattle.session_laws.specs.Laws.{SlicesEnd, SlicesJoin}
 use Rattle.session.specs.Phases.{is_active, is_configuring}
-use Rattle.session.specs.Sessions.{Session, histories, performed_on, waiting_of}
-use Rattle.session.specs.Slices.{Beat, beat, beat_by, beat_of, becomes, concludes, ending_of, ends, exits, goes, goes_unless, halts, is_at_limit, is_runnable_by, logged, moves_by, output_events, makes_move, runs, stops, telling, tells}
-use Rattle.handlers.specs.Telling.{exit_events, stop_event}
+use Rattle.session.specs.Slices.{runs}
 use Rattle.stepping.specs.declared.tick.Outcome.{Outcome}
-use Rattle.stepping.specs.declared.tick.Outcome.TheVariants.{Went, Stopped, Ended}
+use Rattle.stepping.specs.declared.tick.Outcome.TheVariants.{Stopped, Ended}
 use Rattle.stepping.specs.declared.tick.Reason.TheVariants as met
-use Rattle.stepping.specs.declared.tick.Tick.{Tick}
-use Rattle.session.proofs.Reaching.{if_keeps, performed_append}
 use Rattle.session_laws.proofs.Turning.{said_debuggee}
 use Rattle.session.proofs.Enough.{is_sliced, each_ends, stays_ended, Follows}
-use Rattle.session.specs.Beats.{concluded}
-use Rattle.session.proofs.ByMove.{by_move}
 
 -- ---- what is told changes no program
 

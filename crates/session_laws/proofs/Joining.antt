@@ -1,11 +1,8 @@
 -- Requests that join those that wait: none is lost, and they stand in their order.
-use Rattle.std.proofs.Common.{◌≡◌, ℤ, Bool, true, false, List, [], ◌∷◌, ◌++◌, map, Option, Some, None, refl, sym, ap, ◌∙◌, append-nil, append_assoc}
+use Rattle.session_laws.proofs.Common.{[], all_joined, ap, append-nil, append_assoc, Arrivals, Ask, Bool, false, joined, List, map, map-append, None, Option, Pending, refl, Some, sym, true, ℤ, ◌++◌, ◌∙◌, ◌∷◌, ◌≡◌}
 use Rattle.std.specs.Prelude.{if◌then◌else◌}
-use Rattle.std.proofs.lemmas.List.{map-append}
-use Rattle.queues.specs.declared.pending.Ask.{Ask}
 use Rattle.queues.specs.declared.pending.Fate.TheVariants.{Waits, Repeated, Cancelled}
-use Rattle.queues.specs.declared.pending.Pending.{Pending}
-use Rattle.queues.specs.Arrivals.{Arrivals, is_above, number_of, is_named, cancels, cancelled_by, pending_with, joined, all_joined}
+use Rattle.queues.specs.Arrivals.{is_above, number_of, is_named, cancels, cancelled_by, pending_with}
 
 -- what is seen of the requests that wait, by what is seen of one
 abbrev pub seen_as : {X : Type 0} → (Ask → X) → List Pending → List X

@@ -1,37 +1,28 @@
 -- A reference is answered in its stop and on its connection, and is stale after that.
-use Rattle.std.proofs.Common.{◌≡◌, ℕ, ℤ, zero, suc, pos, negsuc, ◌<◌, ◌≤◌, Bool, true, false, cond, eqb, List, [], ◌∷◌, ◌++◌, map, Option, Some, None, Result, Ok, Err, inl, inr, MatchBool, refl, sym, ap, ◌∙◌, subst, arith}
-use Rattle.std.specs.Prelude.{◌&&◌, ◌==◌, All, bytes_eq, codes, not, slice_get, ⊤}
+use Rattle.session_laws.proofs.Common.{[], All, Answering, ap, arith, Beginning, Bool, bytes_eq, codes, Command, cond, eqb, Err, false, given_of, goes_on, Happened, has_none, if_keeps, inl, inr, Link, List, map, MatchBool, nat_tests, None, not, Now, Option, Program, Reached, Reference, refl, Refusal, ResponseBody, Result, Run, run_of, Session, Some, subst, suc, sym, Terms, true, without_connection, zero, ℕ, ℤ, ⊤, ◌&&◌, ◌++◌, ◌<◌, ◌∙◌, ◌∷◌, ◌≡◌, ◌≤◌}
+use Rattle.std.proofs.Common.{pos, negsuc, Ok}
+use Rattle.std.specs.Prelude.{◌==◌, slice_get}
 use Rattle.std.specs.Result.{result_err}
 use Rattle.std.proofs.lemmas.List.Elements.{All-head, All-tail}
-use Rattle.std.proofs.lemmas.Bool.Decides.{nat_tests}
 use Rattle.answers.specs.Evaluate.{if_valued, unless_refused, valued}
 use Rattle.answers.specs.Expressions.{expression_of}
 use Rattle.answers.specs.Scopes.{body_by as scopes_by, given_by}
 use Rattle.answers.specs.SetVariable.{has_name, set_in, setting_of}
 use Rattle.answers.specs.Targets.{frame_refusal, if_frame, refused, target_of}
 use Rattle.answers.specs.Variables.{body_by as variables_by, variables_in}
-use Rattle.debuggee.specs.Programs.{Program}
-use Rattle.protocol.specs.declared.command.Command.{Command}
 use Rattle.protocol.specs.declared.command.Command.TheVariants.{Scopes, Variables, SetVariable, Evaluate}
 use Rattle.protocol.specs.declared.evaluate.EvaluateArguments.{EvaluateArguments}
 use Rattle.protocol.specs.declared.scopes.ScopesArguments.{ScopesArguments}
 use Rattle.protocol.specs.declared.set_variable.SetVariableArguments.{SetVariableArguments}
 use Rattle.protocol.specs.declared.variables.VariablesArguments.{VariablesArguments}
-use Rattle.protocol.specs.declared.refusal.Refusal.{Refusal}
 use Rattle.protocol.specs.declared.refusal.Refusal.TheVariants as refusal
 use Rattle.protocol.specs.declared.request.Request.{Request as ARequest}
 use Rattle.replies.specs.declared.response.Outcome.{Outcome}
 use Rattle.replies.specs.declared.response.Outcome.TheVariants.{Done, Refused}
-use Rattle.replies.specs.declared.response.ResponseBody.{ResponseBody}
-use Rattle.session.specs.declared.event.Event.{Event}
-use Rattle.session.specs.declared.link.Link.{Link}
 use Rattle.queues.specs.declared.pending.Ask.TheVariants.{Request}
 use Rattle.queues.specs.declared.pending.Fate.{Fate}
 use Rattle.handlers.specs.declared.phase.Phase.{Phase}
-use Rattle.handlers.specs.declared.terms.Terms.{Terms}
-use Rattle.handlers.specs.Given.{Answering, Given}
-use Rattle.session.specs.Acts.{Now, given_of}
-use Rattle.debuggee.specs.declared.run.Run.{Run}
+use Rattle.handlers.specs.Given.{Given}
 use Rattle.expressions.specs.Trees.{Tree}
 use Rattle.expressions.specs.Values.{value_of}
 use Rattle.expressions.specs.declared.error.ExprFault.{ExprFault}
@@ -39,7 +30,7 @@ use Rattle.rv32i.specs.declared.hart.Hart.{Hart}
 use Rattle.handlers.specs.declared.demand.Demand.{Demand}
 use Rattle.queues.specs.Arrivals.{is_repeat}
 use Rattle.handlers.specs.Looking.{demand}
-use Rattle.handlers.specs.Demands.{goes_on, has_ended, has_none, is_no_thread, run_of}
+use Rattle.handlers.specs.Demands.{has_ended, is_no_thread}
 use Rattle.handlers.specs.Looking.{looks_on, shows_by}
 use Rattle.handlers.specs.SetVariable.{sets_by, sets_on}
 use Rattle.handlers.specs.Refusals.{answer_by, first_refusal, is_cancelled, names_none, refusals, unmet, where_so}
@@ -49,10 +40,7 @@ use Rattle.rv32i.specs.Names.{number_named}
 use Rattle.variables.specs.Registers.{name_answer, unless_zero}
 use Rattle.variables.specs.Stack.{stack_words}
 use Rattle.variables.specs.Values.{value_of as value_in}
-use Rattle.session.proofs.Reaching.{if_keeps}
 use Rattle.session_laws.specs.Lifetimes.{IsStale, IsUnknown, ReferencesAreGood, ReferencesLast, WasIssued, is_of_other_kind, outcome_next, reference_in}
-use Rattle.session.specs.References.{Reference, without_connection}
-use Rattle.session.specs.Sessions.{Beginning, Session, After}
 use Rattle.session_laws.proofs.Issuing.{IsMade, Refers, always_refers}
 use Rattle.variables.specs.Numbers.{InOrder, found_in, has_room}
 use Rattle.variables.specs.References.{found_among, next_after}
@@ -499,6 +487,6 @@ module _ (s : Session) (h : Refers s) (link : Link) (file : Option (List ℕ)) (
       good_by (target_of s.now.numbers number) (knows s h number) e
       (subst (Speaks r.command (target_of s.now.numbers number)) (sym out) (speaks_on there.0 s.now link.terms r.command number named))
 
-pub references_last : (from : Beginning) (events : List Event) → ReferencesLast (After from events)
+pub references_last : (from : Beginning) (events : List Happened) → ReferencesLast (Reached from events)
 references_last from events link file r fate number is_link named =
-    good_next (After from events) (always_refers from events) link file r fate number named _ refl
+    good_next (Reached from events) (always_refers from events) link file r fate number named _ refl

@@ -1,3 +1,4 @@
+pub mod Common
 pub mod Firsts
 pub mod ByForms
 pub mod Waiting
@@ -18,3 +19,4 @@ pub mod Refusing
 pub mod Answered
 pub mod Retiring
 pub mod Stopping
+pub mod Calls

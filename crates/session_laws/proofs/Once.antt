@@ -1,36 +1,19 @@
 -- `initialize` succeeds once at most on a connection.
-use Rattle.std.proofs.Common.{◌≡◌, ℕ, ◌+◌, ◌≤◌, Bool, true, false, ltb, List, [], ◌∷◌, ◌++◌, map, Option, Some, None, refl, sym, subst, arith}
-use Rattle.std.specs.Prelude.{All, Ok}
-use Rattle.std.proofs.lemmas.List.Elements.{All-push, All-nil}
-use Rattle.debuggee.specs.Programs.{Program}
-use Rattle.protocol.specs.declared.command.Command.{Command}
+use Rattle.session_laws.proofs.Common.{[], agreed_body, All, All-nil, All-push, answer_to, Answering, answering, arith, Beginning, Bool, by_success, BySuccess, closing, Command, each_life, false, given_of, Happened, histories, hung_on, if_keeps, Life, Link, List, ltb, map, None, Now, of_answer, Option, Pending, performed, performed_append, performed_on, Program, Reached, refl, replied_on, Response, response_to, ResponseBody, Said, said_next, said_on, Session, SetsList, Some, step_body, subst, sym, Tell, Terms, true, ℕ, ◌++◌, ◌+◌, ◌∷◌, ◌≡◌, ◌≤◌}
+use Rattle.std.specs.Prelude.{Ok}
 use Rattle.replies.specs.declared.event.Event.{Event}
-use Rattle.replies.specs.declared.message.Message.TheVariants.{Response, Event as IsEvent}
+use Rattle.replies.specs.declared.message.Message.TheVariants.{Event as IsEvent}
 use Rattle.replies.specs.declared.response.Outcome.TheVariants.{Done}
-use Rattle.replies.specs.declared.response.ResponseBody.{ResponseBody}
 use Rattle.replies.specs.declared.response.Outcome.{Outcome}
-use Rattle.session.specs.declared.event.Event.{Event as SessionEvent}
-use Rattle.session.specs.declared.link.Link.{Link}
-use Rattle.queues.specs.declared.pending.Pending.{Pending}
 use Rattle.handlers.specs.declared.phase.Phase.{Phase}
 use Rattle.handlers.specs.declared.phase.Phase.TheVariants.{Fresh, Initialized, Configuring, Active, Left}
-use Rattle.handlers.specs.declared.terms.Terms.{Terms}
-use Rattle.handlers.specs.Given.{Answering}
-use Rattle.session.specs.Acts.{Now, Tell, given_of}
-use Rattle.session.specs.Effects.{performed}
 use Rattle.session.specs.Kinds.{initializes}
 use Rattle.session_laws.specs.Laws.{initializes_by, times_initialized, InitializesOnce}
-use Rattle.session.specs.Outcomes.{answer_to, answering, closing}
 use Rattle.handlers.specs.Phases.{is_fresh_in}
-use Rattle.handlers.specs.Refusals.{response_to}
 use Rattle.handlers.specs.Requests.{is_taken_in}
-use Rattle.session.specs.Sessions.{Beginning, Session, Life, Said, said_next, said_on, replied_on, hung_on, performed_on, histories, After}
 use Rattle.session.proofs.Breaking.{IsPlain, answer_on, is_plain}
-use Rattle.session.proofs.Serving.{of_answer}
-use Rattle.session.proofs.Reaching.{if_keeps, each_life, performed_append}
 use Rattle.session_laws.proofs.ByForms.{on, on_with, with_change}
 use Rattle.session_laws.proofs.Turning.{KeptByEvents, reached_by_events}
-use Rattle.session.proofs.BySuccess.{BySuccess, by_success, SetsList, agreed_body, step_body}
 use Rattle.handlers.specs.Successes.{agreeing}
 
 -- how often it can have succeeded by then
@@ -209,9 +192,9 @@ once = record {
   takes = λ n s h. record { before = h.before; present = h.present; suits = h.suits };
 }
 
-pub initializes_once : (from : Beginning) (events : List SessionEvent) → InitializesOnce (After from events)
+pub initializes_once : (from : Beginning) (events : List Happened) → InitializesOnce (Reached from events)
 initializes_once from events =
-    let s = After from events in
+    let s = Reached from events in
     let h : OnceWith 0 s = reached_by_events (OnceWith 0) once from
     (record { before = All-nil Once; present = omega arith; suits = tt }) events in
     each_life Once s (omega arith) h.before (let few = h.present in omega (arith, few))

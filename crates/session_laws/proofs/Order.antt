@@ -1,24 +1,13 @@
 -- Requests are answered in their order, and messages are numbered in theirs.
-use Rattle.std.proofs.Common.{◌≡◌, ℕ, ◌+◌, ◌<◌, false, cond, eqb, List, [], ◌∷◌, ◌++◌, length, map, Option, Some, None, refl, sym, ap, ◌∙◌, subst, arith, append-nil, append_assoc}
-use Rattle.std.specs.Prelude.{All, flat_map}
-use Rattle.std.proofs.lemmas.Bool.Decides.{nat_tests}
-use Rattle.std.proofs.lemmas.List.{map-append, length-append}
+use Rattle.session_laws.proofs.Common.{[], All, All-nil, All-push, ap, append-nil, append_assoc, arith, Ask, asks_of, Beginning, cond, each_life, eqb, false, Happened, length, Life, Link, List, map, map-append, nat_tests, None, Option, Pending, Reached, reached_by_acts, read_on, refl, Response, response_to, Said, said_next, Session, Some, subst, sym, ℕ, ◌++◌, ◌+◌, ◌<◌, ◌∙◌, ◌∷◌, ◌≡◌}
+use Rattle.std.specs.Prelude.{flat_map}
+use Rattle.std.proofs.lemmas.List.{length-append}
 use Rattle.std.proofs.lemmas.List.Concat.{flat_map-append}
-use Rattle.std.proofs.lemmas.List.Elements.{All-push, All-nil}
-use Rattle.replies.specs.declared.message.Message.TheVariants.{Response, Event as IsEvent}
-use Rattle.session.specs.declared.link.Link.{Link}
-use Rattle.queues.specs.declared.pending.Ask.{Ask}
-use Rattle.queues.specs.declared.pending.Pending.{Pending}
-use Rattle.session.specs.declared.event.Event.{Event}
-use Rattle.session.specs.Acts.{read_on}
-use Rattle.queues.specs.Arrivals.{asks_of}
+use Rattle.replies.specs.declared.message.Message.TheVariants.{Event as IsEvent}
 use Rattle.session.specs.Prefixes.{IsPrefixOf}
-use Rattle.handlers.specs.Refusals.{response_to}
-use Rattle.session.specs.Sessions.{Beginning, Session, Life, Said, said_next, After}
 use Rattle.session_laws.specs.Laws.{asked_as, answered_as, asked_in, answered_in, pending_as, AnswersInOrder, AreNumberedFrom, NumbersRise}
 use Rattle.session.proofs.Standing.{prefix_of_more}
 use Rattle.session_laws.proofs.Joining.{all_joined_as}
-use Rattle.session.proofs.Reaching.{each_life, reached_by_acts}
 use Rattle.session_laws.proofs.ByForms.{KeptByOthers, KeptByAnswers, by_forms}
 
 -- ---- answers in order
@@ -99,9 +88,9 @@ ordered_answers = λ l p rest outcome s few h.
           (sym (still_wait (l.seq + 1) s.now.limits.last_seq rest left)) now;
     }
 
-pub answers_in_order : (from : Beginning) (events : List Event) → AnswersInOrder (After from events)
+pub answers_in_order : (from : Beginning) (events : List Happened) → AnswersInOrder (Reached from events)
 answers_in_order from events =
-    let s = After from events in
+    let s = Reached from events in
     let h : Ordered s = reached_by_acts Ordered (by_forms Ordered ordered ordered_answers) from
     (record { before = All-nil Prefix; present = ([], refl); rest = tt }) events in
     record {
@@ -155,9 +144,9 @@ counted_answers = λ l p rest outcome s few h. record {
   last = ap (λ n. n + 1) h.last ∙ sym (length-append s.life.said (_ ∷ []));
 }
 
-pub numbers_rise : (from : Beginning) (events : List Event) → NumbersRise (After from events)
+pub numbers_rise : (from : Beginning) (events : List Happened) → NumbersRise (Reached from events)
 numbers_rise from events =
-    let s = After from events in
+    let s = Reached from events in
     let h : Counted s = reached_by_acts Counted (by_forms Counted counted counted_answers) from
     (record { before = All-nil Rising; present = tt; last = tt }) events in
     each_life Rising s tt h.before h.present

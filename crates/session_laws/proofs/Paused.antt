@@ -1,62 +1,38 @@
 -- A program that runs and is marked retires no instruction.
-use Rattle.std.proofs.Common.{◌≡◌, ℕ, zero, suc, Bool, true, false, leb, ltb, eqb, List, [], ◌∷◌, map, length, Option, Some, None, ◌⊎◌, inl, inr, refl, sym, ap, ◌∙◌, subst, arith}
+use Rattle.session_laws.proofs.Common.{[], Agree, agreed_on, agrees, answer_to, Answering, answering, ap, arith, assembled, Beat, beat_by, beat_of, beats, Become, Bool, by_success, BySuccess, bytes_eq, Call, closing, Command, concluded, Connect, Debuggee, done, DropConnection, Effect, ending_of, ends, enough, eqb, false, first_run, FULL, given_of, goes_on, goes_unless, histories, Hold, hung_on, if_keeps, inl, inr, is_runnable_by, is_running, is_success, IsTrue, just_loaded, LAST_CONNECTION, leb, length, Link, List, ltb, map, Mark, marked, marked_by, MOST_PENDING, MOST_PIECE, name_asked, next_by, None, not, Now, of_answer, on_program, Option, outcome_at, Pending, performed, performed_append, performed_on, Program, Recv, Refer, referred_on, refl, replied_on, Reply, response_to, restarted, Run, run_of, Sent, Session, Slice, SliceEnd, Slicing, Some, steps, stop_event, stopped, subst, suc, sym, Tell, telling, tells, Terms, Tick, told, true, Turn, waiting_of, Went, why_marked, zero, ℕ, ◌&&◌, ◌||◌, ◌∙◌, ◌∷◌, ◌≡◌, ◌⊎◌}
 use Rattle.std.proofs.lemmas.Bool.{or_left, or_right}
-use Rattle.std.specs.Prelude.{IsTrue, ◌&&◌, ◌||◌, not, bytes_eq, is_some, MatchOption}
+use Rattle.std.specs.Prelude.{is_some, MatchOption}
 use Rattle.answers.specs.Answers.{sets_breakpoints}
 use Rattle.answers.specs.Looking.{looks_in}
-use Rattle.assembler.specs.Assembled.{assembled}
 use Rattle.breakpoints.specs.Stops.{Wanted}
 use Rattle.debuggee.specs.Programs.{with_functions, with_instructions, with_source}
-use Rattle.debuggee.specs.Programs.{Debuggee, Program, ended, first_mark, first_run, is_running, just_loaded, marked, marked_by, on_program, restarted, stopped, told, why_marked}
-use Rattle.debuggee.specs.declared.run.Mark.{Mark}
+use Rattle.debuggee.specs.Programs.{ended, first_mark}
 use Rattle.debuggee.specs.declared.run.Mark.TheVariants as mark
-use Rattle.debuggee.specs.declared.run.Run.{Run}
 use Rattle.debuggee.specs.declared.run.Run.TheVariants as run
 use Rattle.debuggee.specs.declared.run.Why.TheVariants as why
-use Rattle.protocol.specs.declared.command.Command.{Command}
 use Rattle.protocol.specs.declared.command.Command.TheVariants.{Pause, SetBreakpoints, SetFunctionBreakpoints, SetInstructionBreakpoints, SetVariable, WriteMemory}
 use Rattle.protocol.specs.Commands.{name_of}
 use Rattle.protocol.specs.declared.disconnect.TheConstants.{NAME as DISCONNECT}
 use Rattle.protocol.specs.declared.pause.TheConstants.{NAME as PAUSE}
 use Rattle.replies.specs.declared.message.Message.TheVariants.{Response as IsResponse}
 use Rattle.replies.specs.declared.response.Outcome.{Outcome as Answered}
-use Rattle.session.specs.declared.state.TheConstants.{MOST_PIECE, MOST_PENDING, FULL, LAST_CONNECTION}
+use Rattle.session.specs.Reached.{Happened, Whole, Cut, OfEvent, leaves}
 use Rattle.session.specs.declared.event.Applied.TheVariants.{Turn as DidTurn}
-use Rattle.session.specs.declared.event.SliceEnd.{SliceEnd}
 use Rattle.session.specs.declared.event.SliceEnd.TheVariants as ending
 use Rattle.session.specs.declared.event.Event.{Event}
-use Rattle.session.specs.declared.event.Event.TheVariants.{Connect, Recv, Turn, Slice, Hold, Sent, DropConnection}
 use Rattle.session.specs.declared.event.Turned.TheVariants as turned
-use Rattle.session.specs.declared.link.Link.{Link}
-use Rattle.queues.specs.declared.pending.Pending.{Pending}
-use Rattle.handlers.specs.declared.terms.Terms.{Terms}
-use Rattle.handlers.specs.Given.{Answering}
-use Rattle.session.specs.Acts.{Now, Become, Refer, Agree, Reply, Tell, given_of}
-use Rattle.queues.specs.Arrivals.{name_asked}
-use Rattle.variables.specs.Laws.{Call}
 use Rattle.handlers.specs.Breaks.{with_list}
-use Rattle.handlers.specs.Demands.{goes_on, run_of}
-use Rattle.session.specs.Effects.{Slicing, beats, enough, next_by, performed}
-use Rattle.session.specs.Kinds.{is_success}
 use Rattle.session_laws.specs.Laws.{Disconnects, EditorLeaves, IsAtRest, IsMarked, MarkedRetiresNone, PauseMarks, Pauses, RetiresNone, RetiresNoneIn}
-use Rattle.session.specs.Outcomes.{Outcome, answer_to, answering, closing, done, outcome_at}
-use Rattle.handlers.specs.Refusals.{response_to}
+use Rattle.session.specs.Outcomes.{Outcome}
 use Rattle.session_laws.specs.Turns.{Answered as AnsweredRequest}
 use Rattle.handlers.specs.Requests.{demand_of}
-use Rattle.session.specs.Sessions.{Session, Effect, agreed_on, histories, hung_on, performed_on, referred_on, replied_on, waiting_of}
-use Rattle.session.specs.Slices.{Beat, beat_by, beat_of, ending_of, ends, goes_unless, is_runnable_by, telling, tells}
-use Rattle.handlers.specs.Telling.{stop_event}
-use Rattle.stepping.specs.declared.tick.Tick.{Tick}
 use Rattle.stepping.specs.declared.tick.Outcome.{Outcome as CameTo}
-use Rattle.stepping.specs.declared.tick.Outcome.TheVariants.{Went, Stopped, Ended}
+use Rattle.stepping.specs.declared.tick.Outcome.TheVariants.{Stopped, Ended}
 use Rattle.session_laws.proofs.ByForms.{on}
-use Rattle.session.proofs.Reaching.{if_keeps, performed_append}
-use Rattle.session.proofs.Serving.{Meets, of_answer}
+use Rattle.session.proofs.Serving.{Meets}
 use Rattle.session_laws.proofs.Joined.{becomes_program, program_of, same_debuggee, telling_program, tells_only, told_only}
 use Rattle.session_laws.proofs.Turning.{said_debuggee}
 use Rattle.session_laws.proofs.Answered.{ByTurn, by_turn, the_answered}
-use Rattle.session.proofs.BySuccess.{BySuccess, agrees, by_success, steps}
-use Rattle.session.specs.Beats.{concluded}
 
 -- it runs and is marked, or does not run
 Waits : Option Program → Type 0
@@ -337,7 +313,7 @@ outcome_passes None (Turn file) s h = turn_passes file (on None s) h
 outcome_passes None (Slice n) s h = inr (still_marked (program_of s) h)
 outcome_passes None Hold s h = inr (hold_waits (program_of s) h)
 outcome_passes None (Sent n) s h = inr (still_marked (program_of s) h)
-outcome_passes None DropConnection s h = inl tt
+outcome_passes None DropConnection s h = inr (still_marked (program_of s) h)
 outcome_passes (Some l) Connect s h = inr (still_marked (program_of s) h)
 outcome_passes (Some l) (Recv piece) s h = piece_passes l piece s h
 outcome_passes (Some l) (Turn file) s h = turn_passes file (on (Some l) s) h
@@ -346,7 +322,7 @@ outcome_passes (Some l) Hold s h = inr (hold_waits (program_of s) h)
 outcome_passes (Some l) (Sent n) s h =
     if_keeps (Passes (on (Some l) s) (Sent n)) (ltb (length (waiting_of (on (Some l) s))) n) _ _ (λ _. inr (still_marked (program_of s) h))
     (λ _. inr (still_marked (program_of s) h))
-outcome_passes (Some l) DropConnection s h = inl tt
+outcome_passes (Some l) DropConnection s h = inl refl
 
 event_passes : (e : Event) (s : Session) → IsMarked s.now.debuggee → EditorLeaves s e ⊎ Waits (program_of (Effect s e))
 event_passes Connect s h = outcome_passes s.now.link Connect s h
@@ -357,7 +333,7 @@ event_passes Hold s h = outcome_passes s.now.link Hold s h
 event_passes (Sent n) s h = outcome_passes s.now.link (Sent n) s h
 event_passes DropConnection s h = outcome_passes s.now.link DropConnection s h
 
-retires_none : (e : Event) (s : Session) → IsMarked s.now.debuggee → RetiresNone s e
+retires_none : (e : Event) (s : Session) → IsMarked s.now.debuggee → RetiresNone s (Whole e)
 retires_none Connect s h = tt
 retires_none (Recv piece) s h = tt
 retires_none (Turn file) s h = tt
@@ -366,20 +342,34 @@ retires_none Hold s h = tt
 retires_none (Sent n) s h = tt
 retires_none DropConnection s h = tt
 
-goes_on_none : (e : Event) (events : List Event) (s : Session) → (IsMarked (Effect s e).now.debuggee → RetiresNoneIn events (Effect s e))
-    → EditorLeaves s e ⊎ Waits (program_of (Effect s e))
-    → IsAtRest (Effect s e).now.debuggee ⊎ (EditorLeaves s e ⊎ RetiresNoneIn events (Effect s e))
-unfolding Waits
-goes_on_none e events s rest (inl leaves) = inr (inl leaves)
-goes_on_none e events s rest (inr (inl m)) = inr (inr (rest m))
-goes_on_none e events s rest (inr (inr rests)) = inl rests
+-- what happened is an event or a slice that was cut
+each_retires_none : (x : Happened) (s : Session) → IsMarked s.now.debuggee → RetiresNone s x
+each_retires_none (Whole e) s h = retires_none e s h
+each_retires_none (Cut n count) s h = (slept n count s h).none
 
-retires_none_in : (events : List Event) (s : Session) → IsMarked s.now.debuggee → RetiresNoneIn events s
+each_passes : (x : Happened) (s : Session) → IsMarked s.now.debuggee
+    → OfEvent (EditorLeaves s) x ⊎ Waits (program_of (leaves s x))
+each_passes (Whole e) s h = event_passes e s h
+each_passes (Cut n count) s h = inr (slept n count s h).waits
+
+goes_on_none : (x : Happened) (happened : List Happened) (s : Session)
+    → (IsMarked (leaves s x).now.debuggee → RetiresNoneIn happened (leaves s x))
+    → OfEvent (EditorLeaves s) x ⊎ Waits (program_of (leaves s x))
+    → IsAtRest (leaves s x).now.debuggee ⊎ (OfEvent (EditorLeaves s) x ⊎ RetiresNoneIn happened (leaves s x))
+unfolding Waits
+goes_on_none x happened s rest (inl gone) = inr (inl gone)
+goes_on_none x happened s rest (inr (inl m)) = inr (inr (rest m))
+goes_on_none x happened s rest (inr (inr rests)) = inl rests
+
+retires_none_in : (happened : List Happened) (s : Session) → IsMarked s.now.debuggee → RetiresNoneIn happened s
 retires_none_in [] s h = tt
-retires_none_in (e ∷ events) s h = (retires_none e s h, goes_on_none e events s (retires_none_in events (Effect s e)) (event_passes e s h))
+retires_none_in (x ∷ happened) s h = (
+  each_retires_none x s h,
+  goes_on_none x happened s (retires_none_in happened (leaves s x)) (each_passes x s h),
+)
 
 pub marked_retires_none : (s : Session) → MarkedRetiresNone s
-marked_retires_none s h events = retires_none_in events s h
+marked_retires_none s h happened = retires_none_in happened s h
 
 -- ---- `pause`
 

@@ -1,43 +1,25 @@
 -- Each answer is proper.
-use Rattle.std.proofs.Common.{◌≡◌, ℕ, ◌+◌, ◌<◌, ◌≤◌, Bool, true, false, ltb, List, [], ◌∷◌, map, Option, Some, None, Result, Ok, refl, sym, subst, arith}
-use Rattle.std.specs.Prelude.{All, IfOk, codes, ◌^◌}
+use Rattle.session_laws.proofs.Common.{[], All, All-nil, All-push, All-weaker, answer_to, Answering, answering, arith, Beginning, Bool, by_success, BySuccess, closing, codes, Command, each_life, false, given_of, Happened, Has, histories, hung_on, if_keeps, IfOk, Life, Link, List, ltb, map, name_asked, None, Now, of_answer, Option, Pending, performed, performed_append, performed_on, Program, Reached, refl, Refusal, replied_on, Response, response_to, ResponseBody, Result, Run, run_of, Said, said_next, said_on, Session, SetsList, Some, subst, sym, Tell, Terms, true, ℕ, ◌+◌, ◌<◌, ◌^◌, ◌∷◌, ◌≡◌, ◌≤◌}
+use Rattle.std.proofs.Common.{Ok}
 use Rattle.answers.specs.Laws.{HoldsWords, IsNarrow, NumbersFit}
 use Rattle.answers.proofs.Proper.{answers_are_proper as breaks_are_proper}
 use Rattle.assembler.specs.Assembled.{IsNarrowRow}
 use Rattle.breakpoints.specs.Stops.{Wanted}
-use Rattle.debuggee.specs.Programs.{Program}
-use Rattle.debuggee.specs.declared.run.Run.{Run}
 use Rattle.debuggee.specs.declared.run.Run.TheVariants.{Running, Stopped, Ended}
 use Rattle.handlers.specs.ConfigurationDone.{run_events}
 use Rattle.image.specs.Lines.{line_in, start_of}
-use Rattle.std.proofs.lemmas.List.Elements.{All-push, All-nil, All-weaker}
-use Rattle.protocol.specs.declared.command.Command.{Command}
-use Rattle.protocol.specs.declared.refusal.Refusal.{Refusal}
 use Rattle.protocol.specs.Commands.{name_of}
 use Rattle.protocol.specs.Laws.{AsksLinesWithin}
 use Rattle.replies.specs.Events.{IsProperEvent}
 use Rattle.replies.specs.Messages.{IsProper}
 use Rattle.replies.specs.Responses.{IsOutcomeOf}
 use Rattle.replies.specs.declared.event.Event.{Event as Told}
-use Rattle.replies.specs.declared.message.Message.TheVariants.{Response, Event as IsEvent}
+use Rattle.replies.specs.declared.message.Message.TheVariants.{Event as IsEvent}
 use Rattle.replies.specs.declared.response.Outcome.{Outcome}
 use Rattle.replies.specs.declared.response.Outcome.TheVariants.{Done}
-use Rattle.replies.specs.declared.response.ResponseBody.{ResponseBody}
-use Rattle.session.specs.declared.event.Event.{Event}
-use Rattle.session.specs.declared.link.Link.{Link}
-use Rattle.queues.specs.declared.pending.Pending.{Pending}
-use Rattle.handlers.specs.declared.terms.Terms.{Terms}
-use Rattle.handlers.specs.Given.{Answering}
-use Rattle.session.specs.Acts.{Now, Tell, given_of}
-use Rattle.queues.specs.Arrivals.{number_of, name_asked}
+use Rattle.queues.specs.Arrivals.{number_of}
 use Rattle.handlers.specs.Views.{view_of}
-use Rattle.handlers.specs.Demands.{run_of}
-use Rattle.session.specs.Effects.{performed}
 use Rattle.session_laws.specs.Laws.{AnswersAreProper}
-use Rattle.session.specs.Outcomes.{answer_to, answering, closing}
-use Rattle.handlers.specs.Refusals.{response_to}
-use Rattle.session.specs.Sessions.{Beginning, Session, Life, Said, said_next, said_on, replied_on, hung_on, performed_on, histories, After}
-use Rattle.session.proofs.Reaching.{if_keeps, each_life, performed_append}
 use Rattle.session_laws.proofs.ByForms.{on, on_with, saying, with_change}
 use Rattle.session_laws.proofs.Turning.{BoundsIn, KeptByEvents, reached_by_events}
 use Rattle.session_laws.proofs.Asked.{AreRead, IsRead, asks_that_wait, has_no_text, number_is}
@@ -49,8 +31,7 @@ use Rattle.answers.specs.declared.write_memory.Writing.{Writing}
 use Rattle.answers.proofs.ProperLooking.{looks_are_proper}
 use Rattle.answers.proofs.ProperValues.{settings_are_proper, writings_are_proper}
 use Rattle.session.proofs.Orderly.{Orderly, OrderlyIn, OrderlyOf, stop_is_proper}
-use Rattle.session.proofs.Serving.{of_answer}
-use Rattle.session.proofs.BySuccess.{BySuccess, by_success, Has, SetsList, Looks, not_absent}
+use Rattle.session.proofs.BySuccess.{Looks, not_absent}
 
 -- ---- one answer
 
@@ -245,9 +226,9 @@ proper = record {
   takes = λ n s h. record { before = h.before; present = h.present };
 }
 
-pub answers_are_proper : (from : Beginning) (events : List Event) → AnswersAreProper (After from events)
+pub answers_are_proper : (from : Beginning) (events : List Happened) → AnswersAreProper (Reached from events)
 answers_are_proper from events =
-    let s = After from events in
+    let s = Reached from events in
     let h : Proper s = reached_by_events Proper proper from
     (record { before = All-nil AllProper; present = All-nil (λ (m : Said). IsProper m.message) }) events in
     each_life AllProper s (All-nil (λ (m : Said). IsProper m.message)) h.before h.present

@@ -1,6 +1,6 @@
 -- The requests that came are those of the bytes that were accepted, and two pieces are as one.
-use Rattle.std.proofs.Common.{◌≡◌, ℕ, Bool, true, false, cond, List, [], ◌∷◌, ◌++◌, map, Option, Some, None, is_some, Result, Ok, Err, refl, sym, ap, ◌∙◌, append-nil, append_assoc}
-use Rattle.std.proofs.lemmas.List.{map-append}
+use Rattle.session_laws.proofs.Common.{[], ap, append-nil, append_assoc, Ask, asks_in, asks_of, Bool, cond, Err, false, fault_of_reading, fault_or, is_faulty, List, map, map-append, message_fault_of, None, Option, refl, Result, Some, sym, true, up_to_fault, ℕ, ◌++◌, ◌∙◌, ◌∷◌, ◌≡◌}
+use Rattle.std.proofs.Common.{is_some, Ok}
 use Rattle.framing.specs.Reading.{Reading, Tail, reading_of, with_bodies}
 use Rattle.framing.specs.Reading.Tail.{Partial, Faulty}
 use Rattle.framing.specs.Streams.{fault_of, reading_after}
@@ -13,10 +13,7 @@ use Rattle.protocol.specs.declared.request.MessageError.{MessageError}
 use Rattle.session.specs.declared.TheConstants.{BODY_LIMIT}
 use Rattle.session.specs.declared.event.LinkFault.{LinkFault}
 use Rattle.session.specs.declared.event.LinkFault.TheVariants.{Message}
-use Rattle.queues.specs.declared.pending.Ask.{Ask}
-use Rattle.queues.specs.Arrivals.{asks_in, asks_of, fault_in, message_fault_of}
-use Rattle.session.specs.Acts.{fault_or, fault_of_reading}
-use Rattle.session.specs.Sessions.{is_faulty, up_to_fault}
+use Rattle.queues.specs.Arrivals.{fault_in}
 
 -- ---- messages after messages
 

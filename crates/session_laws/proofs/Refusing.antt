@@ -1,21 +1,11 @@
 -- An event that is refused changes nothing.
-use Rattle.std.proofs.Common.{◌≡◌, ℕ, ltb, leb, eqb, List, [], ◌∷◌, length, Option, Some, None, Result, Ok, Err, refl}
-use Rattle.session.specs.declared.state.TheConstants.{MOST_PIECE, MOST_PENDING, FULL, LAST_CONNECTION}
+use Rattle.session_laws.proofs.Common.{[], Act, answers_next, Connect, done, DropConnection, eqb, Err, FULL, histories, Hold, if_keeps, LAST_CONNECTION, leb, length, Link, List, ltb, MOST_PENDING, MOST_PIECE, next_turn, None, Now, Option, outcome_at, Pending, performed, Program, Recv, refl, Result, Sent, Session, Slice, Some, Terms, Tick, Turn, turn_by, turn_of, waiting_of, ℕ, ◌∷◌, ◌≡◌}
+use Rattle.std.proofs.Common.{Ok}
 use Rattle.session.specs.declared.event.Applied.{Applied}
 use Rattle.session.specs.declared.event.Event.{Event}
-use Rattle.session.specs.declared.event.Event.TheVariants.{Connect, Recv, Turn, Slice, Hold, Sent, DropConnection}
 use Rattle.session.specs.declared.event.EventError.{EventError}
-use Rattle.session.specs.declared.link.Link.{Link}
-use Rattle.queues.specs.declared.pending.Pending.{Pending}
-use Rattle.session.specs.Effects.{performed}
-use Rattle.session.specs.Acts.{Act, Now}
-use Rattle.handlers.specs.declared.terms.Terms.{Terms}
-use Rattle.debuggee.specs.Programs.{Program}
-use Rattle.stepping.specs.declared.tick.Tick.{Tick}
-use Rattle.session.specs.Outcomes.{Outcome, refused, done, outcome_at, next_turn, answers_next, turn_by, turn_of}
-use Rattle.session.specs.Sessions.{Session, histories, waiting_of}
+use Rattle.session.specs.Outcomes.{Outcome, refused}
 use Rattle.session_laws.specs.Laws.{RefusedChangesNothing}
-use Rattle.session.proofs.Reaching.{if_keeps}
 
 module _ (s : Session) (error : EventError) where
   pub Unchanged : Outcome → Type 0

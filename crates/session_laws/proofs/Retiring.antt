@@ -1,47 +1,30 @@
 -- The machine of the program remembers all that has retired since it was loaded or restarted.
-use Rattle.std.proofs.Common.{◌≡◌, ℕ, ℤ, zero, suc, ◌+◌, ◌-◌, ◌≤◌, Bool, true, false, cond, eqb, leb, ltb, List, [], ◌∷◌, ◌++◌, length, Option, Some, None, Result, Ok, Err, MatchResult, inl, inr, refl, sym, ap, ◌∙◌, subst, take, arith, length-append}
+use Rattle.session_laws.proofs.Common.{[], agrees, answer_to, Answering, ap, arith, assembled, Beat, beat_by, beat_of, beats, becomes, Bool, by_move, by_success, BySuccess, Command, concluded, cond, Connect, Debuggee, DropConnection, Effect, ending_of, ends, enough, entered, eqb, Err, exit_events, exits, false, first_run, FULL, given_of, goes, goes_unless, histories, Hold, if_keeps, inl, inr, is_at_limit, is_ended, is_runnable_by, is_running, is_success, just_loaded, LAST_CONNECTION, leb, left, length, Link, List, ltb, makes_move, Mark, marked, marked_by, MOST_PENDING, MOST_PIECE, moved, moves_by, next_by, next_tick, None, not, Now, of_answer, on_program, Option, outcome_at, Pending, performed, Program, Recv, refl, restarted, Result, resumed, Run, Sent, Session, Slice, SliceEnd, Slicing, Some, start, stays, steps, stop_event, stopped, stops, subst, suc, sym, telling, tells, Terms, Tick, told, true, Turn, waiting_of, Went, Why, why_marked, with_hart, written, zero, ℕ, ℤ, ◌&&◌, ◌++◌, ◌+◌, ◌||◌, ◌∙◌, ◌∷◌, ◌≡◌, ◌≤◌}
+use Rattle.std.proofs.Common.{◌-◌, Ok, MatchResult, take, length-append}
 use Rattle.std.proofs.lemmas.List.{take_at}
 use Rattle.std.proofs.lemmas.Bool.{or_left, or_right}
-use Rattle.std.specs.Prelude.{◌&&◌, ◌||◌, not}
-use Rattle.assembler.specs.Assembled.{assembled}
 use Rattle.breakpoints.specs.Stops.{Wanted}
-use Rattle.debuggee.specs.Programs.{Debuggee, Program, ended, entered, first_run, is_ended, is_running, just_loaded, left, marked, marked_by, moved, next_tick, on_program, restarted, resumed, stays, stopped, told, why_marked, with_hart, written}
-use Rattle.debuggee.specs.declared.run.Mark.{Mark}
+use Rattle.debuggee.specs.Programs.{ended}
 use Rattle.debuggee.specs.declared.run.Mark.TheVariants as mark
-use Rattle.debuggee.specs.declared.run.Run.{Run}
 use Rattle.debuggee.specs.declared.run.Run.TheVariants as run
-use Rattle.debuggee.specs.declared.run.Why.{Why}
 use Rattle.debuggee.specs.declared.run.Why.TheVariants as why
 use Rattle.handlers.specs.Breaks.{with_list}
 use Rattle.handlers.specs.Disconnect.{departed, is_to_end, is_to_stand}
-use Rattle.handlers.specs.Given.{Answering}
-use Rattle.handlers.specs.Telling.{exit_events, stop_event}
-use Rattle.handlers.specs.declared.terms.Terms.{Terms}
 use Rattle.image.specs.Memory.{fault_at, unless_fault, word_at}
 use Rattle.image.specs.declared.fault.MemFault.{MemFault}
-use Rattle.protocol.specs.declared.command.Command.{Command}
 use Rattle.protocol.specs.declared.command.Command.TheVariants as command
 use Rattle.rv32i.proofs.Moving.{the_decoding}
 use Rattle.rv32i.specs.Encoding.{IsDecoding}
 use Rattle.rv32i.specs.Machine.{Machine, machine_of}
 use Rattle.rv32i.specs.declared.instr.Instr.{Instr}
-use Rattle.session.specs.Acts.{Now, given_of}
-use Rattle.session.specs.Beats.{concluded}
+use Rattle.session.specs.Reached.{Happened, Whole, Cut, leaves, led_to}
 use Rattle.session.specs.Config.{first_program, given}
-use Rattle.session.specs.Effects.{Slicing, after_all, beats, enough, next_by, performed}
-use Rattle.session.specs.Kinds.{is_success}
-use Rattle.session.specs.Outcomes.{Outcome as Does, answer_to, outcome_at}
-use Rattle.session_laws.specs.Retiring.{FramesAreOfThePast, IsPast, PastIsRemembered, after_answer, after_move, after_next, and_next, and_retired, asks_to_load, at_address, at_pc, decoded, loads, moved_on, retired_after, retired_in, retired_of, without_last}
-use Rattle.session.specs.Sessions.{Effect, Session, histories, start, waiting_of}
-use Rattle.session.specs.Slices.{Beat, beat_by, beat_of, becomes, ending_of, ends, exits, goes, goes_unless, is_at_limit, is_runnable_by, makes_move, moves_by, stops, telling, tells}
+use Rattle.session.specs.Outcomes.{Outcome as Does}
+use Rattle.session_laws.specs.Intents.{intent_of}
+use Rattle.session_laws.specs.Retiring.{FramesAreOfThePast, IsPast, PastIsRemembered, after_answer, after_move, after_next, and_next, and_retired, asks_to_load, at_address, at_pc, decoded, loads, moved_on, retired_after, retired_by, retired_in, retired_of, without_last}
 use Rattle.session_laws.specs.Turns.{Answered}
 use Rattle.session.specs.declared.event.Event.{Event}
-use Rattle.session.specs.declared.event.Event.TheVariants.{Connect, Recv, Turn, Slice, Hold, Sent, DropConnection}
-use Rattle.session.specs.declared.event.SliceEnd.{SliceEnd}
 use Rattle.session.specs.declared.event.SliceEnd.TheVariants as ending
-use Rattle.session.specs.declared.link.Link.{Link}
-use Rattle.queues.specs.declared.pending.Pending.{Pending}
-use Rattle.session.specs.declared.state.TheConstants.{MOST_PIECE, MOST_PENDING, FULL, LAST_CONNECTION}
 use Rattle.stepping.proofs.Determined.{one_fetched}
 use Rattle.stepping.proofs.Existing.{the_tick}
 use Rattle.stepping.proofs.Remembering.{ticks_remember}
@@ -56,18 +39,14 @@ use Rattle.stepping.specs.Ticks.{Debugged, gone_back, looked_at, undone, undone_
 use Rattle.stepping.specs.declared.goal.Goal.{Goal}
 use Rattle.stepping.specs.declared.goal.Goal.TheVariants.{Go, In, Over, Out, Back, ReverseGo}
 use Rattle.stepping.specs.declared.tick.Outcome.{Outcome}
-use Rattle.stepping.specs.declared.tick.Outcome.TheVariants.{Went, Stopped, Ended}
+use Rattle.stepping.specs.declared.tick.Outcome.TheVariants.{Stopped, Ended}
 use Rattle.stepping.specs.declared.tick.Reason.TheVariants as met
-use Rattle.stepping.specs.declared.tick.Tick.{Tick}
 use Rattle.session.proofs.Advancing.{move_leaves}
 use Rattle.session_laws.proofs.Answered.{ByTurn, by_turn}
 use Rattle.session_laws.proofs.ByForms.{on}
-use Rattle.session.proofs.ByMove.{by_move}
-use Rattle.session.proofs.BySuccess.{BySuccess, IsAboutProgram, agrees, by_success, steps}
+use Rattle.session.proofs.BySuccess.{IsAboutProgram}
 use Rattle.session_laws.proofs.Joined.{becomes_program, program_of, telling_program, tells_only}
 use Rattle.session_laws.proofs.Paused.{answering_debuggee}
-use Rattle.session.proofs.Reaching.{if_keeps}
-use Rattle.session.proofs.Serving.{of_answer}
 
 -- ---- the machine stays as it is, but for what no past has
 
@@ -362,12 +341,12 @@ reloaded_past None = refl
 reloaded_past (Some p) = nothing_past (first_run (restarted p)) refl refl refl
 
 -- no request of another kind loads
-plain_loads : (c : Command) → ((agrees c || steps c) && loads c) ≡ false
+plain_loads : (c : Command) → ((agrees c || steps c) && loads (intent_of c)) ≡ false
 plain_loads (command.Launch arguments) = refl
 plain_loads command.Restart = refl
 plain_loads other = refl
 
-about_loads : (c : Command) → IsAboutProgram c → loads c ≡ false
+about_loads : (c : Command) → IsAboutProgram c → loads (intent_of c) ≡ false
 about_loads (command.Launch arguments) about = absurd (let no : false ≡ true = about.loaded in cc)
 about_loads command.Restart about = absurd (let no : true ≡ false = about.stays in cc)
 about_loads other about = refl
@@ -388,10 +367,10 @@ Then now loading a = (retired : List Retired) → IsPast now.debuggee.program re
     → IsPast a.debuggee.program (cond (loading && is_success a.outcome) [] retired)
 
 module _ (now : Now) (terms : Terms) where
-  plain : (c : Command) → (agrees c || steps c) ≡ true → loads c ≡ false
-  plain c kind = subst (λ (k : Bool). (k && loads c) ≡ false) kind (plain_loads c)
+  plain : (c : Command) → (agrees c || steps c) ≡ true → loads (intent_of c) ≡ false
+  plain c kind = subst (λ (k : Bool). (k && loads (intent_of c)) ≡ false) kind (plain_loads c)
 
-  successes : BySuccess (given_of now) terms (λ c a. Then now (loads c) a)
+  successes : BySuccess (given_of now) terms (λ c a. Then now (loads (intent_of c)) a)
   successes = record {
     initialized = λ _ _ h. h;
     unreadable = λ _ _ h. h;
@@ -402,21 +381,21 @@ module _ (now : Now) (terms : Terms) where
     attaches = λ _ h. h;
     begun = λ _ retired h. on_past first_run now.debuggee.program retired (λ p. record { calls = refl; count = refl; past = λ _ h. h }) h;
     joined = λ _ _ h. h;
-    agreed = λ c kind retired h. stays_past now.debuggee.program (loads c) _ retired (plain c (or_left (agrees c) _ kind.kind)) h;
+    agreed = λ c kind retired h. stays_past now.debuggee.program (loads (intent_of c)) _ retired (plain c (or_left (agrees c) _ kind.kind)) h;
     restarts = λ _ _. reloaded_past now.debuggee.program;
     terminates = λ retired h. on_past (ended None) now.debuggee.program retired same_past h;
     leaves = λ arguments retired h. on_past (λ p. departed (is_to_end terms arguments) (is_to_stand terms arguments) (left p))
         now.debuggee.program retired (departed_keeps (is_to_end terms arguments) (is_to_stand terms arguments)) h;
     pauses = λ _ retired h. on_past (marked mark.Pause) now.debuggee.program retired (λ p. marked_by_keeps p.run mark.Pause p) h;
-    stepped = λ c kind g retired h. stays_past (on_program (resumed g) now.debuggee.program) (loads c) _ retired
+    stepped = λ c kind g retired h. stays_past (on_program (resumed g) now.debuggee.program) (loads (intent_of c)) _ retired
         (plain c (or_right (agrees c) _ kind.kind))
         (on_past (resumed g) now.debuggee.program retired (λ p. record { calls = refl; count = refl; past = λ _ h. h }) h);
-    absent = λ c about _ retired h. stays_past now.debuggee.program (loads c) _ retired (about_loads c about) h;
-    refused = λ c _ _ _ retired h. fails_past now.debuggee.program (loads c) retired h;
-    sets_none = λ c kind _ _ _ _ _ retired h. stays_past now.debuggee.program (loads c) _ retired (about_loads c kind.about) h;
-    sets_list = λ c kind _ _ list _ _ _ _ retired h. stays_past (on_program (with_list c list) now.debuggee.program) (loads c) _ retired
+    absent = λ c about _ retired h. stays_past now.debuggee.program (loads (intent_of c)) _ retired (about_loads c about) h;
+    refused = λ c _ _ _ retired h. fails_past now.debuggee.program (loads (intent_of c)) retired h;
+    sets_none = λ c kind _ _ _ _ _ retired h. stays_past now.debuggee.program (loads (intent_of c)) _ retired (about_loads c kind.about) h;
+    sets_list = λ c kind _ _ list _ _ _ _ retired h. stays_past (on_program (with_list c list) now.debuggee.program) (loads (intent_of c)) _ retired
         (about_loads c kind.about) (on_past (with_list c list) now.debuggee.program retired (listed_keeps c list) h);
-    shows = λ c kind _ _ _ _ _ _ retired h. stays_past now.debuggee.program (loads c) _ retired (about_loads c kind.about) h;
+    shows = λ c kind _ _ _ _ _ _ retired h. stays_past now.debuggee.program (loads (intent_of c)) _ retired (about_loads c kind.about) h;
     sets_register = λ _ _ setting _ _ _ retired h.
         on_past (with_hart setting.hart) now.debuggee.program retired (λ p. record { calls = refl; count = refl; past = λ _ _. tt }) h;
     writes = λ arguments _ writing _ _ _ retired h.
@@ -429,7 +408,7 @@ answer_past : (now : Now) (terms : Terms) (file : Option (List ℕ)) (p : Pendin
 answer_past now terms file p =
     of_answer (λ ask answer. Then now (asks_to_load ask) answer) now terms file p.ask p.fate
     (λ refusal _ retired h. fails_past now.debuggee.program (asks_to_load p.ask) retired h)
-    (λ r taken meets. by_success (given_of now) terms (λ c a. Then now (loads c) a) (successes now terms) file r.command)
+    (λ r taken meets. by_success (given_of now) terms (λ c a. Then now (loads (intent_of c)) a) (successes now terms) file r.command)
 
 -- ---- an event
 
@@ -497,10 +476,15 @@ event_past DropConnection s retired h = outcome_past s.now.link DropConnection s
 
 -- ---- all of them
 
-all_past : (events : List Event) (s : Session) (retired : List Retired) → IsPast (program_of s) retired
-    → IsPast (program_of (after_all histories events s)) (retired_after events s retired)
+each_past : (x : Happened) (s : Session) (retired : List Retired) → IsPast (program_of s) retired
+    → IsPast (program_of (leaves s x)) (retired_by s x retired)
+each_past (Whole e) s retired h = event_past e s retired h
+each_past (Cut n count) s retired h = slice_past n count s retired h
+
+all_past : (happened : List Happened) (s : Session) (retired : List Retired) → IsPast (program_of s) retired
+    → IsPast (program_of (led_to happened s)) (retired_after happened s retired)
 all_past [] s retired h = h
-all_past (e ∷ events) s retired h = all_past events (Effect s e) (and_retired s e retired) (event_past e s retired h)
+all_past (x ∷ happened) s retired h = all_past happened (leaves s x) (retired_by s x retired) (each_past x s retired h)
 
 first_past : (program : Option (List ℕ × List ℕ)) (size : ℕ) → IsPast (first_program program size) []
 first_past None size = refl

@@ -1,40 +1,22 @@
 -- What is told of the program's run is so.
-use Rattle.std.proofs.Common.{◌≡◌, ℕ, Bool, true, false, ltb, List, [], ◌∷◌, map, Option, Some, None, refl, sym, ap, ◌∙◌, subst}
-use Rattle.std.specs.Prelude.{All, ◌&&◌}
-use Rattle.std.proofs.lemmas.List.Elements.{All-push, All-nil}
-use Rattle.debuggee.specs.Programs.{Debuggee, Program, ended, first_run, is_ended, is_running, on_program, restarted, resumed}
-use Rattle.debuggee.specs.declared.run.Run.{Run}
+use Rattle.session_laws.proofs.Common.{[], agreed_body, All, All-nil, All-push, answer_to, Answering, answering, ap, Beginning, Bool, by_success, BySuccess, closing, Command, Debuggee, each_life, false, first_run, given_of, Happened, Has, has_none, histories, hung_on, if_keeps, is_ended, is_running, is_success, Life, Link, List, ltb, map, name_asked, None, Now, of_answer, on_program, Option, Pending, performed, performed_append, performed_on, Program, Reached, refl, response_to, ResponseBody, restarted, resumed, Run, run_of, Said, said_next, said_on, SaysItsRun, Session, Some, step_body, subst, sym, Tell, Terms, true, ℕ, ◌&&◌, ◌∙◌, ◌∷◌, ◌≡◌}
+use Rattle.debuggee.specs.Programs.{ended}
 use Rattle.debuggee.specs.declared.run.Run.TheVariants.{Running, Stopped, Ended}
 use Rattle.handlers.specs.ConfigurationDone.{run_events}
 use Rattle.handlers.specs.Telling.{reason_of, text_of}
-use Rattle.protocol.specs.declared.command.Command.{Command}
 use Rattle.protocol.specs.declared.command.Command.TheVariants.{Restart}
 use Rattle.protocol.specs.Commands.{name_of}
 use Rattle.replies.specs.declared.event.Event.{Event as Told}
 use Rattle.replies.specs.declared.message.Message.{Message}
 use Rattle.replies.specs.declared.message.Message.TheVariants.{Response as IsResponse, Event as IsEvent}
-use Rattle.replies.specs.declared.response.ResponseBody.{ResponseBody}
 use Rattle.replies.specs.declared.response.ResponseBody.TheVariants as body
-use Rattle.session.specs.declared.event.Event.{Event}
-use Rattle.session.specs.declared.link.Link.{Link}
-use Rattle.queues.specs.declared.pending.Pending.{Pending}
-use Rattle.handlers.specs.declared.terms.Terms.{Terms}
-use Rattle.handlers.specs.Given.{Answering}
-use Rattle.session.specs.Acts.{Now, Tell, given_of}
-use Rattle.queues.specs.Arrivals.{name_asked}
-use Rattle.handlers.specs.Demands.{has_none, run_of}
-use Rattle.session.specs.Effects.{performed}
-use Rattle.session.specs.Kinds.{is_resume, is_success}
-use Rattle.session_laws.specs.Laws.{IsStop, RunsAreTold, RunsAs, SaysItsRun}
-use Rattle.session.specs.Outcomes.{answer_to, answering, closing}
-use Rattle.handlers.specs.Refusals.{response_to}
+use Rattle.session.specs.Kinds.{is_resume}
+use Rattle.session_laws.specs.Laws.{IsStop, RunsAreTold, RunsAs}
 use Rattle.handlers.specs.Successes.{resuming, agreeing}
-use Rattle.session.specs.Sessions.{Beginning, Session, Life, Said, said_next, said_on, hung_on, performed_on, histories, After}
-use Rattle.session.proofs.Reaching.{if_keeps, each_life, performed_append}
 use Rattle.session_laws.proofs.ByForms.{on, on_with, with_change}
-use Rattle.session.proofs.Serving.{of_answer, not_taken}
+use Rattle.session.proofs.Serving.{not_taken}
 use Rattle.session_laws.proofs.Turning.{KeptByEvents, reached_by_events, said_debuggee}
-use Rattle.session.proofs.BySuccess.{BySuccess, by_success, Has, has_program, agreed_body, step_body}
+use Rattle.session.proofs.BySuccess.{has_program}
 
 -- ---- one answer
 
@@ -194,8 +176,8 @@ tells = record {
   takes = λ n s h. record { before = h.before; present = h.present };
 }
 
-pub runs_are_told : (from : Beginning) (events : List Event) → RunsAreTold (After from events)
+pub runs_are_told : (from : Beginning) (events : List Happened) → RunsAreTold (Reached from events)
 runs_are_told from events =
-    let s = After from events in
+    let s = Reached from events in
     let h : Tells s = reached_by_events Tells tells from (record { before = All-nil AllSaid; present = All-nil IsSaid }) events in
     each_life AllSaid s (All-nil IsSaid) h.before h.present

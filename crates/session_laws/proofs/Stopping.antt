@@ -1,29 +1,20 @@
 -- A slice stops where a run stops.
-use Rattle.std.proofs.Common.{◌≡◌, ℕ, ℤ, zero, suc, ◌+◌, Bool, true, false, cond, ltb, List, [], ◌∷◌, length, Option, Some, None, Result, Ok, Err, MatchBool, refl, sym, ap, ◌∙◌, subst, arith}
-use Rattle.std.specs.Prelude.{IsTrue, not}
+use Rattle.session_laws.proofs.Common.{[], ap, arith, Beat, beat_by, beat_of, beats, becomes, Bool, by_move, concluded, cond, ending_of, ends, entered, Err, exit_events, exits, false, FULL, goes, goes_unless, histories, if_keeps, IfSome, is_at_limit, is_runnable_by, is_running, IsTrue, length, List, ltb, makes_move, Mark, MatchBool, moved, moves_by, next_by, next_tick, None, not, Option, performed, Program, refl, Result, Run, Session, sliced, SliceEnd, Slicing, Some, stays, stop_event, stopped, stops, subst, suc, sym, telling, tells, Tick, told, true, waiting_of, Went, Why, why_marked, zero, ℕ, ℤ, ◌&&◌, ◌+◌, ◌∙◌, ◌∷◌, ◌≡◌}
+use Rattle.std.proofs.Common.{Ok, ◌*◌}
 use Rattle.std.specs.declared.alloc.AllocError.{AllocError}
 use Rattle.breakpoints.specs.declared.breakpoint.Hit.{Hit}
-use Rattle.debuggee.specs.Programs.{Program, ended, entered, is_running, moved, next_tick, owing, owing_by, stays, stopped, told, why_marked}
-use Rattle.debuggee.specs.declared.run.Mark.{Mark}
+use Rattle.debuggee.specs.Programs.{ended, owing, owing_by, run_after, run_left}
 use Rattle.debuggee.specs.declared.run.Mark.TheVariants as mark
-use Rattle.debuggee.specs.declared.run.Run.{Run}
 use Rattle.debuggee.specs.declared.run.Run.TheVariants as run
-use Rattle.debuggee.specs.declared.run.Why.{Why}
 use Rattle.debuggee.specs.declared.run.Why.TheVariants as why
 use Rattle.debuggee.proofs.Advancing.{going_names_none}
-use Rattle.handlers.specs.Telling.{exit_events, stop_event}
 use Rattle.rv32i.specs.declared.instr.Instr.{Instr}
 use Rattle.rv32i.specs.declared.stepped.Cause.{Cause}
 use Rattle.rv32i.specs.declared.stepped.Stepped.{Stepped}
 use Rattle.rv32i.specs.declared.stepped.Stepped.TheVariants as stepped
-use Rattle.session.specs.Beats.{concluded}
-use Rattle.session.specs.Effects.{Slicing, beats, enough, next_by, performed, sliced}
-use Rattle.session.specs.Sessions.{Session, histories, waiting_of}
-use Rattle.session.specs.Slices.{Beat, beat_by, beat_of, becomes, ending_of, ends, exits, goes, goes_unless, is_at_limit, is_runnable_by, makes_move, moves_by, stops, telling, tells}
-use Rattle.session.specs.declared.event.SliceEnd.{SliceEnd}
+use Rattle.session.specs.Phases.{is_configuring}
 use Rattle.session.specs.declared.event.SliceEnd.TheVariants as ending
-use Rattle.session.specs.declared.state.TheConstants.{FULL}
-use Rattle.session_laws.specs.Stopping.{SaysWhere, SaysWhereIn, SlicesStopThere, next_number}
+use Rattle.session_laws.specs.Stopping.{SaysWhere, SaysWhereIn, SlicesStopThere, StaysAs, machine_told, next_number}
 use Rattle.stepping.proofs.Existing.{the_tick}
 use Rattle.stepping.proofs.Ticking.{ticks_say_where}
 use Rattle.stepping.specs.RunLaws.{GoOn, Says, number_after}
@@ -35,12 +26,9 @@ use Rattle.stepping.specs.Ticks.{Debugged, IsTick, Moves, Settles, back_outcome,
 use Rattle.stepping.specs.declared.goal.Goal.{Goal}
 use Rattle.stepping.specs.declared.goal.Goal.TheVariants.{Go, In, Over, Out, Back, ReverseGo}
 use Rattle.stepping.specs.declared.tick.Outcome.{Outcome}
-use Rattle.stepping.specs.declared.tick.Outcome.TheVariants.{Went, Stopped, Ended}
+use Rattle.stepping.specs.declared.tick.Outcome.TheVariants.{Stopped, Ended}
 use Rattle.stepping.specs.declared.tick.Reason.TheVariants as met
-use Rattle.stepping.specs.declared.tick.Tick.{Tick}
 use Rattle.session.proofs.Advancing.{move_leaves}
-use Rattle.session.proofs.ByMove.{by_move}
-use Rattle.session.proofs.Reaching.{if_keeps}
 use Rattle.session_laws.proofs.Joined.{becomes_program, program_of, slices_end, telling_program, tells_only}
 
 -- ---- the ticks of a run that goes on
@@ -168,7 +156,7 @@ Middle start made p (Some tick) = Owing start made p tick
 -- a program after some beats, by whether they ended the slice
 Far : Debugged → ℕ → Option Program → Option SliceEnd → Type 0
 Far start made None e = ⊥
-Far start made (Some p) (Some e) = SaysWhere made p.run start p.machine
+Far start made (Some p) (Some e) = (p.owed ≡ None) × SaysWhere made p.run start p.machine
 Far start made (Some p) None = Middle start made p p.owed
 
 zero_more : (n : ℕ) → n ≡ n + 0
@@ -279,20 +267,21 @@ unfolding FarBy Far
 idle_far start made s p e is g =
     still_far start made (program_of s) (Some e)
     (subst (λ (x : Option Program). Far start made x (Some e)) (sym is)
-    (runs_on p.run start made p.machine g.running (none_by start made p g)))
+    (g.owed, runs_on p.run start made p.machine g.running (none_by start made p g)))
 
 -- the program stops, but not for a reason of its machine
 is_outer : Why → Bool
 is_outer (why.Met reason) = false
 is_outer other = true
 
-stops_far : (start : Debugged) (made : ℕ) (s : Session) (p : Program) (w : Why) → SaysWhere made (run.Stopped w) start p.machine
-    → FarBy start made s (stops s.now p w)
+stops_far : (start : Debugged) (made : ℕ) (s : Session) (p : Program) (w : Why) → p.owed ≡ None
+    → SaysWhere made (run.Stopped w) start p.machine → FarBy start made s (stops s.now p w)
 unfolding FarBy Far
-stops_far start made s p w says =
+stops_far start made s p w owed says =
     still_far start made _ (Some ending.Stopped)
     (subst (λ (x : Option Program). Far start made x (Some ending.Stopped))
-    (sym (becomes_program s.now (stopped w p) (tells s.now (stop_event w [] ∷ [])) s (tells_only s.now (stop_event w [] ∷ [])))) says)
+    (sym (becomes_program s.now (stopped w p) (tells s.now (stop_event w [] ∷ [])) s (tells_only s.now (stop_event w [] ∷ []))))
+    (owed, says))
 
 -- an instruction that stays is met
 stay_says : (start : Debugged) (made : ℕ) (p : Program) (outcome : Outcome) → Going start made p → p.machine.check_due ≡ false
@@ -306,7 +295,7 @@ stay_says start made p outcome g due e =
 trap_far : (start : Debugged) (made : ℕ) (s : Session) (p : Program) (cause : Cause) → Going start made p → p.machine.check_due ≡ false
     → (next_tick p).outcome ≡ Stopped (met.Exception cause) → FarBy start made s (stops s.now p (why.Met (met.Exception cause)))
 trap_far start made s p cause g due e =
-    stops_far start made s p (why.Met (met.Exception cause)) (stay_says start made p (Stopped (met.Exception cause)) g due e).0
+    stops_far start made s p (why.Met (met.Exception cause)) g.owed (stay_says start made p (Stopped (met.Exception cause)) g due e).0
 
 exit_far : (start : Debugged) (made : ℕ) (s : Session) (p : Program) (code : ℤ) → Going start made p → p.machine.check_due ≡ false
     → (next_tick p).outcome ≡ Ended code
@@ -316,7 +305,7 @@ exit_far start made s p code g due e =
     still_far start made _ (Some ending.Ended)
     (subst (λ (x : Option Program). Far start made x (Some ending.Ended))
     (sym (becomes_program s.now (ended (Some code) p) (tells s.now (exit_events code)) s (tells_only s.now (exit_events code))))
-    (stay_says start made p (Ended code) g due e).0)
+    (g.owed, (stay_says start made p (Ended code) g due e).0))
 
 retire_far : (start : Debugged) (made : ℕ) (s : Session) (p : Program) → Going start made p → p.machine.check_due ≡ false
     → stays (next_tick p).outcome ≡ false → FarBy start made s (makes_move s.now p)
@@ -380,7 +369,7 @@ go_far start made s p more is g =
     if_keeps (FarBy start made s) p.machine.check_due _ _ (λ due. entry_far start made s p g due)
     (λ due. if_keeps (FarBy start made s) (not more) _ _ (λ _. idle_far start made s p ending.Spent is g)
     (λ _. if_keeps (FarBy start made s) (is_at_limit s.now p) _ _
-    (λ _. stops_far start made s p why.Limit (none_by start made p g)) (λ _. move_far start made s p g due)))
+    (λ _. stops_far start made s p why.Limit g.owed (none_by start made p g)) (λ _. move_far start made s p g due)))
 
 marked_says : (m : Mark) (start : Debugged) (made : ℕ) (d : Debugged) → NoneBelow (next_number made d) start
     → SaysWhere made (run.Stopped (why_marked m)) start d
@@ -392,21 +381,34 @@ mark_far : (start : Debugged) (made : ℕ) (s : Session) (p : Program) (m : Opti
     → Going start made p → FarBy start made s (goes_unless m s.now p more)
 mark_far start made s p None more is g = go_far start made s p more is g
 mark_far start made s p (Some m) more is g =
-    stops_far start made s p (why_marked m) (marked_says m start made p.machine (none_by start made p g))
+    stops_far start made s p (why_marked m) g.owed (marked_says m start made p.machine (none_by start made p g))
 
 -- what is owed is told
 told_machine : (p : Program) → p.machine.lists.ids ≡ [] → (told p).machine ≡ but_logs [] p.machine
 told_machine p none = λ j. record p.machine { lists = record p.machine.lists { ids = sym none j; logs = [] } }
 
+-- it says where the run stops once it is told
+owing_says : (start : Debugged) (made : ℕ) (p : Program) (tick : Tick) → Owing start made p tick
+    → SaysWhere made (run_after tick.outcome p.run) start p.machine
+owing_says start made p tick o = by tick.outcome refl where
+  says : (outcome : Outcome) → tick.outcome ≡ outcome → Says made outcome start p.machine
+  says outcome e =
+      subst (λ (x : Outcome). Says made x start p.machine) e (subst (λ (n : ℕ). Says n tick.outcome start p.machine) (sym o.count)
+      (ticks_say_where o.ticks start o.before p.machine tick o.forward o.goes o.is))
+
+  by : (outcome : Outcome) → tick.outcome ≡ outcome → SaysWhere made (run_after outcome p.run) start p.machine
+  by Went e =
+      runs_on p.run start made p.machine o.running
+      (subst (λ (due : Bool). NoneBelow (cond due made (suc made)) start) (sym o.due) (says Went e).0)
+  by (Stopped reason) e =
+      let stay : stays (Stopped reason) ≡ false = sym (ap stays e) ∙ o.stay in
+      subst (λ (b : Bool). StopsAt (cond b (suc made) made) (Stopped reason) start) (sym stay) (says (Stopped reason) e).0
+  by (Ended code) e = absurd (let no : true ≡ false = sym (ap stays e) ∙ o.stay in cc)
+
 tick_far : (start : Debugged) (made : ℕ) (s : Session) (p : Program) (tick : Tick) → Owing start made p tick
     → FarBy start made s (record { acts = telling s.now p tick; moved = 0; ending = ending_of tick.outcome })
 unfolding FarBy Far Middle
 tick_far start made s p tick o = by tick.outcome refl where
-  says : Says made tick.outcome start p.machine
-  says =
-      subst (λ (n : ℕ). Says n tick.outcome start p.machine) (sym o.count)
-      (ticks_say_where o.ticks start o.before p.machine tick o.forward o.goes o.is)
-
   ticked : Ticked start made p tick
   ticked = record {
     forward = o.forward;
@@ -432,12 +434,10 @@ tick_far start made s p tick o = by tick.outcome refl where
       (subst (λ (x : Option Program). Far start made x None) (sym (left Went e))
       (goes_after start made p (told p) tick [] ticked e (told_machine p (going_names_none o.before p.machine tick e o.is)) refl refl)))
   by (Stopped reason) e =
-      let stay : stays (Stopped reason) ≡ false = sym (ap stays e) ∙ o.stay in
       still_far start made _ (ending_of tick.outcome)
       (subst (λ (x : Option SliceEnd). Far start made (program_of (performed histories (telling s.now p tick) s)) x) (sym (ap ending_of e))
       (subst (λ (x : Option Program). Far start made x (Some ending.Stopped)) (sym (left (Stopped reason) e))
-      (subst (λ (b : Bool). StopsAt (cond b (suc made) made) (Stopped reason) start) (sym stay)
-      (subst (λ (x : Outcome). Says made x start p.machine) e says).0)))
+      (refl, subst (λ (x : Outcome). SaysWhere made (run_after x p.run) start p.machine) e (owing_says start made p tick o))))
   by (Ended code) e = absurd (let no : true ≡ false = sym (ap stays e) ∙ o.stay in cc)
 
 owed_far : (owed : Option Tick) (start : Debugged) (made : ℕ) (s : Session) (p : Program) (more : Bool) → program_of s ≡ Some p
@@ -465,39 +465,150 @@ next_far n d (Some e) start is h = h
 next_far n d None start is h =
     beat_far (program_of d.state) start d.moved d.state (ltb d.moved n) refl (subst (Far start d.moved (program_of d.state)) is h)
 
-beats_far : (n k : ℕ) (s : Session) (start : Debugged) → Far start 0 (program_of s) None
-    → let d = beats histories n k s in Far start d.moved (program_of d.state) d.ending
+-- after the first beat, and more
+beats_far : (n k : ℕ) (s : Session) (start : Debugged)
+    → (let d = beats histories n (suc zero) s in Far start d.moved (program_of d.state) d.ending)
+    → (let d = beats histories n (suc k) s in Far start d.moved (program_of d.state) d.ending)
 beats_far n zero s start h = h
 beats_far n (suc k) s start h =
-    next_far n (beats histories n k s) (beats histories n k s).ending start refl (beats_far n k s start h)
+    next_far n (beats histories n (suc k) s) (beats histories n (suc k) s).ending start refl (beats_far n k s start h)
+
+-- ---- a slice begins
 
 begins_far : (p : Program) → is_running p.run ≡ true → p.owed ≡ None → turns_back p.machine.goal ≡ false
-    → Middle p.machine 0 p p.owed
-unfolding Middle
-begins_far p runs owed forward = subst (Middle p.machine 0 p) (sym owed)
-    (record {
-      forward = forward;
-      ticks = 0;
-      machine = p.machine;
-      logs = p.machine.lists.logs;
-      goes = refl;
-      same = refl;
-      owed = owed;
-      running = runs;
-      count = refl;
-    })
+    → Going p.machine 0 p
+begins_far p runs owed forward = record {
+  forward = forward;
+  ticks = 0;
+  machine = p.machine;
+  logs = p.machine.lists.logs;
+  goes = refl;
+  same = refl;
+  owed = owed;
+  running = runs;
+  count = refl;
+}
 
-says_by : (program : Option Program) (e : Option SliceEnd) (start : Debugged) (made : ℕ) → (e ≡ None → ⊥) → Far start made program e
+-- what it owes does not stop it
+goes_on : (outcome : Outcome) (r : Run) → is_running (run_after outcome r) ≡ true → (outcome ≡ Went) × (is_running r ≡ true)
+goes_on Went r h = (refl, h)
+goes_on (Stopped reason) r h = absurd (let no : false ≡ true = h in cc)
+goes_on (Ended code) r h = absurd (let no : false ≡ true = h in cc)
+
+-- the first beat
+first_far : (n : ℕ) (s : Session) (p : Program) (owed : Option Tick) → program_of s ≡ Some p → p.owed ≡ owed
+    → is_running (run_left owed p.run) ≡ true → turns_back p.machine.goal ≡ false
+    → FarBy (machine_told owed p) 0 s (beat_by owed (histories.see s) p (ltb 0 n))
+unfolding FarBy Far Middle
+first_far n s p None is owes runs forward =
+    owed_far None p.machine 0 s p (ltb 0 n) is (begins_far p runs owes forward)
+first_far n s p (Some tick) is owes runs forward =
+    let went = goes_on tick.outcome p.run runs in
+    subst (λ (x : Option SliceEnd). Far (told p).machine 0 (program_of (performed histories (telling s.now p tick) s)) x)
+    (sym (ap ending_of went.0))
+    (subst (λ (x : Option Program). Far (told p).machine 0 x None)
+    (sym (telling_program s.now p tick s ∙ ap (λ (x : Outcome). let q : Option Program = Some (concluded x (told p)) in q) went.0))
+    (begins_far (told p) went.1 refl forward))
+
+begun_far : (n : ℕ) (s : Session) (p : Program) → program_of s ≡ Some p → is_running (run_left p.owed p.run) ≡ true
+    → turns_back p.machine.goal ≡ false
+    → (let d = beats histories n (suc zero) s in Far (machine_told p.owed p) d.moved (program_of d.state) d.ending)
+unfolding FarBy
+begun_far n s p is runs forward =
+    subst (λ (x : Option Program). FarBy (machine_told p.owed p) 0 s (beat_of x (histories.see s) (ltb 0 n))) (sym is)
+    (first_far n s p p.owed is refl runs forward)
+
+-- ---- what a slice says
+
+says_by : (program : Option Program) (e : Option SliceEnd) (start : Debugged) (made : ℕ) → Far start made program e
     → SaysWhereIn made program start
+unfolding Far Middle
+says_by None e start made h = absurd h
+says_by (Some p) (Some e) start made h = subst (λ (o : Option Tick). SaysWhere made (run_left o p.run) start p.machine) (sym h.0) h.1
+says_by (Some p) None start made h = by p.owed h where
+  by : (owed : Option Tick) → Middle start made p owed → SaysWhere made (run_left owed p.run) start p.machine
+  by None g = runs_on p.run start made p.machine g.running (none_by start made p g)
+  by (Some tick) o = owing_says start made p tick o
+
+owes_none : (program : Option Program) (e : Option SliceEnd) (start : Debugged) (made : ℕ) → (e ≡ None → ⊥) → Far start made program e
+    → IfSome program (λ q. q.owed ≡ None)
 unfolding Far
-says_by None e start made ended h = absurd h
-says_by (Some p) None start made ended h = absurd (ended refl)
-says_by (Some p) (Some e) start made ended h = h
+owes_none None e start made ended h = tt
+owes_none (Some p) None start made ended h = absurd (ended refl)
+owes_none (Some p) (Some e) start made ended h = h.0
+
+-- before its first beat
+none_first : (s : Session) (p : Program) (owed : Option Tick) → p.owed ≡ owed → program_of s ≡ Some p
+    → is_running (run_left owed p.run) ≡ true → SaysWhereIn 0 (program_of s) (machine_told owed p)
+none_first s p owed owes is runs =
+    subst (λ (x : Option Program). SaysWhereIn 0 x (machine_told owed p)) (sym is)
+    (subst (λ (o : Option Tick). SaysWhere 0 (run_left o p.run) (machine_told owed p) p.machine) (sym owes)
+    (runs_on (run_left owed p.run) (machine_told owed p) 0 p.machine runs (none_at owed))) where
+      none_at : (owed : Option Tick) → NoneBelow (next_number 0 p.machine) (machine_told owed p)
+      none_at None = none_at_first p.machine
+      none_at (Some tick) = none_at_first (told p).machine
+
+slices_go : (s : Session) (p : Program) (n count : ℕ) → program_of s ≡ Some p → is_running (run_left p.owed p.run) ≡ true
+    → turns_back p.machine.goal ≡ false
+    → (let d = beats histories n count s in SaysWhereIn d.moved (program_of d.state) (machine_told p.owed p))
+slices_go s p n zero is runs forward = none_first s p p.owed refl is runs
+slices_go s p n (suc k) is runs forward =
+    let d = beats histories n (suc k) s in
+    says_by (program_of d.state) d.ending (machine_told p.owed p) d.moved (beats_far n k s (machine_told p.owed p) (begun_far n s p is runs forward))
+
+-- ---- one that stands still
+
+-- it may not go on
+pub no_more : {A : Type 0} (running other : Bool) → running ≡ false → not (running && other) ≡ false → A
+no_more true other e f = absurd (let no : true ≡ false = e in cc)
+no_more false other e f = absurd (let no : true ≡ false = f in cc)
+
+abbrev Stands : Run → Slicing Session → Type 0
+Stands r d = (d.moved ≡ 0) × StaysAs r (program_of d.state)
+
+concluded_run : (outcome : Outcome) (p : Program) → run_left (concluded outcome (told p)).owed (concluded outcome (told p)).run
+    ≡ run_after outcome p.run
+concluded_run Went p = refl
+concluded_run (Stopped reason) p = refl
+concluded_run (Ended code) p = refl
+
+beat_stands : (r : Run) (program : Option Program) (s : Session) (more : Bool) → is_running r ≡ false → program_of s ≡ program
+    → StaysAs r program → (let b = beat_of program (histories.see s) more in
+    (b.moved ≡ 0) × StaysAs r (program_of (performed histories b.acts s)))
+beat_stands r None s more still is h = absurd h
+beat_stands r (Some p) s more still is h = by p.owed h where
+  by : (owed : Option Tick) → run_left owed p.run ≡ r → (let b = beat_by owed (histories.see s) p more in
+      (b.moved ≡ 0) × StaysAs r (program_of (performed histories b.acts s)))
+  by None e =
+      if_keeps (λ (b : Beat). (b.moved ≡ 0) × StaysAs r (program_of (performed histories b.acts s)))
+      (not (is_runnable_by s.now.link p.run)) _ _ (λ _. (refl, subst (StaysAs r) (sym is) h))
+      (λ goes. no_more (is_running p.run) (not (is_configuring s.now.link)) (ap is_running e ∙ still) goes)
+  by (Some tick) e =
+      (refl, subst (StaysAs r) (sym (telling_program s.now p tick s)) (concluded_run tick.outcome p ∙ e))
+
+next_stands : (n : ℕ) (r : Run) (d : Slicing Session) (e : Option SliceEnd) → is_running r ≡ false → Stands r d
+    → Stands r (next_by histories n e d)
+next_stands n r d (Some e) still h = h
+next_stands n r d None still h =
+    let b = beat_stands r (program_of d.state) d.state (ltb d.moved n) still refl h.1 in
+    let before = h.0 in let none = b.0 in (omega (arith, before, none), b.1)
+
+slices_stand : (n count : ℕ) (s : Session) (r : Run) → is_running r ≡ false → StaysAs r (program_of s)
+    → Stands r (beats histories n count s)
+slices_stand n zero s r still h = (refl, h)
+slices_stand n (suc k) s r still h =
+    next_stands n r (beats histories n k s) (beats histories n k s).ending still (slices_stand n k s r still h)
 
 pub slices_stop_there : (s : Session) → SlicesStopThere s
-unfolding Far
-slices_stop_there s p n is runs owed forward =
-    let d = sliced histories n s in
-    says_by (program_of d.state) d.ending p.machine d.moved (slices_end s n).0
-    (beats_far n (enough n) s p.machine
-    (subst (λ (x : Option Program). Far p.machine 0 x None) (sym is) (begins_far p runs owed forward)))
+slices_stop_there s = record {
+  goes = λ p n count is runs forward. slices_go s p n count is runs forward;
+  whole = λ p n is runs forward.
+      let d = sliced histories n s in
+      let all : suc (2 * n + 3) ≡ 2 * n + 4 = omega arith in
+      owes_none (program_of d.state) d.ending (machine_told p.owed p) d.moved (slices_end s n).0
+      (subst (λ (k : ℕ). let x = beats histories n k s in Far (machine_told p.owed p) x.moved (program_of x.state) x.ending) all
+      (beats_far n (2 * n + 3) s (machine_told p.owed p) (begun_far n s p is runs forward)));
+  stands = λ p n count is still.
+      slices_stand n count s (run_left p.owed p.run) still
+      (subst (StaysAs (run_left p.owed p.run)) (sym is) refl);
+}

@@ -1,53 +1,33 @@
 -- What is kept by each event, where answers are looked at whole.
-use Rattle.std.proofs.Common.{◌≡◌, ℕ, ℤ, zero, suc, ◌+◌, ◌<◌, ◌≤◌, Bool, true, false, ltb, leb, eqb, List, [], ◌∷◌, ◌++◌, map, length, Option, Some, None, Result, Ok, Err, refl, sym, subst, append-nil, ltb-true, arith}
-use Rattle.std.specs.Prelude.{IfOk, IfSome, ◌^◌, ◌&&◌, not, take}
-use Rattle.std.proofs.lemmas.Bool.Decides.{nat_tests}
-use Rattle.assembler.specs.Assembled.{assembled}
+use Rattle.session_laws.proofs.Common.{[], Act, Agree, agreed_on, answer_to, Answering, answering, answers_next, append-nil, arith, assembled, Beat, beat, beat_by, beat_of, beats, Become, Beginning, Bool, by_move, by_success, BySuccess, Call, Close, closing, Command, concludes, Connect, Debuggee, DropConnection, Effect, ends, enough, eqb, Err, exit_events, exits, false, first_run, FULL, given_of, goes, goes_unless, halts, Happened, histories, Hold, hung_on, if_keeps, IfOk, IfSome, is_at_limit, is_runnable_by, LAST_CONNECTION, leb, left, length, Link, List, logged, ltb, ltb-true, makes_move, map, Mark, marked, MOST_PENDING, MOST_PIECE, moves_by, nat_tests, next_by, next_tick, next_turn, None, not, Now, of_answer, Open, Option, outcome_at, output_events, Pending, performed, performed_append, performed_on, Program, Reached, read_on, Recv, Refer, referred, referred_on, refl, Refusal, replied_on, Reply, response_to, restarted, Result, resumed, said_on, SaysItsRun, Seen, Sent, Session, Slice, SliceEnd, Some, start, stop_event, stopped, subst, suc, sym, Take, Tell, telling, tells, Terms, Tick, told, true, Turn, turn_by, turn_of, waiting_of, Went, Why, why_marked, with_hart, written, zero, ℕ, ℤ, ◌&&◌, ◌++◌, ◌+◌, ◌<◌, ◌^◌, ◌∷◌, ◌≡◌, ◌≤◌}
+use Rattle.std.proofs.Common.{Ok}
+use Rattle.std.specs.Prelude.{take}
 use Rattle.assembler.proofs.Narrow.{assembled_is_narrow}
-use Rattle.debuggee.specs.Programs.{Debuggee, Program, with_program, ended, first_run, left, marked, next_tick, restarted, resumed, stopped, told, why_marked, with_hart, written}
-use Rattle.debuggee.specs.declared.run.Mark.{Mark}
+use Rattle.debuggee.specs.Programs.{with_program, ended}
 use Rattle.debuggee.specs.declared.run.Mark.TheVariants as mark
-use Rattle.debuggee.specs.declared.run.Why.{Why}
 use Rattle.debuggee.specs.declared.run.Why.TheVariants as why
-use Rattle.protocol.specs.declared.command.Command.{Command}
 use Rattle.replies.specs.Events.{IsProperEvent}
 use Rattle.replies.specs.declared.event.Event.{Event as Told}
 use Rattle.replies.specs.declared.message.Message.{Message}
 use Rattle.replies.specs.declared.message.Message.TheVariants.{Response as IsResponse, Event as IsEvent}
 use Rattle.replies.specs.declared.response.Outcome.{Outcome as Answered}
 use Rattle.rv32i.specs.Laws.{IsSignedWord}
-use Rattle.session.specs.declared.state.TheConstants.{MOST_PIECE, MOST_PENDING, FULL, LAST_CONNECTION}
-use Rattle.session.specs.declared.event.SliceEnd.{SliceEnd}
 use Rattle.session.specs.declared.event.SliceEnd.TheVariants as ending
 use Rattle.session.specs.declared.event.Event.{Event}
-use Rattle.session.specs.declared.event.Event.TheVariants.{Connect, Recv, Turn, Slice, Hold, Sent, DropConnection}
 use Rattle.session.specs.declared.limits.Limits.{Limits}
-use Rattle.session.specs.declared.link.Link.{Link}
-use Rattle.queues.specs.declared.pending.Pending.{Pending}
-use Rattle.handlers.specs.declared.terms.Terms.{Terms}
-use Rattle.handlers.specs.Given.{Answering}
-use Rattle.session.specs.Acts.{Act, Now, Seen, read_on, Open, Close, Agree, Become, Refer, Reply, Tell, Take, given_of}
 use Rattle.handlers.specs.Breaks.{with_list}
 use Rattle.handlers.specs.Sizes.{is_size}
 use Rattle.session.specs.Config.{HasImage, first_program}
 use Rattle.handlers.specs.Disconnect.{departed, is_to_end, is_to_stand}
-use Rattle.session.specs.Effects.{performed, beats, enough, next_by}
-use Rattle.session_laws.specs.Laws.{SaysItsRun}
 use Rattle.session.specs.Limits.{are_limits, greatest_limits, is_within}
-use Rattle.session.specs.Outcomes.{Outcome, outcome_at, answers_next, closing, holding, leaving, next_turn, answering, turn_by, turn_of}
+use Rattle.session.specs.Outcomes.{Outcome, holding, leaving}
 use Rattle.session.specs.Phases.{is_active}
-use Rattle.handlers.specs.Refusals.{response_to}
-use Rattle.session.specs.Outcomes.{answer_to}
-use Rattle.session.specs.Sessions.{Beginning, Session, After, Effect, histories, agreed_on, hung_on, performed_on, referred_on, replied_on, said_on, start, waiting_of}
-use Rattle.session.specs.Slices.{Beat, beat, beat_by, beat_of, concludes, ends, exits, goes, goes_unless, halts, is_at_limit, is_runnable_by, logged, moves_by, output_events, makes_move, telling, tells}
-use Rattle.handlers.specs.Telling.{exit_events, log_event, stop_event}
+use Rattle.handlers.specs.Telling.{log_event}
 use Rattle.stepping.specs.RunLaws.{HasSignedCode}
 use Rattle.stepping.specs.declared.tick.Outcome.{Outcome as CameTo}
-use Rattle.stepping.specs.declared.tick.Outcome.TheVariants.{Went, Stopped, Ended}
+use Rattle.stepping.specs.declared.tick.Outcome.TheVariants.{Stopped, Ended}
 use Rattle.stepping.specs.declared.tick.Reason.TheVariants as met
-use Rattle.stepping.specs.declared.tick.Tick.{Tick}
-use Rattle.variables.specs.Laws.{Call}
-use Rattle.session.proofs.Reaching.{if_keeps, performed_append, reached}
+use Rattle.session.proofs.Reaching.{reached}
 use Rattle.session_laws.proofs.ByForms.{on, on_with, accepting, saying}
 use Rattle.session.proofs.Breaking.{ids_are_words}
 use Rattle.handlers.specs.Looking.{seen_in}
@@ -55,7 +35,6 @@ use Rattle.answers.specs.SetVariable.{set_in, setting_of, set_variable}
 use Rattle.answers.specs.Targets.{target_of}
 use Rattle.answers.specs.declared.set_variable.Setting.{Setting}
 use Rattle.image.specs.Memory.{first_address}
-use Rattle.protocol.specs.declared.refusal.Refusal.{Refusal}
 use Rattle.protocol.specs.declared.set_variable.SetVariableArguments.{SetVariableArguments}
 use Rattle.range_laws.specs.Debugging.{HartInRange}
 use Rattle.range_laws.specs.Machines.{IsByte, IsWord}
@@ -63,7 +42,6 @@ use Rattle.range_laws.specs.Requests.{GivesBytes}
 use Rattle.range_laws.proofs.Images.{assembled_is_in_range}
 use Rattle.range_laws.proofs.Settings.{registers_stay_in_range, texts_give_words}
 use Rattle.rv32i.specs.declared.hart.Hart.{Hart}
-use Rattle.session.specs.References.{referred}
 use Rattle.std.proofs.lemmas.List.Elements.{All-take}
 use Rattle.variables.specs.Numbers.{Numbers, at_next_stop, has_room, next_of, with_targets}
 use Rattle.variables.specs.Registers.{name_answer}
@@ -71,10 +49,7 @@ use Rattle.variables.specs.Values.{value_of}
 use Rattle.variables.specs.declared.target.Target.{Target}
 use Rattle.variables.specs.declared.target.Target.TheVariants as target
 use Rattle.session_laws.proofs.Asked.{AreRead, IsRead, asks_that_wait, joined_are_read}
-use Rattle.session.proofs.Serving.{of_answer}
 use Rattle.session.proofs.Orderly.{AreWords, Orderly, OrderlyIn, OrderlyOf, departed_orderly, ended_orderly, entered_orderly, exit_is_proper, first_run_orderly, hart_orderly, written_orderly, ids_are_words as named_are_words, left_orderly, listed_orderly, loaded_orderly, log_is_proper, marked_orderly, moved_orderly, next_fits, output_is_proper, owed_fits, restarted_orderly, resumed_orderly, stop_is_proper, stopped_orderly, told_orderly, with_orderly}
-use Rattle.session.proofs.BySuccess.{BySuccess, by_success}
-use Rattle.session.proofs.ByMove.{by_move}
 
 -- numbers of references that are among those that may be issued
 abbrev pub AreGiven : Numbers → Type 0
@@ -566,5 +541,8 @@ module _ (P : Session → Type 0) (k : KeptByEvents P) where
   event_keeps (Sent n) s h = outcome_keeps s.now.link (Sent n) s h
   event_keeps DropConnection s h = outcome_keeps s.now.link DropConnection s h
 
-  pub reached_by_events : (from : Beginning) → P (start from) → (events : List Event) → P (After from events)
-  reached_by_events from h events = (reached Both event_keeps from (h, begins_so from) events).0
+  pub both_reached : (from : Beginning) → P (start from) → (happened : List Happened) → Both (Reached from happened)
+  both_reached from h happened = reached Both event_keeps beats_keep from (h, begins_so from) happened
+
+  pub reached_by_events : (from : Beginning) → P (start from) → (happened : List Happened) → P (Reached from happened)
+  reached_by_events from h happened = (both_reached from h happened).0

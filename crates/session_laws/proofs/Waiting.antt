@@ -1,14 +1,11 @@
 -- The bytes of a connection: those that were taken, and then those that wait. And the lives are at their numbers.
-use Rattle.std.proofs.Common.{◌≡◌, ◌+◌, List, [], ◌∷◌, ◌++◌, length, get_or, refl, sym, ap, ◌∙◌, subst}
-use Rattle.std.specs.Prelude.{All}
+use Rattle.session_laws.proofs.Common.{[], All, All-nil, All-push, ap, Beginning, each_life, Happened, length, Life, List, Reached, reached_by_acts, refl, Said, Session, subst, sym, ◌++◌, ◌+◌, ◌∙◌, ◌∷◌, ◌≡◌}
+use Rattle.std.proofs.Common.{get_or}
 use Rattle.std.proofs.lemmas.List.{length-append}
-use Rattle.std.proofs.lemmas.List.Elements.{All-push, All-nil}
-use Rattle.session.specs.declared.event.Event.{Event}
 use Rattle.session.specs.Prefixes.{IsPrefixOf}
-use Rattle.session.specs.Sessions.{Beginning, Session, Life, Said, no_life, bytes_of, frame_said, not_taken, After}
+use Rattle.session.specs.Sessions.{no_life, bytes_of, frame_said, not_taken}
 use Rattle.session_laws.specs.Laws.{EveryByteIsTakenOrWaits, LivesAreNumbered}
 use Rattle.session.proofs.Standing.{prefix_of_more, more_taken, bytes_more, rest_is}
-use Rattle.session.proofs.Reaching.{each_life, reached_by_acts}
 use Rattle.session_laws.proofs.ByForms.{KeptByOthers, KeptByAnswers, by_forms}
 
 abbrev Taken : Life → Type 0
@@ -38,9 +35,9 @@ bytes = record {
 answers : KeptByAnswers Bytes
 answers = λ l p rest outcome s few h. record { before = h.before; present = said_taken s.life _ h.present }
 
-pub every_byte_is_taken_or_waits : (from : Beginning) (events : List Event) → EveryByteIsTakenOrWaits (After from events)
+pub every_byte_is_taken_or_waits : (from : Beginning) (events : List Happened) → EveryByteIsTakenOrWaits (Reached from events)
 every_byte_is_taken_or_waits from events =
-    let s = After from events in
+    let s = Reached from events in
     let h : Bytes s = reached_by_acts Bytes (by_forms Bytes bytes answers) from
     (record { before = All-nil Taken; present = ([], refl) }) events in
     record {
@@ -72,11 +69,11 @@ last_of : {X : Type 0} (xs : List X) (x d : X) → get_or (xs ++ x ∷ []) (leng
 last_of [] x d = refl
 last_of (y ∷ xs) x d = last_of xs x d
 
-pub all_counted : (from : Beginning) (events : List Event) → length (After from events).before ≡ (After from events).now.connections
+pub all_counted : (from : Beginning) (events : List Happened) → length (Reached from events).before ≡ (Reached from events).now.connections
 all_counted from events = reached_by_acts Numbered (by_forms Numbered lives (λ l p rest outcome s few h. h)) from refl events
 
-pub lives_are_numbered : (from : Beginning) (events : List Event) → LivesAreNumbered (After from events)
+pub lives_are_numbered : (from : Beginning) (events : List Happened) → LivesAreNumbered (Reached from events)
 lives_are_numbered from events =
-    let s = After from events in
+    let s = Reached from events in
     let h : Numbered s = all_counted from events in
     ap (λ c. get_or (s.before ++ s.life ∷ []) c no_life) (sym h) ∙ last_of s.before s.life no_life

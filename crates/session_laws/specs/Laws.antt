@@ -1,7 +1,8 @@
--- What holds of a session after any list of events, in the words of requests, answers and bytes.
+-- What holds of a session whatever happened, in the words of requests, answers and bytes.
 --
--- A list of events is any: requests cut anywhere, repeated or cancelled, turns and bytes taken in between, connections
--- that end and others that follow, and events that are refused.
+-- What happened is any list (`Reached` of `session`): requests cut anywhere, repeated or cancelled, turns and bytes taken
+-- in between, connections that end and others that follow, events that are refused, and slices that found no memory and
+-- broke off, wherever they did.
 use Rattle.std.specs.Prelude.{◌≡◌, ◌≢◌, ℕ, ◌+◌, ◌<◌, ◌≤◌, List, [], ◌∷◌, ◌++◌, map, flat_map, All, Some, Ok, Err}
 use Rattle.std.specs.Prelude.{◌⊎◌, ◌&&◌, Bool, true, false, is_some, None, Option, MatchOption, bytes_eq, ⊤}
 use Rattle.debuggee.specs.Programs.{Debuggee, is_ended, is_running}
@@ -31,6 +32,7 @@ use Rattle.session.specs.Kinds.{initializes, is_resume, is_success}
 use Rattle.session.specs.Acts.{fault_of_reading}
 use Rattle.queues.specs.Arrivals.{number_of, name_asked, asks_of}
 use Rattle.session.specs.Prefixes.{IsPrefixOf}
+use Rattle.session.specs.Reached.{Happened, Whole, Cut, OfEvent, leaves}
 use Rattle.session.specs.Sessions.{Session, Life, Said, life_of, bytes_of, waiting_of, histories, Effect, Answer}
 use Rattle.session.specs.Effects.{beats, enough, sliced}
 use Rattle.session_laws.specs.Turns.{Answered, answered}
@@ -208,9 +210,9 @@ abbrev pub Disconnects : Option Answered → Type 0
 Disconnects None = ⊥
 Disconnects (Some a) = succeeds DISCONNECT.now a ≡ true
 
--- the editor leaves with this event
+-- the editor leaves with this event: where one is connected, its connection ends
 abbrev pub EditorLeaves : Session → Event → Type 0
-EditorLeaves s DropConnection = ⊤
+EditorLeaves s DropConnection = is_some s.now.link ≡ true
 EditorLeaves s (Turn file) = Disconnects (answered (histories.see s) file)
 EditorLeaves s Connect = ⊥
 EditorLeaves s (Recv piece) = ⊥
@@ -219,20 +221,21 @@ EditorLeaves s Hold = ⊥
 EditorLeaves s (Sent n) = ⊥
 
 -- no instruction retires in it, and none is undone
-abbrev pub RetiresNone : Session → Event → Type 0
-RetiresNone s (Slice n) = (sliced histories n s).moved ≡ 0
-RetiresNone s e = ⊤
+abbrev pub RetiresNone : Session → Happened → Type 0
+RetiresNone s (Whole (Slice n)) = (sliced histories n s).moved ≡ 0
+RetiresNone s (Whole e) = ⊤
+RetiresNone s (Cut n count) = (beats histories n count s).moved ≡ 0
 
--- No instruction retires in any of these events, and none is undone, until one after which the program does not run, or
--- with which the editor leaves.
-abbrev pub RetiresNoneIn : List Event → Session → Type 0
+-- No instruction retires in any of these, and none is undone, until one after which the program does not run, or with
+-- which the editor leaves.
+abbrev pub RetiresNoneIn : List Happened → Session → Type 0
 RetiresNoneIn [] s = ⊤
-RetiresNoneIn (e ∷ events) s = RetiresNone s e
-    × (IsAtRest (Effect s e).now.debuggee ⊎ (EditorLeaves s e ⊎ RetiresNoneIn events (Effect s e)))
+RetiresNoneIn (x ∷ happened) s = RetiresNone s x
+    × (IsAtRest (leaves s x).now.debuggee ⊎ (OfEvent (EditorLeaves s) x ⊎ RetiresNoneIn happened (leaves s x)))
 
 -- A program that runs and is marked retires no instruction and undoes none, whatever happens.
 abbrev pub MarkedRetiresNone : Session → Type 0
-MarkedRetiresNone s = IsMarked s.now.debuggee → (events : List Event) → RetiresNoneIn events s
+MarkedRetiresNone s = IsMarked s.now.debuggee → (happened : List Happened) → RetiresNoneIn happened s
 
 -- the program is marked after it, if it answers a `pause` with success
 abbrev pub Pauses : Option Answered → Debuggee → Type 0

@@ -1,10 +1,14 @@
--- What holds of a session after every list of events.
+-- What holds of a session whatever happened.
 
 -- a whole session, computed: the bytes that it gets and those that it sends
 pub mod Example
 -- which request a turn answers
 pub mod Turns
--- what holds after every list of events
+-- what requests ask of the program
+pub mod Intents
+-- what calls lead to
+pub mod Calls
+-- what holds whatever happened
 pub mod Laws
 -- what has retired since the program was loaded or restarted
 pub mod Retiring

@@ -4,7 +4,7 @@
 -- number is given to nothing else.
 use Rattle.std.specs.Prelude.{◌≡◌, ◌↔◌, ◌⊎◌, ℕ, ℤ, pos, ◌<◌, Bool, true, false, List, length, map, Option, Some, None, slice_get}
 use Rattle.protocol.specs.declared.command.Command.{Command}
-use Rattle.protocol.specs.declared.command.Command.TheVariants.{Scopes, Variables, SetVariable, Evaluate}
+use Rattle.protocol.specs.declared.command.Command.TheVariants as one
 use Rattle.protocol.specs.declared.refusal.Refusal.TheVariants.{StaleReference, UnknownReference}
 use Rattle.protocol.specs.declared.request.Request.{Request}
 use Rattle.replies.specs.declared.response.Outcome.{Outcome}
@@ -50,11 +50,34 @@ IsStale s number = WasIssued s (λ r. (number ≡ pos r.number) × (r.stop < s.r
 
 -- the number by which a request names a frame, or a scope of variables
 abbrev pub reference_in : Command → Option ℤ
-reference_in (Scopes arguments) = Some arguments.frame_id
-reference_in (Evaluate arguments) = arguments.frame_id
-reference_in (Variables arguments) = Some arguments.variables_reference
-reference_in (SetVariable arguments) = Some arguments.variables_reference
-reference_in other = None
+reference_in (one.Initialize arguments) = None
+reference_in (one.Launch arguments) = None
+reference_in one.Attach = None
+reference_in one.ConfigurationDone = None
+reference_in one.Threads = None
+reference_in (one.Cancel arguments) = None
+reference_in one.Restart = None
+reference_in one.Terminate = None
+reference_in (one.Disconnect arguments) = None
+reference_in (one.SetBreakpoints arguments) = None
+reference_in (one.SetFunctionBreakpoints arguments) = None
+reference_in (one.SetInstructionBreakpoints arguments) = None
+reference_in one.SetExceptionBreakpoints = None
+reference_in (one.Continue arguments) = None
+reference_in (one.Next arguments) = None
+reference_in (one.StepIn arguments) = None
+reference_in (one.StepOut arguments) = None
+reference_in (one.StepBack arguments) = None
+reference_in (one.ReverseContinue arguments) = None
+reference_in (one.Pause arguments) = None
+reference_in (one.StackTrace arguments) = None
+reference_in (one.Scopes arguments) = Some arguments.frame_id
+reference_in (one.Variables arguments) = Some arguments.variables_reference
+reference_in (one.SetVariable arguments) = Some arguments.variables_reference
+reference_in (one.Evaluate arguments) = arguments.frame_id
+reference_in (one.Disassemble arguments) = None
+reference_in (one.ReadMemory arguments) = None
+reference_in (one.WriteMemory arguments) = None
 
 -- whether what it refers to is of another kind than the request asks for
 abbrev pub is_no_frame : Target → Bool
@@ -68,8 +91,8 @@ is_no_scope Registers = false
 is_no_scope Stack = false
 
 abbrev pub is_of_other_kind : Command → Target → Bool
-is_of_other_kind (Scopes arguments) target = is_no_frame target
-is_of_other_kind (Evaluate arguments) target = is_no_frame target
+is_of_other_kind (one.Scopes arguments) target = is_no_frame target
+is_of_other_kind (one.Evaluate arguments) target = is_no_frame target
 is_of_other_kind other target = is_no_scope target
 
 -- A number was never issued, or in this stop for something of another kind.

@@ -6,16 +6,14 @@
 -- undone, if its move is recorded. A success of `launch` or of `restart` begins the list anew. The call stack that an
 -- editor sees, and the count of instructions, are those of this list.
 --
--- Each word has one decoding (the laws `each_word_is_decoded` and `instruction_is_unique` of `rv32i`). `the_decoding` is
--- that one.
+-- Each word has one decoding (the laws `each_word_is_decoded` and `decoding_is_unique` of `rv32i`): `the_decoding` is that
+-- one, by its type alone.
 use Rattle.std.specs.Prelude.{◌≡◌, ℕ, zero, suc, ◌-◌, nat_lt, Bool, true, false, ◌&&◌, if◌then◌else◌, List, [], ◌∷◌, ◌++◌}
 use Rattle.std.specs.Prelude.{length, take, Option, Some, None, Result, Ok, Err}
 use Rattle.answers.specs.StackTrace.{addresses}
 use Rattle.debuggee.specs.Programs.{Program}
 use Rattle.image.specs.Memory.{word_at}
 use Rattle.image.specs.declared.fault.MemFault.{MemFault}
-use Rattle.protocol.specs.declared.command.Command.{Command}
-use Rattle.protocol.specs.declared.command.Command.TheVariants as command
 use Rattle.rv32i.proofs.Moving.{the_decoding}
 use Rattle.rv32i.specs.declared.instr.Instr.{Instr}
 use Rattle.session.specs.declared.event.Event.{Event}
@@ -25,8 +23,10 @@ use Rattle.queues.specs.declared.pending.Ask.{Ask}
 use Rattle.queues.specs.declared.pending.Ask.TheVariants.{Request, Bad}
 use Rattle.session.specs.Effects.{Slicing, beats, enough}
 use Rattle.session.specs.Kinds.{is_success}
-use Rattle.session.specs.Sessions.{After, Beginning, Effect, Session, histories, start}
+use Rattle.session.specs.Reached.{Happened, Whole, Cut, Reached, leaves}
+use Rattle.session.specs.Sessions.{Beginning, Session, histories, start}
 use Rattle.session.specs.Slices.{beat}
+use Rattle.session_laws.specs.Intents.{Intent, Load, LoadAnew, Begin, End, Change, GoBack, Other, intent_of}
 use Rattle.session_laws.specs.Turns.{Answered, answered}
 use Rattle.course.specs.Calls.{calls_of}
 use Rattle.course.specs.Marks.{Retired}
@@ -85,13 +85,17 @@ retired_in n (suc k) s retired =
 -- ---- a turn
 
 -- whether a request has the program loaded, or loaded anew
-abbrev pub loads : Command → Bool
-loads (command.Launch arguments) = true
-loads command.Restart = true
-loads other = false
+abbrev pub loads : Intent → Bool
+loads Load = true
+loads LoadAnew = true
+loads Begin = false
+loads End = false
+loads Change = false
+loads (GoBack goal) = false
+loads Other = false
 
 abbrev pub asks_to_load : Ask → Bool
-asks_to_load (Request r) = loads r.command
+asks_to_load (Request r) = loads (intent_of r.command)
 asks_to_load (Bad seq name refusal) = false
 
 -- whether an answer says that it was
@@ -102,7 +106,7 @@ abbrev pub after_answer : Option Answered → List Retired → List Retired
 after_answer None retired = retired
 after_answer (Some a) retired = if begins_anew a then [] else retired
 
--- ---- events
+-- ---- all that happens
 
 -- what has retired after an event
 abbrev pub and_retired : Session → Event → List Retired → List Retired
@@ -114,12 +118,17 @@ and_retired s Hold retired = retired
 and_retired s (Sent n) retired = retired
 and_retired s DropConnection retired = retired
 
-abbrev pub retired_after : List Event → Session → List Retired → List Retired
+-- or after a slice that was cut
+abbrev pub retired_by : Session → Happened → List Retired → List Retired
+retired_by s (Whole e) retired = and_retired s e retired
+retired_by s (Cut n count) retired = retired_in n count s retired
+
+abbrev pub retired_after : List Happened → Session → List Retired → List Retired
 retired_after [] s retired = retired
-retired_after (e ∷ events) s retired = retired_after events (Effect s e) (and_retired s e retired)
+retired_after (x ∷ happened) s retired = retired_after happened (leaves s x) (retired_by s x retired)
 
 -- All that has retired since the program was loaded or restarted, each instruction with its address, the oldest first.
-abbrev pub retired_of : Beginning → List Event → List Retired
+abbrev pub retired_of : Beginning → List Happened → List Retired
 retired_of from events = retired_after events (start from) []
 
 -- ---- the law
@@ -131,11 +140,11 @@ IsPast (Some p) retired = Remembers p.machine retired
 
 -- Whatever happens, the depth, the calls and the count of the program's machine are those of what has retired.
 abbrev pub PastIsRemembered : Type 0
-PastIsRemembered = (from : Beginning) (events : List Event)
-    → IsPast (After from events).now.debuggee.program (retired_of from events)
+PastIsRemembered = (from : Beginning) (events : List Happened)
+    → IsPast (Reached from events).now.debuggee.program (retired_of from events)
 
 -- The frames of the program are at pc, and at the calls that are kept of what has retired, the newest first.
 abbrev pub FramesAreOfThePast : Type 0
-FramesAreOfThePast = (from : Beginning) (events : List Event) (p : Program)
-    → (After from events).now.debuggee.program ≡ Some p
+FramesAreOfThePast = (from : Beginning) (events : List Happened) (p : Program)
+    → (Reached from events).now.debuggee.program ≡ Some p
     → addresses p.machine ≡ p.machine.hart.pc ∷ calls_of (retired_of from events)

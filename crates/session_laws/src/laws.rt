@@ -1,55 +1,67 @@
-//! What holds of a session after any list of events, as theorems: functions that do nothing, whose
+//! What holds of a session whatever happened, as theorems: functions that do nothing, whose
 //! clauses say it.
-ghost use Rattle.std.specs.Prelude.{List};
+ghost use Rattle.std.specs.Prelude.{◌≡◌, List, map};
 ghost use Rattle.session.specs.declared.event.Event.{Event as AnEvent};
+ghost use Rattle.session.specs.Reached.{Happened, Reached, Whole};
 ghost use Rattle.session.specs.Sessions.{After, Beginning as ABeginning, Session as ASession};
+ghost use Rattle.session_laws.specs.Calls.{CallsLead, LeadsOn};
 ghost use Rattle.session_laws.specs.Laws as law;
 ghost use Rattle.session_laws.specs.Stopping.{SlicesStopThere};
 ghost use Rattle.session_laws.specs.Retiring.{FramesAreOfThePast, PastIsRemembered};
 ghost use Rattle.session_laws.specs.Lifetimes.{ReferencesLast, ReferencesRise, ReferencesStand};
 
+/// Whatever a session stands for, after a call it stands for what that leads to: what its event leaves; where a slice found no memory, what
+/// as many of its beats leave as were made; or, where another event found none, the same as before. From what was reached that leads to
+/// what is reached, and events that are done lead to what they leave.
+pub fn calls_lead_to_what_is_reached()
+    ensures calls { CallsLead }
+    ensures joined { LeadsOn }
+    ensures events { (from : ABeginning) (events : List AnEvent)
+        → Reached from (map Whole events) ≡ After from events }
+{}
+
 /// Whatever happens, the life of the last connection that was made is at the place that is its number.
 pub fn lives_are_numbered()
-    ensures { (from : ABeginning) (events : List AnEvent)
-        → law.LivesAreNumbered (After from events) }
+    ensures { (from : ABeginning) (happened : List Happened)
+        → law.LivesAreNumbered (Reached from happened) }
 {}
 
 /// Whatever happens, the bytes that were taken of a connection are a prefix of its bytes, and on the
 /// present connection the bytes that wait are the rest: none is lost, doubled or changed.
 pub fn every_byte_is_taken_or_waits()
-    ensures { (from : ABeginning) (events : List AnEvent)
-        → law.EveryByteIsTakenOrWaits (After from events) }
+    ensures { (from : ABeginning) (happened : List Happened)
+        → law.EveryByteIsTakenOrWaits (Reached from happened) }
 {}
 
 /// Whatever happens, the messages of a connection have the numbers 1, 2, 3 and so on.
 pub fn numbers_rise()
-    ensures { (from : ABeginning) (events : List AnEvent) → law.NumbersRise (After from events) }
+    ensures { (from : ABeginning) (happened : List Happened) → law.NumbersRise (Reached from happened) }
 {}
 
 /// Whatever happens, the requests of a connection have one answer each, in the order in which they
 /// came, for a prefix of them; the others wait, as long as there are numbers for answers.
 pub fn answers_in_order()
-    ensures { (from : ABeginning) (events : List AnEvent) → law.AnswersInOrder (After from events) }
+    ensures { (from : ABeginning) (happened : List Happened) → law.AnswersInOrder (Reached from happened) }
 {}
 
 /// Whatever happens, the requests that came on a connection are those of the bytes that were
 /// accepted on it.
 pub fn requests_are_read()
-    ensures { (from : ABeginning) (events : List AnEvent)
-        → law.RequestsAreRead (After from events) }
+    ensures { (from : ABeginning) (happened : List Happened)
+        → law.RequestsAreRead (Reached from happened) }
 {}
 
 /// Whatever happens, what closed the last connection is the fault of the bytes that were accepted on
 /// it, if they have one.
 pub fn fault_is_of_the_bytes()
-    ensures { (from : ABeginning) (events : List AnEvent)
-        → law.FaultIsOfTheBytes (After from events) }
+    ensures { (from : ABeginning) (happened : List Happened)
+        → law.FaultIsOfTheBytes (Reached from happened) }
 {}
 
 /// Whatever happened, two pieces leave what they leave as one.
 pub fn cuts_do_not_matter()
-    ensures { (from : ABeginning) (events : List AnEvent)
-        → law.CutsDoNotMatter (After from events) }
+    ensures { (from : ABeginning) (happened : List Happened)
+        → law.CutsDoNotMatter (Reached from happened) }
 {}
 
 /// An event that is refused changes nothing.
@@ -59,21 +71,21 @@ pub fn refused_changes_nothing()
 
 /// Whatever happens, each answer is a message that an adapter may send.
 pub fn answers_are_proper()
-    ensures { (from : ABeginning) (events : List AnEvent)
-        → law.AnswersAreProper (After from events) }
+    ensures { (from : ABeginning) (happened : List Happened)
+        → law.AnswersAreProper (Reached from happened) }
 {}
 
 /// Whatever happens, `initialize` succeeds once at most on a connection.
 pub fn initializes_once()
-    ensures { (from : ABeginning) (events : List AnEvent)
-        → law.InitializesOnce (After from events) }
+    ensures { (from : ABeginning) (happened : List Happened)
+        → law.InitializesOnce (Reached from happened) }
 {}
 
 /// Whatever happens, each message says of the program's run what was so of the program when it was queued: a stop that
 /// it stood still, and why; a success of `continue`, of a step and of `restart` that it ran; an exit with which code it
 /// had ended.
 pub fn runs_are_told()
-    ensures { (from : ABeginning) (events : List AnEvent) → law.RunsAreTold (After from events) }
+    ensures { (from : ABeginning) (happened : List Happened) → law.RunsAreTold (Reached from happened) }
 {}
 
 /// Two slices, one after the other, leave what one of all their moves leaves, and as many moves are made
@@ -89,13 +101,15 @@ pub fn slices_end()
 
 /// A slice leaves the program stopped, or ended, for a reason of its machine exactly where a run of that machine stops, counted from the
 /// machine that the slice begins with: at the least number of moves at which a reason applies, for the first of the reasons there. Where it
-/// leaves it otherwise, none applied. So it is where the program does not go back.
+/// leaves it otherwise, none applied. So it is where the program does not go back, also where the slice found no memory; what the program
+/// owes is told first, and where that stops it, no move is made.
 pub fn slices_stop_there()
     ensures { (s : ASession) → SlicesStopThere s }
 {}
 
-/// A program that runs and is marked to stop retires no instruction and undoes none: whatever happens, until it does not run, or its editor leaves, which
-/// is when its connection ends or a `disconnect` succeeds. A turn that answers a `pause` with success leaves it marked.
+/// A program that runs and is marked to stop retires no instruction and undoes none: whatever happens, until it does not run, or its
+/// editor leaves, which is when its connection ends or a `disconnect` succeeds. A turn that answers a `pause` with success leaves it
+/// marked.
 pub fn marked_retires_none()
     ensures marked { (s : ASession) → law.MarkedRetiresNone s }
     ensures pause { (s : ASession) → law.PauseMarks s }
@@ -110,17 +124,17 @@ pub fn past_is_remembered()
 
 /// Whatever happens, references have the numbers 1, 2, 3 and so on: none is issued twice.
 pub fn references_rise()
-    ensures { (from : ABeginning) (events : List AnEvent) → ReferencesRise (After from events) }
+    ensures { (from : ABeginning) (happened : List Happened) → ReferencesRise (Reached from happened) }
 {}
 
 /// Whatever happens, the numbers of the present stop are those of all references that were ever issued.
 pub fn references_stand()
-    ensures { (from : ABeginning) (events : List AnEvent) → ReferencesStand (After from events) }
+    ensures { (from : ABeginning) (happened : List Happened) → ReferencesStand (Reached from happened) }
 {}
 
 /// Whatever happened, a request that names a frame or a scope succeeds only with a number that was issued in this stop, on this
 /// connection; it is refused as stale exactly where nothing comes before and the number was issued in an earlier stop, and as unknown
 /// exactly where nothing comes before and the number was never issued, or in this stop for something of another kind.
 pub fn references_last()
-    ensures { (from : ABeginning) (events : List AnEvent) → ReferencesLast (After from events) }
+    ensures { (from : ABeginning) (happened : List Happened) → ReferencesLast (Reached from happened) }
 {}

@@ -6,3 +6,4 @@ pub mod ServingLemmas
 pub mod ServerLemmas
 pub mod Sending
 pub mod Calls
+pub mod Reaching

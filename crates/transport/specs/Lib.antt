@@ -8,6 +8,8 @@ pub mod Rounds
 pub mod Drives
 -- editors that are served one after the other, each over a wire that a door accepts
 pub mod Serving
+-- what driving and serving lead to
+pub mod Reaching
 -- ---- a server, for a program that answers by itself
 -- the messages of what was read, and those that were given
 pub mod Heard

@@ -1,6 +1,14 @@
-//! What holds of a server after any list of its calls, as a theorem: a function that does nothing, whose
-//! clause says it.
+//! What holds of a session that is driven or served, and of a server after any list of its calls, as theorems: functions that do
+//! nothing, whose clauses say it.
 ghost use Rattle.transport.specs.Laws as law;
+ghost use Rattle.transport.specs.Reaching.{DrivingLeads, ServingLeads};
+
+/// Whatever comes over wires and doors, and wherever memory runs out: what a session stands for after it was driven or served is what
+/// events, and slices that found no memory, lead to from what it stood for before.
+pub fn what_is_driven_and_served_is_reached()
+    ensures driven { DrivingLeads }
+    ensures served { ServingLeads }
+{}
 
 /// Whatever calls are made of a server, its writer gets the frames of the messages that succeeded, with
 /// the numbers that follow those of the messages before it, from 1 for a new one, and after a fault of the

@@ -2,13 +2,14 @@
 use Rattle.std.proofs.Common.{◌≡◌, ℕ, zero, suc, ◌+◌, Bool, true, false, cond, eqb, leb, ltb, List, [], ◌∷◌, ◌++◌, length, get_or, Option, Some, None, option_map, Result, Ok, Err, refl, sym, ap, ◌∙◌, subst, arith}
 use Rattle.std.proofs.lemmas.Bool.Decides.{nat_tests}
 use Rattle.session_laws.proofs.ByForms.{on}
-use Rattle.session.proofs.Reaching.{if_keeps}
+use Rattle.session.proofs.Reaching.{if_keeps, led_append}
+use Rattle.session.specs.Reached.{Whole}
 use Rattle.session_laws.proofs.Reading.{up_to_fault-append}
 use Rattle.session_laws.proofs.Refusing.{refused_changes_nothing}
 use Rattle.session.specs.Effects.{after_all, performed}
 use Rattle.session.specs.Kept.{Kept, Stands}
 use Rattle.session.specs.Outcomes.{Outcome, done, outcome_at, refused}
-use Rattle.session.specs.Sessions.{Answer, Effect, Life, Said, Session, bytes_of, histories, life_of, lives, no_life, up_to_fault, waiting_of}
+use Rattle.session.specs.Sessions.{Answer, Effect, Life, Said, Session, bytes_of, histories, life_of, lives, no_life, start, up_to_fault, waiting_of}
 use Rattle.session.specs.Acts.{Accept, Open}
 use Rattle.headline.specs.News.{sight}
 use Rattle.session.specs.declared.event.Applied.{Applied}
@@ -32,7 +33,12 @@ after_more (x ∷ events) e s = after_more events e (Effect s x)
 
 pub reached_next : (s : Session) (e : Event) → IsReached s → IsReached (Effect s e)
 reached_next s e r =
-    record { from = r.from; path = r.path; events = r.events ++ e ∷ []; is = ap (λ (x : Session). Effect x e) r.is ∙ sym (after_more r.events e _) }
+    record {
+      from = r.from;
+      path = r.path;
+      happened = r.happened ++ Whole e ∷ [];
+      is = ap (λ (x : Session). Effect x e) r.is ∙ sym (led_append r.happened (Whole e ∷ []) (start r.from));
+    }
 
 -- ---- an event that leaves what was said and what came
 

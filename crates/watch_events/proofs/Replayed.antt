@@ -10,6 +10,9 @@ use Rattle.mirror.specs.Kept.{Kept, facts_of}
 use Rattle.mirror.specs.Streams.{Input, StandsFor, after, stream_fault}
 use Rattle.mirror.specs.Streams.Input.{Sent, Fed}
 use Rattle.protocol.specs.declared.request.Request.{Request as ARequest}
+use Rattle.session.proofs.Reaching.{whole_events}
+use Rattle.session.specs.Reached.{Whole}
+use Rattle.session_laws.specs.Laws.{RequestsAreRead}
 use Rattle.session_laws.proofs.Cuts.{requests_are_read}
 use Rattle.session_laws.proofs.Reading.{asks_up_to}
 use Rattle.queues.specs.Arrivals.{asks_of}
@@ -25,6 +28,7 @@ use Rattle.session.specs.declared.limits.Limits.{Limits}
 use Rattle.mirror.specs.declared.asked.Asked.{Asked}
 use Rattle.watch_events.proofs.Events.{after_more}
 use Rattle.headline.proofs.Editing.{fed_first, is_editor}
+use Rattle.headline.specs.Headline.{MirrorsHoldWhatWasSo}
 use Rattle.headline.proofs.Mirrored.{mirrors_hold}
 use Rattle.headline.specs.Concluding.{WasSo, known_after, last_seen, remembered, told_within}
 use Rattle.headline.specs.Holding.{Holds}
@@ -90,7 +94,7 @@ next : (from : Beginning) → HasPath from → (events : List Event) (e : Event)
     → Tracks new (After from (events ++ e ∷ []))
 next from path events e old new keeps h =
     subst (Tracks new) (sym (after_more events e (start from)))
-    (keeps (After from events) (record { from = from; path = path; events = events; is = refl }) h)
+    (keeps (After from events) (record { from = from; path = path; happened = map Whole events; is = sym (whole_events events (start from)) }) h)
 
 -- ---- what is watched of them
 
@@ -111,7 +115,7 @@ not_made_by s t h e made =
 heard_by : (from : Beginning) (events : List Event) (t : Tracked) → Tracks t (After from events)
     → requests_in (life_of t.connection (After from events)).heard ≡ requests_of t.accepted
 heard_by from events t h =
-    ap requests_in (requests_are_read from events t.connection ∙ ap (λ (l : List ℕ). asks_of (reading_of 1048576 l).bodies) h.accepted
+    ap requests_in (subst RequestsAreRead (whole_events events (start from)) (requests_are_read from (map Whole events)) t.connection ∙ ap (λ (l : List ℕ). asks_of (reading_of 1048576 l).bodies) h.accepted
     ∙ asks_up_to [] t.accepted)
 
 never_none : (before : Snapshot) (said : List Said) → last_seen (Some before) said ≡ None → ⊥
@@ -153,7 +157,9 @@ module _ (from : Beginning) (path : HasPath from) (events : List Event) (t : Tra
       subst (λ (l : List Input). StandsFor mirror (after l)) same told
 
   all_hold : HoldsWhatWasSo life inputs
-  all_hold = mirrors_hold from events (messages_are_readable from events path) t.connection inputs (is_editor life t.count)
+  all_hold =
+      subst MirrorsHoldWhatWasSo (whole_events events (start from))
+      (mirrors_hold from (map Whole events) (messages_are_readable from (map Whole events) path)) t.connection inputs (is_editor life t.count)
 
   fed : fed_in inputs ≡ take t.count (bytes_of life)
   fed = fed_first (requests_in life.heard) (take t.count (bytes_of life))

@@ -71,7 +71,7 @@ drops old k (Err why) never h s r t =
 -- ---- turns and slices
 
 seen_here : (s : Session) → IsReached s → IsSeenAfter s
-seen_here s r = subst IsSeenAfter (sym r.is) (seen_after r.from r.events)
+seen_here s r = subst IsSeenAfter (sym r.is) (seen_after r.from r.happened)
 
 pub turns : (old new : Tracked) (k : Kept) (file : Option (List ℕ)) (turned : Turned)
     → Happens old.session (Turn file) (Ok (applied.Turn turned)) k

@@ -45,7 +45,7 @@ Counted s = length s.before ≡ s.now.connections
 
 counted : (s : Session) → IsReached s → length s.before ≡ s.now.connections
 unfolding Counted
-counted s r = subst Counted (sym r.is) (all_counted r.from r.events)
+counted s r = subst Counted (sym r.is) (all_counted r.from r.happened)
 
 -- the life of the connection that was made last
 pub ours : (s : Session) (c : ℕ) → IsReached s → c ≡ s.now.connections → life_of c s ≡ s.life
@@ -85,10 +85,10 @@ waits_by (Some ls) None s t es et rs rt h = absurd (let no : false ≡ true = sy
 waits_by (Some ls) (Some lt) s t es et rs rt h =
     let s_rest : bytes_of s.life ≡ s.life.taken ++ waiting_of s = subst
     (λ (x : Session). (link : Link) → x.now.link ≡ Some link → bytes_of x.life ≡ x.life.taken ++ waiting_of x) (sym rs.is)
-    (every_byte_is_taken_or_waits rs.from rs.events).rest ls es in
+    (every_byte_is_taken_or_waits rs.from rs.happened).rest ls es in
     let t_rest : bytes_of t.life ≡ t.life.taken ++ waiting_of t = subst
     (λ (x : Session). (link : Link) → x.now.link ≡ Some link → bytes_of x.life ≡ x.life.taken ++ waiting_of x) (sym rt.is)
-    (every_byte_is_taken_or_waits rt.from rt.events).rest lt et in
+    (every_byte_is_taken_or_waits rt.from rt.happened).rest lt et in
     let taken : t.life.taken ≡ s.life.taken = ap (λ (l : Life). l.taken) h.newly.life in
     let sum : s.life.taken ++ waiting_of t ≡ s.life.taken ++ (waiting_of s ++ frames h.news) =
     ap (λ (l : List ℕ). l ++ waiting_of t) (sym taken) ∙ sym t_rest ∙ said_bytes s t h ∙ ap (λ (l : List ℕ). l ++ frames h.news) s_rest
@@ -266,10 +266,10 @@ module _ (old new : Tracked) (s t : Session) (k : Kept) (rs : IsReached s) (rt :
       let all : (life_of old.connection t).said ≡ said ++ news = more_said e in
       let readable : All IsReadable news = of_last IsReadable said news
       (subst (All IsReadable) (ap (λ (x : Session). (life_of old.connection x).said) (sym rt.is) ∙ all)
-      (all_are_readable rt.from rt.events (messages_are_readable rt.from rt.events rt.path) old.connection)) in
+      (all_are_readable rt.from rt.happened (messages_are_readable rt.from rt.happened rt.path) old.connection)) in
       let run : AllRun news = of_last (λ (m : Said). PrintsRunning m.message m.snapshot.debuggee) said news
       (subst AllRun (ap (λ (x : Session). (life_of old.connection x).said) (sym rt.is) ∙ all)
-      (what_is_printed_runs rt.from rt.events old.connection)) in
+      (what_is_printed_runs rt.from rt.happened old.connection)) in
       let part : take room waited ≡ take room (flat_map frame_said news) = ap (take room) news_are in
       let none : stream_fault (take room waited) ≡ None = ap stream_fault part ∙ has_no_fault news room readable in
       let read = messages_within news room readable in

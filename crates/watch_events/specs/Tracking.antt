@@ -6,7 +6,8 @@ use Rattle.replies.specs.declared.message.Message.{Message}
 use Rattle.session.specs.Acts.{Now}
 use Rattle.session.specs.Kept.{Kept, Stands}
 use Rattle.session.specs.Effects.{ended_as, sliced}
-use Rattle.session.specs.Sessions.{After, Beginning, Effect, Session, bytes_of, histories, life_of, snapshot_of, up_to_fault}
+use Rattle.session.specs.Reached.{Happened, Reached}
+use Rattle.session.specs.Sessions.{Beginning, Effect, Session, bytes_of, histories, life_of, snapshot_of, up_to_fault}
 use Rattle.snapshots.specs.Snapshots.{Captured, IsTaken, as_running, path_of, seen_of}
 use Rattle.session.specs.declared.event.SliceEnd.{SliceEnd}
 use Rattle.session.specs.declared.event.Event.{Event}
@@ -31,12 +32,12 @@ pub record Tracked : Type 0 where
 abbrev pub sight_in : Option Captured → Sight
 sight_in taken = record { facts = seen_of taken; path = path_of taken }
 
--- some list of events leaves it, of a session whose program has a path that is short enough
+-- it is reached from what a session begins with whose program has a path that is short enough
 pub record IsReached (s : Session) : Type 0 where
   pub from : Beginning
   pub path : HasPath from
-  pub events : List Event
-  pub is : s ≡ After from events
+  pub happened : List Happened
+  pub is : s ≡ Reached from happened
 
 -- it is so of this session
 pub record Tracks (t : Tracked) (s : Session) : Type 0 where
