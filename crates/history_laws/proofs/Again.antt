@@ -13,8 +13,8 @@ use Rattle.rv32i.specs.Machine.{Effect, IsMove, machine_of}
 use Rattle.rv32i.specs.declared.instr.Instr.{Instr}
 use Rattle.rv32i.specs.declared.stepped.Stepped.{Stepped}
 use Rattle.rv32i.specs.declared.stepped.Stepped.TheVariants as stepped
-use Rattle.session.specs.Sessions.{After, Beginning, Session}
-use Rattle.session.specs.declared.event.Event.{Event}
+use Rattle.session.specs.Reached.{Happened, Reached}
+use Rattle.session.specs.Sessions.{Beginning, Session}
 use Rattle.stepping.proofs.Cases.{back_of, move_of}
 use Rattle.stepping.proofs.Existing.{the_tick}
 use Rattle.stepping.proofs.Leading.{moves_equal, ticks_lead}
@@ -83,9 +83,9 @@ if_run : (P : Debugged → Type 0) (program : Option Program) → ((d : Debugged
 if_run P None so h = tt
 if_run P (Some p) so h = so p.machine h
 
-pub back_and_forth_again : (from : Beginning) (events : List Event) → BackAndForthAgain (After from events)
+pub back_and_forth_again : (from : Beginning) (events : List Happened) → BackAndForthAgain (Reached from events)
 back_and_forth_again from events =
-    if_run IsReachedAgain (After from events).now.debuggee.program reached_again (every_past_is_a_run from events)
+    if_run IsReachedAgain (Reached from events).now.debuggee.program reached_again (every_past_is_a_run from events)
 
 -- ---- a move of the program
 
@@ -97,7 +97,7 @@ printed_so (stepped.Exit code) instr pc d = refl
 printed_so (stepped.Trap cause) instr pc d = refl
 
 -- it is recorded
-recorded_so : (s : Stepped) (instr : Option Instr) (before after : Debugged)
+pub recorded_so : (s : Stepped) (instr : Option Instr) (before after : Debugged)
     → stays (tick_of s instr before.hart.pc (moved_as before after)).outcome ≡ false
     → after ≡ settled s instr before (moved_as before after) → after.past ≡ take 65536 (position_of before ∷ before.past)
 recorded_so stepped.Retired instr before after goes e = ap (λ (d : Debugged). d.past) e
@@ -130,7 +130,7 @@ move_made before after tick goes lead m = by m.stepped m.moved m.settles where
       (s, ((move, answer), printed_so s m.instr before.hart.pc (moved_as before after) ∙ sym (ap (λ (t : Tick). t.printed) same)))
   by (Err error) i x = absurd (let no : Ok tick ≡ Err error = x.0 in cc)
 
-is_made : (p : Program) → EndsARun p.machine → IsMade p
+pub is_made : (p : Program) → EndsARun p.machine → IsMade p
 is_made p h due forward goes =
     let t = (the_tick p.machine).is in
     move_made p.machine (moved p).machine (next_tick p) goes (ticks_lead p.machine (moved p).machine (Ok (next_tick p)) h.leads t)
@@ -140,8 +140,8 @@ all_made : (program : Option Program) → IfSome program (λ p. EndsARun p.machi
 all_made None h = tt
 all_made (Some p) h = is_made p h
 
-pub moves_are_made : (from : Beginning) (events : List Event) → MovesAreMade (After from events)
-moves_are_made from events = all_made (After from events).now.debuggee.program (every_past_is_a_run from events)
+pub moves_are_made : (from : Beginning) (events : List Happened) → MovesAreMade (Reached from events)
+moves_are_made from events = all_made (Reached from events).now.debuggee.program (every_past_is_a_run from events)
 
 is_undone : (p : Program) → IsUndone p
 is_undone p due turns =

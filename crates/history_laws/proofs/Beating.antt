@@ -2,6 +2,7 @@
 use Rattle.std.proofs.Common.{◌≡◌, Bool, true, false, Option, None, sym, ap, ◌∙◌, subst}
 use Rattle.std.specs.Prelude.{◌&&◌, not, nat_le}
 use Rattle.debuggee.specs.Programs.{Program, is_running}
+use Rattle.session_laws.proofs.Stopping.{no_more}
 use Rattle.session.proofs.Reaching.{if_keeps}
 use Rattle.session.specs.Acts.{Now, Seen}
 use Rattle.session.specs.Slices.{Beat, beat_by, ends, is_at_limit, is_runnable_by}
@@ -16,11 +17,6 @@ never_at_limit now p g is turns limit =
     let back : turns_back p.machine.goal ≡ true = ap turns_back is ∙ turns in
     let none : is_at_limit now p ≡ false = ap (λ (b : Bool). not b && nat_le now.limits.last_retired p.machine.retired) back in
     absurd (let no : true ≡ false = sym limit ∙ none in cc)
-
--- it may not go on
-no_more : {A : Type 0} (running other : Bool) → running ≡ false → not (running && other) ≡ false → A
-no_more true other e f = absurd (let no : true ≡ false = e in cc)
-no_more false other e f = absurd (let no : true ≡ false = f in cc)
 
 -- what holds where the slice ends holds of its beat
 pub stands_idle : (P : Beat → Type 0) (seen : Seen) (p : Program) (more : Bool) → p.owed ≡ None → is_running p.run ≡ false

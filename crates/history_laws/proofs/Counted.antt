@@ -27,7 +27,7 @@ undone_one [] d e = ap length e
 undone_one (before ∷ past) d e = omega arith
 
 -- a move at which an instruction retires ends no run by itself
-goes_on : (hit : Hit) (met : Bool) → stays (outcome_of hit met) ≡ false
+pub goes_on : (hit : Hit) (met : Bool) → stays (outcome_of hit met) ≡ false
 goes_on hit met = hit_goes hit _ (if_keeps (λ (o : Outcome). stays o ≡ false) met (Stopped why.Goal) Went (λ _. refl) (λ _. refl))
 
 one_more : (before after : Debugged) (instr : Option Instr) → after ≡ gone_on instr before (moved_as before after)

@@ -22,6 +22,7 @@ use Rattle.handlers.specs.Telling.{exit_events, stop_event}
 use Rattle.handlers.specs.declared.terms.Terms.{Terms}
 use Rattle.history_laws.proofs.Counted.{are_given_up, ticks_are_counted}
 use Rattle.history_laws.proofs.Recorded.{every_past_is_a_run}
+use Rattle.session_laws.specs.Intents.{intent_of}
 use Rattle.history_laws.specs.Recorded.{EndsARun, EventsAreCounted, asks_to_give_up, count_after, count_answered, count_moved, count_of, count_sliced, gives_up, recorded_of}
 use Rattle.image.specs.Memory.{fault_at}
 use Rattle.protocol.specs.declared.command.Command.{Command}
@@ -35,12 +36,12 @@ use Rattle.session.proofs.Reaching.{if_keeps}
 use Rattle.session.proofs.Serving.{of_answer}
 use Rattle.session.specs.Acts.{Now, given_of}
 use Rattle.session.specs.Beats.{concluded}
-use Rattle.session.specs.Effects.{Slicing, beats, enough, next_by, performed, sliced}
+use Rattle.session.specs.Effects.{Slicing, beats, enough, next_by, performed}
 use Rattle.session.specs.Kinds.{is_success}
 use Rattle.session.specs.Outcomes.{Outcome as Does, answer_to, outcome_at}
-use Rattle.session.specs.Sessions.{After, Beginning, Effect, Session, histories, waiting_of}
+use Rattle.session.specs.Reached.{Happened, Whole, Cut, Reached}
+use Rattle.session.specs.Sessions.{Beginning, Effect, Session, histories, waiting_of}
 use Rattle.session.specs.Slices.{Beat, beat_by, beat_of, ending_of, ends, exits, goes, goes_unless, is_at_limit, is_runnable_by, makes_move, moves_by, stops, telling, tells}
-use Rattle.session.specs.declared.event.Event.{Event}
 use Rattle.session.specs.declared.event.Event.TheVariants.{Connect, Recv, Turn, Slice, Hold, Sent, DropConnection}
 use Rattle.session.specs.declared.event.SliceEnd.{SliceEnd}
 use Rattle.session.specs.declared.event.SliceEnd.TheVariants as ending
@@ -98,7 +99,7 @@ concluded_same (Ended code) p = refl
 -- ---- the answer to a request
 
 -- no request of another kind gives up what is recorded
-none_gives_up : (c : Command) → ((agrees c || (steps c || (sets_breakpoints c || looks_in c))) && gives_up c) ≡ false
+none_gives_up : (c : Command) → ((agrees c || (steps c || (sets_breakpoints c || looks_in c))) && gives_up (intent_of c)) ≡ false
 none_gives_up (command.Launch arguments) = refl
 none_gives_up command.Restart = refl
 none_gives_up (command.SetVariable arguments) = refl
@@ -106,10 +107,10 @@ none_gives_up (command.WriteMemory arguments) = refl
 none_gives_up other = refl
 
 other_kind : (c : Command) (success : Bool) (n : ℕ) → (agrees c || (steps c || (sets_breakpoints c || looks_in c))) ≡ true
-    → n ≡ cond (gives_up c && success) 0 n
+    → n ≡ cond (gives_up (intent_of c) && success) 0 n
 other_kind c success n kind =
     ap (λ (g : Bool). cond (g && success) 0 n)
-    (sym (subst (λ (k : Bool). (k && gives_up c) ≡ false) kind (none_gives_up c)))
+    (sym (subst (λ (k : Bool). (k && gives_up (intent_of c)) ≡ false) kind (none_gives_up c)))
 
 refused_same : (asks : Bool) (n : ℕ) → n ≡ cond (asks && false) 0 n
 refused_same true n = refl
@@ -145,7 +146,7 @@ module _ (now : Now) (terms : Terms) where
 
   abbrev Keeps : Command → Bool → Type 0
   Keeps c success =
-      recorded_of now.debuggee.program ≡ cond (gives_up c && success) 0 (recorded_of now.debuggee.program)
+      recorded_of now.debuggee.program ≡ cond (gives_up (intent_of c) && success) 0 (recorded_of now.debuggee.program)
 
   agrees_so : (c : Command) (success : Bool) → agrees c ≡ true → Keeps c success
   agrees_so c success kind = other_kind c success (recorded_of now.debuggee.program) (or_left (agrees c) _ kind)
@@ -164,7 +165,7 @@ module _ (now : Now) (terms : Terms) where
       other_kind c success (recorded_of now.debuggee.program)
       (or_right (agrees c) _ (or_right (steps c) _ (or_right (sets_breakpoints c) _ kind)))
 
-  successes_count : BySuccess (given_of now) terms (λ c a. Counts now (gives_up c) a)
+  successes_count : BySuccess (given_of now) terms (λ c a. Counts now (gives_up (intent_of c)) a)
   successes_count = record {
     initialized = λ _. refl;
     unreadable = λ _. refl;
@@ -181,7 +182,7 @@ module _ (now : Now) (terms : Terms) where
     pauses = λ _. same_of (marked mark.Pause) (λ p. marked_same p.run mark.Pause p) now.debuggee.program;
     stepped = λ c kind g. same_of (resumed g) (λ _. refl) now.debuggee.program ∙ steps_so c _ kind.kind;
     absent = λ c about none. none_there _ (recorded_of now.debuggee.program) (ap recorded_of none);
-    refused = λ c _ _ _. refused_same (gives_up c) (recorded_of now.debuggee.program);
+    refused = λ c _ _ _. refused_same (gives_up (intent_of c)) (recorded_of now.debuggee.program);
     sets_none = λ c kind _ _ _ _ _. sets_so c _ kind.sets;
     sets_list = λ c kind _ _ list _ _ _ _. same_of (with_list c list) (listed_same c list) now.debuggee.program ∙ sets_so c _ kind.sets;
     shows = λ c kind _ _ _ _ _ _. looks_so c _ kind.looks;
@@ -193,7 +194,7 @@ answer_counts : (now : Now) (terms : Terms) (file : Option (List ℕ)) (p : Pend
     → Counts now (asks_to_give_up p.ask) (answer_to now terms file p)
 answer_counts now terms file p =
     of_answer (λ ask a. Counts now (asks_to_give_up ask) a) now terms file p.ask p.fate (λ refusal _. refused_same _ _)
-    (λ r taken meets. by_success (given_of now) terms (λ c a. Counts now (gives_up c) a) (successes_count now terms) file r.command)
+    (λ r taken meets. by_success (given_of now) terms (λ c a. Counts now (gives_up (intent_of c)) a) (successes_count now terms) file r.command)
 
 -- ---- a turn
 
@@ -202,7 +203,7 @@ tells_same : (s : Session) (p : Program) (tick : Tick) → program_of s ≡ Some
 tells_same s p tick is =
     ap recorded_of (telling_program s.now p tick s) ∙ ap length (concluded_same tick.outcome (told p)) ∙ sym (ap recorded_of is)
 
-turn_counts : (file : Option (List ℕ)) (s : Session) → recorded_of (program_of (Effect s (Turn file))) ≡ count_of s (Turn file)
+turn_counts : (file : Option (List ℕ)) (s : Session) → recorded_of (program_of (Effect s (Turn file))) ≡ count_of s (Whole (Turn file))
 turn_counts file s = by_turn (histories.see s) file P kinds s.now.link where
   P : Option Answered → Does → Type 0
   P a o = recorded_of (program_of (performed histories o.acts s)) ≡ count_answered a (recorded_of (program_of s))
@@ -358,13 +359,13 @@ unfolding Sliced
 has_so None start made h = absurd h
 has_so (Some q) start made h = h.1
 
-slice_counts : (program : Option Program) (n : ℕ) (s : Session) → program_of s ≡ program → IfSome program (λ p. EndsARun p.machine)
-    → recorded_of (program_of (sliced histories n s).state) ≡ count_sliced program (sliced histories n s).moved
+slice_counts : (program : Option Program) (n k : ℕ) (s : Session) → program_of s ≡ program → IfSome program (λ p. EndsARun p.machine)
+    → recorded_of (program_of (beats histories n k s).state) ≡ count_sliced program (beats histories n k s).moved
 unfolding Sliced
-slice_counts None n s is h = ap recorded_of (absent_after n (enough n) s is)
-slice_counts (Some p) n s is h =
-    has_so (program_of (sliced histories n s).state) p.machine (sliced histories n s).moved
-    (beats_sliced n (enough n) s p.machine (subst (Sliced p.machine 0) (sym is)
+slice_counts None n k s is h = ap recorded_of (absent_after n k s is)
+slice_counts (Some p) n k s is h =
+    has_so (program_of (beats histories n k s).state) p.machine (beats histories n k s).moved
+    (beats_sliced n k s p.machine (subst (Sliced p.machine 0) (sym is)
     (refl, begins (turns_back p.machine.goal) (length p.machine.past) h.few)))
 
 -- ---- an event
@@ -402,13 +403,14 @@ drop_counts None s = refl
 drop_counts (Some l) s = same_of left (λ _. refl) (program_of s)
 
 event_counts : (s : Session) → IfSome (program_of s) (λ p. EndsARun p.machine) → EventsAreCounted s
-event_counts s h Connect = connect_counts s.now.link s
-event_counts s h (Recv piece) = recv_counts s.now.link piece s
-event_counts s h (Turn file) = turn_counts file s
-event_counts s h (Slice n) = slice_counts (program_of s) n s refl h
-event_counts s h Hold = hold_counts s.now.link s
-event_counts s h (Sent n) = sent_counts s.now.link n s
-event_counts s h DropConnection = drop_counts s.now.link s
+event_counts s h (Whole Connect) = connect_counts s.now.link s
+event_counts s h (Whole (Recv piece)) = recv_counts s.now.link piece s
+event_counts s h (Whole (Turn file)) = turn_counts file s
+event_counts s h (Whole (Slice n)) = slice_counts (program_of s) n (enough n) s refl h
+event_counts s h (Whole Hold) = hold_counts s.now.link s
+event_counts s h (Whole (Sent n)) = sent_counts s.now.link n s
+event_counts s h (Whole DropConnection) = drop_counts s.now.link s
+event_counts s h (Cut n k) = slice_counts (program_of s) n k s refl h
 
-pub events_are_counted : (from : Beginning) (events : List Event) → EventsAreCounted (After from events)
-events_are_counted from events = event_counts (After from events) (every_past_is_a_run from events)
+pub events_are_counted : (from : Beginning) (events : List Happened) → EventsAreCounted (Reached from events)
+events_are_counted from events = event_counts (Reached from events) (every_past_is_a_run from events)

@@ -9,6 +9,7 @@ use Rattle.handlers.specs.GoingBack.{past_of, success_by}
 use Rattle.handlers.specs.Requests.{demand_of, success_of}
 use Rattle.handlers.specs.declared.terms.Terms.{Terms}
 use Rattle.history_laws.proofs.Recorded.{always_orderly}
+use Rattle.session_laws.specs.Intents.{intent_of}
 use Rattle.history_laws.specs.GoingBack.{BeginsBack, GoesBackFrom, OfProgram, TurnsBeginBack, goal_asked, goal_of}
 use Rattle.protocol.specs.declared.command.Command.{Command}
 use Rattle.protocol.specs.declared.command.Command.TheVariants.{StepBack, ReverseContinue}
@@ -19,9 +20,9 @@ use Rattle.session.specs.Effects.{performed}
 use Rattle.session.specs.Kinds.{is_success}
 use Rattle.session.specs.Outcomes.{Outcome as Does, answers_next, done, next_turn, outcome_at, turn_by, turn_of}
 use Rattle.session.specs.Outcomes.{answer_to}
-use Rattle.session.specs.Sessions.{After, Beginning, Session, histories, waiting_of}
+use Rattle.session.specs.Reached.{Happened, Reached}
+use Rattle.session.specs.Sessions.{Beginning, Session, histories, waiting_of}
 use Rattle.session.specs.declared.event.Applied.TheVariants.{Turn as DidTurn}
-use Rattle.session.specs.declared.event.Event.{Event}
 use Rattle.session.specs.declared.event.Event.TheVariants.{Turn}
 use Rattle.session.specs.declared.event.Turned.TheVariants as turned
 use Rattle.session.specs.declared.link.Link.{Link}
@@ -77,7 +78,7 @@ module _ (now : Now) (terms : Terms) (owes : OwesNothing now.debuggee.program) (
       (success_goes asked (past_of now.debuggee.program) (given_of now) terms owes o stands refl h)
 
   command_begins : (file : Option (List ℕ)) (c : Command) → Meets (run_of now.debuggee.program) (demand_of c)
-      → Begins now (goal_of c) (success_of (given_of now) terms file c)
+      → Begins now (goal_of (intent_of c)) (success_of (given_of now) terms file c)
   command_begins file (StepBack arguments) meets = with_goal Back meets.still
   command_begins file (ReverseContinue arguments) meets = with_goal ReverseGo meets.still
   command_begins file other meets = λ g e h. absurd (let no : None ≡ Some g = e in cc)
@@ -122,5 +123,5 @@ module _ (s : Session) (file : Option (List ℕ)) (o : OrderlyOf (program_of s))
   on_link None = tt
   on_link (Some l) = of_program l (program_of s) refl
 
-pub turns_begin_back : (from : Beginning) (events : List Event) → TurnsBeginBack (After from events)
-turns_begin_back from events file = on_link (After from events) file (always_orderly from events) (After from events).now.link
+pub turns_begin_back : (from : Beginning) (events : List Happened) → TurnsBeginBack (Reached from events)
+turns_begin_back from events file = on_link (Reached from events) file (always_orderly from events) (Reached from events).now.link

@@ -9,3 +9,5 @@ pub mod SteppingBack
 pub mod RunningBack
 pub mod Newest
 pub mod Again
+pub mod OneStep
+pub mod ByRequests

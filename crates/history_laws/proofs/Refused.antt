@@ -1,5 +1,5 @@
 -- Going back is refused with `noHistory` exactly where nothing is recorded.
-use Rattle.std.proofs.Common.{◌≡◌, ℕ, Bool, true, false, List, [], ◌∷◌, length, Option, Some, None, refl, sym, ap, ◌∙◌, subst, arith}
+use Rattle.std.proofs.Common.{◌≡◌, ℕ, Bool, true, false, List, [], ◌∷◌, length, Option, Some, None, is_some, refl, sym, ap, ◌∙◌, subst, arith}
 use Rattle.std.specs.Prelude.{◌↔◌, ◌&&◌, not, ⊤}
 use Rattle.course.specs.Positions.{Position}
 use Rattle.debuggee.specs.Programs.{Program}
@@ -11,7 +11,9 @@ use Rattle.handlers.specs.Requests.{demand_of, is_taken_in, success_of}
 use Rattle.handlers.specs.declared.phase.Phase.{Phase}
 use Rattle.handlers.specs.declared.terms.Terms.{Terms}
 use Rattle.history_laws.specs.Recorded.{recorded_of}
-use Rattle.history_laws.specs.Refused.{NoHistoryExactly, goes_back}
+use Rattle.session_laws.specs.Intents.{intent_of}
+use Rattle.history_laws.specs.GoingBack.{goal_of}
+use Rattle.history_laws.specs.Refused.{NoHistoryExactly}
 use Rattle.protocol.specs.declared.command.Command.{Command}
 use Rattle.protocol.specs.declared.command.Command.TheVariants.{StepBack, ReverseContinue}
 use Rattle.protocol.specs.declared.refusal.Refusal.{Refusal}
@@ -73,7 +75,7 @@ unfolding Speaks
 speaks_by [] given terms g = refl
 speaks_by (before ∷ past) given terms g = refl
 
-speaks : (now : Now) (terms : Terms) (file : Option (List ℕ)) (c : Command) → goes_back c ≡ true
+speaks : (now : Now) (terms : Terms) (file : Option (List ℕ)) (c : Command) → is_some (goal_of (intent_of c)) ≡ true
     → Speaks (past_of now.debuggee.program) (success_of (given_of now) terms file c).outcome
 speaks now terms file (StepBack arguments) e = speaks_by (past_of now.debuggee.program) (given_of now) terms goal.Back
 speaks now terms file (ReverseContinue arguments) e = speaks_by (past_of now.debuggee.program) (given_of now) terms goal.ReverseGo
@@ -96,7 +98,7 @@ by_past (before ∷ past) n out long says = (
 same_refusal : (x y : Refusal) → Refused x None ≡ Refused y None → x ≡ y
 same_refusal x y e = cc
 
-module _ (s : Session) (link : Link) (file : Option (List ℕ)) (r : ARequest) (fate : Fate) (back : goes_back r.command ≡ true) where
+module _ (s : Session) (link : Link) (file : Option (List ℕ)) (r : ARequest) (fate : Fate) (back : is_some (goal_of (intent_of r.command)) ≡ true) where
   abbrev before : Option Refusal
   before = first_refusal (refusals (run_of s.now.debuggee.program) link.terms.phase (record { ask = Request r; fate = fate }))
 

@@ -3,7 +3,9 @@ use Rattle.std.proofs.Common.{◌≡◌, ◌≢◌, ℕ, zero, suc, Bool, true, 
 use Rattle.std.specs.Prelude.{◌&&◌, not, bytes_eq}
 use Rattle.breakpoints.specs.Stops.{Wanted}
 use Rattle.course.specs.Positions.{Course, gone_back}
-use Rattle.debuggee.specs.Programs.{Debuggee, Program, first_mark, is_running, marked, marked_by, moved, next_tick, on_program, owing_by, stays, stopped, told, why_marked, with_functions, with_instructions, with_source}
+use Rattle.stepping.specs.Loading.{no_breakpoints}
+use Rattle.handlers.specs.Disconnect.{departed, is_to_end, is_to_stand}
+use Rattle.debuggee.specs.Programs.{Debuggee, Program, ended, first_mark, is_ended, is_running, left, run_after, run_left, marked, marked_by, moved, next_tick, on_program, owing_by, stays, stopped, told, why_marked, with_functions, with_instructions, with_source}
 use Rattle.debuggee.specs.declared.run.Mark.{Mark}
 use Rattle.debuggee.specs.declared.run.Mark.TheVariants as mark
 use Rattle.debuggee.specs.declared.run.Run.{Run}
@@ -19,7 +21,7 @@ use Rattle.handlers.specs.declared.terms.Terms.{Terms}
 use Rattle.history_laws.proofs.Beating.{never_at_limit, stands_idle}
 use Rattle.history_laws.proofs.Ticking.{back_course, back_goes}
 use Rattle.history_laws.specs.GoingBack.{GoesBackFrom, OfProgram}
-use Rattle.history_laws.specs.SteppingBack.{HasSteppedBack, IsStartedOrEnded, IsUnderWay, StartsOrEnds, StepsBack, StepsBackIn, StepsGoOneBack, asks_to_start_or_end, starts_or_ends, step_made}
+use Rattle.history_laws.specs.SteppingBack.{HasEnded, HasSteppedBack, IsStartedOrEnded, IsUnderWay, StartsOrEnds, StepsBack, StepsBackIn, StepsGoOneBack, asks_to_start_or_end, starts_or_ends, step_made}
 use Rattle.protocol.specs.Commands.{name_of}
 use Rattle.protocol.specs.declared.command.Command.{Command}
 use Rattle.protocol.specs.declared.command.Command.TheVariants.{SetBreakpoints, SetFunctionBreakpoints, SetInstructionBreakpoints, SetVariable, WriteMemory}
@@ -34,6 +36,7 @@ use Rattle.session.specs.Beats.{concluded}
 use Rattle.session.specs.Effects.{Slicing, beats, enough, next_by, performed}
 use Rattle.session.specs.Kinds.{is_success}
 use Rattle.session.specs.Outcomes.{Outcome as Does, answer_to, answering, done, outcome_at}
+use Rattle.session.specs.Reached.{Happened, Whole, Cut, OfEvent, leaves}
 use Rattle.session.specs.Sessions.{Effect, Session, histories, waiting_of}
 use Rattle.session.specs.Slices.{Beat, beat_by, beat_of, ends, goes, goes_unless, is_at_limit, is_runnable_by, moves_by, stops, telling, tells}
 use Rattle.session.specs.declared.event.Applied.TheVariants.{Turn as DidTurn}
@@ -49,7 +52,7 @@ use Rattle.session_laws.proofs.Answered.{ByTurn, by_turn, the_answered}
 use Rattle.session_laws.proofs.ByForms.{on}
 use Rattle.session_laws.proofs.Joined.{becomes_program, program_of, telling_program, tells_only}
 use Rattle.session_laws.proofs.Paused.{answering_debuggee}
-use Rattle.session_laws.specs.Laws.{Disconnects, EditorLeaves}
+use Rattle.session_laws.specs.Intents.{intent_of}
 use Rattle.session_laws.specs.Turns.{Answered}
 use Rattle.stepping.proofs.Cases.{GoesBack, back_of}
 use Rattle.stepping.proofs.Existing.{the_tick}
@@ -265,14 +268,59 @@ no_step : {A : Type 0} (program : Option Program) (from : Course) → OfProgram 
 no_step None from h stands = absurd h
 no_step (Some p) from h stands = absurd (let no : true ≡ false = sym (ap is_running h.runs) ∙ stands in cc)
 
--- the editor leaves, the program begins anew or ends, or it steps back still
+-- ---- an editor goes
+
+none_left : (let none : Option Mark = None in none) ≢ Some mark.Entry
+none_left e = cc
+
+-- it steps back still, or its stop is made
+left_steps : (from : Course) (p : Program) → StepsBack from p → Steps from (Some (left p))
+left_steps from p h = by p.owed h.way where
+  leaving : Option Tick → Program
+  leaving owed = record p {
+    run = run_left owed p.run;
+    mark = None;
+    machine = record p.machine { lists = no_breakpoints };
+    owed = None;
+  }
+
+  by : (owed : Option Tick) → IsUnderWay from p owed → Steps from (Some (leaving owed))
+  by None way =
+      still from (leaving None) (record { runs = h.runs; goal = h.goal; due = h.due; mark = none_left; way = way })
+  by (Some tick) way =
+      made from (leaving (Some tick)) (refl, inl (ap (λ (t : Tick). run_after t.outcome p.run) way.0, way.1))
+
+both : (a b : Bool) → (a && b) ≡ true → b ≡ true
+both true b e = e
+both false b e = absurd (let no : false ≡ true = e in cc)
+
+-- a `disconnect` ends it, has it stand still, or lets it step back
+departed_steps : (ends stands : Bool) (from : Course) (p : Program) → p.owed ≡ None → Steps from (Some p)
+    → (is_ended (departed ends stands p).run ≡ true) ⊎ Steps from (Some (departed ends stands p))
+unfolding Steps
+departed_steps ends stands from p owed h =
+    let P : Program → Type 0 = λ q. (is_ended q.run ≡ true) ⊎ Steps from (Some q) in
+    if_keeps P (ends && not (is_ended p.run)) (ended None p) _ (λ _. inl refl)
+    (λ _. if_keeps P (stands && is_running p.run) (stopped why.Pause p) p (λ e. inr (pauses h (both stands (is_running p.run) e)))
+    (λ _. inr h)) where
+      pauses : Steps from (Some p) → is_running p.run ≡ true → Steps from (Some (stopped why.Pause p))
+      pauses (inl has) runs = absurd (let no : false ≡ true = sym (stands_by from p has) ∙ runs in cc)
+      pauses (inr steps) runs =
+          made from (stopped why.Pause p) (owed, inr (refl, subst (IsUnderWay from p) owed steps.way))
+
+leaves_by : (ends stands : Bool) (from : Course) (program : Option Program) → OfProgram (StepsBack from) program
+    → (let after = on_program (λ p. departed ends stands (left p)) program in HasEnded after ⊎ Steps from after)
+leaves_by ends stands from None h = absurd h
+leaves_by ends stands from (Some p) h = departed_steps ends stands from (left p) refl (left_steps from p h)
+
+-- the program begins anew or ends, or it steps back still
 abbrev Comes : Course → List ℕ → Bool → Answering → Type 0
-Comes from name starts a =
-    ((bytes_eq name DISCONNECT.now && is_success a.outcome) ≡ true) ⊎ (((starts && is_success a.outcome) ≡ true)
-    ⊎ Steps from a.debuggee.program)
+Comes from name starts a = (((starts && is_success a.outcome) ≡ true)
+    ⊎ (((bytes_eq name DISCONNECT.now && is_success a.outcome) ≡ true) × HasEnded a.debuggee.program))
+    ⊎ Steps from a.debuggee.program
 
 abbrev ComesTaken : Course → Now → Command → Answering → Type 0
-ComesTaken from now c a = Meets (run_of now.debuggee.program) (demand_of c) → Comes from (name_of c) (starts_or_ends c) a
+ComesTaken from now c a = Meets (run_of now.debuggee.program) (demand_of c) → Comes from (name_of c) (starts_or_ends (intent_of c)) a
 
 module _ (from : Course) (now : Now) (terms : Terms) (h : OfProgram (StepsBack from) now.debuggee.program) where
   same : Steps from now.debuggee.program
@@ -283,26 +331,31 @@ module _ (from : Course) (now : Now) (terms : Terms) (h : OfProgram (StepsBack f
       no_step now.debuggee.program from h
       (subst (λ (b : Bool). (b && goes_on (run_of now.debuggee.program)) ≡ false) stands meets.still)
 
+  departs : {A : Type 0} (program : Option Program) → HasEnded program ⊎ Steps from program
+      → (A ⊎ ((true ≡ true) × HasEnded program)) ⊎ Steps from program
+  departs program (inl has) = inl (inr (refl, has))
+  departs program (inr steps) = inr steps
+
   successes_step : BySuccess (given_of now) terms (ComesTaken from now)
   successes_step = record {
-    initialized = λ _ _. inr (inr same);
-    unreadable = λ _ _. inr (inr same);
-    loaded = λ _ _ _ _. inr (inl refl);
-    wrong = λ _ _ _ _ _. inr (inr same);
-    attaches = λ _. inr (inr same);
-    begun = λ _ _. inr (inl refl);
-    joined = λ _ _. inr (inr same);
-    agreed = λ _ _ _. inr (inr same);
-    restarts = λ _. inr (inl refl);
-    terminates = λ _. inr (inl refl);
-    leaves = λ _ _. inl refl;
-    pauses = λ _ _. inr (inr (on_steps (marked mark.Pause) now.debuggee.program from h (marked_steps mark.Pause no_pause from)));
+    initialized = λ _ _. inr same;
+    unreadable = λ _ _. inr same;
+    loaded = λ _ _ _ _. inl (inl refl);
+    wrong = λ _ _ _ _ _. inr same;
+    attaches = λ _. inr same;
+    begun = λ _ _. inl (inl refl);
+    joined = λ _ _. inr same;
+    agreed = λ _ _ _. inr same;
+    restarts = λ _. inl (inl refl);
+    terminates = λ _. inl (inl refl);
+    leaves = λ arguments _. departs _ (leaves_by (is_to_end terms arguments) (is_to_stand terms arguments) from now.debuggee.program h);
+    pauses = λ _ _. inr (on_steps (marked mark.Pause) now.debuggee.program from h (marked_steps mark.Pause no_pause from));
     stepped = λ c kind _ meets. no_still c kind.still meets;
-    absent = λ _ _ _ _. inr (inr same);
-    refused = λ _ _ _ _ _. inr (inr same);
-    sets_none = λ _ _ _ _ _ _ _ _. inr (inr same);
-    sets_list = λ c _ _ _ list _ _ _ _ _. inr (inr
-        (on_steps (with_list c list) now.debuggee.program from h (listed_steps c list from)));
+    absent = λ _ _ _ _. inr same;
+    refused = λ _ _ _ _ _. inr same;
+    sets_none = λ _ _ _ _ _ _ _ _. inr same;
+    sets_list = λ c _ _ _ list _ _ _ _ _. inr
+        (on_steps (with_list c list) now.debuggee.program from h (listed_steps c list from));
     shows = λ c kind _ _ _ _ _ _ meets. no_still c kind.still meets;
     sets_register = λ arguments _ _ _ _ _ meets. no_still (SetVariable arguments) refl meets;
     writes = λ arguments _ _ _ _ _ meets. no_still (WriteMemory arguments) refl meets;
@@ -313,19 +366,19 @@ answer_steps : (from : Course) (now : Now) (terms : Terms) (file : Option (List 
     → Comes from (name_asked p.ask) (asks_to_start_or_end p.ask) (answer_to now terms file p)
 answer_steps from now terms file p h =
     of_answer (λ ask a. Comes from (name_asked ask) (asks_to_start_or_end ask) a) now terms file p.ask p.fate
-    (λ refusal _. inr (inr (still_steps from now.debuggee.program h)))
+    (λ refusal _. inr (still_steps from now.debuggee.program h))
     (λ r taken meets. by_success (given_of now) terms (ComesTaken from now) (successes_step from now terms h) file r.command meets)
 
 -- ---- an event
 
 abbrev Passes : Course → Session → Event → Does → Type 0
-Passes from s e o = EditorLeaves s e ⊎ (IsStartedOrEnded s e ⊎ Steps from (program_of (performed histories o.acts s)))
+Passes from s e o = IsStartedOrEnded s e ⊎ Steps from (program_of (performed histories o.acts s))
 
 turn_passes : (file : Option (List ℕ)) (from : Course) (s : Session) → OfProgram (StepsBack from) (program_of s)
-    → EditorLeaves s (Turn file) ⊎ (IsStartedOrEnded s (Turn file) ⊎ Steps from (program_of (Effect s (Turn file))))
+    → IsStartedOrEnded s (Turn file) ⊎ Steps from (program_of (Effect s (Turn file)))
 turn_passes file from s h = by_turn (histories.see s) file P kinds s.now.link where
   P : Option Answered → Does → Type 0
-  P a o = Disconnects a ⊎ (StartsOrEnds a ⊎ Steps from (program_of (performed histories o.acts s)))
+  P a o = StartsOrEnds a ⊎ Steps from (program_of (performed histories o.acts s))
 
   same : Steps from (program_of s)
   same = still_steps from (program_of s) h
@@ -333,29 +386,28 @@ turn_passes file from s h = by_turn (histories.see s) file P kinds s.now.link wh
   answers : (l : Link) (p : Pending) → (let a = answer_to s.now l.terms file p in
       Comes from (name_asked p.ask) (asks_to_start_or_end p.ask) a
       → P (Some (the_answered (histories.see s) l file p)) (done (DidTurn turned.Answered) (answering a)))
-  answers l p (inl leaves) = inl leaves
-  answers l p (inr (inl starts)) = inr (inl starts)
-  answers l p (inr (inr steps)) =
-      inr (inr (subst (λ (d : Debuggee). Steps from d.program) (sym (answering_debuggee (answer_to s.now l.terms file p) s)) steps))
+  answers l p (inl starts) = inl starts
+  answers l p (inr steps) =
+      inr (subst (λ (d : Debuggee). Steps from d.program) (sym (answering_debuggee (answer_to s.now l.terms file p) s)) steps)
 
   kinds : ByTurn (histories.see s) file P
   kinds = record {
-    refused = inr (inr same);
-    tells = λ p tick is owed. inr (inr (tick_steps from s p tick owed (subst (OfProgram (StepsBack from)) is h)));
-    nothing = λ _. inr (inr same);
+    refused = inr same;
+    tells = λ p tick is owed. inr (tick_steps from s p tick owed (subst (OfProgram (StepsBack from)) is h));
+    nothing = λ _. inr same;
     answers = λ l p. answers l p (answer_steps from s.now l.terms file p h);
   }
 
 piece_passes : (l : Link) (piece : List ℕ) (from : Course) (s : Session) → OfProgram (StepsBack from) (program_of s)
     → Passes from (on (Some l) s) (Recv piece) (outcome_at (histories.see (on (Some l) s)) (Some l) (Recv piece))
 piece_passes l piece from s h =
-    let same = inr (inr (still_steps from (program_of s) h)) in
+    let same = inr (still_steps from (program_of s) h) in
     let P : Does → Type 0 = Passes from (on (Some l) s) (Recv piece) in
     if_keeps P l.is_closing _ _ (λ _. same)
     (λ _. if_keeps P (ltb MOST_PIECE (length piece)) _ _ (λ _. same)
     (λ _. if_keeps P (leb MOST_PENDING (length s.now.arrivals.pending)) _ _ (λ _. same)
-    (λ _. if_keeps (λ (t : Session). EditorLeaves (on (Some l) s) (Recv piece)
-    ⊎ (IsStartedOrEnded (on (Some l) s) (Recv piece) ⊎ Steps from (program_of t))) l.is_closing _ _ (λ _. same) (λ _. same))))
+    (λ _. if_keeps (λ (t : Session). IsStartedOrEnded (on (Some l) s) (Recv piece) ⊎ Steps from (program_of t)) l.is_closing _ _
+    (λ _. same) (λ _. same))))
 
 hold_steps : (from : Course) (program : Option Program) → OfProgram (StepsBack from) program
     → Steps from (on_program (marked mark.Hold) program)
@@ -365,45 +417,51 @@ outcome_passes : (l : Option Link) (e : Event) (from : Course) (s : Session) →
     → Passes from (on l s) e (outcome_at (histories.see (on l s)) l e)
 outcome_passes None Connect from s h =
     if_keeps (Passes from (on None s) Connect) (eqb s.now.connections LAST_CONNECTION) _ _
-    (λ _. inr (inr (still_steps from (program_of s) h))) (λ _. inr (inr (still_steps from (program_of s) h)))
-outcome_passes None (Recv piece) from s h = inr (inr (still_steps from (program_of s) h))
+    (λ _. inr (still_steps from (program_of s) h)) (λ _. inr (still_steps from (program_of s) h))
+outcome_passes None (Recv piece) from s h = inr (still_steps from (program_of s) h)
 outcome_passes None (Turn file) from s h = turn_passes file from (on None s) h
-outcome_passes None (Slice n) from s h = inr (inr (still_steps from (program_of s) h))
-outcome_passes None Hold from s h = inr (inr (hold_steps from (program_of s) h))
-outcome_passes None (Sent n) from s h = inr (inr (still_steps from (program_of s) h))
-outcome_passes None DropConnection from s h = inl tt
-outcome_passes (Some l) Connect from s h = inr (inr (still_steps from (program_of s) h))
+outcome_passes None (Slice n) from s h = inr (still_steps from (program_of s) h)
+outcome_passes None Hold from s h = inr (hold_steps from (program_of s) h)
+outcome_passes None (Sent n) from s h = inr (still_steps from (program_of s) h)
+outcome_passes None DropConnection from s h = inr (still_steps from (program_of s) h)
+outcome_passes (Some l) Connect from s h = inr (still_steps from (program_of s) h)
 outcome_passes (Some l) (Recv piece) from s h = piece_passes l piece from s h
 outcome_passes (Some l) (Turn file) from s h = turn_passes file from (on (Some l) s) h
-outcome_passes (Some l) (Slice n) from s h = inr (inr (still_steps from (program_of s) h))
-outcome_passes (Some l) Hold from s h = inr (inr (hold_steps from (program_of s) h))
+outcome_passes (Some l) (Slice n) from s h = inr (still_steps from (program_of s) h)
+outcome_passes (Some l) Hold from s h = inr (hold_steps from (program_of s) h)
 outcome_passes (Some l) (Sent n) from s h =
     if_keeps (Passes from (on (Some l) s) (Sent n)) (ltb (length (waiting_of (on (Some l) s))) n) _ _
-    (λ _. inr (inr (still_steps from (program_of s) h))) (λ _. inr (inr (still_steps from (program_of s) h)))
-outcome_passes (Some l) DropConnection from s h = inl tt
+    (λ _. inr (still_steps from (program_of s) h)) (λ _. inr (still_steps from (program_of s) h))
+outcome_passes (Some l) DropConnection from s h = inr (on_steps left (program_of s) from h (left_steps from))
 
 event_passes : (e : Event) (from : Course) (s : Session) → OfProgram (StepsBack from) (program_of s)
-    → EditorLeaves s e ⊎ (IsStartedOrEnded s e ⊎ Steps from (program_of (Effect s e)))
+    → IsStartedOrEnded s e ⊎ Steps from (program_of (Effect s e))
 event_passes Connect from s h = outcome_passes s.now.link Connect from s h
 event_passes (Recv piece) from s h = outcome_passes s.now.link (Recv piece) from s h
 event_passes (Turn file) from s h = turn_passes file from s h
-event_passes (Slice n) from s h = inr (inr (slice_steps n (enough n) s from (still_steps from (program_of s) h)))
+event_passes (Slice n) from s h = inr (slice_steps n (enough n) s from (still_steps from (program_of s) h))
 event_passes Hold from s h = outcome_passes s.now.link Hold from s h
 event_passes (Sent n) from s h = outcome_passes s.now.link (Sent n) from s h
 event_passes DropConnection from s h = outcome_passes s.now.link DropConnection from s h
 
-goes_on_back : (e : Event) (events : List Event) (from : Course) (s : Session)
-    → (OfProgram (StepsBack from) (program_of (Effect s e)) → StepsBackIn from events (Effect s e))
-    → EditorLeaves s e ⊎ (IsStartedOrEnded s e ⊎ Steps from (program_of (Effect s e))) → StepsBackIn from (e ∷ events) s
-unfolding Steps
-goes_on_back e events from s rest (inl leaves) = inl leaves
-goes_on_back e events from s rest (inr (inl starts)) = inr (inl starts)
-goes_on_back e events from s rest (inr (inr (inl has))) = inr (inr (inl has))
-goes_on_back e events from s rest (inr (inr (inr steps))) = inr (inr (inr (steps, rest steps)))
+each_passes : (x : Happened) (from : Course) (s : Session) → OfProgram (StepsBack from) (program_of s)
+    → OfEvent (IsStartedOrEnded s) x ⊎ Steps from (program_of (leaves s x))
+each_passes (Whole e) from s h = event_passes e from s h
+each_passes (Cut n k) from s h = inr (slice_steps n k s from (still_steps from (program_of s) h))
 
-steps_back_in : (events : List Event) (from : Course) (s : Session) → OfProgram (StepsBack from) (program_of s) → StepsBackIn from events s
+goes_on_back : (x : Happened) (happened : List Happened) (from : Course) (s : Session)
+    → (OfProgram (StepsBack from) (program_of (leaves s x)) → StepsBackIn from happened (leaves s x))
+    → OfEvent (IsStartedOrEnded s) x ⊎ Steps from (program_of (leaves s x)) → StepsBackIn from (x ∷ happened) s
+unfolding Steps
+goes_on_back x happened from s rest (inl starts) = inl starts
+goes_on_back x happened from s rest (inr (inl has)) = inr (inl has)
+goes_on_back x happened from s rest (inr (inr steps)) = inr (inr (steps, rest steps))
+
+steps_back_in : (happened : List Happened) (from : Course) (s : Session) → OfProgram (StepsBack from) (program_of s)
+    → StepsBackIn from happened s
 steps_back_in [] from s h = tt
-steps_back_in (e ∷ events) from s h = goes_on_back e events from s (steps_back_in events from (Effect s e)) (event_passes e from s h)
+steps_back_in (x ∷ happened) from s h =
+    goes_on_back x happened from s (steps_back_in happened from (leaves s x)) (each_passes x from s h)
 
 begins_steps : (program : Option Program) (from : Course) → OfProgram (GoesBackFrom Back from) program
     → OfProgram (StepsBack from) program
@@ -417,4 +475,4 @@ begins_steps (Some p) from h = record {
 }
 
 pub steps_go_one_back : (s : Session) → StepsGoOneBack s
-steps_go_one_back s from h events = steps_back_in events from s (begins_steps (program_of s) from h)
+steps_go_one_back s from h happened = steps_back_in happened from s (begins_steps (program_of s) from h)

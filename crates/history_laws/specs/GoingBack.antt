@@ -6,17 +6,15 @@ use Rattle.std.specs.Prelude.{◌≡◌, ℕ, ◌≤◌, false, true, List, leng
 use Rattle.course.specs.Positions.{Course}
 use Rattle.debuggee.specs.Programs.{Program}
 use Rattle.debuggee.specs.declared.run.Run.TheVariants.{Running}
-use Rattle.protocol.specs.declared.command.Command.{Command}
-use Rattle.protocol.specs.declared.command.Command.TheVariants.{StepBack, ReverseContinue}
 use Rattle.session.specs.declared.event.Event.TheVariants.{Turn}
 use Rattle.queues.specs.declared.pending.Ask.{Ask}
 use Rattle.queues.specs.declared.pending.Ask.TheVariants.{Request, Bad}
 use Rattle.session.specs.Kinds.{is_success}
 use Rattle.session.specs.Sessions.{Effect, Session, histories}
+use Rattle.session_laws.specs.Intents.{Intent, Load, LoadAnew, Begin, End, Change, GoBack, Other, intent_of}
 use Rattle.session_laws.specs.Turns.{Answered, answered}
 use Rattle.stepping.specs.Ticks.{course_of}
 use Rattle.stepping.specs.declared.goal.Goal.{Goal}
-use Rattle.stepping.specs.declared.goal.Goal.TheVariants.{Back, ReverseGo}
 
 -- there is a program of which this is so
 abbrev pub OfProgram : (Program → Type 0) → Option Program → Type 0
@@ -33,13 +31,17 @@ pub record GoesBackFrom (goal : Goal) (from : Course) (p : Program) : Type 0 whe
   pub some : 1 ≤ length from.past
 
 -- the goal that a request gives the program, where it has it go back
-abbrev pub goal_of : Command → Option Goal
-goal_of (StepBack arguments) = Some Back
-goal_of (ReverseContinue arguments) = Some ReverseGo
-goal_of other = None
+abbrev pub goal_of : Intent → Option Goal
+goal_of (GoBack goal) = Some goal
+goal_of Load = None
+goal_of LoadAnew = None
+goal_of Begin = None
+goal_of End = None
+goal_of Change = None
+goal_of Other = None
 
 abbrev pub goal_asked : Ask → Option Goal
-goal_asked (Request r) = goal_of r.command
+goal_asked (Request r) = goal_of (intent_of r.command)
 goal_asked (Bad seq name refusal) = None
 
 -- the program, which was this, goes back after a success that gives it such a goal

@@ -12,3 +12,5 @@ pub mod SteppingBack
 pub mod RunningBack
 -- the moves that were undone, made again
 pub mod Again
+-- the same by requests
+pub mod ByRequests

@@ -15,16 +15,15 @@ use Rattle.debuggee.specs.Programs.{Program, first_run, just_loaded, restarted, 
 use Rattle.image.specs.Memory.{fault_at}
 use Rattle.image.specs.declared.Image.{Image}
 use Rattle.image.specs.declared.fault.MemFault.{MemFault}
-use Rattle.protocol.specs.declared.command.Command.{Command}
-use Rattle.protocol.specs.declared.command.Command.TheVariants.{Launch, Restart, SetVariable, WriteMemory}
 use Rattle.rv32i.specs.declared.hart.Hart.{Hart}
-use Rattle.session.specs.declared.event.Event.{Event}
 use Rattle.session.specs.declared.event.Event.TheVariants.{Connect, Recv, Turn, Slice, Hold, Sent, DropConnection}
 use Rattle.queues.specs.declared.pending.Ask.{Ask}
 use Rattle.queues.specs.declared.pending.Ask.TheVariants.{Request, Bad}
-use Rattle.session.specs.Effects.{sliced}
+use Rattle.session.specs.Effects.{beats, sliced}
 use Rattle.session.specs.Kinds.{is_success}
-use Rattle.session.specs.Sessions.{Effect, Session, histories}
+use Rattle.session.specs.Reached.{Happened, Whole, Cut, leaves}
+use Rattle.session.specs.Sessions.{Session, histories}
+use Rattle.session_laws.specs.Intents.{Intent, Load, LoadAnew, Begin, End, Change, GoBack, Other, intent_of}
 use Rattle.session_laws.specs.Turns.{Answered, answered}
 use Rattle.stepping.specs.Goals.{turns_back}
 use Rattle.stepping.specs.Leading.{LeadTo, Makes, oldest}
@@ -79,15 +78,17 @@ pub record AreGivenUp : Type 0 where
       (written address bytes p).machine.past ≡ p.machine.past
 
 -- whether a success of a request gives up what is recorded
-abbrev pub gives_up : Command → Bool
-gives_up (Launch arguments) = true
-gives_up Restart = true
-gives_up (SetVariable arguments) = true
-gives_up (WriteMemory arguments) = true
-gives_up other = false
+abbrev pub gives_up : Intent → Bool
+gives_up Load = true
+gives_up LoadAnew = true
+gives_up Begin = false
+gives_up End = false
+gives_up Change = true
+gives_up (GoBack goal) = false
+gives_up Other = false
 
 abbrev pub asks_to_give_up : Ask → Bool
-asks_to_give_up (Request r) = gives_up r.command
+asks_to_give_up (Request r) = gives_up (intent_of r.command)
 asks_to_give_up (Bad seq name refusal) = false
 
 -- ---- events
@@ -106,15 +107,16 @@ count_sliced None moved = 0
 count_sliced (Some p) moved = count_moved (turns_back p.machine.goal) moved (length p.machine.past)
 
 -- any other event leaves as many as before
-abbrev pub count_of : Session → Event → ℕ
-count_of s (Turn file) = count_answered (answered (histories.see s) file) (recorded_of s.now.debuggee.program)
-count_of s (Slice n) = count_sliced s.now.debuggee.program (sliced histories n s).moved
-count_of s Connect = recorded_of s.now.debuggee.program
-count_of s (Recv piece) = recorded_of s.now.debuggee.program
-count_of s Hold = recorded_of s.now.debuggee.program
-count_of s (Sent n) = recorded_of s.now.debuggee.program
-count_of s DropConnection = recorded_of s.now.debuggee.program
+abbrev pub count_of : Session → Happened → ℕ
+count_of s (Whole (Turn file)) = count_answered (answered (histories.see s) file) (recorded_of s.now.debuggee.program)
+count_of s (Whole (Slice n)) = count_sliced s.now.debuggee.program (sliced histories n s).moved
+count_of s (Whole Connect) = recorded_of s.now.debuggee.program
+count_of s (Whole (Recv piece)) = recorded_of s.now.debuggee.program
+count_of s (Whole Hold) = recorded_of s.now.debuggee.program
+count_of s (Whole (Sent n)) = recorded_of s.now.debuggee.program
+count_of s (Whole DropConnection) = recorded_of s.now.debuggee.program
+count_of s (Cut n count) = count_sliced s.now.debuggee.program (beats histories n count s).moved
 
--- So many are recorded after each event.
+-- So many are recorded after each event, and after each slice that was cut.
 abbrev pub EventsAreCounted : Session → Type 0
-EventsAreCounted s = (e : Event) → recorded_of (Effect s e).now.debuggee.program ≡ count_of s e
+EventsAreCounted s = (x : Happened) → recorded_of (leaves s x).now.debuggee.program ≡ count_of s x

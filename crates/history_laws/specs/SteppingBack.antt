@@ -1,29 +1,31 @@
 -- A step back (DAP specification, `StepBackRequest`).
 --
 -- The program steps back from where it stood. Whatever happens then (time that it is given, breakpoints that are set,
--- requests that are refused, a `pause`), one of three things is so after each event: it still runs towards its stop, and
--- nothing is undone yet, or one move is, and its stop is not told yet; or it stands one move earlier, with the reason `step`;
--- or a mark has stopped it before a move was undone, and it stands where it stood, with the reason `pause`. That ends where
--- the editor leaves, and where a success of a request has the program begin anew, or end.
+-- requests that are refused, a `pause`, an editor that goes and another that comes), one of three things is so after each
+-- event: it still runs towards its stop, and nothing is undone yet, or one move is, and its stop is not told yet; or it
+-- stands one move earlier, with the reason `step`; or a mark, or the editor that left, has stopped it before a move was
+-- undone, and it stands where it stood, with the reason `pause`. That ends where a success of a request has the program
+-- begin anew, or end.
 --
 -- One move earlier is where one move less than is recorded leads from the oldest recorded position.
 use Rattle.std.specs.Prelude.{◌≡◌, ◌≢◌, ◌⊎◌, ℕ, suc, Bool, true, false, ◌&&◌, List, [], ◌∷◌, length, Option, Some, None, ⊤, refl}
 use Rattle.course.specs.Positions.{Course, gone_back}
-use Rattle.debuggee.specs.Programs.{Program}
+use Rattle.debuggee.specs.Programs.{Program, is_ended}
 use Rattle.debuggee.specs.declared.run.Mark.TheVariants.{Entry as MarkEntry}
 use Rattle.debuggee.specs.declared.run.Run.TheVariants.{Running, Stopped as StandsStill}
 use Rattle.debuggee.specs.declared.run.Why.TheVariants as why
 use Rattle.handlers.specs.Telling.{reason_of}
 use Rattle.message_parts.specs.declared.stopped.Reason.TheVariants as reason
-use Rattle.protocol.specs.declared.command.Command.{Command}
-use Rattle.protocol.specs.declared.command.Command.TheVariants.{ConfigurationDone, Launch, Restart, Terminate}
+use Rattle.protocol.specs.declared.disconnect.TheConstants.{NAME as DISCONNECT}
 use Rattle.session.specs.declared.event.Event.{Event}
 use Rattle.session.specs.declared.event.Event.TheVariants.{Connect, Recv, Turn, Slice, Hold, Sent, DropConnection}
 use Rattle.queues.specs.declared.pending.Ask.{Ask}
 use Rattle.queues.specs.declared.pending.Ask.TheVariants.{Request, Bad}
 use Rattle.session.specs.Kinds.{is_success}
-use Rattle.session.specs.Sessions.{Effect, Session, histories}
-use Rattle.session_laws.specs.Laws.{EditorLeaves}
+use Rattle.session.specs.Reached.{Happened, OfEvent, leaves}
+use Rattle.session.specs.Sessions.{Session, histories}
+use Rattle.session_laws.specs.Laws.{succeeds}
+use Rattle.session_laws.specs.Intents.{Intent, Load, LoadAnew, Begin, End, Change, GoBack, Other, intent_of}
 use Rattle.session_laws.specs.Turns.{Answered, answered}
 use Rattle.stepping.specs.Leading.{Makes, PastLeads, oldest}
 use Rattle.stepping.specs.Ticks.{course_of}
@@ -68,20 +70,28 @@ where_it_stood = refl
 -- ---- until when
 
 -- whether a success of a request has the program begin anew, or end
-abbrev pub starts_or_ends : Command → Bool
-starts_or_ends (Launch arguments) = true
-starts_or_ends ConfigurationDone = true
-starts_or_ends Restart = true
-starts_or_ends Terminate = true
-starts_or_ends other = false
+abbrev pub starts_or_ends : Intent → Bool
+starts_or_ends Load = true
+starts_or_ends LoadAnew = true
+starts_or_ends Begin = true
+starts_or_ends End = true
+starts_or_ends Change = false
+starts_or_ends (GoBack goal) = false
+starts_or_ends Other = false
 
 abbrev pub asks_to_start_or_end : Ask → Bool
-asks_to_start_or_end (Request r) = starts_or_ends r.command
+asks_to_start_or_end (Request r) = starts_or_ends (intent_of r.command)
 asks_to_start_or_end (Bad seq name refusal) = false
 
+-- the program has ended
+abbrev pub HasEnded : Option Program → Type 0
+HasEnded program = OfProgram (λ p. is_ended p.run ≡ true) program
+
+-- a `disconnect` may end it too, and need not
 abbrev pub StartsOrEnds : Option Answered → Type 0
 StartsOrEnds None = ⊥
-StartsOrEnds (Some a) = (asks_to_start_or_end a.request.ask && is_success a.answer.outcome) ≡ true
+StartsOrEnds (Some a) = ((asks_to_start_or_end a.request.ask && is_success a.answer.outcome) ≡ true)
+    ⊎ ((succeeds DISCONNECT.now a ≡ true) × HasEnded a.answer.debuggee.program)
 
 -- the program begins anew, or ends, by a request that this event answers
 abbrev pub IsStartedOrEnded : Session → Event → Type 0
@@ -95,18 +105,18 @@ IsStartedOrEnded s DropConnection = ⊥
 
 -- ---- the law
 
--- After each of these events it has stepped back, or still runs towards that; until then, or until the editor leaves, or the
--- program begins anew or ends.
-abbrev pub StepsBackIn : Course → List Event → Session → Type 0
+-- After each of these it has stepped back, or still runs towards that; until then, or until the program begins anew or
+-- ends.
+abbrev pub StepsBackIn : Course → List Happened → Session → Type 0
 StepsBackIn from [] s = ⊤
-StepsBackIn from (e ∷ events) s = EditorLeaves s e ⊎ (IsStartedOrEnded s e
-    ⊎ (OfProgram (HasSteppedBack from) (Effect s e).now.debuggee.program
-    ⊎ (OfProgram (StepsBack from) (Effect s e).now.debuggee.program × StepsBackIn from events (Effect s e))))
+StepsBackIn from (x ∷ happened) s = OfEvent (IsStartedOrEnded s) x
+    ⊎ (OfProgram (HasSteppedBack from) (leaves s x).now.debuggee.program
+    ⊎ (OfProgram (StepsBack from) (leaves s x).now.debuggee.program × StepsBackIn from happened (leaves s x)))
 
 -- So it is where a step back begins, whatever happens then.
 abbrev pub StepsGoOneBack : Session → Type 0
 StepsGoOneBack s = (from : Course) → OfProgram (GoesBackFrom Back from) s.now.debuggee.program →
-    (events : List Event) → StepsBackIn from events s
+    (happened : List Happened) → StepsBackIn from happened s
 
 -- One move earlier is what one move less makes of the oldest recorded position, and one less is recorded.
 abbrev pub OneEarlier : Type 0

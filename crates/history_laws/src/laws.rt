@@ -1,18 +1,20 @@
 //! What holds of going back after any list of events, as theorems: functions that do nothing, whose clauses say it.
 ghost use Rattle.std.specs.Prelude.{List};
-ghost use Rattle.session.specs.declared.event.Event.{Event as AnEvent};
-ghost use Rattle.session.specs.Sessions.{After, Beginning as ABeginning, Session as ASession};
+ghost use Rattle.session.specs.Reached.{Happened, Reached};
+ghost use Rattle.session.specs.Sessions.{Beginning as ABeginning, Session as ASession};
 ghost use Rattle.history_laws.specs.Recorded.{AreGivenUp, EventsAreCounted, EveryPastIsARun, TicksAreCounted};
 ghost use Rattle.history_laws.specs.Refused.{NoHistoryExactly};
 ghost use Rattle.history_laws.specs.GoingBack.{TurnsBeginBack};
 ghost use Rattle.history_laws.specs.SteppingBack.{OneEarlier, StepsGoOneBack};
 ghost use Rattle.history_laws.specs.RunningBack.{RunsBackStopThere, RunsBackToTheNewest};
 ghost use Rattle.history_laws.specs.Again.{BackAndForthAgain, MovesAreMade, MovesAreUndone};
+ghost use Rattle.history_laws.specs.ByRequests.{PrintsAgain, ThereAndBack};
 
 /// Whatever happens, the program's machine is what as many moves as are recorded make of the oldest recorded position, each of which
 /// makes one move to the next; and 65,536 are recorded at most.
 pub fn every_past_is_a_run()
-    ensures { (from : ABeginning) (events : List AnEvent) → EveryPastIsARun (After from events) }
+    ensures { (from : ABeginning) (happened : List Happened)
+        → EveryPastIsARun (Reached from happened) }
 {}
 
 /// Nothing is recorded of a program that was loaded or restarted, nor after its machine was changed from outside, as a success of
@@ -22,8 +24,8 @@ pub fn every_past_is_a_run()
 pub fn moves_are_counted()
     ensures ticks { TicksAreCounted }
     ensures changes { AreGivenUp }
-    ensures events { (from : ABeginning) (events : List AnEvent)
-        → EventsAreCounted (After from events) }
+    ensures events { (from : ABeginning) (happened : List Happened)
+        → EventsAreCounted (Reached from happened) }
 {}
 
 /// A `stepBack` or a `reverseContinue` is refused with `noHistory` exactly where no refusal comes before and nothing is recorded.
@@ -34,7 +36,8 @@ pub fn no_history_exactly()
 /// After a success of `stepBack` or of `reverseContinue` the program goes back from where it stood, where at least one move is
 /// recorded.
 pub fn turns_begin_back()
-    ensures { (from : ABeginning) (events : List AnEvent) → TurnsBeginBack (After from events) }
+    ensures { (from : ABeginning) (happened : List Happened)
+        → TurnsBeginBack (Reached from happened) }
 {}
 
 /// A program that steps back stands one move earlier then, with the reason `step`, or where it stood, if a mark stopped it; or it still
@@ -57,8 +60,18 @@ pub fn runs_back_stop_there()
 /// program goes back, the newest recorded move is undone. From as many moves back as one likes, as many lead to where the machine is; and
 /// whichever do, they lead there and are answered as those were: a number that was printed on the way is printed again.
 pub fn moves_are_made_again()
-    ensures made { (from : ABeginning) (events : List AnEvent) → MovesAreMade (After from events) }
+    ensures made { (from : ABeginning) (happened : List Happened)
+        → MovesAreMade (Reached from happened) }
     ensures undone { (s : ASession) → MovesAreUndone s }
-    ensures again { (from : ABeginning) (events : List AnEvent)
-        → BackAndForthAgain (After from events) }
+    ensures again { (from : ABeginning) (happened : List Happened)
+        → BackAndForthAgain (Reached from happened) }
+{}
+
+/// An editor steps back so many times, by `stepBack`, and then steps in as many times, by instruction. Where no mark and no limit stops the
+/// program, and nothing else changes it, its machine is the one that it was then: hart, memory, calls and the moves that are recorded, how
+/// many instructions have retired, and which. Each step forth makes the move again that a step back undid, and prints what the hart answers
+/// to it, so that a number that was printed is printed again.
+pub fn back_and_forth_by_requests()
+    ensures machine { ThereAndBack }
+    ensures printed { PrintsAgain }
 {}
