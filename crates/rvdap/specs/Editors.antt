@@ -1,5 +1,5 @@
 -- The editors that the program serves: one over a wire that is there, or of those whose wires a door accepts the first or all.
-use Rattle.std.specs.Prelude.{◌≡◌, ℕ, List, [], ◌∷◌, Option, None}
+use Rattle.std.specs.Prelude.{◌≡◌, ℕ, Bool, true, false, List, [], ◌∷◌, Option, Some, None}
 use Rattle.session.specs.declared.event.Event.TheVariants.{Connect}
 use Rattle.session.specs.Kept.{Kept, Stands}
 use Rattle.session.specs.Sessions.{Session, Effect}
@@ -9,11 +9,17 @@ use Rattle.transport.specs.Files.{KnownReads}
 use Rattle.transport.specs.Serving.{Served}
 use Rattle.wires.specs.Doors.{Doorway, IsEmpty, Opened}
 use Rattle.wires.specs.Wires.{Line, one_more}
-use Rattle.rvdap.specs.declared.exit_reason.ExitReason.{ExitReason}
-use Rattle.rvdap.specs.declared.exit_reason.ExitReason.TheVariants.{Success, ReadOrWriteFault}
+use Rattle.commands.specs.declared.exit_reason.ExitReason.{ExitReason}
+use Rattle.commands.specs.declared.exit_reason.ExitReason.TheVariants.{Success, ReadOrWriteFault}
 use Rattle.rvdap.specs.declared.editors.Editors.{Editors}
 use Rattle.rvdap.specs.declared.editors.Editors.TheVariants.{One, All}
 use Rattle.rvdap.specs.ExitReasons.{exit_reason_of}
+
+-- which editors are served, by the address that is listened on, if one is, and whether one editor is asked for
+abbrev pub editors_of : {A : Type 0} → Option A → Bool → Option Editors
+editors_of None once = None
+editors_of (Some address) true = Some One
+editors_of (Some address) false = Some All
 
 -- how many turns the program grants
 abbrev pub turns_granted : ℕ

@@ -1,29 +1,15 @@
--- How the program ends: its status, and its line on standard error.
-use Rattle.std.specs.Prelude.{ℕ, List, Option, Some, None, codes}
+-- Why the program ends, where it served editors.
+use Rattle.std.specs.Prelude.{Option, Some, None}
+use Rattle.commands.specs.declared.exit_reason.ExitReason.{ExitReason}
+use Rattle.commands.specs.declared.exit_reason.ExitReason.TheVariants.{Success, BadMessage, ReadOrWriteFault, NoMemory}
 use Rattle.session.specs.declared.event.LinkFault.{LinkFault}
 use Rattle.transport.specs.declared.end.DriveEnd.{DriveEnd}
 use Rattle.transport.specs.declared.end.DriveEnd.TheVariants.{Closed, Fault, Turns, NoMemory as OutOfMemory}
-use Rattle.rvdap.specs.declared.exit_reason.ExitReason.{ExitReason}
-use Rattle.rvdap.specs.declared.exit_reason.ExitReason.TheVariants.{Success, BadMessage, ReadOrWriteFault, NoMemory}
 
--- for how driving or serving ended, and what closed the connection, if something did
+-- by how driving or serving ended, and what closed the connection, if something did
 abbrev pub exit_reason_of : DriveEnd → Option LinkFault → ExitReason
 exit_reason_of Closed None = Success
 exit_reason_of Closed (Some fault) = BadMessage
 exit_reason_of Fault fault = ReadOrWriteFault
 exit_reason_of Turns fault = ReadOrWriteFault
 exit_reason_of OutOfMemory fault = NoMemory
-
--- the status of the process
-abbrev pub status_of : ExitReason → ℕ
-status_of Success = 0
-status_of BadMessage = 1
-status_of ReadOrWriteFault = 1
-status_of NoMemory = 1
-
--- what the line says after `rvdap: `
-abbrev pub reason_of : ExitReason → Option (List ℕ)
-reason_of Success = None
-reason_of BadMessage = Some (codes "bad message")
-reason_of ReadOrWriteFault = Some (codes "read or write fault")
-reason_of NoMemory = Some (codes "no memory")

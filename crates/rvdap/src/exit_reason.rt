@@ -1,57 +1,21 @@
-//! How the program ends: its status, and its line on standard error.
-ghost use Rattle.std.specs.Prelude.{◌≡◌, option_map};
+//! Why the program ends, where it served editors.
+ghost use Rattle.std.specs.Prelude.{◌≡◌};
 ghost use Rattle.rvdap.specs.ExitReasons as spec;
 
+use commands::ExitReason;
 use session::LinkFault;
 use transport::DriveEnd;
 
-/// How the program ends.
-#[derive(Clone, Copy, Debug, PartialEq, Eq)]
-pub enum ExitReason {
-    /// All was said, or the input ended; or a listing was written.
-    Success,
-    /// What came is no message of the protocol.
-    BadMessage,
-    /// A read or a write failed, or the turns were used up.
-    ReadOrWriteFault,
-    /// No memory was left.
-    NoMemory,
-}
-
-impl ExitReason {
-    /// The reason, for how driving or serving ended and what closed the connection.
-    pub(crate) fn of(end: DriveEnd, fault: Option<LinkFault>) -> ExitReason
-        ensures { result ≡ spec.exit_reason_of end fault }
-    {
-        match end {
-            DriveEnd::Closed => match fault {
-                Some(_) => ExitReason::BadMessage,
-                None => ExitReason::Success,
-            },
-            DriveEnd::Fault | DriveEnd::Turns => ExitReason::ReadOrWriteFault,
-            DriveEnd::NoMemory => ExitReason::NoMemory,
-        }
-    }
-
-    /// The status of the process.
-    pub(crate) fn status(self) -> u8
-        ensures { result ≡ spec.status_of self }
-    {
-        match self {
-            ExitReason::Success => 0,
-            ExitReason::BadMessage | ExitReason::ReadOrWriteFault | ExitReason::NoMemory => 1,
-        }
-    }
-
-    /// What the line on standard error says after `rvdap: `, if there is one.
-    pub(crate) fn reason(self) -> Option<&'static str>
-        ensures { option_map (λ text. text.now) result ≡ spec.reason_of self }
-    {
-        match self {
-            ExitReason::Success => None,
-            ExitReason::BadMessage => Some("bad message"),
-            ExitReason::ReadOrWriteFault => Some("read or write fault"),
-            ExitReason::NoMemory => Some("no memory"),
-        }
+/// Why the program ends, by how driving or serving ended and what closed the connection.
+pub(crate) fn exit_reason_of(end: DriveEnd, fault: Option<LinkFault>) -> ExitReason
+    ensures { result ≡ spec.exit_reason_of end fault }
+{
+    match end {
+        DriveEnd::Closed => match fault {
+            Some(_) => ExitReason::BadMessage,
+            None => ExitReason::Success,
+        },
+        DriveEnd::Fault | DriveEnd::Turns => ExitReason::ReadOrWriteFault,
+        DriveEnd::NoMemory => ExitReason::NoMemory,
     }
 }

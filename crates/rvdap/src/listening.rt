@@ -2,7 +2,7 @@
 
 use crate::disk::Disk;
 use crate::editors::{Editors, serve_accepted};
-use crate::exit_reason::ExitReason;
+use commands::ExitReason;
 use connections::TcpDoor;
 use session::Session;
 use std::io;

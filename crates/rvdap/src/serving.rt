@@ -3,9 +3,9 @@ ghost use Rattle.session.specs.Kept.{OfEach};
 ghost use Rattle.rvdap.specs.Beginnings.{Makes};
 ghost use Rattle.rvdap.specs.Editors.{IsServed};
 
-use crate::exit_reason::ExitReason;
-use crate::memory::MemorySize;
+use crate::exit_reason::exit_reason_of;
 use assembler::AsmError;
+use commands::{ExitReason, MemorySize};
 use protocol::Text;
 use session::{Bytes, Config, ConfigError, Limits, Session};
 use std::alloc::Global;
@@ -57,5 +57,5 @@ pub(crate) fn serve_one<W: Wire, F: Files>(
 {
     let _ = session.connect();
     let end = drive(alloc, session, wire, files, TURNS);
-    ExitReason::of(end, session.link_fault())
+    exit_reason_of(end, session.link_fault())
 }

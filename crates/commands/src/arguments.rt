@@ -8,7 +8,8 @@ use std::rt::Env;
 use std::{env, io};
 
 /// Why the program does nothing more.
-pub(crate) enum Unasked {
+#[derive(Clone, Copy, Debug, PartialEq, Eq)]
+pub enum Unasked {
     /// Something was printed, and this is the status.
     Printed(u8),
     /// No memory was left.
@@ -17,7 +18,7 @@ pub(crate) enum Unasked {
 
 /// What the program is asked for. `--help` and `--version` are answered on standard output, with status 0; words that are not taken
 /// are a fault of usage, reported on standard error, with status 2.
-pub(crate) fn options_of<R: Env + AllocGlobal + Print + Eprint>(rt: &R) -> Result<Options, Unasked>
+pub fn options_of<R: Env + AllocGlobal + Print + Eprint>(rt: &R) -> Result<Options, Unasked>
     ensures { IfOk result IsConsistent }
 {
     match words_of(rt) {

@@ -4,7 +4,7 @@
 -- shell uses for something else (126 and 127 are a shell's own, and those from 128 on are signals'): 125 where the text
 -- does not assemble, 124 where the limit of instructions was reached, 123 where an instruction trapped, and 122 where an
 -- EBREAK retired.
-use Rattle.std.specs.Prelude.{◌≡◌, ℕ, ◌+◌, ◌-◌, ◌%◌, ◌^◌, List, Option, Some, None, codes}
+use Rattle.std.specs.Prelude.{ℕ, ◌+◌, ◌-◌, ◌%◌, ◌^◌, List, Option, Some, None, codes}
 use Rattle.std.specs.Int.{cast_unsigned, w32}
 use Rattle.execution.specs.declared.end.ExecutionEnd.{ExecutionEnd}
 use Rattle.execution.specs.declared.end.ExecutionEnd.TheVariants.{Ended, Stopped, Limit}

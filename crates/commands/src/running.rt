@@ -1,8 +1,10 @@
 //! `rvdap run FILE`: a program runs without an editor, and what it prints comes on standard output.
 
 ghost use Rattle.std.specs.Prelude.{◌≡◌, ◌≤◌, ◌^◌, option_map};
-ghost use Rattle.rvdap.specs.Runs as spec;
+ghost use Rattle.commands.specs.Runs as spec;
 
+use crate::ending::{exit_with, fail_at};
+use crate::exit_reason::ExitReason;
 use crate::memory::MemorySize;
 use crate::text_file::{NoText, text_in};
 use assembler::{AsmError, AsmErrorKind};
@@ -10,11 +12,12 @@ use blocking_io::Waiting;
 use diagnostics::told;
 use execution::{ExecutionEnd, ExecutionFault, Loaded, execute, load, stop_line};
 use std::alloc::AllocError;
-use stepping::Reason;
+use std::process::ExitCode;
+use stepping::{Reason, Runner};
 
 /// How a program is run.
 #[derive(Clone, Copy)]
-pub(crate) struct Terms {
+pub struct Terms {
     /// The memory of the machine.
     pub memory: MemorySize,
     /// How many instructions may run, if they are limited.
@@ -23,18 +26,18 @@ pub(crate) struct Terms {
     pub counts: bool,
 }
 
-/// Why a program was not run, or not to its end.
-pub(crate) enum RunFault {
-    /// The file can't be read, or is too long.
+// Why a program was not run, or not to its end.
+enum RunFault {
+    // The file can't be read, or is too long.
     Unreadable,
-    /// Standard output failed.
+    // Standard output failed.
     Write,
-    /// No memory was left.
+    // No memory was left.
     NoMemory,
 }
 
 impl From<AllocError> for RunFault {
-    ghost use Rattle.rvdap.specs.declared.running.RunFault.TheVariants.{NoMemory};
+    ghost use Rattle.commands.specs.declared.running.RunFault.TheVariants.{NoMemory};
 
     ghost from_gives = { λ _ fault. fault ≡ NoMemory };
 
@@ -43,9 +46,19 @@ impl From<AllocError> for RunFault {
     }
 }
 
-/// Runs the program in a file, writes what it prints to standard output, and gives the status that says how it ended: its exit code
-/// modulo 256, or one of those below with a line on standard error.
-pub(crate) fn run_file(rt: &HostRuntime, file: &str, terms: Terms) -> Result<u8, RunFault> {
+/// Runs the program in a file, and writes what it prints to standard output. The status says how it ended: its exit code modulo 256, or one
+/// of those below with a line on standard error; 1 with such a line where it was not run, or not to its end.
+pub fn run_file(rt: &HostRuntime, file: &str, terms: Terms) -> ExitCode {
+    match run_text(rt, file, terms) {
+        Ok(status) => ExitCode::from(status),
+        Err(RunFault::Unreadable) => fail_at(rt, file, "cannot read"),
+        Err(RunFault::Write) => exit_with(rt, ExitReason::ReadOrWriteFault),
+        Err(RunFault::NoMemory) => exit_with(rt, ExitReason::NoMemory),
+    }
+}
+
+// The program in a file runs. What comes of each is a status.
+fn run_text(rt: &HostRuntime, file: &str, terms: Terms) -> Result<u8, RunFault> {
     let text = match text_in(rt, file) {
         Ok(text) => text,
         Err(NoText::Unreadable) => return Err(RunFault::Unreadable),
@@ -57,24 +70,55 @@ pub(crate) fn run_file(rt: &HostRuntime, file: &str, terms: Terms) -> Result<u8,
     }
 }
 
-// A program that was loaded.
-fn run_loaded(rt: &HostRuntime, file: &str, loaded: Loaded, terms: Terms) -> Result<u8, RunFault>
+// A program that was loaded. To drop a machine is dear to prove, so it's done here alone, where there is one way out.
+fn run_loaded(
+    rt: &HostRuntime,
+    file: &str,
+    mut loaded: Loaded,
+    terms: Terms,
+) -> Result<u8, RunFault>
     requires { loaded.runner.retired ≡ 0 }
 {
-    let Loaded { mut runner, lines } = loaded;
-    let mut output = Waiting::new(rt.stdout());
-    let executed = execute(rt.alloc(), &mut runner, most(terms.limit), &mut output);
+    run_lent(rt, file, &mut loaded, terms)
+}
+
+// A program that was loaded, which is lent.
+fn run_lent(rt: &HostRuntime, file: &str, loaded: &mut Loaded, terms: Terms) -> Result<u8, RunFault>
+    requires { loaded.old.runner.retired ≡ 0 }
+{
+    let executed = run_machine(rt, &mut loaded.runner, terms.limit);
     if terms.counts {
-        let _ = eprintln!(rt; "rvdap: retired instructions: {}", runner.retired());
+        let _ = eprintln!(rt; "rvdap: retired instructions: {}", loaded.runner.retired());
     }
-    let end = match executed {
-        Ok(end) => end,
-        Err(ExecutionFault::Write) => return Err(RunFault::Write),
-        Err(ExecutionFault::NoMemory) => return Err(RunFault::NoMemory),
-    };
+    match executed {
+        Ok(end) => tell_end(rt, file, loaded, end),
+        Err(ExecutionFault::Write) => Err(RunFault::Write),
+        Err(ExecutionFault::NoMemory) => Err(RunFault::NoMemory),
+    }
+}
+
+// A machine goes on to its end, and what it prints is written.
+fn run_machine(
+    rt: &HostRuntime,
+    runner: &mut Runner,
+    limit: Option<u32>,
+) -> Result<ExecutionEnd, ExecutionFault>
+    requires { runner.old.retired ≡ 0 }
+{
+    let mut output = Waiting::new(rt.stdout());
+    execute(rt.alloc(), runner, most(limit), &mut output)
+}
+
+// How a program ended: where and why it stopped is said on standard error, unless it ended by itself.
+fn tell_end(
+    rt: &HostRuntime,
+    file: &str,
+    loaded: &Loaded,
+    end: ExecutionEnd,
+) -> Result<u8, RunFault> {
     if let Some(why) = reason_of(end) {
-        let pc = place_of(end, runner.hart().pc);
-        let line = stop_line(rt.alloc(), file, &lines, pc, why)?;
+        let pc = place_of(end, loaded.runner.hart().pc);
+        let line = stop_line(rt.alloc(), file, &loaded.lines, pc, why)?;
         let _ = eprint!(rt; "{line}");
     }
     Ok(status_of(end))

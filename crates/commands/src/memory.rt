@@ -4,16 +4,17 @@ ghost use Rattle.options.specs.Memory.{IsOffered};
 
 /// How many bytes of memory a machine gets: a size that it can have.
 #[derive(Clone, Copy)]
-pub(crate) struct MemorySize {
+pub struct MemorySize {
+    /// Their number.
     pub bytes: u32,
-    ghost whole: { bytes % 4096 ≡ 0 },
-    ghost some: { 4096 ≤ bytes },
-    ghost few: { bytes ≤ 16777216 },
+    pub ghost whole: { bytes % 4096 ≡ 0 },
+    pub ghost some: { 4096 ≤ bytes },
+    pub ghost few: { bytes ≤ 16777216 },
 }
 
 impl MemorySize {
     /// So many KiB, as they can be asked for.
-    pub(crate) fn of(kib: u32) -> MemorySize
+    pub fn of(kib: u32) -> MemorySize
         requires { IsOffered kib }
         ensures { result.bytes ≡ 1024 * kib }
     {
