@@ -236,6 +236,52 @@ def each_law_stands_in_the_ledger():
             expect("`%s`" % law in sections()[crate], True, "DEFINITIONS: the law %s of %s" % (law, crate))
 
 
+def heads(crate):
+    """The public functions of a crate, those of a type with its name, each with its signature and its clauses."""
+    for path in sources(crate):
+        owner = ""
+        for impl, inner, name, head in re.findall(
+                r"^impl(?:<[^\n]*>)? (?:[^\n]* for )?(\w+)|^( *)pub (?:const )?fn (\w+)(.*?)(?=^ *\{| \{$)", text_of(path), re.M | re.S):
+            owner = impl + "::" if impl else owner
+            if name:
+                signature, *clauses = re.split(r"^ *(?=ensures|requires)", head, flags=re.M)
+                yield (owner if inner else "") + name, signature, clauses
+
+
+def that_are_owed():
+    """The functions of the ledger that require something, each with its crate. A name goes on with the type of the one before it."""
+    crate, table = None, section_of("docs/DEFINITIONS.md", "What callers owe")
+    for crates, functions in re.findall(r"^\| (`\w+`)? ?\| (`.*?`) \|", table, re.M):
+        crate, owner = crates.strip("`") or crate, ""
+        for span in SPAN.findall(functions):
+            before, _, name = span.rpartition("::")
+            owner = before + "::" if before[:1].isupper() else owner
+            yield crate, owner + name
+
+
+def what_callers_owe_is_listed():
+    owed = list(that_are_owed())
+    required = [(crate, name) for crate in all_crates() for name, _, clauses in heads(crate) if any(clause.startswith("requires") for clause in clauses)]
+    expect(len(required) > 40, True, "functions require something")
+    expect(sorted(owed), sorted(required), "DEFINITIONS: what callers owe")
+    expect([crate for crate, _ in owed], sorted([crate for crate, _ in owed], key=all_crates().index), "DEFINITIONS: what callers owe, in the order of the crates")
+
+
+# Calls of which a clause says that they never answer that there is no memory, though their types could.
+NEVER_LACK = {"Memory::half", "Memory::word", "Memory::word_bytes", "Memory::read", "Session::connect", "Session::sent", "Session::drop_connection"}
+
+
+def calls_that_may_lack_memory_are_listed():
+    """All of the libraries but those of `message_parts`, which are named as one: by the types of what they answer."""
+    crates = [crate for crate in all_crates() if not crate.startswith(("test", "bench")) and crate != "message_parts"]
+    enums = [found for crate in crates for path in sources(crate) for found in re.findall(r"^pub enum (\w+)[^{]*\{(.*?)^\}", text_of(path), re.M | re.S)]
+    errors = {name for name, variants in enums if re.search(r"^ *NoMemory\b", variants, re.M)} | {"AllocError", "AsmError"}
+    may_lack = {name for crate in crates for name, signature, _ in heads(crate) if errors & set(re.findall(r"\w+", signature.rpartition("->")[2]))}
+    listed = {span.split("::")[-1] for span in SPAN.findall(section_of("docs/DEFINITIONS.md", "Only tested"))}
+    expect(len(may_lack) > 80, True, "calls may lack memory")
+    expect(sorted(name for name in may_lack - NEVER_LACK if name.split("::")[-1] not in listed), [], "DEFINITIONS: calls that may lack memory")
+
+
 def is_defined(crate, file, name):
     path = os.path.join(TOP, "crates", crate, "specs", file + ".antt")
     kinds = r"(?:(?:abbrev|record|data|unfoldable) )*"
@@ -267,9 +313,9 @@ def rows_of_requests(name):
 # Files that name a request for a reason of its own: a law or a proof of that request alone, what it does when it comes, or an example.
 OF_ONE_REQUEST = {
     "answers/proofs/Frames.antt", "answers/proofs/Looks.antt", "answers/proofs/Settable.antt", "answers/proofs/Setting.antt",
-    "headline/specs/Known.antt", "protocol/specs/Laws.antt", "protocol/specs/Reading.antt", "queues/specs/Arrivals.antt",
-    "queues/src/pending.rt", "range_laws/specs/Requests.antt", "replies/specs/Messages.antt", "session_laws/proofs/Runs.antt",
-    "test_transport/src/polling.rt",
+    "headline/specs/Known.antt", "history_laws/proofs/OneStep.antt", "history_laws/specs/ByRequests.antt", "protocol/specs/Laws.antt",
+    "protocol/specs/Reading.antt", "queues/specs/Arrivals.antt", "queues/src/pending.rt", "range_laws/specs/Requests.antt",
+    "replies/specs/Messages.antt", "session_laws/proofs/Runs.antt", "test_transport/src/polling.rt",
 }
 
 
@@ -346,6 +392,8 @@ def checks():
         each_rule_of_the_map_has_names_that_differ,
         each_clause_stands_in_the_ledger,
         each_law_stands_in_the_ledger,
+        what_callers_owe_is_listed,
+        calls_that_may_lack_memory_are_listed,
         each_definition_of_the_ledger_is_in_its_file,
         what_a_request_needs_lists_each_file_that_names_one,
         each_request_has_a_row,
