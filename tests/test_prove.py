@@ -11,6 +11,7 @@ import tempfile
 import time
 from contextlib import contextmanager
 
+from support.listening import signals_as_at_a_terminal
 from support.program import TOP, expect
 
 sys.path.insert(0, os.path.join(TOP, "tools"))
@@ -96,7 +97,8 @@ def environment(top, **more):
 
 def begun(top, out=subprocess.PIPE, **more):
     words = [sys.executable, os.path.join(top, "tools", "prove"), "--at-once", "2"]
-    return subprocess.Popen(words, env=environment(top, **more), stdin=subprocess.DEVNULL, stdout=out, stderr=subprocess.STDOUT, text=True)
+    return subprocess.Popen(words, env=environment(top, **more), stdin=subprocess.DEVNULL, stdout=out, stderr=subprocess.STDOUT, text=True,
+                            preexec_fn=signals_as_at_a_terminal)
 
 
 def proved(top, **more):
