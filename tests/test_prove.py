@@ -11,7 +11,6 @@ import tempfile
 import time
 from contextlib import contextmanager
 
-from support.listening import signals_as_at_a_terminal
 from support.program import TOP, expect
 
 sys.path.insert(0, os.path.join(TOP, "tools"))
@@ -97,8 +96,7 @@ def environment(top, **more):
 
 def begun(top, out=subprocess.PIPE, **more):
     words = [sys.executable, os.path.join(top, "tools", "prove"), "--at-once", "2"]
-    return subprocess.Popen(words, env=environment(top, **more), stdin=subprocess.DEVNULL, stdout=out, stderr=subprocess.STDOUT, text=True,
-                            preexec_fn=signals_as_at_a_terminal)
+    return subprocess.Popen(words, env=environment(top, **more), stdin=subprocess.DEVNULL, stdout=out, stderr=subprocess.STDOUT, text=True)
 
 
 def proved(top, **more):

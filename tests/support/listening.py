@@ -2,7 +2,6 @@
 import os
 import re
 import select
-import signal
 import socket
 import subprocess
 
@@ -17,22 +16,15 @@ def free_port(host="127.0.0.1"):
         return probe.getsockname()[1]
 
 
-def signals_as_at_a_terminal():
-    """What runs in the background may have been told to ignore them, and a program inherits that."""
-    for which in (signal.SIGTERM, signal.SIGINT):
-        signal.signal(which, signal.SIG_DFL)
-
-
 class Server:
     """The program that listens."""
 
-    def __init__(self, *words, host="127.0.0.1", before=signals_as_at_a_terminal, environment=None):
-        """before: what is done in the new process first."""
+    def __init__(self, *words, host="127.0.0.1", environment=None):
         self.host, self.port = host, free_port(host)
         shown = "[%s]" % host if ":" in host else host
         self.address = "%s:%d" % (shown, self.port)
         self.process = subprocess.Popen([PROGRAM, "--listen", self.address, *words], stdin=subprocess.DEVNULL, stdout=subprocess.PIPE, stderr=subprocess.PIPE,
-                                        bufsize=0, preexec_fn=before, env=environment)
+                                        bufsize=0, env=environment)
         said = self.process.stderr.readline()
         expect(said, b"listening on %s\n" % self.address.encode(), "the first line on standard error")
 
