@@ -6,7 +6,7 @@ from dataclasses import dataclass, field
 
 from support.files import file_of
 from support.listening import Server
-from support.program import Talk, expect
+from support.program import SECONDS, Talk, expect
 from support.texts import ANSWERS, FIRST, FIRST_ANSWER, SESSION, THREADS, request
 
 # As many parts are timed.
@@ -49,7 +49,10 @@ def held(process):
 
 
 def repeated(load, process, act):
-    """Acts as often as the load says, in parts; what is held is looked at after the first part and after the last."""
+    """Acts as often as the load says, in parts; what is held is looked at after the first part and after the last.
+
+    A connection is closed a moment after its editor has left, so the last look is made again where there is one more.
+    """
     each = max(1, load.count // PARTS)
     for part in range(load.count // each):
         begun = time.monotonic()
@@ -58,6 +61,9 @@ def repeated(load, process, act):
         load.seconds.append(time.monotonic() - begun)
         if part == 0:
             load.held.append(held(process))
+    until = time.monotonic() + SECONDS
+    while held(process)[1] > load.held[0][1] and time.monotonic() < until:
+        time.sleep(0.01)
     load.held.append(held(process))
     return load
 
