@@ -1,20 +1,12 @@
 -- Entries and lists together.
 use Rattle.std.proofs.Common.{◌≡◌, ℕ, zero, suc, ◌+◌, ◌<◌, Bool, true, false, cond, ltb, List, [], ◌∷◌, length, map, Some, None, Result, Ok, Err, refl, ap, arith, slice_index}
-use Rattle.image.specs.Lines.{Table}
-use Rattle.protocol.specs.declared.command.Command.TheVariants as command
-use Rattle.protocol.specs.declared.refusal.Refusal.TheVariants.{TooMuch}
+use Rattle.answers.proofs.Common.{Answer, entries_of, followed_by, FunctionBreakpoint, InstructionBreakpoint, list_of, next_after, Problem, SourceBreakpoint, Table, TooMuch, View, Wanted}
 use Rattle.replies.specs.declared.response.ResponseBody.TheVariants.{SetFunctionBreakpoints, SetInstructionBreakpoints}
-use Rattle.protocol.specs.declared.set_breakpoints.SourceBreakpoint.{SourceBreakpoint}
-use Rattle.protocol.specs.declared.set_function_breakpoints.FunctionBreakpoint.{FunctionBreakpoint}
-use Rattle.protocol.specs.declared.set_instruction_breakpoints.InstructionBreakpoint.{InstructionBreakpoint}
-use Rattle.breakpoints.specs.Stops.{Wanted}
-use Rattle.answers.specs.Breakpoints.{Answer, entries_of, followed_by, list_of, next_after}
+use Rattle.protocol.specs.declared.command.Command.TheVariants as command
 use Rattle.answers.specs.Laws.{EachHasItsEntry, EntriesTellTheList, NumbersFollowEachOther, entries_in, set_at_instructions, set_at_lines, set_by_body, those_set}
 use Rattle.answers.specs.SetBreakpoints as source
 use Rattle.answers.specs.SetFunctionBreakpoints as function
 use Rattle.answers.specs.SetInstructionBreakpoints as instruction
-use Rattle.answers.specs.declared.problem.Problem.{Problem}
-use Rattle.answers.specs.declared.view.View.{View}
 
 -- ---- the numbers of a list
 

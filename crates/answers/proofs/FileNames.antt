@@ -1,7 +1,5 @@
 -- The last part of a path.
-use Rattle.std.proofs.Common.{◌≡◌, ◌≢◌, None, ℕ, suc, ◌-◌, ◌<◌, Bool, true, false, not, cond, eqb, List, [], ◌∷◌, ◌++◌, length, get_or, take, drop, reverse, refl, sym, ap, ◌∙◌, arith, append_assoc}
-use Rattle.std.specs.List.{take_while}
-use Rattle.std.proofs.lemmas.Bool.{eqb-true}
+use Rattle.answers.proofs.Common.{[], ap, append_assoc, arith, Bool, cond, drop, eqb, eqb-true, false, get_or, length, List, None, not, refl, reverse, suc, sym, take, take_while, true, ℕ, ◌++◌, ◌-◌, ◌<◌, ◌∙◌, ◌∷◌, ◌≡◌, ◌≢◌}
 use Rattle.std.proofs.lemmas.List.{get_or-reverse, length-reverse, reverse-append, reverse-reverse, take-append-drop}
 use Rattle.std.proofs.lemmas.Str.Pattern.{NoCharPasses-char, drop_at_char}
 use Rattle.std.specs.Str.Pattern.{RFindsChar, SplitsAroundMatch}

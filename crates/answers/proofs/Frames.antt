@@ -1,22 +1,12 @@
 -- The frames of the call stack, one after the other.
 use Rattle.std.proofs.Common.{◌≡◌, ℕ, zero, suc, ◌+◌, ◌-◌, ◌≤◌, List, [], ◌∷◌, ◌++◌, length, map, Option, Some, Ok, refl, sym, ap, ◌∙◌, arith, slice_index}
-use Rattle.std.specs.List.{range_with_len}
-use Rattle.std.specs.Option.{unwrap_or}
-use Rattle.std.proofs.lemmas.List.{length-map}
+use Rattle.answers.proofs.Common.{Debugged, Frame, length-map, number_for, number_in, Numbers, range_with_len, StackTraceArguments, Table, Target, unwrap_or, View, with_targets}
 use Rattle.std.proofs.lemmas.List.FromFn.{map-range_with_len_more}
-use Rattle.image.specs.Lines.{Table}
 use Rattle.message_parts.specs.declared.stack_trace.StackFrame.{StackFrame}
-use Rattle.protocol.specs.declared.stack_trace.StackTraceArguments.{StackTraceArguments}
 use Rattle.replies.specs.declared.response.ResponseBody.TheVariants.{StackTrace}
-use Rattle.stepping.specs.Ticks.{Debugged}
-use Rattle.variables.specs.Numbers.{Numbers, number_in, with_targets}
-use Rattle.variables.specs.declared.target.Target.{Target}
-use Rattle.variables.specs.declared.target.Target.TheVariants.{Frame}
 use Rattle.answers.specs.Looking.{Look}
 use Rattle.answers.specs.StackTrace.{addresses, body_of, frame, frame_at, frames_given, indices, stack_trace}
 use Rattle.answers.specs.Steps.{end_in, first_in, frames_from}
-use Rattle.answers.specs.Targets.{number_for}
-use Rattle.answers.specs.declared.view.View.{View}
 use Rattle.answers.proofs.Ranges.{length_range, range_part}
 
 abbrev frame_targets : ℕ → ℕ → List Target

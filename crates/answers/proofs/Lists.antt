@@ -1,8 +1,6 @@
 -- Entries and lists, one breakpoint further.
 use Rattle.std.proofs.Common.{◌≡◌, ℕ, suc, ◌+◌, ◌<◌, ◌≤◌, List, [], ◌∷◌, ◌++◌, length, drop, get_or, Result, Ok, Err, refl, sym, ap, ◌∙◌, arith, add-one, append_assoc, drop-cons}
-use Rattle.breakpoints.specs.Stops.{Wanted}
-use Rattle.answers.specs.Breakpoints.{entries_of, followed_by, list_of, next_after}
-use Rattle.answers.specs.declared.problem.Problem.{Problem}
+use Rattle.answers.proofs.Common.{entries_of, followed_by, list_of, next_after, Problem, Wanted}
 
 -- what is left begins with the item that is read
 pub left_from : {A : Type 0} (asked : List A) (i : ℕ) (item : A) → i < length asked → item ≡ get_or asked i item

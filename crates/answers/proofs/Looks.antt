@@ -1,19 +1,13 @@
 -- What looks into memory tell.
 use Rattle.std.proofs.Common.{◌≡◌, ℕ, ℤ, zero, suc, pos, ◌+ℤ◌, ◌-◌, ◌*◌, ◌<◌, ◌≤◌, min, Bool, true, false, cond, ltb, List, [], ◌∷◌, length, take, drop, Option, Some, None, Ok, Err, refl, sym, ap, subst, ◌∙◌, arith, length-drop}
 use Rattle.std.specs.Prelude.{slice_get, IsTrue}
-use Rattle.std.proofs.lemmas.Int.{ints}
-use Rattle.image.specs.Memory.{first_address}
-use Rattle.protocol.specs.declared.read_memory.ReadMemoryArguments.{ReadMemoryArguments}
+use Rattle.answers.proofs.Common.{entries_from, entry, first_address, ints, offset_by, OutsideMemory, ReadMemoryArguments, TooMuch, word_of}
 use Rattle.message_parts.specs.declared.read_memory.ReadMemory.{ReadMemory}
 use Rattle.replies.specs.declared.response.ResponseBody.TheVariants.{ReadMemory as Bytes}
 use Rattle.rv32i.specs.Texts.{IsTextOf}
 use Rattle.rv32i.proofs.OneText.{one_text}
-use Rattle.answers.specs.Disassemble.{entries_from, entry}
 use Rattle.answers.specs.Laws.{BytesAreRead, EntriesHaveTheirPlaces, IsRead, TextsAreDisassemblies}
-use Rattle.protocol.specs.declared.refusal.Refusal.TheVariants.{OutsideMemory, TooMuch}
 use Rattle.answers.specs.ReadMemory.{bytes_from, can_begin, read, start_at, start_by}
-use Rattle.numerals.specs.MemoryReferences.{offset_by}
-use Rattle.numerals.specs.Words.{word_of}
 use Rattle.answers.specs.Texts.{text_at, text_at-is}
 use Rattle.answers.proofs.MemoryBytes.{begins_inside, byte_there}
 use Rattle.answers.proofs.Proper.{offset_small}

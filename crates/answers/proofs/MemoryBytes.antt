@@ -1,9 +1,8 @@
 -- Bytes of memory that are read one by one.
 use Rattle.std.proofs.Common.{◌≡◌, ℕ, zero, suc, ◌+◌, ◌-◌, ◌<◌, ◌≤◌, min, Bool, true, false, eqb, ltb, List, [], ◌∷◌, ◌++◌, take, drop, Some, None, IsTrue, refl, sym, ap, ◌∙◌, arith, add-one}
 use Rattle.std.specs.Prelude.{is_some, slice_get}
-use Rattle.std.proofs.lemmas.Bool.Decides.{nat_tests}
+use Rattle.answers.proofs.Common.{bytes_from, can_begin, nat_tests}
 use Rattle.image.specs.Memory.{byte_at, bytes_at, first_address}
-use Rattle.answers.specs.ReadMemory.{bytes_from, can_begin}
 
 -- ---- of a list
 

@@ -1,9 +1,7 @@
 -- Entries of a disassembly that are made one by one.
-use Rattle.std.proofs.Common.{◌≡◌, ℕ, ℤ, zero, suc, pos, ◌+ℤ◌, ◌+◌, ◌-◌, ◌*◌, ◌<◌, ◌≤◌, List, [], ◌∷◌, ◌++◌, sym, ap, ◌∙◌, arith, append_assoc}
-use Rattle.std.proofs.lemmas.Int.{ints}
+use Rattle.answers.proofs.Common.{[], ap, append_assoc, arith, entries_from, entry, ints, List, pos, suc, sym, zero, ℕ, ℤ, ◌*◌, ◌++◌, ◌+ℤ◌, ◌+◌, ◌-◌, ◌<◌, ◌∙◌, ◌∷◌, ◌≡◌, ◌≤◌}
 use Rattle.std.proofs.lemmas.List.{append-nil}
 use Rattle.message_parts.specs.declared.disassemble.Instruction.{Instruction}
-use Rattle.answers.specs.Disassemble.{entries_from, entry}
 
 further : (memory : List ℕ) (place : ℤ) (count : ℕ) → 0 < count
     → entries_from memory place count ≡ entry memory place ∷ entries_from memory (place +ℤ pos 4) (count - 1)

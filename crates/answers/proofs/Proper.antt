@@ -1,32 +1,17 @@
 -- Answers can be sent: their numbers are in their ranges.
-use Rattle.std.proofs.Common.{◌≡◌, ℕ, ℤ, pos, negsuc, ◌+◌, ◌+ℤ◌, ◌<◌, ◌≤◌, Bool, true, false, cond, ◌&&◌, ◌%◌, ◌==◌, leb, ltb, List, [], ◌∷◌, length, Option, Some, None, Result, Ok, Err, IfOk, option_map, refl, ap, subst, arith}
-use Rattle.std.specs.Prelude.{All, find}
-use Rattle.std.specs.List.{list_all}
-use Rattle.std.proofs.lemmas.Bool.{and_parts, lt-ltb, ltb-true}
+use Rattle.answers.proofs.Common.{[], All, and_parts, Answer, ap, arith, Bool, cond, Conditions, conditions_of, entries_of, Err, false, find, first_address, followed_by, FunctionBreakpoint, IfOk, InstructionBreakpoint, leb, length, line_in_editor, line_in_image, List, list_all, list_of, lt-ltb, ltb, ltb-true, negsuc, next_after, None, Ok, Option, option_map, pos, Problem, refl, Result, Some, SourceBreakpoint, subst, TooMuch, trimmed, true, View, word_of, ℕ, ℤ, ◌%◌, ◌&&◌, ◌+ℤ◌, ◌+◌, ◌<◌, ◌==◌, ◌∷◌, ◌≡◌, ◌≤◌}
 use Rattle.std.proofs.lemmas.List.Elements.{All-head, All-tail, All-weaker}
 use Rattle.image.specs.Lines.{Row, Table, bind, label_address, line_in, start_of}
-use Rattle.image.specs.Memory.{first_address}
 use Rattle.protocol.specs.declared.command.Command.TheVariants as command
-use Rattle.protocol.specs.declared.refusal.Refusal.TheVariants.{TooMuch}
-use Rattle.protocol.specs.declared.set_breakpoints.SourceBreakpoint.{SourceBreakpoint}
-use Rattle.protocol.specs.declared.set_function_breakpoints.FunctionBreakpoint.{FunctionBreakpoint}
-use Rattle.protocol.specs.declared.set_instruction_breakpoints.InstructionBreakpoint.{InstructionBreakpoint}
 use Rattle.message_parts.specs.SetBreakpoints.{source_breakpoint}
 use Rattle.message_parts.specs.SetInstructionBreakpoints.{instruction_breakpoint}
 use Rattle.replies.specs.declared.response.ResponseBody.{ResponseBody}
-use Rattle.answers.specs.Breakpoints.{Answer, entries_of, followed_by, list_of, next_after}
 use Rattle.answers.specs.Laws.{AnswersAreProper, IsNarrow, NumbersFit}
 use Rattle.numerals.specs.MemoryReferences.{address_in, address_of, offset_by}
-use Rattle.numerals.specs.Words.{word_of}
-use Rattle.answers.specs.EditorLines.{line_in_editor, line_in_image}
 use Rattle.answers.specs.SetBreakpoints as source
 use Rattle.answers.specs.SetFunctionBreakpoints as function
 use Rattle.answers.specs.SetInstructionBreakpoints as instruction
-use Rattle.answers.specs.Conditions.{Conditions, conditions_of}
-use Rattle.answers.specs.Spaces.{trimmed}
-use Rattle.answers.specs.declared.problem.Problem.{Problem}
 use Rattle.answers.specs.declared.problem.Problem.TheVariants.{BadAddress, UnknownSource}
-use Rattle.answers.specs.declared.view.View.{View}
 use Rattle.answers.proofs.Settable.{one_value}
 
 both : (x y : Bool) → x ≡ true → y ≡ true → (x && y) ≡ true

@@ -1,31 +1,17 @@
 -- Answers of frames and scopes can be sent: their numbers are in their ranges.
-use Rattle.std.proofs.Common.{◌≡◌, ℕ, zero, suc, ◌+◌, ◌-◌, ◌<◌, ◌≤◌, Bool, true, false, cond, ◌&&◌, eqb, ltb, List, [], ◌∷◌, length, map, take, drop, Option, Some, None, Result, Ok, Err, IfOk, option_map, refl, subst, arith}
+use Rattle.answers.proofs.Common.{[], All-cons, All-head, All-tail, arith, Bool, cond, Debugged, Done, drop, eqb, Err, false, Frame, IfOk, IsOutcomeOf, length, line_in_editor, List, list_all, lt-ltb, ltb, map, None, Ok, Option, option_map, part, range_with_len, refl, Refusal, Registers, Result, Some, Stack, StackTraceArguments, subst, suc, take, Target, true, unwrap_or, View, zero, ℕ, ◌&&◌, ◌+◌, ◌-◌, ◌<◌, ◌∷◌, ◌≡◌, ◌≤◌}
 use Rattle.std.specs.Prelude.{All, codes, find, slice_index}
-use Rattle.std.specs.List.{list_all, range_with_len}
-use Rattle.std.specs.Option.{unwrap_or}
-use Rattle.std.proofs.lemmas.Bool.{lt-ltb}
 use Rattle.std.proofs.lemmas.List.{length-drop, length-map, length-take}
-use Rattle.std.proofs.lemmas.List.Elements.{All-cons, All-head, All-tail}
 use Rattle.image.specs.Lines.{Row, Table, covers, line_in, line_of}
 use Rattle.message_parts.specs.StackTrace.{stack_frame}
-use Rattle.protocol.specs.declared.refusal.Refusal.{Refusal}
 use Rattle.protocol.specs.declared.scopes.ScopesArguments.{ScopesArguments}
-use Rattle.protocol.specs.declared.stack_trace.StackTraceArguments.{StackTraceArguments}
-use Rattle.replies.specs.Responses.{IsOutcomeOf}
-use Rattle.replies.specs.declared.response.Outcome.TheVariants.{Done}
-use Rattle.stepping.specs.Ticks.{Debugged}
 use Rattle.variables.specs.Numbers.{Numbers, number_from, number_in, with_all, with_targets}
 use Rattle.variables.specs.References.{is_same}
-use Rattle.variables.specs.declared.target.Target.{Target}
-use Rattle.variables.specs.declared.target.Target.TheVariants.{Frame, Registers, Stack}
 use Rattle.variables.proofs.Targets.{with_all-short}
 use Rattle.answers.specs.Laws.{AreIssued, HoldsWords, IsNarrow}
-use Rattle.answers.specs.Parts.{part}
 use Rattle.answers.specs.Scopes.{body_by, scopes, scopes_of}
-use Rattle.answers.specs.EditorLines.{line_in_editor}
 use Rattle.answers.specs.StackTrace.{addresses, column_by, frame_at, frames_given, indices, line_by, name_at, source_by, stack_trace}
 use Rattle.answers.specs.Targets.{frame_of, number_for}
-use Rattle.answers.specs.declared.view.View.{View}
 use Rattle.answers.proofs.ProperLooks.{both}
 use Rattle.answers.proofs.Ranges.{length_range}
 use Rattle.answers.proofs.Words.{small_at}

@@ -1,26 +1,14 @@
 -- Answers of what looks into memory can be sent: their numbers are in their ranges.
-use Rattle.std.proofs.Common.{◌≡◌, ℕ, ℤ, zero, suc, pos, negsuc, ◌+ℤ◌, ◌-◌, ◌<◌, ◌≤◌, min, Bool, true, false, cond, ◌&&◌, eqb, ltb, List, [], ◌∷◌, length, take, drop, Option, Some, None, Result, Ok, Err, IfOk, refl, subst, arith}
-use Rattle.std.specs.List.{list_all}
-use Rattle.std.specs.Result.{result_ok}
+use Rattle.answers.proofs.Common.{[], address_of, are_bytes, arith, Bool, cond, Done, drop, eqb, Err, false, IfOk, IsOutcomeOf, length, List, list_all, lt-ltb, ltb, ltb-true, min, nat_tests, negsuc, None, offset_by, Ok, Option, OutsideMemory, pos, ReadMemoryArguments, refl, Refusal, Result, result_ok, Some, subst, suc, take, TooMuch, true, word_of, zero, ℕ, ℤ, ◌&&◌, ◌+ℤ◌, ◌-◌, ◌<◌, ◌∷◌, ◌≡◌, ◌≤◌}
 use Rattle.std.specs.Prelude.{codes}
-use Rattle.std.proofs.lemmas.Bool.{lt-ltb, ltb-true}
-use Rattle.std.proofs.lemmas.Bool.Decides.{nat_tests}
 use Rattle.image.specs.Memory.{bytes_at, fault_at, first_address, little_endian, unless_fault}
 use Rattle.image.specs.declared.fault.MemFault.{MemFault}
-use Rattle.protocol.specs.declared.read_memory.ReadMemoryArguments.{ReadMemoryArguments}
-use Rattle.protocol.specs.declared.refusal.Refusal.{Refusal}
-use Rattle.protocol.specs.declared.refusal.Refusal.TheVariants.{OutsideMemory, TooMuch}
 use Rattle.message_parts.specs.Disassemble.{instruction}
-use Rattle.message_parts.specs.EncodedBytes.{are_bytes}
 use Rattle.message_parts.specs.Forms.{is_in_if, is_word}
 use Rattle.message_parts.specs.ReadMemory.{unless_0}
-use Rattle.replies.specs.Responses.{IsOutcomeOf}
-use Rattle.replies.specs.declared.response.Outcome.TheVariants.{Done}
 use Rattle.answers.specs.Disassemble.{disassembled, entries_from, entry, entry_by, start_by as places_by, word_in, wrapped}
 use Rattle.answers.specs.Laws.{BytesAreProper, EntriesAreProper}
 use Rattle.answers.specs.ReadMemory.{bytes_from, can_begin, read, start_at, start_by}
-use Rattle.numerals.specs.MemoryReferences.{address_of, offset_by}
-use Rattle.numerals.specs.Words.{word_of}
 use Rattle.answers.proofs.Proper.{offset_small}
 
 pub first_of : (x y : Bool) → (x && y) ≡ true → x ≡ true

@@ -1,45 +1,23 @@
 -- Answers of variables, values and writes can be sent: their numbers are in their ranges.
-use Rattle.std.proofs.Common.{◌≡◌, ℕ, zero, suc, ◌+◌, ◌-◌, ◌*◌, ◌<◌, ◌≤◌, min, Bool, true, false, cond, eqb, leb, ltb, List, [], ◌∷◌, ◌++◌, length, map, take, drop, Option, Some, None, Result, Ok, Err, IfOk, refl, subst, arith}
+use Rattle.answers.proofs.Common.{[], are_bytes, arith, Bool, bytes_at, can_begin, cond, Debugged, Done, drop, eqb, Err, expression_of, false, fault_at, first_address, Frame, Hart, IfOk, IsOutcomeOf, leb, length, List, list_all, little_endian, lt-ltb, ltb, map, min, nat_tests, None, Numbers, numeral, NumeralError, offset_by, Ok, Option, OutsideMemory, part, prefixed, range_with_len, refl, Refusal, Registers, Result, result_ok, Some, Stack, start_at, subst, suc, take, take_while, Target, TooMuch, Tree, true, zero, ℕ, ◌*◌, ◌++◌, ◌+◌, ◌-◌, ◌<◌, ◌∷◌, ◌≡◌, ◌≤◌}
 use Rattle.std.specs.Prelude.{All, codes, slice_index}
-use Rattle.std.specs.List.{list_all, range_with_len, take_while}
-use Rattle.std.specs.Result.{result_ok}
-use Rattle.std.proofs.lemmas.Bool.{lt-ltb}
-use Rattle.std.proofs.lemmas.Bool.Decides.{nat_tests}
 use Rattle.std.proofs.lemmas.List.{length-drop, length-take}
 use Rattle.std.proofs.lemmas.List.Elements.{All-set}
-use Rattle.image.specs.Memory.{bytes_at, fault_at, first_address, little_endian}
-use Rattle.expressions.specs.Trees.{Tree}
 use Rattle.expressions.specs.Values.{value_of as value_in}
 use Rattle.expressions.specs.declared.error.ExprFault.{ExprFault}
-use Rattle.numerals.specs.Numerals.{numeral, prefixed}
-use Rattle.numerals.specs.declared.NumeralError.{NumeralError}
 use Rattle.protocol.specs.declared.evaluate.EvaluateArguments.{EvaluateArguments}
 use Rattle.protocol.specs.declared.filter.Filter.{Filter}
 use Rattle.protocol.specs.declared.filter.Filter.TheVariants.{Indexed, Named}
-use Rattle.protocol.specs.declared.refusal.Refusal.{Refusal}
-use Rattle.protocol.specs.declared.refusal.Refusal.TheVariants.{OutsideMemory, TooMuch}
 use Rattle.protocol.specs.declared.variables.VariablesArguments.{VariablesArguments}
 use Rattle.protocol.specs.declared.write_memory.WriteMemoryArguments.{WriteMemoryArguments}
-use Rattle.message_parts.specs.EncodedBytes.{are_bytes}
 use Rattle.message_parts.specs.Variables.{variable}
 use Rattle.message_parts.specs.declared.variables.Variable.{Variable}
-use Rattle.replies.specs.Responses.{IsOutcomeOf}
-use Rattle.replies.specs.declared.response.Outcome.TheVariants.{Done}
 use Rattle.rv32i.specs.Machine.{difference, sum}
-use Rattle.rv32i.specs.declared.hart.Hart.{Hart}
-use Rattle.stepping.specs.Ticks.{Debugged}
-use Rattle.variables.specs.Numbers.{Numbers}
 use Rattle.variables.specs.Registers.{counter, name_answer, numbers as register_numbers, register, registers}
 use Rattle.variables.specs.Stack.{has_word, stack_words, word}
 use Rattle.variables.specs.Values.{if_signed, negated, value_of}
-use Rattle.variables.specs.declared.target.Target.{Target}
-use Rattle.variables.specs.declared.target.Target.TheVariants.{Frame, Registers, Stack}
 use Rattle.answers.specs.Evaluate.{evaluate, if_valued, unless_refused, valued}
-use Rattle.answers.specs.Expressions.{expression_of}
 use Rattle.answers.specs.Laws.{HoldsWords, SettingsAreProper, SettingsKeepWords, WritingsAreProper, WritingsFit}
-use Rattle.answers.specs.Parts.{part}
-use Rattle.answers.specs.ReadMemory.{can_begin, start_at}
-use Rattle.numerals.specs.MemoryReferences.{offset_by}
 use Rattle.numerals.specs.Words.{word_by, word_of}
 use Rattle.answers.specs.SetVariable.{set_in, setting_of, with_register}
 use Rattle.answers.specs.Targets.{frame_refusal, target_of}

@@ -1,9 +1,6 @@
 -- Part of a list, by the indices of its first element and of the one after its last.
-use Rattle.std.proofs.Common.{◌≡◌, ℕ, zero, suc, ◌+◌, ◌-◌, ◌≤◌, min, Bool, true, false, cond, eqb, List, [], ◌∷◌, length, take, drop, Option, Some, None, refl, sym, ap, ◌∙◌, arith}
-use Rattle.std.specs.List.{range_with_len}
+use Rattle.answers.proofs.Common.{[], ap, arith, Bool, cond, drop, end_in, eqb, false, first_in, length, List, min, None, Option, part, range_with_len, refl, Some, suc, sym, take, true, zero, ℕ, ◌+◌, ◌-◌, ◌∙◌, ◌∷◌, ◌≡◌, ◌≤◌}
 use Rattle.std.proofs.lemmas.List.{length-drop, take_all}
-use Rattle.answers.specs.Parts.{part}
-use Rattle.answers.specs.Steps.{end_in, first_in}
 
 drop_none : {A : Type 0} (n : ℕ) → drop {A = A} n [] ≡ []
 drop_none zero = refl

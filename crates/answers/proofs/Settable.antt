@@ -1,37 +1,24 @@
 -- A list that an answer sets can be set: it is short enough, and each breakpoint stops at some hit.
 use Rattle.std.proofs.Common.{◌≡◌, ℕ, ◌≤◌, Bool, true, false, ◌||◌, cond, ltb, leb, List, [], ◌∷◌, length, map, Option, Some, None, Result, Ok, Err, IfOk, IfSome, option_map, refl, sym, ap, subst, arith}
-use Rattle.std.specs.Prelude.{All}
+use Rattle.answers.proofs.Common.{All, Answer, bind, entries_of, followed_by, FunctionBreakpoint, InstructionBreakpoint, label_address, length-map, line_in_image, list_of, next_after, numeral, NumeralError, Problem, SourceBreakpoint, Table, TooMuch, Tree, View}
+use Rattle.replies.specs.declared.response.ResponseBody.TheVariants.{SetFunctionBreakpoints, SetInstructionBreakpoints}
 use Rattle.std.proofs.lemmas.Bool.{leb-true, ltb-false}
-use Rattle.std.proofs.lemmas.List.{length-map}
 use Rattle.std.specs.declared.alloc.AllocError.{AllocError}
 use Rattle.std.specs.List.{list_any}
-use Rattle.protocol.specs.declared.refusal.Refusal.TheVariants.{TooMuch}
-use Rattle.replies.specs.declared.response.ResponseBody.TheVariants.{SetFunctionBreakpoints, SetInstructionBreakpoints}
 use Rattle.answers.specs.declared.problem.Problem.TheVariants.{BadAddress, BadHitCondition}
 use Rattle.std.proofs.lemmas.List.Elements.{All-cons, All-nil, All-head, All-tail}
 use Rattle.breakpoints.specs.Stops.{CanBeSet, Wanted, wanted_by}
 use Rattle.breakpoints.specs.declared.breakpoint.BreakSpec.{BreakSpec}
-use Rattle.expressions.specs.Trees.{Tree}
-use Rattle.image.specs.Lines.{Table, bind, label_address}
-use Rattle.numerals.specs.Numerals.{numeral}
-use Rattle.numerals.specs.declared.NumeralError.{NumeralError}
-use Rattle.protocol.specs.declared.set_breakpoints.SourceBreakpoint.{SourceBreakpoint}
 use Rattle.protocol.specs.declared.set_breakpoints.SetBreakpointsArguments.{SetBreakpointsArguments}
-use Rattle.protocol.specs.declared.set_function_breakpoints.FunctionBreakpoint.{FunctionBreakpoint}
 use Rattle.protocol.specs.declared.set_function_breakpoints.SetFunctionBreakpointsArguments as of_functions
-use Rattle.protocol.specs.declared.set_instruction_breakpoints.InstructionBreakpoint.{InstructionBreakpoint}
 use Rattle.protocol.specs.declared.set_instruction_breakpoints.SetInstructionBreakpointsArguments as given
 use Rattle.answers.specs.Answers.{answer_by}
-use Rattle.answers.specs.Breakpoints.{Answer, entries_of, followed_by, list_of, next_after}
-use Rattle.answers.specs.EditorLines.{line_in_image}
 use Rattle.answers.specs.SetBreakpoints as source
 use Rattle.answers.specs.SetFunctionBreakpoints as function
 use Rattle.answers.specs.SetInstructionBreakpoints as instruction
 use Rattle.answers.specs.Spaces.{said, trimmed}
 use Rattle.answers.specs.Conditions.{Conditions, both, condition_of, hit_of, if_positive, conditions_of}
 use Rattle.answers.specs.declared.breaks.BreakAnswer.{BreakAnswer}
-use Rattle.answers.specs.declared.problem.Problem.{Problem}
-use Rattle.answers.specs.declared.view.View.{View}
 
 -- ---- results
 

@@ -1,14 +1,11 @@
 -- A register that is set.
-use Rattle.std.proofs.Common.{◌≡◌, ℕ, zero, suc, Bool, true, false, cond, eqb, List, Option, Some, None, Result, Ok, Err, refl, sym, ap, ◌∙◌}
+use Rattle.answers.proofs.Common.{ap, Bool, cond, eqb, Err, false, Hart, List, None, Ok, Option, refl, Refusal, Result, setting_of, Some, suc, sym, true, with_register, zero, ℕ, ◌∙◌, ◌≡◌}
 use Rattle.std.specs.Prelude.{bytes_eq, codes}
-use Rattle.protocol.specs.declared.refusal.Refusal.{Refusal}
 use Rattle.protocol.specs.declared.refusal.Refusal.TheVariants.{NotWritable}
 use Rattle.replies.specs.declared.response.ResponseBody.TheVariants.{SetVariable}
-use Rattle.rv32i.specs.declared.hart.Hart.{Hart}
 use Rattle.stepping.proofs.Determined.{harts_equal}
 use Rattle.rv32i.specs.Names.{number_named}
 use Rattle.variables.specs.Registers.{name_answer, unless_zero, value_answer, with_value}
-use Rattle.answers.specs.SetVariable.{setting_of, with_register}
 
 -- no name is that of x0
 not_zero : (found : Option ℕ) → unless_zero found ≡ Ok 0 → ⊥

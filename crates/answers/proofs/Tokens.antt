@@ -1,19 +1,11 @@
 -- The token that bytes spell is found among those that they may spell.
 use Rattle.std.proofs.Common.{◌≡◌, ℕ, ◌<◌, zero, suc, Bool, true, false, ◌==◌, ◌&&◌, ◌||◌, ltb, cond, ◌≤◌, Result, Ok, Err, List, [], ◌∷◌, Option, Some, None, refl, sym, ap, ◌∙◌, subst, codes, arith, ◌⊎◌, inl, inr}
-use Rattle.std.specs.Prelude.{find, ⊤}
+use Rattle.answers.proofs.Common.{And, AndThen, Equal, find, Greater, GreaterEqual, Infix, Less, LessEqual, magnitude, Minus, nat_tests, NotEqual, NumeralError, Or, OrElse, Plus, Round, ShiftLeft, ShiftRight, Spells, Square, Times, Token, Xor, ⊤}
 use Rattle.std.proofs.lemmas.Bool.{and_from, and_parts, or_left, or_right, eqb-true, ltb-true, lt-ltb, both_ways}
-use Rattle.std.proofs.lemmas.Bool.Decides.{nat_tests}
 use Rattle.std.proofs.lemmas.Slice.Eq.{bytes_eq-Decides}
 use Rattle.std.specs.Str.{bytes_eq}
-use Rattle.numerals.specs.Numerals.{magnitude}
-use Rattle.numerals.specs.declared.NumeralError.{NumeralError}
 use Rattle.rv32i.specs.Names.{Names, name_of, numbered_name_of}
 use Rattle.expressions.specs.Scanning.{Spelled}
-use Rattle.expressions.specs.Tokens.{Spells}
-use Rattle.expressions.specs.declared.token.Bracket.TheVariants.{Round, Square}
-use Rattle.expressions.specs.declared.token.Infix.{Infix}
-use Rattle.expressions.specs.declared.token.Infix.TheVariants.{OrElse, AndThen, Or, Xor, And, Equal, NotEqual, Less, LessEqual, Greater, GreaterEqual, ShiftLeft, ShiftRight, Plus, Minus, Times}
-use Rattle.expressions.specs.declared.token.Token.{Token}
 use Rattle.expressions.specs.declared.token.Token.TheVariants as t
 use Rattle.expressions.proofs.Lexemes.{either}
 use Rattle.expressions.proofs.Words.{one_token}

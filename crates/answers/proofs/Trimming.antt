@@ -1,7 +1,5 @@
 -- Texts that have no space at an end.
-use Rattle.std.proofs.Common.{◌≡◌, ◌≢◌, ℕ, Bool, true, false, cond, ◌==◌, List, [], ◌∷◌, ◌++◌, reverse, refl, sym, ap, ◌∙◌}
-use Rattle.std.proofs.lemmas.Bool.{eqb-true}
-use Rattle.std.proofs.lemmas.List.{reverse-reverse, reverse-append}
+use Rattle.answers.proofs.Common.{[], ap, Bool, cond, eqb-true, false, List, refl, reverse, reverse-append, reverse-reverse, sym, true, ℕ, ◌++◌, ◌==◌, ◌∙◌, ◌∷◌, ◌≡◌, ◌≢◌}
 use Rattle.answers.specs.Spaces.{without_leading_spaces, without_trailing_spaces}
 
 pub none_leads : (text : List ℕ) → ((rest : List ℕ) → text ≢ 32 ∷ rest) → without_leading_spaces text ≡ text

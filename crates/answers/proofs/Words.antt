@@ -1,33 +1,22 @@
 -- The value of an expression is a word.
 use Rattle.std.proofs.Common.{div-le_self, ◌≡◌, ℕ, zero, suc, ◌+◌, ◌-◌, ◌*◌, ◌%◌, ◌^◌, ◌<◌, ◌≤◌, Bool, true, false, not, cond, ◌&&◌, eqb, ltb, leb, List, [], ◌∷◌, ◌++◌, length, drop, Option, Some, None, Ok, Err, IfOk, refl, ap, arith}
 use Rattle.std.specs.Prelude.{All, ⊤, bit_and, slice_index}
-use Rattle.std.specs.List.{list_all}
+use Rattle.answers.proofs.Common.{All-head, All-tail, And, AndThen, are_bytes, Equal, expression_of, Greater, GreaterEqual, Hart, Infix, leb-true, Less, LessEqual, list_all, lt-ltb, Minus, NotEqual, Or, OrElse, Plus, Round, ShiftLeft, ShiftRight, Square, Times, Token, Xor}
 use Rattle.std.specs.Str.Parse.{digits_value}
 use Rattle.std.specs.Char.{is_digit}
-use Rattle.std.proofs.lemmas.Bool.{leb-true, lt-ltb}
-use Rattle.std.proofs.lemmas.List.Elements.{All-head, All-tail}
 use Rattle.std.proofs.lemmas.Nat.{and_le_l, or_lt, xor_lt}
 use Rattle.image.specs.Memory.{bytes_at, first_address, has_bytes, little_endian}
 use Rattle.numerals.specs.Numerals.{magnitude, magnitude_by, numeral, prefixed, within}
 use Rattle.numerals.specs.declared.NumeralError.TheVariants.{Malformed, TooLarge}
-use Rattle.message_parts.specs.EncodedBytes.{are_bytes}
 use Rattle.rv32i.specs.Machine.{flag, is_less_than, places}
-use Rattle.rv32i.specs.declared.hart.Hart.{Hart}
 use Rattle.expressions.specs.Tokens.{IsTokens, Spells}
 use Rattle.expressions.specs.Trees.{Tree, Number, Register, Pc, Unary, Binary, Enclosed, tokens_of}
 use Rattle.expressions.specs.Values.{Valued, before, between, decides, enclosed, is_true, value_of, with_value}
 use Rattle.expressions.specs.declared.error.ExprFault.TheVariants.{Outside}
 use Rattle.expressions.specs.declared.token.Bracket.{Bracket}
-use Rattle.expressions.specs.declared.token.Bracket.TheVariants.{Round, Square}
-use Rattle.expressions.specs.declared.token.Infix.{Infix}
-use Rattle.expressions.specs.declared.token.Infix.TheVariants.{OrElse, AndThen, Or, Xor, And, Equal, NotEqual, Less}
-use Rattle.expressions.specs.declared.token.Infix.TheVariants.{LessEqual, Greater, GreaterEqual, ShiftLeft}
-use Rattle.expressions.specs.declared.token.Infix.TheVariants.{ShiftRight, Plus, Minus, Times}
 use Rattle.expressions.specs.declared.token.Prefix.{Prefix}
 use Rattle.expressions.specs.declared.token.Prefix.TheVariants.{Negate, Complement, Not}
-use Rattle.expressions.specs.declared.token.Token.{Token}
 use Rattle.expressions.specs.declared.token.Token.TheVariants as t
-use Rattle.answers.specs.Expressions.{expression_of}
 use Rattle.answers.proofs.ProperLooks.{both, of_bytes, some_dropped}
 use Rattle.answers.proofs.Reading.{is_expression}
 

@@ -50,13 +50,12 @@ went_names_none Break instr before d e = absurd (cc)
 went_names_none (Exit code) instr before d e = refl
 went_names_none (Trap cause) instr before d e = refl
 
-settles_none : (before after : Debugged) (instr : Option Instr) (s : Result Stepped AllocError) (tick : Tick) → tick.outcome ≡ Went
+settles_none : (before after : Debugged) (instr : Option Instr) (s : Stepped) (tick : Tick) → tick.outcome ≡ Went
     → Settles before instr s (Ok tick) after → after.lists.ids ≡ []
-settles_none before after instr (Ok s) tick e h =
+settles_none before after instr s tick e h =
     let same : tick ≡ tick_of s instr before.hart.pc (moved_as before after) = cc in
     ap (λ (d : Debugged). d.lists.ids) h.1
     ∙ went_names_none s instr before (moved_as before after) (sym (ap (λ (t : Tick). t.outcome) same) ∙ e)
-settles_none before after instr (Err error) tick e h = absurd (cc)
 
 pub going_names_none : (d after : Debugged) (tick : Tick) → tick.outcome ≡ Went → IsTick d (Ok tick) after → after.lists.ids ≡ []
 going_names_none d after tick e h =
@@ -123,14 +122,10 @@ stays_put before after (Trap cause) instr e m h = stays_so before after (Trap ca
 
 settles_put : (before after : Debugged) (tick : Tick) → (m : Moves before (Ok tick) after) → stays tick.outcome ≡ true
     → after ≡ stayed before
-settles_put before after tick m e = by m.stepped refl m.settles where
-  by : (s : Result Stepped AllocError) → m.stepped ≡ s → Settles before m.instr s (Ok tick) after → after ≡ stayed before
-  by (Ok s) is h =
-      let same : tick ≡ tick_of s m.instr before.hart.pc (moved_as before after) = cc in
-      stays_put before after s m.instr (sym (ap (λ (t : Tick). stays t.outcome) same) ∙ e)
-      (subst (λ (x : Result Stepped AllocError). IsMove (machine_of before.hart before.memory)
-      (record { answer = x; machine = machine_of after.hart after.memory })) is m.moved) h.1
-  by (Err error) is h = absurd (cc)
+settles_put before after tick m e =
+    let said = m.settles.0 in
+    let same : tick ≡ tick_of m.stepped m.instr before.hart.pc (moved_as before after) = cc in
+    stays_put before after m.stepped m.instr (sym (ap (λ (t : Tick). stays t.outcome) same) ∙ e) m.moved m.settles.1
 
 -- where none is named, that is no change
 pub stays_there : (before after : Debugged) (tick : Tick) → before.check_due ≡ false → NamesNone before → IsTick before (Ok tick) after
@@ -161,10 +156,7 @@ settles_due before after (Exit code) instr h = ap (λ (d : Debugged). d.check_du
 settles_due before after (Trap cause) instr h = ap (λ (d : Debugged). d.check_due) h
 
 moves_due : (before after : Debugged) (tick : Tick) (m : Moves before (Ok tick) after) → after.check_due ≡ before.check_due
-moves_due before after tick m = by m.stepped m.settles where
-  by : (s : Result Stepped AllocError) → Settles before m.instr s (Ok tick) after → after.check_due ≡ before.check_due
-  by (Ok s) h = settles_due before after s m.instr h.1
-  by (Err error) h = absurd (cc)
+moves_due before after tick m = settles_due before after m.stepped m.instr m.settles.1
 
 looked_due : (g : Goal) (d : Debugged) → (looked_at g d).check_due ≡ d.check_due
 looked_due ReverseGo d = refl

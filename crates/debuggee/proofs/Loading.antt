@@ -9,7 +9,7 @@ use Rattle.rv32i.specs.declared.stepped.Stepped.TheVariants.{Retired, Printed, B
 use Rattle.stepping.specs.Plain.{plain_tick}
 use Rattle.stepping.specs.Runs.{EndsRun, Goes, IsRun}
 use Rattle.course.specs.Positions.{Position}
-use Rattle.stepping.specs.Ticks.{Debugged, IsTick, Settles, gone_back, looked_at, moved_as, settled, undone, undone_by}
+use Rattle.stepping.specs.Ticks.{Debugged, IsTick, gone_back, looked_at, moved_as, settled, undone, undone_by}
 use Rattle.stepping.specs.declared.goal.Goal.{Goal}
 use Rattle.stepping.specs.declared.goal.Goal.TheVariants.{Go, In, Over, Out, Back, ReverseGo}
 use Rattle.stepping.specs.declared.tick.RunEnd.{RunEnd}
@@ -54,11 +54,8 @@ gone_size d = looked_size d.goal (undone d) ∙ undone_size d.past d
 tick_size : (before after : Debugged) (answer : Result Tick AllocError) → IsTick before answer after → after.size ≡ before.size
 tick_size before after answer h =
     by_tick before after answer h (λ due x. ap (λ (d : Debugged). d.size) x.1)
-    (λ due turns x. ap (λ (d : Debugged). d.size) x.1 ∙ gone_size before) (λ due forward m. by_move m.instr m.stepped m.settles)
-  where
-    by_move : (instr : Option Instr) (s : Result Stepped AllocError) → Settles before instr s answer after → after.size ≡ before.size
-    by_move instr (Ok s) e = settled_size before after s instr e.1
-    by_move instr (Err error) e = ap (λ (d : Debugged). d.size) e.1
+    (λ due turns x. ap (λ (d : Debugged). d.size) x.1 ∙ gone_size before)
+    (λ due forward m. settled_size before after m.stepped m.instr m.settles.1)
 
 goes_size : (n : ℕ) (before after : Debugged) → Goes n before after → after.size ≡ before.size
 goes_size zero before after g = ap (λ (d : Debugged). d.size) g

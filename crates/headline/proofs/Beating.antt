@@ -1,5 +1,5 @@
 -- Each beat of a slice leads to what is known and fits.
-use Rattle.headline.proofs.Common.{ap, Beat, beat_by, beat_of, Bool, by_move, ends, entered, Err, Facts, FULL, goes, goes_unless, HoldsRun, if_keeps, info_of, is_active, is_active_in, is_at_limit, is_configuring, is_runnable_by, is_running, List, listed_at, ltb, map, Mark, moved, moves_by, next_tick, None, not, Now, Numbers, Ok, Option, Placed, Program, refl, Result, Run, Seen, shown_of, Some, state_of, subst, sym, Terms, Tick, true, why_marked, ℕ, ◌∙◌, ◌∷◌, ◌≡◌}
+use Rattle.headline.proofs.Common.{ap, Beat, beat_by, beat_of, Bool, by_move, ends, entered, Facts, FULL, goes, goes_unless, HoldsRun, if_keeps, info_of, is_active, is_active_in, is_at_limit, is_configuring, is_runnable_by, is_running, List, listed_at, ltb, map, Mark, moved, moves_by, next_tick, None, not, Now, Numbers, Ok, Option, Placed, Program, refl, Result, Run, Seen, shown_of, Some, state_of, subst, sym, Terms, Tick, true, why_marked, ℕ, ◌∙◌, ◌∷◌, ◌≡◌}
 use Rattle.std.proofs.Common.{[]}
 use Rattle.std.specs.declared.alloc.AllocError.{AllocError}
 use Rattle.breakpoints.specs.Stops.{Lists, checked, counted, is_hit, with_hit}
@@ -12,7 +12,7 @@ use Rattle.rv32i.specs.declared.stepped.Stepped.TheVariants as stepped
 use Rattle.session.specs.Slices.{runs}
 use Rattle.stepping.proofs.Existing.{the_tick}
 use Rattle.course.specs.Positions.{Position}
-use Rattle.stepping.specs.Ticks.{Debugged, IsTick, Settles, entry_checked, looked_at, moved_as, settled, stayed, undone_by}
+use Rattle.stepping.specs.Ticks.{Debugged, IsTick, entry_checked, looked_at, moved_as, settled, stayed, undone_by}
 use Rattle.stepping.specs.declared.goal.Goal.{Goal}
 use Rattle.stepping.specs.declared.goal.Goal.TheVariants as goal
 use Rattle.stepping.proofs.Cases.{by_tick}
@@ -55,13 +55,6 @@ settled_same stepped.Break instr before d = checked_same d.hart.pc d.hart d.memo
 settled_same (stepped.Exit code) instr before d = record { source = refl; instructions = refl; functions = refl }
 settled_same (stepped.Trap cause) instr before d = record { source = refl; instructions = refl; functions = refl }
 
-answer_same : (s : Result Stepped AllocError) (before after : Debugged) (instr : Option Instr) (answer : Result Tick AllocError)
-    → Settles before instr s answer after → SameBreaks before.lists after.lists
-answer_same (Ok s) before after instr answer e =
-    subst (λ (d : Debugged). SameBreaks before.lists d.lists) (sym e.1) (settled_same s instr before (moved_as before after))
-answer_same (Err error) before after instr answer e =
-    subst (λ (d : Debugged). SameBreaks before.lists d.lists) (sym e.1) (record { source = refl; instructions = refl; functions = refl })
-
 stayed_same : (past : List Position) (d : Debugged) → SameBreaks d.lists (stayed (undone_by past d)).lists
 stayed_same [] d = record { source = refl; instructions = refl; functions = refl }
 stayed_same (before ∷ past) d = record { source = refl; instructions = refl; functions = refl }
@@ -82,7 +75,8 @@ tick_same before after answer is =
     (λ due x. subst (λ (d : Debugged). SameBreaks before.lists d.lists) (sym x.1)
     (checked_same before.hart.pc before.hart before.memory before.lists))
     (λ due turns x. subst (λ (d : Debugged). SameBreaks before.lists d.lists) (sym x.1) (looked_same before.goal before.past before))
-    (λ due forward m. answer_same m.stepped before after m.instr answer m.settles)
+    (λ due forward m. subst (λ (d : Debugged). SameBreaks before.lists d.lists) (sym m.settles.1)
+    (settled_same m.stepped m.instr before (moved_as before after)))
 
 breaks_same : (p : Program) (d : Debugged) → SameBreaks p.machine.lists d.lists → (owed : Option Tick)
     → SameBut p (record p { machine = d; owed = owed })

@@ -38,13 +38,13 @@ pub use Rattle.session.specs.Effects.{after_beat, beats, enough, next_by, perfor
 pub use Rattle.session.specs.Outcomes.{answer_to, answering, answers_next, closing, holding, leaving, next_turn, outcome_at, turn_by, turn_of}
 pub use Rattle.session.specs.Phases.{is_active, is_configuring}
 pub use Rattle.session.specs.Reached.{Happened, Reached}
-pub use Rattle.session.specs.Sessions.{Beginning, Effect, Life, Said, Session, frame_said, histories, hung_on, life_of, no_life, performed_on, replied_on, said_next, said_on, snapshot_of, start, waiting_of}
+pub use Rattle.session.specs.Sessions.{Beginning, Effect, Life, Said, Session, accepting, frame_said, histories, hung_on, life_of, no_life, performed_on, replied_on, said_next, said_on, saying, snapshot_of, start}
 pub use Rattle.session.specs.Slices.{Beat, beat, beat_by, beat_of, becomes, concludes, ends, exits, goes, goes_unless, halts, is_at_limit, is_runnable_by, logged, moves_by, output_events, telling, tells}
 pub use Rattle.session.specs.declared.event.Event.TheVariants.{Connect, DropConnection, Hold, Recv, Slice, Turn}
 pub use Rattle.session.specs.declared.event.SliceEnd.{SliceEnd}
 pub use Rattle.session.specs.declared.link.Link.{Link}
 pub use Rattle.session.specs.declared.state.TheConstants.{FULL, LAST_CONNECTION, MOST_PENDING, MOST_PIECE}
-pub use Rattle.session_laws.proofs.ByForms.{accepting, on, on_with, saying, with_change}
+pub use Rattle.session_laws.proofs.ByForms.{on, on_with, with_change}
 pub use Rattle.session_laws.proofs.Joined.{program_of}
 pub use Rattle.session_laws.proofs.Turning.{BoundsIn, reached_by_events, said_debuggee}
 pub use Rattle.snapshots.specs.Shown.{Snapshot, frame_at, frame_in, info_of, listed_at, register_at, shown, shown_by, shown_of, state_of}

@@ -1,6 +1,6 @@
 -- What is printed, and what a logpoint says, is told while the program runs: only what is owed is told so, and a program
 -- that owes something runs.
-use Rattle.headline.proofs.Common.{accepting, Act, All, All-nil, All-push, answer_to, Answering, answering, answers_next, Beat, beat, beat_by, beat_of, beats, Become, Beginning, Bool, by_move, closing, concludes, Connect, Debuggee, DropConnection, each_life, Effect, ended, enough, eqb, exit_events, exits, false, FULL, given_of, goes, goes_unless, halts, Happened, histories, Hold, hung_on, if_keeps, is_active, is_at_limit, is_runnable_by, is_running, LAST_CONNECTION, leb, length, Life, Link, List, logged, ltb, map, Mark, Message, MOST_PENDING, MOST_PIECE, moves_by, next_by, next_tick, next_turn, None, not, Now, of_answer, on, on_with, Option, outcome_at, output_events, Pending, performed, performed_append, performed_on, Program, Reached, reached, Recv, refl, response_to, Run, run_events, run_of, Said, said_debuggee, said_next, said_on, Seen, Session, Slice, SliceEnd, Some, stop_event, stopped, subst, suc, sym, Tell, telling, tells, Terms, Tick, told, true, Turn, turn_by, turn_of, waiting_of, Went, Why, why_marked, with_change, zero, ℕ, ℤ, ⊤, ◌++◌, ◌∙◌, ◌∷◌, ◌≡◌}
+use Rattle.headline.proofs.Common.{accepting, Act, All, All-nil, All-push, answer_to, Answering, answering, answers_next, Beat, beat, beat_by, beat_of, beats, Become, Beginning, Bool, by_move, closing, concludes, Connect, Debuggee, DropConnection, each_life, Effect, ended, enough, eqb, exit_events, exits, false, FULL, given_of, goes, goes_unless, halts, Happened, histories, Hold, hung_on, if_keeps, is_active, is_at_limit, is_runnable_by, is_running, LAST_CONNECTION, leb, length, Life, Link, List, logged, ltb, map, Mark, Message, MOST_PENDING, MOST_PIECE, moves_by, next_by, next_tick, next_turn, None, not, Now, of_answer, on, on_with, Option, outcome_at, output_events, Pending, performed, performed_append, performed_on, Program, Reached, reached, Recv, refl, response_to, Run, run_events, run_of, Said, said_debuggee, said_next, said_on, Seen, Session, Slice, SliceEnd, Some, stop_event, stopped, subst, suc, sym, Tell, telling, tells, Terms, Tick, told, true, Turn, turn_by, turn_of, Went, Why, why_marked, with_change, zero, ℕ, ℤ, ⊤, ◌++◌, ◌∙◌, ◌∷◌, ◌≡◌}
 use Rattle.std.proofs.Common.{[]}
 use Rattle.debuggee.specs.declared.run.Run.TheVariants as a_run
 use Rattle.debuggee.specs.declared.run.Why.TheVariants as why
@@ -243,7 +243,7 @@ turn_prints l file (p ∷ rest) s h =
 answers_print : (l : Link) (file : Option (List ℕ)) (s : Session) → Printed (on (Some l) s)
     → Printed (performed histories (answers_next (histories.see (on (Some l) s)) l file).acts (on (Some l) s))
 answers_print l file s h =
-    if_keeps (λ (o : Outcome). Printed (performed histories o.acts (on (Some l) s))) (ltb FULL (length (waiting_of (on (Some l) s)))) _ _
+    if_keeps (λ (o : Outcome). Printed (performed histories o.acts (on (Some l) s))) (ltb FULL (length (on (Some l) s).waiting)) _ _
     (λ _. h) (λ _. turn_prints l file s.now.arrivals.pending s h)
 
 owed_turn_prints : (owed : Option Tick) (l : Link) (file : Option (List ℕ)) (p : Program) (s : Session) → p.owed ≡ owed → OwesRunning p
@@ -285,7 +285,7 @@ outcome_prints (Some l) (Turn file) s owes h = program_prints s.now.debuggee.pro
 outcome_prints (Some l) (Slice n) s owes h = h
 outcome_prints (Some l) Hold s owes h = record { before = h.before; present = h.present }
 outcome_prints (Some l) (Sent n) s owes h =
-    if_keeps (λ (o : Outcome). Printed (performed histories o.acts (on (Some l) s))) (ltb (length (waiting_of (on (Some l) s))) n) _ _
+    if_keeps (λ (o : Outcome). Printed (performed histories o.acts (on (Some l) s))) (ltb (length (on (Some l) s).waiting) n) _ _
     (λ _. h) (λ _. record { before = h.before; present = h.present })
 outcome_prints (Some l) DropConnection s owes h = record { before = h.before; present = h.present }
 

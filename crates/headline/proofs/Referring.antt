@@ -1,5 +1,5 @@
 -- A success of a request that names a reference was queued by a turn, and the reference was good when the turn came.
-use Rattle.headline.proofs.Common.{Act, All, All-cons, All-head, All-nil, All-tail, AllKnown, answer_to, Answering, answering, answers_next, ap, arith, Ask, asks_of, beat, beats, Become, Beginning, Bool, closing, Connect, Done, DropConnection, Effect, enough, eqb, false, first_asked, FULL, Happened, histories, Hold, holding, hung_on, if_keeps, is_repeat, LAST_CONNECTION, leaving, leb, length, Life, life_of, Link, List, ltb, map, Message, MOST_PENDING, MOST_PIECE, next_by, next_turn, no_life, None, Now, number_of, of_answer, on, on_with, Option, outcome_at, Pending, performed, performed_on, Program, Reached, reached_by_events, read_on, Recv, refl, Refused, replied_on, response_to, ResponseBody, Said, said_next, said_on, Seen, Session, Slice, SliceEnd, Some, start, subst, suc, sym, Tell, telling, Terms, Tick, true, Turn, turn_by, turn_of, waiting_of, with_change, zero, ℕ, ℤ, ⊤, ◌++◌, ◌∙◌, ◌∷◌, ◌≡◌}
+use Rattle.headline.proofs.Common.{Act, All, All-cons, All-head, All-nil, All-tail, AllKnown, answer_to, Answering, answering, answers_next, ap, arith, Ask, asks_of, beat, beats, Become, Beginning, Bool, closing, Connect, Done, DropConnection, Effect, enough, eqb, false, first_asked, FULL, Happened, histories, Hold, holding, hung_on, if_keeps, is_repeat, LAST_CONNECTION, leaving, leb, length, Life, life_of, Link, List, ltb, map, Message, MOST_PENDING, MOST_PIECE, next_by, next_turn, no_life, None, Now, number_of, of_answer, on, on_with, Option, outcome_at, Pending, performed, performed_on, Program, Reached, reached_by_events, read_on, Recv, refl, Refused, replied_on, response_to, ResponseBody, Said, said_next, saying, said_on, Seen, Session, Slice, SliceEnd, Some, start, subst, suc, sym, Tell, telling, Terms, Tick, true, Turn, turn_by, turn_of, with_change, zero, ℕ, ℤ, ⊤, ◌++◌, ◌∙◌, ◌∷◌, ◌≡◌}
 use Rattle.std.proofs.Common.{[], get_or, append-nil, append_assoc}
 use Rattle.std.specs.Prelude.{is_some, option_and_then}
 use Rattle.protocol.specs.declared.request.Request.{Request as ARequest}
@@ -347,7 +347,7 @@ module _ (G : ℕ → List Said → Said → ℤ → Type 0) where
         let u = on_with (Some k) (p ∷ rest) (with_change a s) in
         let after : List Act = map Tell a.events ++ closing a.closes in
         let m : Said = said_next u.now k (IsResponse (response_to p.ask a.outcome)) in
-        let said : Session = record u { now = numbered u.now k rest; life = record u.life { said = u.life.said ++ m ∷ [] } } in
+        let said : Session = saying k (IsResponse (response_to p.ask a.outcome)) rest u in
         let grown = acts_grow after said (after_reply a.events a.closes) in
         acts_so after (replied_on (p ∷ rest) a.outcome u) (after_reply a.events a.closes)
         (if_keeps (λ (x : Session). Ready t file (performed histories after x) → LivesSo x) (ltb l.seq s.now.limits.last_seq) said u
@@ -368,7 +368,7 @@ module _ (G : ℕ → List Said → Said → ℤ → Type 0) where
   turn_answers : (l : Link) (file : Option (List ℕ)) (s : Session) → LivesSo (on (Some l) s)
       → Comes (on (Some l) s) file (answers_next (histories.see (on (Some l) s)) l file)
   turn_answers l file s h =
-      if_keeps (Comes (on (Some l) s) file) (ltb FULL (length (waiting_of (on (Some l) s)))) _ _
+      if_keeps (Comes (on (Some l) s) file) (ltb FULL (length (on (Some l) s).waiting)) _ _
       (λ _ _. h) (λ _ ready. turn_pending l file s.now.arrivals.pending s ready h)
 
   turn_owed : (owed : Option Tick) (l : Link) (file : Option (List ℕ)) (p : Program) (s : Session) → LivesSo (on (Some l) s)

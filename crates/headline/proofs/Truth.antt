@@ -1,5 +1,5 @@
 -- What an editor knows was so, whatever happens: if it is so of each command.
-use Rattle.headline.proofs.Common.{accepting, All-head, All-nil, All-push, AllKnown, answer_to, Answering, answers_next, Ask, Asked, asks_of, beat, beats, Beginning, Bool, BoundsIn, Connect, DropConnection, each_life, Effect, enough, eqb, Facts, FULL, given_of, Happened, histories, Hold, holding, if_keeps, LAST_CONNECTION, leaving, leb, left, length, life_of, Link, List, ltb, marked, MOST_PENDING, MOST_PIECE, next_by, next_turn, None, nothing_known, Now, number_of, of_answer, on, on_program, on_with, Option, outcome_at, Pending, performed, Program, Reached, reached, read_on, Recv, refl, remembered, Session, Slice, SliceEnd, Some, start, subst, suc, sym, telling, Terms, Tick, true, Turn, turn_by, turn_of, waiting_of, zero, ℕ, ◌∙◌, ◌∷◌, ◌≡◌}
+use Rattle.headline.proofs.Common.{accepting, All-head, All-nil, All-push, AllKnown, answer_to, Answering, answers_next, Ask, Asked, asks_of, beat, beats, Beginning, Bool, BoundsIn, Connect, DropConnection, each_life, Effect, enough, eqb, Facts, FULL, given_of, Happened, histories, Hold, holding, if_keeps, LAST_CONNECTION, leaving, leb, left, length, life_of, Link, List, ltb, marked, MOST_PENDING, MOST_PIECE, next_by, next_turn, None, nothing_known, Now, number_of, of_answer, on, on_program, on_with, Option, outcome_at, Pending, performed, Program, Reached, reached, read_on, Recv, refl, remembered, Session, Slice, SliceEnd, Some, start, subst, suc, sym, telling, Terms, Tick, true, Turn, turn_by, turn_of, zero, ℕ, ◌∙◌, ◌∷◌, ◌≡◌}
 use Rattle.std.proofs.Common.{[]}
 use Rattle.debuggee.specs.Programs.{with_program}
 use Rattle.debuggee.specs.declared.run.Mark.TheVariants as mark
@@ -87,7 +87,7 @@ module _ (lead : CommandsLead) (owe : CommandsOwe) where
   answers_so : (l : Link) (file : Option (List ℕ)) (s : Session) → Kept (on (Some l) s) → OwesNothing s.now.debuggee.program
       → Faithful (on (Some l) s) → Faithful (performed histories (answers_next (histories.see (on (Some l) s)) l file).acts (on (Some l) s))
   answers_so l file s k nothing h =
-      if_keeps (λ (o : Outcome). Faithful (performed histories o.acts (on (Some l) s))) (ltb FULL (length (waiting_of (on (Some l) s)))) _ _
+      if_keeps (λ (o : Outcome). Faithful (performed histories o.acts (on (Some l) s))) (ltb FULL (length (on (Some l) s).waiting)) _ _
       (λ _. h) (λ _. turn_so l file s.now.arrivals.pending s k nothing h)
 
   owed_so : (owed : Option Tick) (l : Link) (file : Option (List ℕ)) (p : Program) (s : Session) → p.owed ≡ owed
@@ -186,7 +186,7 @@ module _ (lead : CommandsLead) (owe : CommandsOwe) where
   outcome_so (Some l) (Slice n) s k h = h
   outcome_so (Some l) Hold s k h = hold_so (Some l) s h
   outcome_so (Some l) (Sent n) s k h =
-      if_keeps (λ (o : Outcome). Faithful (performed histories o.acts (on (Some l) s))) (ltb (length (waiting_of (on (Some l) s))) n) _ _
+      if_keeps (λ (o : Outcome). Faithful (performed histories o.acts (on (Some l) s))) (ltb (length (on (Some l) s).waiting) n) _ _
       (λ _. h)
       (λ _. record { was = record { before = h.was.before; present = h.was.present; owes = h.was.owes }; agrees = h.agrees })
   outcome_so (Some l) DropConnection s k h = drop_so l s h

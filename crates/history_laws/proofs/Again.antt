@@ -1,26 +1,11 @@
 -- Back, and forth again.
-use Rattle.std.proofs.Common.{◌≡◌, ℕ, zero, suc, ◌≤◌, true, false, List, [], ◌∷◌, length, take, Option, Some, None, Result, Ok, Err, refl, sym, ap, ◌∙◌, subst, arith}
-use Rattle.std.specs.Prelude.{IfSome}
-use Rattle.std.specs.declared.alloc.AllocError.{AllocError}
-use Rattle.course.specs.Positions.{Course, Position, gone_back}
-use Rattle.debuggee.specs.Programs.{Program, moved, next_tick, stays}
+use Rattle.history_laws.proofs.Common.{[], ap, arith, back, back_of, Beginning, Course, course_of, Debugged, EndsARun, false, gone_back, Happened, IfSome, Instr, LeadTo, length, List, move_of, moved, moved_as, Moves, MovesTo, next_tick, None, Ok, one_move, Option, Position, position_of, Program, Reached, refl, Session, settled, Some, stays, Stepped, subst, suc, sym, take, the_tick, Tick, tick_of, true, zero, ℕ, ◌∙◌, ◌∷◌, ◌≡◌, ◌≤◌}
 use Rattle.history_laws.proofs.Recorded.{every_past_is_a_run}
 use Rattle.history_laws.proofs.Ticking.{back_course}
 use Rattle.history_laws.specs.Again.{BackAndForthAgain, IsMade, IsReachedAgain, IsUndone, MakesSaying, MovesAreMade, MovesAreUndone, MovesSaying, printed_by}
-use Rattle.history_laws.specs.Recorded.{EndsARun}
-use Rattle.rv32i.proofs.OneMove.{one_move}
-use Rattle.rv32i.specs.Machine.{Effect, IsMove, machine_of}
-use Rattle.rv32i.specs.declared.instr.Instr.{Instr}
-use Rattle.rv32i.specs.declared.stepped.Stepped.{Stepped}
+use Rattle.rv32i.specs.Machine.{Effect, machine_of}
 use Rattle.rv32i.specs.declared.stepped.Stepped.TheVariants as stepped
-use Rattle.session.specs.Reached.{Happened, Reached}
-use Rattle.session.specs.Sessions.{Beginning, Session}
-use Rattle.stepping.proofs.Cases.{back_of, move_of}
-use Rattle.stepping.proofs.Existing.{the_tick}
 use Rattle.stepping.proofs.Leading.{moves_equal, ticks_lead}
-use Rattle.stepping.specs.Leading.{LeadTo, MovesTo, back}
-use Rattle.stepping.specs.Ticks.{Debugged, Moves, Settles, course_of, moved_as, position_of, settled, tick_of}
-use Rattle.stepping.specs.declared.tick.Tick.{Tick}
 
 -- ---- one answer
 
@@ -112,23 +97,19 @@ Comes before after tick =
 
 move_made : (before after : Debugged) (tick : Tick) → stays tick.outcome ≡ false → LeadTo after.past (position_of after)
     → Moves before (Ok tick) after → Comes before after tick
-move_made before after tick goes lead m = by m.stepped m.moved m.settles where
-  by : (s : Result Stepped AllocError) → IsMove (machine_of before.hart before.memory)
-      (record { answer = s; machine = machine_of after.hart after.memory }) → Settles before m.instr s (Ok tick) after
-      → Comes before after tick
-  by (Ok s) i x =
-      let came : Tick = tick_of s m.instr before.hart.pc (moved_as before after) in
-      let same : tick ≡ came = (let e : Ok tick ≡ Ok came = x.0 in cc) in
-      let past = recorded_so s m.instr before after (sym (ap (λ (t : Tick). stays t.outcome) same) ∙ goes) x.1 in
-      let move : MovesTo (position_of before) (position_of after) =
-      (subst (λ (l : List Position). LeadTo l (position_of after)) past lead).0 in
-      let left : Effect = record { answer = Ok move.answer; machine = machine_of after.hart after.memory } in
-      let right : Effect = record { answer = Ok s; machine = machine_of after.hart after.memory } in
-      let both : Ok move.answer ≡ Ok s = ap (λ (e : Effect). e.answer)
-      (one_move (machine_of before.hart before.memory) left right move.moved i) in
-      let answer : move.answer ≡ s = cc in
-      (s, ((move, answer), printed_so s m.instr before.hart.pc (moved_as before after) ∙ sym (ap (λ (t : Tick). t.printed) same)))
-  by (Err error) i x = absurd (let no : Ok tick ≡ Err error = x.0 in cc)
+move_made before after tick goes lead m =
+    let s = m.stepped in
+    let came : Tick = tick_of s m.instr before.hart.pc (moved_as before after) in
+    let same : tick ≡ came = (let e : Ok tick ≡ Ok came = m.settles.0 in cc) in
+    let past = recorded_so s m.instr before after (sym (ap (λ (t : Tick). stays t.outcome) same) ∙ goes) m.settles.1 in
+    let move : MovesTo (position_of before) (position_of after) =
+    (subst (λ (l : List Position). LeadTo l (position_of after)) past lead).0 in
+    let left : Effect = record { answer = Ok move.answer; machine = machine_of after.hart after.memory } in
+    let right : Effect = record { answer = Ok s; machine = machine_of after.hart after.memory } in
+    let both : Ok move.answer ≡ Ok s = ap (λ (e : Effect). e.answer)
+    (one_move (machine_of before.hart before.memory) left right move.moved m.moved) in
+    let answer : move.answer ≡ s = cc in
+    (s, ((move, answer), printed_so s m.instr before.hart.pc (moved_as before after) ∙ sym (ap (λ (t : Tick). t.printed) same)))
 
 pub is_made : (p : Program) → EndsARun p.machine → IsMade p
 is_made p h due forward goes =

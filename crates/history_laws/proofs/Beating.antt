@@ -1,15 +1,8 @@
 -- What two kinds of programs do in a beat: one that goes back is at no limit, and one that stands still does nothing.
-use Rattle.std.proofs.Common.{◌≡◌, Bool, true, false, Option, None, sym, ap, ◌∙◌, subst}
+use Rattle.history_laws.proofs.Common.{ap, Beat, beat_by, Bool, ends, false, Goal, if_keeps, is_at_limit, is_runnable_by, is_running, None, Now, Option, Program, Seen, subst, sym, Tick, true, turns_back, ◌∙◌, ◌≡◌}
 use Rattle.std.specs.Prelude.{◌&&◌, not, nat_le}
-use Rattle.debuggee.specs.Programs.{Program, is_running}
 use Rattle.session_laws.proofs.Stopping.{no_more}
-use Rattle.session.proofs.Reaching.{if_keeps}
-use Rattle.session.specs.Acts.{Now, Seen}
-use Rattle.session.specs.Slices.{Beat, beat_by, ends, is_at_limit, is_runnable_by}
 use Rattle.session.specs.declared.event.SliceEnd.TheVariants as ending
-use Rattle.stepping.specs.Goals.{turns_back}
-use Rattle.stepping.specs.declared.goal.Goal.{Goal}
-use Rattle.stepping.specs.declared.tick.Tick.{Tick}
 
 pub never_at_limit : {A : Type 0} (now : Now) (p : Program) (g : Goal) → p.machine.goal ≡ g → turns_back g ≡ true
     → is_at_limit now p ≡ true → A

@@ -1,52 +1,28 @@
 -- Back and forth by requests.
-use Rattle.std.proofs.Common.{◌≡◌, ℕ, zero, suc, ◌+◌, ◌-◌, ◌≤◌, Bool, true, false, List, [], ◌∷◌, ◌++◌, length, take, Option, Some, None, Result, Ok, Err, MatchResult, refl, sym, ap, ◌∙◌, subst, arith, length-append, take_all, take_at}
-use Rattle.std.specs.Prelude.{IfSome}
-use Rattle.std.specs.declared.alloc.AllocError.{AllocError}
-use Rattle.breakpoints.specs.declared.breakpoint.Hit.{Hit}
-use Rattle.course.specs.Marks.{Retired}
+use Rattle.std.proofs.Common.{◌≡◌, ℕ, zero, suc, ◌+◌, ◌-◌, ◌≤◌, Bool, true, false, List, [], ◌∷◌, ◌++◌, length, take, Option, Some, None, Ok, refl, sym, ap, ◌∙◌, subst, arith, length-append, take_all}
+use Rattle.history_laws.proofs.Common.{back, Back, back_of, EndsARun, Goal, GoesBack, Happened, Hit, IfSome, In, Instr, LeadTo, leaves, led_to, move_leaves, move_of, moved, moves_equal, moves_from_oldest, MovesSaying, MovesTo, next_tick, OfProgram, one_move, printed_by, Program, program_of, Reached, resumed, Retired, stays, Stepped, Stopped, the_tick, Tick, Went}
 use Rattle.course.specs.Positions.{Course, Position, gone_back, noted_if, undone_to}
-use Rattle.debuggee.specs.Programs.{Program, moved, next_tick, resumed, stays}
 use Rattle.history_laws.proofs.Again.{is_made, recorded_so}
 use Rattle.history_laws.proofs.Counted.{goes_on}
 use Rattle.history_laws.proofs.OneStep.{IsMoved, Starts, State, state_of, step_can_go, step_leaves}
 use Rattle.history_laws.proofs.Recorded.{every_past_is_a_run}
 use Rattle.history_laws.proofs.Ticking.{back_course}
-use Rattle.history_laws.specs.Again.{MovesSaying, printed_by}
 use Rattle.history_laws.specs.ByRequests.{Backward, Forward, IsStep, IsWhereItWas, MakesAgain, PrintsAgain, Steps, ThereAndBack}
-use Rattle.history_laws.specs.GoingBack.{OfProgram}
-use Rattle.history_laws.specs.Recorded.{EndsARun}
 use Rattle.image.specs.Memory.{word_at}
-use Rattle.image.specs.declared.fault.MemFault.{MemFault}
-use Rattle.rv32i.proofs.Moving.{the_decoding}
-use Rattle.rv32i.proofs.OneMove.{one_move}
-use Rattle.rv32i.specs.Encoding.{IsDecoding}
-use Rattle.rv32i.specs.Machine.{Effect, IsMove, Machine, machine_of}
-use Rattle.rv32i.specs.declared.instr.Instr.{Instr}
-use Rattle.rv32i.specs.declared.stepped.Stepped.{Stepped}
+use Rattle.rv32i.specs.Machine.{Effect, Machine, machine_of}
 use Rattle.rv32i.specs.declared.stepped.Stepped.TheVariants as stepped
-use Rattle.session.proofs.Advancing.{move_leaves}
 use Rattle.session.proofs.Reaching.{if_keeps, led_append}
-use Rattle.session.specs.Reached.{Happened, Reached, leaves, led_to}
 use Rattle.session.specs.Sessions.{Beginning, Session, start}
-use Rattle.session_laws.proofs.Joined.{program_of}
-use Rattle.session_laws.proofs.Retiring.{past_is_remembered}
+use Rattle.session_laws.proofs.Retiring.{is_fetched, last_off, past_is_remembered}
 use Rattle.session_laws.specs.Retiring.{IsPast, at_address, decoded, moved_on, retired_after, retired_by, retired_of, without_last}
-use Rattle.stepping.proofs.Cases.{GoesBack, back_of, move_of}
 use Rattle.stepping.proofs.Determined.{one_fetched}
-use Rattle.stepping.proofs.Existing.{the_tick}
-use Rattle.stepping.proofs.Leading.{moves_equal, moves_from_oldest}
 use Rattle.stepping.specs.Goals.{is_met}
-use Rattle.stepping.specs.Leading.{LeadTo, MovesTo, back}
 use Rattle.stepping.specs.Past.{Remembers, RemembersPast, RetiredAt}
 use Rattle.stepping.specs.Stopping.{has_retired}
-use Rattle.stepping.specs.Ticks.{Debugged, Moves, Settles, back_tick, course_of, hit_at_pc, meets_goal, moved_as, outcome_of, position_of, tick_of, undone_by}
-use Rattle.stepping.specs.declared.goal.Goal.{Goal}
-use Rattle.stepping.specs.declared.goal.Goal.TheVariants.{Back, In}
+use Rattle.stepping.specs.Ticks.{Debugged, Moves, back_tick, course_of, hit_at_pc, meets_goal, moved_as, outcome_of, position_of, tick_of, undone_by}
 use Rattle.stepping.specs.declared.goal.Granularity.TheVariants.{Instruction as Single}
 use Rattle.stepping.specs.declared.tick.Outcome.{Outcome}
-use Rattle.stepping.specs.declared.tick.Outcome.TheVariants.{Went, Stopped}
 use Rattle.stepping.specs.declared.tick.Reason.TheVariants as met
-use Rattle.stepping.specs.declared.tick.Tick.{Tick}
 
 -- ---- where a machine may be
 
@@ -104,22 +80,11 @@ back_starts p =
     }
 
 -- the last that retired is the one at the position before
-fetched_by : (word : Result ℕ MemFault) → MatchResult word (λ w. IsDecoding w (decoded word)) (λ fault. decoded word ≡ None)
-fetched_by (Ok word) = (the_decoding word).is
-fetched_by (Err fault) = refl
-
 last_is : (b : Position) (last : Retired) → RetiredAt b last → last ∷ [] ≡ at_position b
 last_is b last h =
     let m : Machine = machine_of b.hart b.memory in
     ap (λ (pc : ℕ). at_address pc (Some last.instr)) h.0
-    ∙ ap (at_address b.hart.pc) (one_fetched m (Some last.instr) (decoded (word_at m.memory m.pc)) h.1 (fetched_by (word_at m.memory m.pc)))
-
-last_off : (before : List Retired) (last : Retired)
-    → take (length (before ++ last ∷ []) - 1) (before ++ last ∷ []) ≡ before
-last_off before last =
-    let long = length-append before (last ∷ []) in
-    let fewer : length (before ++ last ∷ []) - 1 ≡ length before = omega (arith, long) in
-    ap (λ (n : ℕ). take n (before ++ last ∷ [])) fewer ∙ take_at before (last ∷ []) (length before) refl
+    ∙ ap (at_address b.hart.pc) (one_fetched m (Some last.instr) (decoded (word_at m.memory m.pc)) h.1 (is_fetched m))
 
 module _ (p : Program) (retired : List Retired) where
   abbrev BackOne : State → Type 0
@@ -213,27 +178,22 @@ record GoesForth (before after : Debugged) (tick : Tick) : Type 0 where
 
 goes_forth : (before after : Debugged) (tick : Tick) (next : Position) → before.goal ≡ In Single → MovesTo (position_of before) next
     → Moves before (Ok tick) after → GoesForth before after tick
-goes_forth before after tick next goal move m = by m.stepped m.moved m.settles where
-  by : (s : Result Stepped AllocError) → IsMove (machine_of before.hart before.memory)
-      (record { answer = s; machine = machine_of after.hart after.memory }) → Settles before m.instr s (Ok tick) after
-      → GoesForth before after tick
-  by (Err error) i x = absurd (let no : Ok tick ≡ Err error = x.0 in cc)
-  by (Ok s) i x =
-      let left : Effect = record { answer = Ok move.answer; machine = machine_of next.hart next.memory } in
-      let right : Effect = record { answer = Ok s; machine = machine_of after.hart after.memory } in
-      let both : Ok move.answer ≡ Ok s = ap (λ (e : Effect). e.answer)
-      (one_move (machine_of before.hart before.memory) left right move.moved i) in
-      let answer : move.answer ≡ s = cc in
-      let came : Tick = tick_of s m.instr before.hart.pc (moved_as before after) in
-      let same : tick ≡ came = (let e : Ok tick ≡ Ok came = x.0 in cc) in
-      let goes : stays came.outcome ≡ false = retired_goes s m.instr before.hart.pc (moved_as before after)
-      (sym (ap has_retired answer) ∙ move.retires) in
-      record {
-        goes = ap (λ (t : Tick). stays t.outcome) same ∙ goes;
-        tells = λ e.
-            step_halts s m.instr before.hart.pc (moved_as before after) goal (sym (ap (λ (t : Tick). t.outcome) same) ∙ e);
-        past = recorded_so s m.instr before after goes x.1;
-      }
+goes_forth before after tick next goal move m =
+    let s = m.stepped in
+    let left : Effect = record { answer = Ok move.answer; machine = machine_of next.hart next.memory } in
+    let right : Effect = record { answer = Ok s; machine = machine_of after.hart after.memory } in
+    let both : Ok move.answer ≡ Ok s = ap (λ (e : Effect). e.answer)
+    (one_move (machine_of before.hart before.memory) left right move.moved m.moved) in
+    let answer : move.answer ≡ s = cc in
+    let came : Tick = tick_of s m.instr before.hart.pc (moved_as before after) in
+    let same : tick ≡ came = (let e : Ok tick ≡ Ok came = m.settles.0 in cc) in
+    let goes : stays came.outcome ≡ false = retired_goes s m.instr before.hart.pc (moved_as before after)
+    (sym (ap has_retired answer) ∙ move.retires) in
+    record {
+      goes = ap (λ (t : Tick). stays t.outcome) same ∙ goes;
+      tells = λ e. step_halts s m.instr before.hart.pc (moved_as before after) goal (sym (ap (λ (t : Tick). t.outcome) same) ∙ e);
+      past = recorded_so s m.instr before after goes m.settles.1;
+    }
 
 forth_goes : (p : Program) (next : Position) → MovesTo (position_of p.machine) next
     → GoesForth (forth_from p).machine (moved (forth_from p)).machine (next_tick (forth_from p))

@@ -1,24 +1,14 @@
 -- How many moves are recorded.
-use Rattle.std.proofs.Common.{◌≡◌, ℕ, ◌+◌, ◌-◌, Bool, false, cond, List, [], ◌∷◌, length, min, Option, Result, Ok, Err, refl, sym, ap, ◌∙◌, subst, arith, length-take}
-use Rattle.std.specs.declared.alloc.AllocError.{AllocError}
-use Rattle.breakpoints.specs.declared.breakpoint.Hit.{Hit}
+use Rattle.history_laws.proofs.Common.{[], ap, arith, Bool, cond, false, Hit, if_keeps, Instr, length, length-take, List, MemFault, min, Ok, Option, refl, stays, Stepped, Stopped, subst, sym, Tick, turns_back, Went, ℕ, ◌+◌, ◌-◌, ◌∙◌, ◌∷◌, ◌≡◌}
 use Rattle.course.specs.Positions.{Course, Position, past_left, position_at}
-use Rattle.debuggee.specs.Programs.{stays}
 use Rattle.history_laws.proofs.Ticking.{hit_goes, looked_course}
 use Rattle.history_laws.specs.Recorded.{AreGivenUp, TicksAreCounted, count_after}
 use Rattle.image.specs.Memory.{unless_fault}
-use Rattle.image.specs.declared.fault.MemFault.{MemFault}
-use Rattle.rv32i.specs.declared.instr.Instr.{Instr}
-use Rattle.rv32i.specs.declared.stepped.Stepped.{Stepped}
 use Rattle.rv32i.specs.declared.stepped.Stepped.TheVariants as stepped
-use Rattle.session.proofs.Reaching.{if_keeps}
 use Rattle.stepping.proofs.Cases.{by_tick}
-use Rattle.stepping.specs.Goals.{turns_back}
-use Rattle.stepping.specs.Ticks.{Debugged, Moves, Settles, gone_on, moved_as, outcome_of, settled, tick_of, undone_by}
+use Rattle.stepping.specs.Ticks.{Debugged, Moves, gone_on, moved_as, outcome_of, settled, tick_of, undone_by}
 use Rattle.stepping.specs.declared.tick.Outcome.{Outcome}
-use Rattle.stepping.specs.declared.tick.Outcome.TheVariants.{Went, Stopped}
 use Rattle.stepping.specs.declared.tick.Reason.TheVariants as why
-use Rattle.stepping.specs.declared.tick.Tick.{Tick}
 
 -- ---- a tick
 
@@ -57,12 +47,10 @@ settled_counts (stepped.Exit code) before after instr e = ap (λ (d : Debugged).
 settled_counts (stepped.Trap cause) before after instr e = ap (λ (d : Debugged). length d.past) e
 
 move_counts : (before after : Debugged) (tick : Tick) → Moves before (Ok tick) after → Counts before after tick.outcome
-move_counts before after tick m = by m.stepped m.settles where
-  by : (s : Result Stepped AllocError) → Settles before m.instr s (Ok tick) after → Counts before after tick.outcome
-  by (Ok s) x =
-      let same : tick ≡ tick_of s m.instr before.hart.pc (moved_as before after) = cc in
-      subst (λ (t : Tick). Counts before after t.outcome) (sym same) (settled_counts s before after m.instr x.1)
-  by (Err error) x = absurd (cc)
+move_counts before after tick m =
+    let said = m.settles.0 in
+    let same : tick ≡ tick_of m.stepped m.instr before.hart.pc (moved_as before after) = cc in
+    subst (λ (t : Tick). Counts before after t.outcome) (sym same) (settled_counts m.stepped before after m.instr m.settles.1)
 
 pub ticks_are_counted : TicksAreCounted
 ticks_are_counted before after tick t = by_tick before after (Ok tick) t

@@ -1,5 +1,5 @@
 -- How many moves are recorded after each event.
-use Rattle.std.proofs.Common.{◌≡◌, ℕ, ℤ, zero, suc, ◌+◌, ◌-◌, ◌≤◌, Bool, true, false, cond, eqb, leb, ltb, List, [], ◌∷◌, length, take, min, Option, Some, None, Result, Ok, refl, sym, ap, ◌∙◌, subst, arith, length-take}
+use Rattle.history_laws.proofs.Common.{[], Answered, Answering, answering_debuggee, ap, arith, beats, becomes_program, Bool, by_move, by_turn, ByTurn, Command, concluded, cond, Connect, Cut, Debugged, departed, DropConnection, Ended, enough, eqb, false, FULL, given_of, Happened, Hold, if_keeps, intent_of, is_success, is_to_end, is_to_stand, LAST_CONNECTION, leb, length, length-take, Link, List, ltb, Mark, min, MOST_PENDING, MOST_PIECE, move_leaves, next_by, None, Now, of_answer, Ok, on, Option, Pending, performed, program_of, Reached, Recv, refl, Refusal, Result, Run, Sent, Slice, SliceEnd, Slicing, Some, Stopped, subst, suc, sym, take, telling_program, tells_only, Terms, the_tick, Tick, true, Turn, turns_back, Wanted, Went, Whole, Why, with_list, zero, ℕ, ℤ, ◌+◌, ◌-◌, ◌∙◌, ◌∷◌, ◌≡◌, ◌≤◌}
 use Rattle.std.proofs.lemmas.Bool.{or_left, or_right}
 use Rattle.std.specs.Prelude.{IfOk, IfSome, ◌&&◌, ◌||◌, not, MatchOption}
 use Rattle.answers.proofs.ProperValues.{writings_fit}
@@ -7,59 +7,24 @@ use Rattle.answers.specs.Answers.{sets_breakpoints}
 use Rattle.answers.specs.Looking.{looks_in}
 use Rattle.answers.specs.WriteMemory.{write_memory}
 use Rattle.answers.specs.declared.write_memory.Writing.{Writing}
-use Rattle.breakpoints.specs.Stops.{Wanted}
 use Rattle.debuggee.specs.Programs.{Debuggee, Program, ended, entered, first_run, is_ended, is_running, left, marked, marked_by, moved, next_tick, on_program, restarted, resumed, stays, stopped, told, why_marked, with_hart, written}
-use Rattle.debuggee.specs.declared.run.Mark.{Mark}
 use Rattle.debuggee.specs.declared.run.Mark.TheVariants as mark
-use Rattle.debuggee.specs.declared.run.Run.{Run}
 use Rattle.debuggee.specs.declared.run.Run.TheVariants as run
-use Rattle.debuggee.specs.declared.run.Why.{Why}
 use Rattle.debuggee.specs.declared.run.Why.TheVariants as why
-use Rattle.handlers.specs.Breaks.{with_list}
-use Rattle.handlers.specs.Disconnect.{departed, is_to_end, is_to_stand}
-use Rattle.handlers.specs.Given.{Answering}
 use Rattle.handlers.specs.Telling.{exit_events, stop_event}
-use Rattle.handlers.specs.declared.terms.Terms.{Terms}
 use Rattle.history_laws.proofs.Counted.{are_given_up, ticks_are_counted}
 use Rattle.history_laws.proofs.Recorded.{every_past_is_a_run}
-use Rattle.session_laws.specs.Intents.{intent_of}
 use Rattle.history_laws.specs.Recorded.{EndsARun, EventsAreCounted, asks_to_give_up, count_after, count_answered, count_moved, count_of, count_sliced, gives_up, recorded_of}
 use Rattle.image.specs.Memory.{fault_at}
-use Rattle.protocol.specs.declared.command.Command.{Command}
 use Rattle.protocol.specs.declared.command.Command.TheVariants as command
-use Rattle.protocol.specs.declared.refusal.Refusal.{Refusal}
 use Rattle.protocol.specs.declared.write_memory.WriteMemoryArguments.{WriteMemoryArguments}
-use Rattle.session.proofs.Advancing.{move_leaves}
-use Rattle.session.proofs.ByMove.{by_move}
 use Rattle.session.proofs.BySuccess.{BySuccess, agrees, by_success, steps}
-use Rattle.session.proofs.Reaching.{if_keeps}
-use Rattle.session.proofs.Serving.{of_answer}
-use Rattle.session.specs.Acts.{Now, given_of}
-use Rattle.session.specs.Beats.{concluded}
-use Rattle.session.specs.Effects.{Slicing, beats, enough, next_by, performed}
-use Rattle.session.specs.Kinds.{is_success}
 use Rattle.session.specs.Outcomes.{Outcome as Does, answer_to, outcome_at}
-use Rattle.session.specs.Reached.{Happened, Whole, Cut, Reached}
-use Rattle.session.specs.Sessions.{Beginning, Effect, Session, histories, waiting_of}
+use Rattle.session.specs.Sessions.{Beginning, Effect, Session, histories}
 use Rattle.session.specs.Slices.{Beat, beat_by, beat_of, ending_of, ends, exits, goes, goes_unless, is_at_limit, is_runnable_by, makes_move, moves_by, stops, telling, tells}
-use Rattle.session.specs.declared.event.Event.TheVariants.{Connect, Recv, Turn, Slice, Hold, Sent, DropConnection}
-use Rattle.session.specs.declared.event.SliceEnd.{SliceEnd}
 use Rattle.session.specs.declared.event.SliceEnd.TheVariants as ending
-use Rattle.session.specs.declared.link.Link.{Link}
-use Rattle.queues.specs.declared.pending.Pending.{Pending}
-use Rattle.session.specs.declared.state.TheConstants.{MOST_PIECE, MOST_PENDING, FULL, LAST_CONNECTION}
-use Rattle.session_laws.proofs.Answered.{ByTurn, by_turn}
-use Rattle.session_laws.proofs.ByForms.{on}
-use Rattle.session_laws.proofs.Joined.{becomes_program, program_of, telling_program, tells_only}
-use Rattle.session_laws.proofs.Paused.{answering_debuggee}
-use Rattle.session_laws.specs.Turns.{Answered}
-use Rattle.stepping.proofs.Existing.{the_tick}
-use Rattle.stepping.specs.Goals.{turns_back}
-use Rattle.stepping.specs.Ticks.{Debugged}
 use Rattle.stepping.specs.declared.tick.Outcome.{Outcome}
-use Rattle.stepping.specs.declared.tick.Outcome.TheVariants.{Went, Stopped, Ended}
 use Rattle.stepping.specs.declared.tick.Reason.TheVariants as met
-use Rattle.stepping.specs.declared.tick.Tick.{Tick}
 
 -- ---- what is done to a program
 
@@ -315,7 +280,7 @@ owed_sliced : (owed : Option Tick) (start : Debugged) (made : ℕ) (s : Session)
 owed_sliced (Some tick) start made s p more is h = tick_sliced start made s p tick h
 owed_sliced None start made s p more is h =
     if_keeps (SlicedBy start made s) (not (is_runnable_by s.now.link p.run)) _ _ (λ _. idle_sliced start made s p ending.Idle is h)
-    (λ _. if_keeps (SlicedBy start made s) (ltb FULL (length (waiting_of s))) _ _ (λ _. idle_sliced start made s p ending.Full is h)
+    (λ _. if_keeps (SlicedBy start made s) (ltb FULL (length s.waiting)) _ _ (λ _. idle_sliced start made s p ending.Full is h)
     (λ _. unless_sliced start made s p p.mark more is h))
 
 beat_sliced : (program : Option Program) (start : Debugged) (made : ℕ) (s : Session) (more : Bool) → program_of s ≡ program
@@ -396,7 +361,7 @@ hold_counts (Some l) s = same_of (marked mark.Hold) (λ p. marked_same p.run mar
 
 sent_counts : (l : Option Link) (n : ℕ) (s : Session) → Stays (on l s) (outcome_at (histories.see (on l s)) l (Sent n))
 sent_counts None n s = refl
-sent_counts (Some l) n s = if_keeps (Stays (on (Some l) s)) (ltb (length (waiting_of (on (Some l) s))) n) _ _ (λ _. refl) (λ _. refl)
+sent_counts (Some l) n s = if_keeps (Stays (on (Some l) s)) (ltb (length (on (Some l) s).waiting) n) _ _ (λ _. refl) (λ _. refl)
 
 drop_counts : (l : Option Link) (s : Session) → Stays (on l s) (outcome_at (histories.see (on l s)) l DropConnection)
 drop_counts None s = refl

@@ -1,40 +1,13 @@
 -- A success of a request to go back has the program go back from where it stood.
-use Rattle.std.proofs.Common.{◌≡◌, ℕ, ◌≤◌, Bool, true, false, cond, ltb, List, [], ◌∷◌, length, Option, Some, None, refl, sym, ap, subst, arith}
-use Rattle.std.specs.Prelude.{IfSome}
-use Rattle.course.specs.Positions.{Position}
-use Rattle.debuggee.specs.Programs.{Debuggee, Program, on_program, resumed}
+use Rattle.history_laws.proofs.Common.{[], answer_to, Answering, answering_debuggee, ap, arith, Back, Beginning, Bool, Command, cond, course_of, Debuggee, demand_of, false, FULL, Given, given_of, Goal, Happened, histories, IfSome, intent_of, is_success, length, Link, List, ltb, Meets, None, Now, of_answer, on_program, Option, OrderlyOf, past_of, Pending, performed, Position, Program, program_of, Reached, refl, resumed, ReverseGo, Session, Some, subst, success_by, success_of, sym, Terms, Tick, true, Turn, ℕ, ◌∷◌, ◌≡◌, ◌≤◌}
+use Rattle.protocol.specs.declared.command.Command.TheVariants.{ReverseContinue, StepBack}
 use Rattle.handlers.specs.Demands.{goes_on, run_of}
-use Rattle.handlers.specs.Given.{Answering, Given}
-use Rattle.handlers.specs.GoingBack.{past_of, success_by}
-use Rattle.handlers.specs.Requests.{demand_of, success_of}
-use Rattle.handlers.specs.declared.terms.Terms.{Terms}
 use Rattle.history_laws.proofs.Recorded.{always_orderly}
-use Rattle.session_laws.specs.Intents.{intent_of}
 use Rattle.history_laws.specs.GoingBack.{BeginsBack, GoesBackFrom, OfProgram, TurnsBeginBack, goal_asked, goal_of}
-use Rattle.protocol.specs.declared.command.Command.{Command}
-use Rattle.protocol.specs.declared.command.Command.TheVariants.{StepBack, ReverseContinue}
-use Rattle.session.proofs.Orderly.{OrderlyOf}
-use Rattle.session.proofs.Serving.{Meets, of_answer}
-use Rattle.session.specs.Acts.{Now, given_of}
-use Rattle.session.specs.Effects.{performed}
-use Rattle.session.specs.Kinds.{is_success}
 use Rattle.session.specs.Outcomes.{Outcome as Does, answers_next, done, next_turn, outcome_at, turn_by, turn_of}
-use Rattle.session.specs.Outcomes.{answer_to}
-use Rattle.session.specs.Reached.{Happened, Reached}
-use Rattle.session.specs.Sessions.{Beginning, Session, histories, waiting_of}
 use Rattle.session.specs.declared.event.Applied.TheVariants.{Turn as DidTurn}
-use Rattle.session.specs.declared.event.Event.TheVariants.{Turn}
 use Rattle.session.specs.declared.event.Turned.TheVariants as turned
-use Rattle.session.specs.declared.link.Link.{Link}
-use Rattle.queues.specs.declared.pending.Pending.{Pending}
-use Rattle.session.specs.declared.state.TheConstants.{FULL}
-use Rattle.session_laws.proofs.Joined.{program_of}
-use Rattle.session_laws.proofs.Paused.{answering_debuggee}
 use Rattle.session_laws.specs.Turns.{Answered, answered_by, answered_on, answered_with, first_answered, next_answered}
-use Rattle.stepping.specs.Ticks.{course_of}
-use Rattle.stepping.specs.declared.goal.Goal.{Goal}
-use Rattle.stepping.specs.declared.goal.Goal.TheVariants.{Back, ReverseGo}
-use Rattle.stepping.specs.declared.tick.Tick.{Tick}
 
 -- nothing is left to be told
 abbrev OwesNothing : Option Program → Type 0
@@ -103,7 +76,7 @@ module _ (s : Session) (file : Option (List ℕ)) (o : OrderlyOf (program_of s))
 
   with_room : (l : Link) → OwesNothing (program_of s)
       → Turns (next_answered (histories.see s) l file) (answers_next (histories.see s) l file)
-  with_room l owes = by (ltb FULL (length (waiting_of s))) where
+  with_room l owes = by (ltb FULL (length s.waiting)) where
     by : (full : Bool) → Turns (cond full None (first_answered (histories.see s) l file s.now.arrivals.pending))
         (cond full (done (DidTurn turned.Full) []) (next_turn s.now l.terms file s.now.arrivals.pending))
     by true = tt

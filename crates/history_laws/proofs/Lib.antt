@@ -1,3 +1,4 @@
+pub mod Common
 pub mod Recorded
 pub mod Ticking
 pub mod Beating

@@ -1,9 +1,7 @@
 -- A run back stops at the newest place of which it is so, and else at the oldest.
 use Rattle.std.proofs.Common.{◌≡◌, ℕ, zero, suc, ◌<◌, ◌≤◌, Bool, true, false, cond, List, [], ◌∷◌, length, ◌⊎◌, inl, inr, refl, sym, ap, ◌∙◌, subst, arith}
-use Rattle.course.specs.Positions.{Course, Position}
+use Rattle.history_laws.proofs.Common.{Course, LeadTo, Makes, moves_equal, moves_from_oldest, MovesTo, oldest_of, Position}
 use Rattle.history_laws.specs.RunningBack.{IsNewest, RunsBackToTheNewest}
-use Rattle.stepping.proofs.Leading.{moves_equal, moves_from_oldest}
-use Rattle.stepping.specs.Leading.{LeadTo, Makes, MovesTo, oldest_of}
 use Rattle.stepping.specs.StoppingBack.{turned}
 
 abbrev at_end : List Position → Position → Course

@@ -1,60 +1,21 @@
 -- What a step by a request leaves: the machine after one tick, where a reason of the machine stopped the program.
-use Rattle.std.proofs.Common.{◌≡◌, ◌≢◌, ℕ, ℤ, zero, suc, ◌≤◌, Bool, true, false, cond, leb, ltb, List, [], ◌∷◌, length, Option, Some, None, ◌⊎◌, inl, inr, refl, sym, ap, ◌∙◌, subst, arith}
-use Rattle.std.specs.Prelude.{◌&&◌, not}
-use Rattle.course.specs.Marks.{Retired}
-use Rattle.course.specs.Positions.{Course, Position}
-use Rattle.debuggee.specs.Programs.{Debuggee, Program, first_mark, is_running, marked, marked_by, moved, next_tick, on_program, owing_by, resumed, stays, stopped, told, why_marked}
-use Rattle.debuggee.specs.declared.run.Mark.{Mark}
+use Rattle.history_laws.proofs.Common.{[], Answering, answering_debuggee, ap, arith, Back, Beat, beat_by, beat_of, beats, becomes_program, Bool, by_move, by_turn, ByTurn, Command, concluded, cond, Connect, Course, course_of, Cut, Debugged, Debuggee, DropConnection, Ended, ends, enough, false, first_mark, FULL, given_of, goes, goes_unless, Happened, Hold, if_keeps, In, inl, inr, intent_of, is_at_limit, is_runnable_by, is_running, is_success, leaves, leb, led_to, length, Link, List, ltb, makes_move, Mark, marked, marked_by, MOST_PENDING, MOST_PIECE, moved, moves_by, next_by, next_tick, None, not, Now, of_answer, OfProgram, on, on_program, Option, owing_by, past_of, Pending, performed, Position, Program, program_of, Reason, Recv, refl, resumed, Retired, Run, Seen, Sent, Slice, SliceEnd, Slicing, Some, stays, stop_event, stopped, Stopped, stops, subst, suc, success_by, success_of, sym, telling, telling_program, tells, tells_only, Terms, the_tick, Tick, told, true, Turn, Went, Whole, Why, why_marked, zero, ℕ, ℤ, ◌&&◌, ◌∙◌, ◌∷◌, ◌≡◌, ◌≢◌, ◌≤◌, ◌⊎◌}
 use Rattle.debuggee.specs.declared.run.Mark.TheVariants as mark
-use Rattle.debuggee.specs.declared.run.Run.{Run}
 use Rattle.debuggee.specs.declared.run.Run.TheVariants as run
-use Rattle.debuggee.specs.declared.run.Why.{Why}
 use Rattle.debuggee.specs.declared.run.Why.TheVariants as why
-use Rattle.handlers.specs.Given.{Answering}
-use Rattle.handlers.specs.GoingBack.{past_of, success_by}
-use Rattle.handlers.specs.Requests.{success_of}
 use Rattle.handlers.specs.Stepping.{granularity_of}
-use Rattle.handlers.specs.Telling.{stop_event}
-use Rattle.handlers.specs.declared.terms.Terms.{Terms}
 use Rattle.history_laws.proofs.Beating.{stands_idle}
 use Rattle.history_laws.specs.ByRequests.{AreQuiet, Asks, AsksFor, Backward, Direction, Forward, HasMet, IsQuiet, IsStep, LeavesProgram, goal_by}
-use Rattle.history_laws.specs.GoingBack.{OfProgram}
-use Rattle.protocol.specs.declared.command.Command.{Command}
 use Rattle.protocol.specs.declared.command.Command.TheVariants.{StepBack, StepIn}
 use Rattle.queues.specs.declared.pending.Ask.{Ask}
 use Rattle.queues.specs.declared.pending.Ask.TheVariants.{Request, Bad}
-use Rattle.queues.specs.declared.pending.Pending.{Pending}
-use Rattle.session.proofs.ByMove.{by_move}
-use Rattle.session.proofs.Reaching.{if_keeps}
-use Rattle.session.proofs.Serving.{of_answer}
-use Rattle.session.specs.Acts.{Now, Seen, given_of}
-use Rattle.session.specs.Beats.{concluded}
-use Rattle.session.specs.Effects.{Slicing, beats, enough, next_by, performed}
-use Rattle.session.specs.Kinds.{is_success}
 use Rattle.session.specs.Outcomes.{Outcome as Does, answer_to, answering, outcome_at}
-use Rattle.session.specs.Reached.{Happened, Whole, Cut, leaves, led_to}
-use Rattle.session.specs.Sessions.{Effect, Session, histories, waiting_of}
-use Rattle.session.specs.Slices.{Beat, beat_by, beat_of, ends, goes, goes_unless, is_at_limit, is_runnable_by, makes_move, moves_by, stops, telling, tells}
-use Rattle.session.specs.declared.event.Event.TheVariants.{Connect, Recv, Turn, Slice, Hold, Sent, DropConnection}
-use Rattle.session.specs.declared.event.SliceEnd.{SliceEnd}
+use Rattle.session.specs.Sessions.{Effect, Session, histories}
 use Rattle.session.specs.declared.event.SliceEnd.TheVariants as ending
-use Rattle.session.specs.declared.link.Link.{Link}
-use Rattle.session.specs.declared.state.TheConstants.{MOST_PIECE, MOST_PENDING, FULL}
-use Rattle.session_laws.proofs.Answered.{ByTurn, by_turn}
-use Rattle.session_laws.proofs.ByForms.{on}
-use Rattle.session_laws.proofs.Joined.{becomes_program, program_of, telling_program, tells_only}
-use Rattle.session_laws.proofs.Paused.{answering_debuggee}
-use Rattle.session_laws.specs.Intents.{intent_of}
 use Rattle.session_laws.specs.Retiring.{after_answer, after_move, after_next, and_next, and_retired, asks_to_load, loads, moved_on, retired_after, retired_by, retired_in}
 use Rattle.session_laws.specs.Turns.{Answered, answered, answered_by, answered_on, answered_with}
-use Rattle.stepping.proofs.Existing.{the_tick}
-use Rattle.stepping.specs.Ticks.{Debugged, course_of}
-use Rattle.stepping.specs.declared.goal.Goal.TheVariants.{Back, In}
 use Rattle.stepping.specs.declared.goal.Granularity.{Granularity}
 use Rattle.stepping.specs.declared.tick.Outcome.{Outcome}
-use Rattle.stepping.specs.declared.tick.Outcome.TheVariants.{Went, Stopped, Ended}
-use Rattle.stepping.specs.declared.tick.Reason.{Reason}
-use Rattle.stepping.specs.declared.tick.Tick.{Tick}
 
 -- ---- where a machine is
 
@@ -289,7 +250,7 @@ module _ (start : Program) (retired : List Retired) (h : Starts start) where
   wait_way now s p more is w =
       subst (λ (o : Option Tick). WayBy now s (beat_by o (histories.see s) p more)) (sym w.owed)
       (if_keeps (WayBy now s) (not (is_runnable_by s.now.link p.run)) _ _ (λ _. idle_way now s (Some p) ending.Idle is (waits now p w))
-      (λ _. if_keeps (WayBy now s) (ltb FULL (length (waiting_of s))) _ _
+      (λ _. if_keeps (WayBy now s) (ltb FULL (length s.waiting)) _ _
       (λ _. idle_way now s (Some p) ending.Full is (waits now p w)) (λ _. unless_way now s p p.mark more is w)))
 
   -- what is owed is told
@@ -390,7 +351,7 @@ module _ (start : Program) (retired : List Retired) (h : Starts start) where
       → Leaves now (on l s) (outcome_at (histories.see (on l s)) l (Sent n))
   sent_way None n now s w = w
   sent_way (Some l) n now s w =
-      if_keeps (Leaves now (on (Some l) s)) (ltb (length (waiting_of (on (Some l) s))) n) _ _ (λ _. w) (λ _. w)
+      if_keeps (Leaves now (on (Some l) s)) (ltb (length (on (Some l) s).waiting) n) _ _ (λ _. w) (λ _. w)
 
   -- it owes what it owes
   tells_way : (now : List Retired) (s : Session) (p : Program) (tick : Tick) → p.owed ≡ Some tick → Way start retired now (Some p)

@@ -1,15 +1,8 @@
 -- What is recorded is a run, and how many moves it has.
-use Rattle.std.proofs.Common.{List, Option, Some, None}
-use Rattle.std.specs.Prelude.{IfSome}
-use Rattle.debuggee.specs.Programs.{Program}
+use Rattle.history_laws.proofs.Common.{Beginning, course_of, Debugged, Happened, IfSome, List, moves_from_oldest, None, Option, OrderlyOf, Program, Reached, Session, Some}
 use Rattle.history_laws.specs.Recorded.{EndsARun, EveryPastIsARun}
 use Rattle.range_laws.specs.Debugging.{DebuggedInRange}
-use Rattle.session.proofs.Orderly.{OrderlyOf}
-use Rattle.session.specs.Reached.{Happened, Reached}
-use Rattle.session.specs.Sessions.{Beginning, Session}
 use Rattle.session_laws.proofs.Turning.{KeptByEvents, both_reached}
-use Rattle.stepping.proofs.Leading.{moves_from_oldest}
-use Rattle.stepping.specs.Ticks.{Debugged, course_of}
 
 -- ---- a program is orderly, whatever happens
 

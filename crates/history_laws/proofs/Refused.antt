@@ -1,36 +1,21 @@
 -- Going back is refused with `noHistory` exactly where nothing is recorded.
 use Rattle.std.proofs.Common.{◌≡◌, ℕ, Bool, true, false, List, [], ◌∷◌, length, Option, Some, None, is_some, refl, sym, ap, ◌∙◌, subst, arith}
 use Rattle.std.specs.Prelude.{◌↔◌, ◌&&◌, not, ⊤}
-use Rattle.course.specs.Positions.{Position}
-use Rattle.debuggee.specs.Programs.{Program}
-use Rattle.debuggee.specs.declared.run.Run.{Run}
+use Rattle.history_laws.proofs.Common.{Command, Given, given_of, Goal, goal_of, intent_of, Link, Now, past_of, Position, Program, recorded_of, Refusal, Request, Run, Session, success_by, Terms}
+use Rattle.protocol.specs.declared.command.Command.TheVariants.{ReverseContinue, StepBack}
 use Rattle.handlers.specs.Demands.{goes_on, has_ended, has_none, is_no_thread, run_of}
-use Rattle.handlers.specs.Given.{Given}
-use Rattle.handlers.specs.GoingBack.{past_of, success_by}
 use Rattle.handlers.specs.Requests.{demand_of, is_taken_in, success_of}
 use Rattle.handlers.specs.declared.phase.Phase.{Phase}
-use Rattle.handlers.specs.declared.terms.Terms.{Terms}
-use Rattle.history_laws.specs.Recorded.{recorded_of}
-use Rattle.session_laws.specs.Intents.{intent_of}
-use Rattle.history_laws.specs.GoingBack.{goal_of}
 use Rattle.history_laws.specs.Refused.{NoHistoryExactly}
-use Rattle.protocol.specs.declared.command.Command.{Command}
-use Rattle.protocol.specs.declared.command.Command.TheVariants.{StepBack, ReverseContinue}
-use Rattle.protocol.specs.declared.refusal.Refusal.{Refusal}
 use Rattle.protocol.specs.declared.refusal.Refusal.TheVariants as refusal
 use Rattle.protocol.specs.declared.request.Request.{Request as ARequest}
 use Rattle.replies.specs.declared.response.Outcome.{Outcome}
 use Rattle.replies.specs.declared.response.Outcome.TheVariants.{Done, Refused}
 use Rattle.replies.specs.declared.response.ResponseBody.TheVariants as body
-use Rattle.session.specs.Acts.{Now, given_of}
 use Rattle.queues.specs.Arrivals.{is_repeat}
 use Rattle.handlers.specs.Refusals.{answer_by, first_refusal, is_cancelled, names_none, refusals, where_so}
-use Rattle.session.specs.Sessions.{Session}
-use Rattle.session.specs.declared.link.Link.{Link}
-use Rattle.queues.specs.declared.pending.Ask.TheVariants.{Request}
 use Rattle.queues.specs.declared.pending.Fate.{Fate}
 use Rattle.session_laws.specs.Lifetimes.{IsNotRefusedBefore, outcome_next}
-use Rattle.stepping.specs.declared.goal.Goal.{Goal}
 use Rattle.stepping.specs.declared.goal.Goal.TheVariants as goal
 
 -- ---- reasons that come before

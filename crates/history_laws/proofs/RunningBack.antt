@@ -1,44 +1,17 @@
 -- A run back stops where it has to.
-use Rattle.std.proofs.Common.{◌≡◌, ℕ, ℤ, zero, suc, ◌≤◌, Bool, true, false, ltb, List, [], ◌∷◌, length, Option, Some, None, Ok, ◌⊎◌, inl, inr, refl, sym, ap, ◌∙◌, subst}
+use Rattle.history_laws.proofs.Common.{[], ap, Back, back_of, back_outcome, back_tick, Beat, beat_by, beat_of, beats, Bool, by_move, concluded, Course, course_of, Cut, Debugged, Ended, ends, enough, false, FULL, Go, Goal, goes, goes_unless, GoesBack, Happened, histories, Hit, if_keeps, In, inl, inr, is_at_limit, is_runnable_by, is_running, Leaves, leaves, led_to, length, List, looked_at, ltb, makes_move, Mark, move_leaves, moved, moves_by, next_by, next_tick, None, OfProgram, Ok, Option, Out, outcome_or, Over, owing_by, performed, Position, position_of, Program, program_of, Reason, refl, ReverseGo, Session, Slice, SliceEnd, Slicing, Some, standing_in, stays, stopped, Stopped, subst, suc, sym, telling, telling_program, the_tick, Tick, told, true, turns_back, undone, undone_by, unless_start, Went, Whole, zero, ℕ, ℤ, ◌∙◌, ◌∷◌, ◌≡◌, ◌≤◌, ◌⊎◌}
 use Rattle.std.specs.Prelude.{All, not}
 use Rattle.std.proofs.lemmas.List.Elements.{All-head, All-tail}
-use Rattle.breakpoints.specs.Stops.{standing_in}
-use Rattle.breakpoints.specs.declared.breakpoint.Hit.{Hit}
-use Rattle.course.specs.Positions.{Course, Position}
-use Rattle.debuggee.specs.Programs.{Program, is_running, moved, next_tick, owing_by, stays, stopped, told}
-use Rattle.debuggee.specs.declared.run.Mark.{Mark}
 use Rattle.debuggee.specs.declared.run.Run.TheVariants as run
 use Rattle.debuggee.specs.declared.run.Why.TheVariants as why
 use Rattle.history_laws.proofs.Beating.{never_at_limit, stands_idle}
 use Rattle.history_laws.proofs.Ticking.{back_goes, looked_course}
-use Rattle.history_laws.specs.GoingBack.{OfProgram}
 use Rattle.history_laws.specs.RunningBack.{IsTime, RunsBackStopThere, StopsBackThere, stop_at}
-use Rattle.session.proofs.Advancing.{Leaves, move_leaves}
-use Rattle.session.proofs.ByMove.{by_move}
-use Rattle.session.proofs.Reaching.{if_keeps}
-use Rattle.session.specs.Beats.{concluded}
-use Rattle.session.specs.Effects.{Slicing, beats, enough, next_by, performed}
-use Rattle.session.specs.Reached.{Happened, Whole, Cut, leaves, led_to}
-use Rattle.session.specs.Sessions.{Session, histories, waiting_of}
-use Rattle.session.specs.Slices.{Beat, beat_by, beat_of, ends, goes, goes_unless, is_at_limit, is_runnable_by, makes_move, moves_by, telling}
-use Rattle.session.specs.declared.event.Event.TheVariants.{Slice}
-use Rattle.session.specs.declared.event.SliceEnd.{SliceEnd}
 use Rattle.session.specs.declared.event.SliceEnd.TheVariants as ending
-use Rattle.session.specs.declared.state.TheConstants.{FULL}
-use Rattle.session_laws.proofs.Joined.{program_of, telling_program}
-use Rattle.stepping.proofs.Cases.{GoesBack, back_of}
-use Rattle.stepping.proofs.Existing.{the_tick}
 use Rattle.stepping.proofs.Reversing.{runs_back_turn}
-use Rattle.stepping.specs.Goals.{turns_back}
 use Rattle.stepping.specs.StoppingBack.{TurnsTo, turned_from}
-use Rattle.stepping.specs.Ticks.{Debugged, back_outcome, back_tick, course_of, looked_at, outcome_or, position_of, undone, undone_by, unless_start}
-use Rattle.stepping.specs.declared.goal.Goal.{Goal}
-use Rattle.stepping.specs.declared.goal.Goal.TheVariants.{ReverseGo, Go, In, Over, Out, Back}
 use Rattle.stepping.specs.declared.tick.Outcome.{Outcome}
-use Rattle.stepping.specs.declared.tick.Outcome.TheVariants.{Went, Stopped, Ended}
-use Rattle.stepping.specs.declared.tick.Reason.{Reason}
 use Rattle.stepping.specs.declared.tick.Reason.TheVariants as met
-use Rattle.stepping.specs.declared.tick.Tick.{Tick}
 
 -- ---- where it is
 
@@ -220,7 +193,7 @@ unfolding TurnsBeat
 owed_turns (Some tick) stop s p more owed is h = tick_turns stop s p tick owed h
 owed_turns None stop s p more owed is h =
     if_keeps (TurnsBeat stop s) (not (is_runnable_by s.now.link p.run)) _ _ (λ _. idle_turns stop s p ending.Idle is (still stop p h))
-    (λ _. if_keeps (TurnsBeat stop s) (ltb FULL (length (waiting_of s))) _ _
+    (λ _. if_keeps (TurnsBeat stop s) (ltb FULL (length s.waiting)) _ _
     (λ _. idle_turns stop s p ending.Full is (still stop p h)) (λ _. unless_turns stop s p more is owed h))
 
 -- one that stands does nothing

@@ -1,68 +1,29 @@
 -- A step back goes one move back, whatever happens.
-use Rattle.std.proofs.Common.{◌≡◌, ◌≢◌, ℕ, zero, suc, Bool, true, false, leb, ltb, eqb, List, [], ◌∷◌, length, Option, Some, None, Ok, ◌⊎◌, inl, inr, refl, sym, ap, ◌∙◌, subst}
+use Rattle.history_laws.proofs.Common.{[], Answered, Answering, answering_debuggee, ap, Back, back_of, back_outcome, back_tick, Beat, beat_by, beat_of, beats, becomes_program, Bool, by_success, BySuccess, Command, concluded, Connect, Course, course_of, demand_of, departed, DropConnection, ends, enough, eqb, false, FULL, given_of, Goal, goes, goes_unless, GoesBack, GoesBackFrom, gone_back, Hold, if_keeps, inl, inr, intent_of, is_at_limit, is_runnable_by, is_success, is_to_end, is_to_stand, LAST_CONNECTION, Leaves, leb, length, Link, List, ltb, Mark, Meets, MOST_PENDING, MOST_PIECE, move_leaves, moves_by, next_by, None, Now, of_answer, OfProgram, Ok, on, Option, Pending, performed, program_of, Recv, refl, Run, Sent, Slice, SliceEnd, Slicing, Some, stop_event, stops, subst, suc, sym, telling, telling_program, tells, tells_only, Terms, the_tick, Tick, true, Turn, turns_back, undone, Wanted, Why, with_list, zero, ℕ, ◌∙◌, ◌∷◌, ◌≡◌, ◌≢◌, ◌⊎◌}
 use Rattle.std.specs.Prelude.{◌&&◌, not, bytes_eq}
-use Rattle.breakpoints.specs.Stops.{Wanted}
-use Rattle.course.specs.Positions.{Course, gone_back}
 use Rattle.stepping.specs.Loading.{no_breakpoints}
-use Rattle.handlers.specs.Disconnect.{departed, is_to_end, is_to_stand}
 use Rattle.debuggee.specs.Programs.{Debuggee, Program, ended, first_mark, is_ended, is_running, left, run_after, run_left, marked, marked_by, moved, next_tick, on_program, owing_by, stays, stopped, told, why_marked, with_functions, with_instructions, with_source}
-use Rattle.debuggee.specs.declared.run.Mark.{Mark}
 use Rattle.debuggee.specs.declared.run.Mark.TheVariants as mark
-use Rattle.debuggee.specs.declared.run.Run.{Run}
 use Rattle.debuggee.specs.declared.run.Run.TheVariants as run
-use Rattle.debuggee.specs.declared.run.Why.{Why}
 use Rattle.debuggee.specs.declared.run.Why.TheVariants as why
-use Rattle.handlers.specs.Breaks.{with_list}
 use Rattle.handlers.specs.Demands.{goes_on, run_of}
-use Rattle.handlers.specs.Given.{Answering}
-use Rattle.handlers.specs.Requests.{demand_of}
-use Rattle.handlers.specs.Telling.{stop_event}
-use Rattle.handlers.specs.declared.terms.Terms.{Terms}
 use Rattle.history_laws.proofs.Beating.{never_at_limit, stands_idle}
 use Rattle.history_laws.proofs.Ticking.{back_course, back_goes}
-use Rattle.history_laws.specs.GoingBack.{GoesBackFrom, OfProgram}
 use Rattle.history_laws.specs.SteppingBack.{HasEnded, HasSteppedBack, IsStartedOrEnded, IsUnderWay, StartsOrEnds, StepsBack, StepsBackIn, StepsGoOneBack, asks_to_start_or_end, starts_or_ends, step_made}
 use Rattle.protocol.specs.Commands.{name_of}
-use Rattle.protocol.specs.declared.command.Command.{Command}
 use Rattle.protocol.specs.declared.command.Command.TheVariants.{SetBreakpoints, SetFunctionBreakpoints, SetInstructionBreakpoints, SetVariable, WriteMemory}
 use Rattle.protocol.specs.declared.disconnect.TheConstants.{NAME as DISCONNECT}
-use Rattle.session.proofs.BySuccess.{BySuccess, by_success}
-use Rattle.session.proofs.Advancing.{Leaves, move_leaves}
-use Rattle.session.proofs.Reaching.{if_keeps}
-use Rattle.session.proofs.Serving.{Meets, of_answer}
-use Rattle.session.specs.Acts.{Now, given_of}
 use Rattle.queues.specs.Arrivals.{name_asked}
-use Rattle.session.specs.Beats.{concluded}
-use Rattle.session.specs.Effects.{Slicing, beats, enough, next_by, performed}
-use Rattle.session.specs.Kinds.{is_success}
 use Rattle.session.specs.Outcomes.{Outcome as Does, answer_to, answering, done, outcome_at}
 use Rattle.session.specs.Reached.{Happened, Whole, Cut, OfEvent, leaves}
-use Rattle.session.specs.Sessions.{Effect, Session, histories, waiting_of}
-use Rattle.session.specs.Slices.{Beat, beat_by, beat_of, ends, goes, goes_unless, is_at_limit, is_runnable_by, moves_by, stops, telling, tells}
+use Rattle.session.specs.Sessions.{Effect, Session, histories}
 use Rattle.session.specs.declared.event.Applied.TheVariants.{Turn as DidTurn}
 use Rattle.session.specs.declared.event.Event.{Event}
-use Rattle.session.specs.declared.event.Event.TheVariants.{Connect, Recv, Turn, Slice, Hold, Sent, DropConnection}
-use Rattle.session.specs.declared.event.SliceEnd.{SliceEnd}
 use Rattle.session.specs.declared.event.SliceEnd.TheVariants as ending
 use Rattle.session.specs.declared.event.Turned.TheVariants as turned
-use Rattle.session.specs.declared.link.Link.{Link}
-use Rattle.queues.specs.declared.pending.Pending.{Pending}
-use Rattle.session.specs.declared.state.TheConstants.{MOST_PIECE, MOST_PENDING, FULL, LAST_CONNECTION}
 use Rattle.session_laws.proofs.Answered.{ByTurn, by_turn, the_answered}
-use Rattle.session_laws.proofs.ByForms.{on}
-use Rattle.session_laws.proofs.Joined.{becomes_program, program_of, telling_program, tells_only}
-use Rattle.session_laws.proofs.Paused.{answering_debuggee}
-use Rattle.session_laws.specs.Intents.{intent_of}
-use Rattle.session_laws.specs.Turns.{Answered}
-use Rattle.stepping.proofs.Cases.{GoesBack, back_of}
-use Rattle.stepping.proofs.Existing.{the_tick}
-use Rattle.stepping.specs.Goals.{turns_back}
-use Rattle.stepping.specs.Ticks.{back_outcome, back_tick, course_of, undone}
-use Rattle.stepping.specs.declared.goal.Goal.{Goal}
-use Rattle.stepping.specs.declared.goal.Goal.TheVariants.{Back}
 use Rattle.stepping.specs.declared.tick.Outcome.{Outcome}
 use Rattle.stepping.specs.declared.tick.Reason.TheVariants as met
-use Rattle.stepping.specs.declared.tick.Tick.{Tick}
 
 -- it steps back, or has
 pub Steps : Course → Option Program → Type 0
@@ -182,7 +143,7 @@ unfolding StepsBy
 way_by (Some tick) from s p more owed is h = tick_steps from s p tick owed h
 way_by None from s p more owed is h =
     if_keeps (StepsBy from s) (not (is_runnable_by s.now.link p.run)) _ _ (λ _. idle_steps from s (Some p) ending.Idle is (still from p h))
-    (λ _. if_keeps (StepsBy from s) (ltb FULL (length (waiting_of s))) _ _
+    (λ _. if_keeps (StepsBy from s) (ltb FULL (length s.waiting)) _ _
     (λ _. idle_steps from s (Some p) ending.Full is (still from p h)) (λ _. unless_steps from s p p.mark more refl is owed h))
 
 -- one that has stepped back stands still
@@ -430,7 +391,7 @@ outcome_passes (Some l) (Turn file) from s h = turn_passes file from (on (Some l
 outcome_passes (Some l) (Slice n) from s h = inr (still_steps from (program_of s) h)
 outcome_passes (Some l) Hold from s h = inr (hold_steps from (program_of s) h)
 outcome_passes (Some l) (Sent n) from s h =
-    if_keeps (Passes from (on (Some l) s) (Sent n)) (ltb (length (waiting_of (on (Some l) s))) n) _ _
+    if_keeps (Passes from (on (Some l) s) (Sent n)) (ltb (length (on (Some l) s).waiting) n) _ _
     (λ _. inr (still_steps from (program_of s) h)) (λ _. inr (still_steps from (program_of s) h))
 outcome_passes (Some l) DropConnection from s h = inr (on_steps left (program_of s) from h (left_steps from))
 

@@ -1,16 +1,6 @@
 -- What a tick comes to and leaves: how it goes on, and, where it goes back, the move that is undone.
-use Rattle.std.proofs.Common.{◌≡◌, ℕ, suc, false, List, [], ◌∷◌, length, refl, ◌∙◌, subst, arith}
-use Rattle.breakpoints.specs.Stops.{standing_in}
-use Rattle.breakpoints.specs.declared.breakpoint.Hit.{Hit}
-use Rattle.course.specs.Positions.{Course, Position, gone_back, undone_to}
-use Rattle.debuggee.specs.Programs.{stays}
+use Rattle.history_laws.proofs.Common.{[], arith, Back, back_outcome, Course, course_of, Debugged, false, Go, Goal, gone_back, Hit, if_keeps, In, LeadTo, length, List, looked_at, Makes, moves_from_oldest, oldest_of, Out, outcome_or, Over, Position, refl, ReverseGo, standing_in, stays, subst, suc, undone_by, undone_to, unless_start, ℕ, ◌∙◌, ◌∷◌, ◌≡◌}
 use Rattle.history_laws.specs.SteppingBack.{OneEarlier}
-use Rattle.session.proofs.Reaching.{if_keeps}
-use Rattle.stepping.proofs.Leading.{moves_from_oldest}
-use Rattle.stepping.specs.Leading.{LeadTo, Makes, oldest_of}
-use Rattle.stepping.specs.Ticks.{Debugged, back_outcome, course_of, looked_at, outcome_or, undone_by, unless_start}
-use Rattle.stepping.specs.declared.goal.Goal.{Goal}
-use Rattle.stepping.specs.declared.goal.Goal.TheVariants.{Go, In, Over, Out, Back, ReverseGo}
 use Rattle.stepping.specs.declared.tick.Outcome.{Outcome}
 
 -- ---- where no instruction traps or ends the program

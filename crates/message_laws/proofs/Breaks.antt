@@ -1,6 +1,6 @@
 -- A program has no more than 1,024 breakpoints of each kind, so no more than three times as many stop it at once; and
 -- what its logpoints say are short texts.
-use Rattle.message_laws.proofs.Common.{[], arith, Bool, Command, cond, Err, false, Hart, if_keeps, IfSome, length, length-append, length-map, List, map, Mark, marked, marked_by, moved, None, Ok, Option, Program, refl, Result, Some, subst, suc, sym, true, Wanted, with_list, zero, ℕ, ◌++◌, ◌+◌, ◌∷◌, ◌≡◌, ◌≤◌}
+use Rattle.message_laws.proofs.Common.{[], arith, Bool, Command, cond, false, Hart, if_keeps, IfSome, length, length-append, length-map, List, map, Mark, marked, marked_by, moved, None, Ok, Option, Program, refl, Result, Some, subst, suc, sym, true, Wanted, with_list, zero, ℕ, ◌++◌, ◌+◌, ◌∷◌, ◌≡◌, ◌≤◌}
 use Rattle.std.proofs.Common.{filter}
 use Rattle.std.specs.Prelude.{filter_map, slice_get}
 use Rattle.std.specs.List.{cons_option}
@@ -14,7 +14,7 @@ use Rattle.rv32i.specs.declared.stepped.Stepped.{Stepped}
 use Rattle.rv32i.specs.declared.stepped.Stepped.TheVariants as stepped
 use Rattle.stepping.specs.Loading.{no_breakpoints}
 use Rattle.course.specs.Positions.{Position}
-use Rattle.stepping.specs.Ticks.{Debugged, IsTick, Settles, entry_checked, looked_at, moved_as, settled, undone, undone_by}
+use Rattle.stepping.specs.Ticks.{Debugged, IsTick, entry_checked, looked_at, moved_as, settled, undone, undone_by}
 use Rattle.stepping.specs.declared.goal.Goal.{Goal}
 use Rattle.stepping.specs.declared.goal.Goal.TheVariants as goal
 use Rattle.stepping.proofs.Cases.{by_tick}
@@ -141,12 +141,6 @@ settled_few stepped.Break instr before d h = checked_few d.hart.pc d.hart d.memo
 settled_few (stepped.Exit code) instr before d h = none_named d.lists h
 settled_few (stepped.Trap cause) instr before d h = none_named d.lists h
 
-answer_few : (s : Result Stepped AllocError) (before after : Debugged) (instr : Option Instr) (answer : Result Tick AllocError)
-    → Settles before instr s answer after → HasFew before.lists → HasFew after.lists
-answer_few (Ok s) before after instr answer e h =
-    subst (λ (d : Debugged). HasFew d.lists) (sym e.1) (settled_few s instr before (moved_as before after) h)
-answer_few (Err error) before after instr answer e h = subst (λ (d : Debugged). HasFew d.lists) (sym e.1) h
-
 undone_few : (past : List Position) (d : Debugged) → HasFew d.lists → HasFew (undone_by past d).lists
 undone_few [] d h = h
 undone_few (before ∷ past) d h = h
@@ -172,7 +166,8 @@ tick_few before after answer t h =
     (λ due x. subst (λ (d : Debugged). HasFew d.lists) (sym x.1) (checked_few before.hart.pc before.hart before.memory before.lists h))
     (λ due turns x. subst (λ (d : Debugged). HasFew d.lists) (sym x.1)
     (looked_few before.goal (undone before) (undone_few before.past before h)))
-    (λ due forward m. answer_few m.stepped before after m.instr answer m.settles h)
+    (λ due forward m. subst (λ (d : Debugged). HasFew d.lists) (sym m.settles.1)
+    (settled_few m.stepped m.instr before (moved_as before after) h))
 
 -- ---- the program
 

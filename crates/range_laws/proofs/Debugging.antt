@@ -1,7 +1,6 @@
 -- What a debugger does to a machine leaves it in range.
-use Rattle.std.proofs.Common.{◌≡◌, ℕ, suc, ◌+◌, ◌≤◌, Bool, true, false, cond, eqb, List, [], ◌∷◌, length, Option, Some, None, Result, Ok, Err, refl, sym, ap, subst, lit<, arith}
+use Rattle.std.proofs.Common.{◌≡◌, ℕ, suc, ◌+◌, ◌≤◌, Bool, true, false, cond, eqb, List, [], ◌∷◌, length, Option, Some, None, Ok, refl, sym, ap, subst, lit<, arith}
 use Rattle.std.specs.Prelude.{All, drop, replicate, take}
-use Rattle.std.specs.declared.alloc.AllocError.{AllocError}
 use Rattle.std.proofs.lemmas.List.{length-drop, length-take}
 use Rattle.std.proofs.lemmas.List.Elements.{All-cons, All-drop, All-head, All-nil, All-tail, All-replicate, All-take}
 use Rattle.breakpoints.specs.Stops.{Lists}
@@ -21,12 +20,11 @@ use Rattle.stepping.proofs.Cases.{Enters, GoesBack, by_tick}
 use Rattle.stepping.proofs.Leading.{ticks_lead}
 use Rattle.stepping.specs.Goals.{turns_back}
 use Rattle.stepping.specs.Leading.{LeadTo}
-use Rattle.stepping.specs.Ticks.{Debugged, Moves, Settles, gone_on, looked_at, moved_as, position_of, settled, stayed, undone_by}
+use Rattle.stepping.specs.Ticks.{Debugged, Moves, gone_on, looked_at, moved_as, position_of, settled, stayed, undone_by}
 use Rattle.stepping.specs.declared.goal.Goal.{Goal}
 use Rattle.stepping.specs.declared.goal.Goal.TheVariants.{Go, In, Over, Out, Back, ReverseGo}
-use Rattle.stepping.specs.declared.tick.Tick.{Tick}
 use Rattle.range_laws.specs.Debugging.{CallsInRange, DebuggedInRange, HartInRange, HartsStayInRange, LoadedIsInRange, PositionInRange, ReloadedIsInRange, TicksStayInRange, WritesStayInRange}
-use Rattle.range_laws.specs.Machines.{AreBytes, InRange, IsByte, IsWord}
+use Rattle.range_laws.specs.Machines.{AreBytes, IsByte, IsWord}
 use Rattle.range_laws.proofs.Hart.{moves_stay_in_range}
 use Rattle.range_laws.proofs.Words.{bytes_in_range, started_in_range}
 
@@ -126,14 +124,6 @@ settled_rest Break instr before after h = gone_rest instr before (moved_as befor
 settled_rest (Exit code) instr before after h = still_rest before after h
 settled_rest (Trap cause) instr before after h = still_rest before after h
 
-answer_in : (s : Result Stepped AllocError) (before after : Debugged) (instr : Option Instr) (answer : Result Tick AllocError)
-    → Settles before instr s answer after → InRange (machine_of after.hart after.memory) → LeadTo after.past (position_of after)
-    → DebuggedInRange before → DebuggedInRange after
-answer_in (Ok s) before after instr answer e m leads h =
-    let rest : RestInRange after = subst RestInRange (sym e.1) (settled_rest s instr before after h) in
-    record { machine = m; calls = rest.calls; end = rest.end; past = rest.past; leads = leads; few = rest.few }
-answer_in (Err error) before after instr answer e m leads h = subst DebuggedInRange (sym e.1) h
-
 -- after a move that was undone
 undone_in : (past : List Position) (d : Debugged) → d.past ≡ past → DebuggedInRange d → DebuggedInRange (undone_by past d)
 undone_in [] d e h = h
@@ -173,10 +163,17 @@ ticks_stay_in_range before after answer t h = by_tick before after answer t ente
 
   moved : before.check_due ≡ false → turns_back before.goal ≡ false → Moves before answer after → DebuggedInRange after
   moved due forward m =
-      answer_in m.stepped before after m.instr answer m.settles
-      (moves_stay_in_range (machine_of before.hart before.memory)
-      (record { answer = m.stepped; machine = machine_of after.hart after.memory }) m.moved h.machine)
-      (ticks_lead before after answer h.leads t) h
+      let rest : RestInRange after = subst RestInRange (sym m.settles.1) (settled_rest m.stepped m.instr before after h) in
+      record {
+        machine =
+            moves_stay_in_range (machine_of before.hart before.memory)
+            (record { answer = Ok m.stepped; machine = machine_of after.hart after.memory }) m.moved h.machine;
+        calls = rest.calls;
+        end = rest.end;
+        past = rest.past;
+        leads = ticks_lead before after answer h.leads t;
+        few = rest.few;
+      }
 
 -- ---- loading
 

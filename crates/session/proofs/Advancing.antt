@@ -1,34 +1,20 @@
 -- Moves of which there is nothing to tell are as many beats.
-use Rattle.std.proofs.Common.{◌≡◌, ℕ, ℤ, zero, suc, ◌+◌, ◌<◌, ◌≤◌, Bool, true, false, leb, ltb, List, [], ◌∷◌, Option, Some, None, Result, Ok, Err, inr, refl, sym, ap, ◌∙◌, subst, arith}
+use Rattle.std.proofs.Common.{◌≡◌, ℕ, ℤ, zero, suc, ◌+◌, ◌<◌, ◌≤◌, Bool, true, false, leb, ltb, List, [], ◌∷◌, Option, Some, None, Ok, inr, refl, sym, ap, ◌∙◌, subst, arith}
 use Rattle.std.specs.Prelude.{◌&&◌, not}
-use Rattle.std.proofs.lemmas.Bool.Decides.{nat_tests}
-use Rattle.std.specs.declared.alloc.AllocError.{AllocError}
-use Rattle.rv32i.specs.declared.instr.Instr.{Instr}
-use Rattle.rv32i.specs.declared.stepped.Stepped.{Stepped}
+use Rattle.session.proofs.Common.{after_beat, Back, beat, Beat, beats_on, by_tick, Go, Goal, In, Instr, is_runnable_by, IsFree, keepings, Kept, makes_move, MayLack, moves_by, nat_tests, next_beat, Out, Over, Position, ReverseGo, Run, SliceEnd, Slicing, Stepped, the_tick, Tick}
 use Rattle.rv32i.specs.declared.stepped.Stepped.TheVariants.{Retired, Printed, Break, Exit, Trap}
-use Rattle.course.specs.Positions.{Position}
 use Rattle.stepping.specs.Goals.{turns_back}
-use Rattle.stepping.specs.Ticks.{Debugged, IsTick, Moves as Ticks, Settles, gone_back, gone_on, looked_at, moved_as, settled, tick_of, undone, undone_by}
-use Rattle.stepping.specs.declared.goal.Goal.{Goal}
-use Rattle.stepping.specs.declared.goal.Goal.TheVariants.{Go, In, Over, Out, Back, ReverseGo}
+use Rattle.stepping.specs.Ticks.{Debugged, IsTick, Moves as Ticks, gone_back, gone_on, looked_at, moved_as, settled, tick_of, undone, undone_by}
 use Rattle.stepping.specs.declared.tick.Outcome.{Outcome}
 use Rattle.stepping.specs.declared.tick.Outcome.TheVariants.{Went, Stopped, Ended}
-use Rattle.stepping.specs.declared.tick.Tick.{Tick}
-use Rattle.stepping.proofs.Cases.{by_tick}
-use Rattle.stepping.proofs.Existing.{the_tick}
 use Rattle.debuggee.specs.Programs.{Program, Advances, GoesQuietly, moved, next_tick, owing_by, stays}
 use Rattle.debuggee.specs.declared.program.Advanced.{Advanced}
 use Rattle.debuggee.specs.declared.program.Advanced.TheVariants.{Spent, Owes, Meets, Lacks}
-use Rattle.debuggee.specs.declared.run.Run.{Run}
 use Rattle.session.specs.Beats.{IsAhead, Moved, Stretches, going, moves_of, unless_memory}
-use Rattle.session.specs.declared.event.SliceEnd.{SliceEnd}
 use Rattle.session.specs.declared.event.SliceEnd.TheVariants as ending
 use Rattle.session.specs.declared.slices.Ahead.{Ahead}
 use Rattle.session.specs.declared.slices.Ahead.TheVariants as ahead
 use Rattle.session.specs.declared.slices.Moves.{Moves}
-use Rattle.session.specs.Effects.{MayLack, Slicing, after_beat, beats_on, next_beat}
-use Rattle.session.specs.Kept.{Kept, keepings}
-use Rattle.session.specs.Slices.{Beat, IsFree, beat, is_runnable_by, makes_move, moves_by}
 use Rattle.session.proofs.Deciding.{free_beat}
 use Rattle.session.proofs.Told.{with_one}
 use Rattle.session.proofs.ByMove.{by_move}
@@ -87,12 +73,10 @@ tick_leaves before after tick due e h =
     by_tick before after (Ok tick) h (λ d _. absurd (let never : true ≡ false = sym d ∙ due in cc))
     (λ _ turns x. subst (Leaves before) (sym x.1) (back_leaves before turns)) (λ _ _ m. moves m) where
       moves : Ticks before (Ok tick) after → Leaves before after
-      moves m = by m.instr m.stepped m.settles where
-        by : (instr : Option Instr) (s : Result Stepped AllocError) → Settles before instr s (Ok tick) after → Leaves before after
-        by instr (Ok s) x =
-            let same : tick ≡ tick_of s instr before.hart.pc (moved_as before after) = cc in
-            settled_leaves before after s instr (sym (ap (λ (t : Tick). stays t.outcome) same) ∙ e) x.1
-        by instr (Err error) x = absurd (cc)
+      moves m =
+          let said = m.settles.0 in
+          let same : tick ≡ tick_of m.stepped m.instr before.hart.pc (moved_as before after) = cc in
+          settled_leaves before after m.stepped m.instr (sym (ap (λ (t : Tick). stays t.outcome) same) ∙ e) m.settles.1
 
 pub move_leaves : (p : Program) → p.machine.check_due ≡ false → stays (next_tick p).outcome ≡ false → Leaves p.machine (moved p).machine
 move_leaves p due e = tick_leaves p.machine (the_tick p.machine).after (next_tick p) due e (the_tick p.machine).is

@@ -1,6 +1,7 @@
 -- What comes of a request that sets breakpoints, case by case.
 use Rattle.std.proofs.Common.{◌≡◌, ℕ, suc, ◌+◌, ◌≤◌, ◌<◌, Bool, true, false, cond, ltb, lt-ltb, List, [], ◌∷◌, length, map, Option, Some, None, Result, Ok, Err, refl, subst, arith}
-use Rattle.std.proofs.lemmas.Bool.Decides.{nat_tests}
+use Rattle.session.proofs.Common.{agreeing, Answering, Command, Done, Given, has_text, initializes, is_word, nat_tests, Program, Refusal, refusing, ResponseBody, Terms, Wanted}
+use Rattle.protocol.specs.declared.command.Command.TheVariants.{SetBreakpoints, SetFunctionBreakpoints, SetInstructionBreakpoints}
 use Rattle.std.proofs.lemmas.List.{length-map}
 use Rattle.std.specs.Prelude.{IsTrue, MatchResult, slice_index}
 use Rattle.answers.specs.Answers.{breaks_answer, sets_breakpoints}
@@ -8,24 +9,10 @@ use Rattle.answers.specs.Breakpoints.{Answer}
 use Rattle.answers.specs.Laws.{those_set}
 use Rattle.answers.specs.SetBreakpoints.{is_own, is_too_much, of_source}
 use Rattle.answers.proofs.Entries.{numbers_follow}
-use Rattle.breakpoints.specs.Stops.{Wanted}
-use Rattle.debuggee.specs.Programs.{Program}
-use Rattle.protocol.specs.Refusals.{has_text}
-use Rattle.protocol.specs.declared.command.Command.{Command}
-use Rattle.protocol.specs.declared.command.Command.TheVariants.{SetBreakpoints, SetFunctionBreakpoints, SetInstructionBreakpoints}
-use Rattle.protocol.specs.declared.refusal.Refusal.{Refusal}
 use Rattle.protocol.specs.declared.refusal.Refusal.TheVariants.{ReferencesExhausted, TooMuch}
-use Rattle.message_parts.specs.Forms.{is_word}
-use Rattle.replies.specs.declared.response.Outcome.TheVariants.{Done}
-use Rattle.replies.specs.declared.response.ResponseBody.{ResponseBody}
 use Rattle.replies.specs.declared.response.ResponseBody.TheVariants as body
-use Rattle.handlers.specs.declared.terms.Terms.{Terms}
-use Rattle.handlers.specs.Given.{Answering}
-use Rattle.handlers.specs.Given.{Given}
 use Rattle.handlers.specs.Breaks.{replaces, sets_by, success_on}
 use Rattle.handlers.specs.Views.{view_of}
-use Rattle.session.specs.Kinds.{initializes}
-use Rattle.handlers.specs.Successes.{agreeing, refusing}
 use Rattle.session.proofs.Orderly.{AreWords}
 use Rattle.session.proofs.Reaching.{if_keeps}
 

@@ -1,10 +1,8 @@
 -- What comes of a move, in three: it is made, or the instruction traps, or it ends the program.
-use Rattle.std.proofs.Common.{◌≡◌, ℤ, false, Some, refl}
-use Rattle.debuggee.specs.Programs.{Program, stays}
+use Rattle.session.proofs.Common.{false, Now, Program, refl, Some, stays, ℤ, ◌≡◌}
 use Rattle.debuggee.specs.declared.run.Why.TheVariants as why
 use Rattle.rv32i.specs.declared.stepped.Cause.{Cause}
 use Rattle.session.specs.declared.event.SliceEnd.TheVariants as ending
-use Rattle.session.specs.Acts.{Now}
 use Rattle.session.specs.Slices.{Beat, exits, makes_move, moves_by, stops}
 use Rattle.stepping.specs.declared.tick.Outcome.{Outcome}
 use Rattle.stepping.specs.declared.tick.Outcome.TheVariants.{Went, Stopped, Ended}

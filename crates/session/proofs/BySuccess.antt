@@ -2,52 +2,28 @@
 --
 -- This is the one list of requests in the laws over what is answered. A further request that looks into the program, lets it go on or sets a list of
 -- breakpoints has a line in it, and none in those laws.
-use Rattle.std.proofs.Common.{◌≡◌, ◌+◌, ◌≤◌, ℕ, Bool, true, false, List, [], ◌∷◌, length, Option, Some, None, Ok, refl, sym, ap, ◌∙◌, subst}
+use Rattle.session.proofs.Common.{[], Answering, ap, AsmError, Bool, Command, demand_of, Done, false, Given, Goal, has_none, has_room, has_text, is_taken_in, issues, length, List, looks_in, looks_on, None, Ok, Option, Phase, Position, Program, refl, Refusal, replaces, ResponseBody, resumed, run_of, seen_in, set_variable, sets_breakpoints, Setting, SetVariableArguments, Some, subst, success_of, success_on, sym, Terms, true, Wanted, with_hart, write_memory, WriteMemoryArguments, Writing, written, ℕ, ◌+◌, ◌∙◌, ◌∷◌, ◌≡◌, ◌≤◌}
 use Rattle.std.specs.Prelude.{IsTrue, ◌&&◌, take}
-use Rattle.answers.specs.Answers.{sets_breakpoints}
-use Rattle.answers.specs.Looking.{looks_in}
-use Rattle.answers.specs.SetVariable.{set_variable}
-use Rattle.answers.specs.WriteMemory.{write_memory}
-use Rattle.answers.specs.declared.set_variable.Setting.{Setting}
-use Rattle.answers.specs.declared.write_memory.Writing.{Writing}
 use Rattle.assembler.specs.Placed.{error_of}
-use Rattle.assembler.specs.declared.error.AsmError.{AsmError}
-use Rattle.breakpoints.specs.Stops.{Wanted}
-use Rattle.course.specs.Positions.{Position}
-use Rattle.debuggee.specs.Programs.{Program, resumed, with_hart, written}
 use Rattle.protocol.specs.Commands.{name_of}
-use Rattle.protocol.specs.Refusals.{has_text}
-use Rattle.protocol.specs.declared.command.Command.{Command}
 use Rattle.protocol.specs.declared.command.Command.TheVariants as command
 use Rattle.protocol.specs.declared.disconnect.DisconnectArguments.{DisconnectArguments}
 use Rattle.protocol.specs.declared.initialize.InitializeArguments.{InitializeArguments}
 use Rattle.protocol.specs.declared.launch.LaunchArguments.{LaunchArguments}
 use Rattle.protocol.specs.declared.pause.PauseArguments.{PauseArguments}
-use Rattle.protocol.specs.declared.refusal.Refusal.{Refusal}
 use Rattle.protocol.specs.declared.refusal.Refusal.TheVariants.{AssemblyFailed, FileUnreadable, NoHistory}
-use Rattle.protocol.specs.declared.set_variable.SetVariableArguments.{SetVariableArguments}
-use Rattle.protocol.specs.declared.write_memory.WriteMemoryArguments.{WriteMemoryArguments}
 use Rattle.replies.specs.Responses.{IsOutcomeOf}
-use Rattle.replies.specs.declared.response.Outcome.TheVariants.{Done}
-use Rattle.replies.specs.declared.response.ResponseBody.{ResponseBody}
 use Rattle.replies.specs.declared.response.ResponseBody.TheVariants as body
-use Rattle.handlers.specs.declared.phase.Phase.{Phase}
 use Rattle.handlers.specs.declared.phase.Phase.TheVariants.{Active}
-use Rattle.handlers.specs.declared.terms.Terms.{Terms}
-use Rattle.handlers.specs.Given.{Answering, Given}
 use Rattle.handlers.specs.Attach as attach
-use Rattle.handlers.specs.Breaks.{replaces, success_on}
 use Rattle.handlers.specs.ConfigurationDone.{begins, joins}
-use Rattle.handlers.specs.Demands.{has_none, run_of}
 use Rattle.handlers.specs.Disconnect as disconnect
 use Rattle.handlers.specs.GoingBack as going_back
 use Rattle.handlers.specs.Initialize as initialize
 use Rattle.handlers.specs.Launch.{assembles, error_text, loads}
 use Rattle.session.specs.Kinds.{initializes, is_resume}
-use Rattle.handlers.specs.Looking.{issues, looks_on, seen_in}
 use Rattle.handlers.specs.Pause as pause
 use Rattle.handlers.specs.Phases.{is_active_in}
-use Rattle.handlers.specs.Requests.{demand_of, is_taken_in, success_of}
 use Rattle.handlers.specs.Restart as restart
 use Rattle.handlers.specs.Stepping.{granularity_of}
 use Rattle.handlers.specs.Successes.{agreeing, changing, refusing, resuming}
@@ -55,9 +31,7 @@ use Rattle.handlers.specs.Terminate as terminate
 use Rattle.session.proofs.Breaking.{answer_on, by_answer}
 use Rattle.session.proofs.Looked.{by_look, by_setting, by_writing}
 use Rattle.session.proofs.Reaching.{if_keeps}
-use Rattle.stepping.specs.declared.goal.Goal.{Goal}
 use Rattle.stepping.specs.declared.goal.Goal.TheVariants as goal
-use Rattle.variables.specs.Numbers.{has_room}
 
 -- ---- the kinds
 

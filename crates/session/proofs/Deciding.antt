@@ -1,17 +1,9 @@
 -- What comes next in a slice.
-use Rattle.std.proofs.Common.{◌≡◌, ℕ, ◌≤◌, Bool, true, false, cond, ltb, List, [], ◌∷◌, length, Option, Some, None, ap, ◌∙◌, arith}
-use Rattle.std.specs.Prelude.{not}
-use Rattle.std.proofs.lemmas.Bool.Decides.{nat_tests}
-use Rattle.debuggee.specs.Programs.{Program, entered, why_marked}
-use Rattle.debuggee.specs.declared.run.Mark.{Mark}
+use Rattle.session.proofs.Common.{[], ap, arith, Bool, cond, Decides, entered, false, FULL, keepings, Kept, length, List, ltb, Mark, nat_tests, None, not, Option, Program, Some, Tick, true, why_marked, ℕ, ◌∙◌, ◌∷◌, ◌≡◌, ◌≤◌}
 use Rattle.debuggee.specs.declared.run.Why.TheVariants as why
 use Rattle.session.specs.declared.event.SliceEnd.TheVariants as ending
 use Rattle.session.specs.declared.slices.Next.TheVariants as next
-use Rattle.session.specs.declared.state.TheConstants.{FULL}
-use Rattle.session.specs.Beats.{Decides}
-use Rattle.session.specs.Kept.{Kept, keepings}
 use Rattle.session.specs.Slices.{Beat, IsFree, beat, beat_by, beat_of, becomes, ends, goes, goes_unless, is_at_limit, is_runnable_by, moves, stops}
-use Rattle.stepping.specs.declared.tick.Tick.{Tick}
 
 -- where nothing is owed, and the program is given time and room
 pub record IsReady (p : Program) (k : Kept) : Type 0 where

@@ -1,31 +1,20 @@
 -- Messages that are written first, and numbered at once, are those that are queued one after the other.
 use Rattle.std.proofs.Common.{◌≡◌, ℕ, ◌+◌, ◌<◌, ◌≤◌, Bool, true, false, cond, eqb, ltb, List, [], ◌∷◌, ◌++◌, map, Option, Some, None, refl, sym, ap, ◌∙◌, subst, arith, append-nil, append_assoc, lt-ltb}
-use Rattle.std.proofs.lemmas.Bool.Decides.{nat_tests}
+use Rattle.session.proofs.Common.{AllocError, Call, Debuggee, is_active, Limits, Link, Message, nat_tests, Pending, performed, Prepared, said_on, saying, Session, Terms}
 use Rattle.std.specs.Prelude.{IfOk, Result}
-use Rattle.std.specs.declared.alloc.AllocError.{AllocError}
-use Rattle.debuggee.specs.Programs.{Debuggee}
 use Rattle.replies.specs.declared.event.Event.{Event}
-use Rattle.replies.specs.declared.message.Message.{Message}
 use Rattle.replies.specs.declared.message.Message.TheVariants.{Response, Event as IsEvent}
-use Rattle.session.specs.declared.limits.Limits.{Limits}
-use Rattle.session.specs.declared.link.Link.{Link}
-use Rattle.queues.specs.declared.pending.Pending.{Pending}
-use Rattle.handlers.specs.declared.terms.Terms.{Terms}
 use Rattle.handlers.specs.declared.change.Change.{Change}
-use Rattle.session.specs.declared.prepared.Prepared.{Prepared}
 use Rattle.session.specs.Preparing.{IsPrepared, draft_of}
 use Rattle.handlers.specs.declared.answer.Answer.{Answer as AnAnswer}
 use Rattle.handlers.specs.Given.{Answering, Lent}
 use Rattle.session.specs.Acts.{Act, Now, Tell, agreed, given_of, numbered, refers}
 use Rattle.queues.specs.Arrivals.{first_pending, others_pending}
-use Rattle.session.specs.Effects.{performed}
 use Rattle.session.specs.Outcomes.{answer_to, answering, closing, needs_memory, next_turn}
 use Rattle.handlers.specs.Changes.{answering_as, call_of, changed}
-use Rattle.session.specs.Kept.{Kept, Drafted, kept_changed, kept_closing, draft_on, draft_told, drafted, drafted_all, keepings, kept_said, settled}
-use Rattle.session.specs.Phases.{is_active}
+use Rattle.session.specs.Kept.{Kept, Drafted, alone, kept_changed, draft_on, draft_told, drafted, drafted_all, keepings, keeps, kept_of, settled}
 use Rattle.handlers.specs.Refusals.{answer_of, response_to}
 use Rattle.queues.specs.Writing.{frame_of}
-use Rattle.variables.specs.Laws.{Call}
 
 -- on this connection, where these requests wait
 abbrev pub at : Option Link → List Pending → Kept → Kept
@@ -55,17 +44,15 @@ not_last n last h = grind (arith, nat_tests)
 
 one_told : (b : Bool) (link : Link) (rest : List Pending) (k : Kept) (d : Drafted) (m : Message) → ltb d.seq k.now.limits.last_seq ≡ b →
     let t = after (eqb d.seq k.now.limits.last_seq) link rest k d in
-    kept_said t.now.link m t.now.arrivals.pending t
+    keeps (said_on t.now.link m t.now.arrivals.pending) t
     ≡ after (eqb (drafted k.now.limits m d).seq k.now.limits.last_seq) link rest k (drafted k.now.limits m d)
 one_told true link rest k d m h =
     let last = k.now.limits.last_seq in
     let t = after (eqb d.seq last) link rest k d in
     let next = next_frame d m in
-    let said : Bool → Kept = λ b. record k {
-      now = numbered (after b link rest k d).now (record link { seq = d.seq; is_closing = cond b true link.is_closing }) (cond b [] rest);
-      waiting = (k.waiting ++ d.bytes) ++ frame_of (d.seq + 1) m;
-    } in
-    ap (λ b. cond b (said (eqb d.seq last)) t) h ∙ ap said (not_last d.seq last h)
+    let l : Bool → Link = λ b. record link { seq = d.seq; is_closing = cond b true link.is_closing } in
+    let said : Bool → Session = λ b. saying (l b) m (cond b [] rest) (alone (after b link rest k d)) in
+    ap (λ b. kept_of (cond b (said (eqb d.seq last)) (alone t))) h ∙ ap (λ b. kept_of (said b)) (not_last d.seq last h)
     ∙ ap (λ w. record (after (eqb (d.seq + 1) last) link rest k next) { waiting = w })
     (append_assoc k.waiting d.bytes (frame_of (d.seq + 1) m))
     ∙ sym (ap (λ b. let e : Drafted = cond b next d in after (eqb e.seq last) link rest k e) h)
@@ -73,11 +60,8 @@ one_told false link rest k d m h =
     let last = k.now.limits.last_seq in
     let t = after (eqb d.seq last) link rest k d in
     let next = next_frame d m in
-    ap (λ b. cond b (record t {
-      now = numbered t.now
-          (record link { seq = d.seq; is_closing = cond (eqb d.seq last) true link.is_closing }) t.now.arrivals.pending;
-      waiting = t.waiting ++ frame_of (d.seq + 1) m;
-    }) t) h
+    let l = record link { seq = d.seq; is_closing = cond (eqb d.seq last) true link.is_closing } in
+    ap (λ b. kept_of (cond b (saying l m t.now.arrivals.pending (alone t)) (alone t))) h
     ∙ sym (ap (λ b. let e : Drafted = cond b next d in after (eqb e.seq last) link rest k e) h)
 
 all_told : (events : List Event) (link : Link) (rest : List Pending) (k : Kept) (d : Drafted) →
@@ -103,8 +87,7 @@ full_told : (events : List Event) (link : Link) (pending : List Pending) (k : Ke
 full_told [] link pending k h = refl
 full_told (e ∷ es) link pending k h =
     let t = at (Some link) pending k in
-    ap (λ b. performed keepings (map Tell es)
-    (cond b (record t { now = numbered t.now link pending; waiting = t.waiting ++ frame_of (link.seq + 1) (IsEvent e) }) t)) h
+    ap (λ b. performed keepings (map Tell es) (kept_of (cond b (saying link (IsEvent e) pending (alone t)) (alone t)))) h
     ∙ full_told es link pending k h
 
 full_written : (limits : Limits) (events : List Event) (d : Drafted) → ltb d.seq limits.last_seq ≡ false → drafted_all limits events d ≡ d
@@ -136,7 +119,7 @@ settles_none (Some link) pending k =
 
 linked_says : (b : Bool) (link : Link) (k : Kept) (pending rest : List Pending) (m : Message) (events : List Event)
     → ltb link.seq k.now.limits.last_seq ≡ b →
-    performed keepings (map Tell events) (kept_said (Some link) m rest (at (Some link) pending k))
+    performed keepings (map Tell events) (keeps (said_on (Some link) m rest) (at (Some link) pending k))
     ≡ cond b (settling (Some link) rest (drafted_all k.now.limits events (drafted k.now.limits m (draft_on k.now.limits (Some link))))
     (at (Some link) pending k)) (at (Some link) pending k)
 linked_says true link k pending rest m events h =
@@ -144,16 +127,14 @@ linked_says true link k pending rest m events h =
     let first : Drafted = record { bytes = frame_of (link.seq + 1) m; seq = link.seq + 1 } in
     let d = drafted_all k.now.limits events first in
     let rises : link.seq < d.seq = let g = grows k.now.limits events first in omega (arith, g) in
-    ap (λ b. performed keepings (map Tell events)
-    (cond b (record s { now = numbered s.now link rest; waiting = s.waiting ++ frame_of (link.seq + 1) m }) s)) h
+    ap (λ b. performed keepings (map Tell events) (kept_of (cond b (saying link m rest (alone s)) (alone s)))) h
     ∙ all_told events link rest s first
     ∙ sym (ap (λ b. settling (Some link) rest (drafted_all k.now.limits events (cond b first (record { bytes = []; seq = link.seq }))) s) h
     ∙ ap (λ b. record s { now = cond b (after (eqb d.seq k.now.limits.last_seq) link rest s d).now s.now; waiting = s.waiting ++ d.bytes })
     (lt-ltb link.seq d.seq rises))
 linked_says false link k pending rest m events h =
     let s = at (Some link) pending k in
-    ap (λ b. performed keepings (map Tell events)
-    (cond b (record s { now = numbered s.now link rest; waiting = s.waiting ++ frame_of (link.seq + 1) m }) s)) h
+    ap (λ b. performed keepings (map Tell events) (kept_of (cond b (saying link m rest (alone s)) (alone s)))) h
     ∙ full_told events link pending k h
 
 -- where there is no number, the same is drafted
@@ -172,7 +153,7 @@ no_number link k pending rest m events h =
 
 either_says : (b : Bool) (link : Link) (k : Kept) (pending rest : List Pending) (m : Message) (events : List Event)
     → ltb link.seq k.now.limits.last_seq ≡ b →
-    performed keepings (map Tell events) (kept_said (Some link) m rest (at (Some link) pending k))
+    performed keepings (map Tell events) (keeps (said_on (Some link) m rest) (at (Some link) pending k))
     ≡ settling (Some link) rest (drafted_all k.now.limits events (drafted k.now.limits m (draft_on k.now.limits (Some link))))
     (at (Some link) pending k)
 either_says true link k pending rest m events h = linked_says true link k pending rest m events h
@@ -183,7 +164,7 @@ nothing_drafted : (limits : Limits) (events : List Event) → drafted_all limits
 nothing_drafted limits events = full_written limits events (draft_on limits None) (none_left limits.last_seq)
 
 pub says : (l : Option Link) (k : Kept) (pending rest : List Pending) (m : Message) (events : List Event) →
-    performed keepings (map Tell events) (kept_said l m rest (at l pending k))
+    performed keepings (map Tell events) (keeps (said_on l m rest) (at l pending k))
     ≡ settling l rest (drafted_all k.now.limits events (drafted k.now.limits m (draft_on k.now.limits l))) (at l pending k)
 says (Some link) k pending rest m events = either_says (ltb link.seq k.now.limits.last_seq) link k pending rest m events refl
 says None k pending rest m events =
@@ -230,45 +211,40 @@ performed_append : (xs ys : List Act) (k : Kept) → performed keepings (xs ++ y
 performed_append [] ys k = refl
 performed_append (x ∷ xs) ys k = performed_append xs ys (keepings.perform x k)
 
-closes_after : (closes : Bool) (k : Kept) → performed keepings (closing closes) k ≡ kept_closing closes k
-closes_after true k = refl
-closes_after false k = refl
-
 answers : (link : Link) (p : Pending) (rest : List Pending) (k : Kept) (c : Change) (a : Answering) → changed c k.now.debuggee ≡ a.debuggee
     → call_of c ≡ a.references →
     let s = at (Some link) (p ∷ rest) k in
     let d = draft_of k.now.limits (Some link) p a in
-    kept_closing a.closes (numbers_given (kept_changed c a.terms (written s d)) d) ≡ performed keepings (answering a) s
+    performed keepings (closing a.closes) (numbers_given (kept_changed c a.terms (written s d)) d) ≡ performed keepings (answering a) s
 answers link p rest k c a e f =
     let s = at (Some link) (p ∷ rest) k in
     let d = draft_of k.now.limits (Some link) p a in
     let m : Message = Response (response_to p.ask a.outcome) in
     let l = record link { terms = a.terms } in
     let t : Debuggee → Option Call → Kept = λ x y. record s { now = agreed (refers (record s.now { debuggee = x }) y) link a.terms } in
-    ap (λ (x : Debuggee). kept_closing a.closes (numbers_given (written (t x (call_of c)) d) d)) e
-    ∙ ap (λ (y : Option Call). kept_closing a.closes (numbers_given (written (t a.debuggee y) d) d)) f
-    ∙ sym (performed_append (map Tell a.events) (closing a.closes) (kept_said (Some l) m rest (t a.debuggee a.references))
-    ∙ ap (performed keepings (closing a.closes)) (says (Some l) (t a.debuggee a.references) (p ∷ rest) rest m a.events)
-    ∙ closes_after a.closes _)
+    ap (λ (x : Debuggee). performed keepings (closing a.closes) (numbers_given (written (t x (call_of c)) d) d)) e
+    ∙ ap (λ (y : Option Call). performed keepings (closing a.closes) (numbers_given (written (t a.debuggee y) d) d)) f
+    ∙ sym (performed_append (map Tell a.events) (closing a.closes) (keeps (said_on (Some l) m rest) (t a.debuggee a.references))
+    ∙ ap (performed keepings (closing a.closes)) (says (Some l) (t a.debuggee a.references) (p ∷ rest) rest m a.events))
 
 abbrev AnswersAs : Option (List ℕ) → Link → Pending → Prepared → Kept → Type 0
 AnswersAs file link p r k = IsPrepared k.now p (answer_to k.now link.terms file p) r
 
 abbrev Turns : Option (List ℕ) → Link → Prepared → Kept → Type 0
 Turns file link r k = (t : Kept) → t ≡ kept_changed r.change r.terms (written k r.draft)
-    → kept_closing r.closes (numbers_given t r.draft) ≡ performed keepings (next_turn k.now link.terms file k.now.arrivals.pending).acts k
+    → performed keepings (closing r.closes) (numbers_given t r.draft) ≡ performed keepings (next_turn k.now link.terms file k.now.arrivals.pending).acts k
 
 at_once : (k : Kept) (link : Link) (file : Option (List ℕ)) (p : Pending) (rest : List Pending) (r : Prepared)
     → AnswersAs file link p r (at (Some link) (p ∷ rest) k) → Turns file link r (at (Some link) (p ∷ rest) k)
 at_once k link file p rest r h t e =
     let s = at (Some link) (p ∷ rest) k in
     let a = answer_to s.now link.terms file p in
-    ap (λ x. kept_closing r.closes (numbers_given x r.draft)) e
-    ∙ ap (λ (x : Drafted). kept_closing r.closes (numbers_given (kept_changed r.change r.terms (written s x)) x)) h.draft
-    ∙ ap (λ (x : Terms). kept_closing r.closes
+    ap (λ x. performed keepings (closing r.closes) (numbers_given x r.draft)) e
+    ∙ ap (λ (x : Drafted). performed keepings (closing r.closes) (numbers_given (kept_changed r.change r.terms (written s x)) x)) h.draft
+    ∙ ap (λ (x : Terms). performed keepings (closing r.closes)
     (numbers_given (kept_changed r.change x (written s (draft_of s.now.limits (Some link) p a)))
     (draft_of s.now.limits (Some link) p a))) h.terms
-    ∙ ap (λ (x : Bool). kept_closing x
+    ∙ ap (λ (x : Bool). performed keepings (closing x)
     (numbers_given (kept_changed r.change a.terms (written s (draft_of s.now.limits (Some link) p a)))
     (draft_of s.now.limits (Some link) p a))) h.closes
     ∙ answers link p rest k r.change a h.debuggee h.references
@@ -283,7 +259,7 @@ Claims file link p r k l pending = AnswersAs file link p r (at l pending k) → 
 pub first_answers : (k t : Kept) (link : Link) (file : Option (List ℕ)) (p : Pending) (r : Prepared)
     → k.now.link ≡ Some link → Some p ≡ first_pending k.now.arrivals.pending → IsPrepared k.now p (answer_to k.now link.terms file p) r
     → t ≡ kept_changed r.change r.terms (written k r.draft)
-    → kept_closing r.closes (numbers_given t r.draft) ≡ performed keepings (next_turn k.now link.terms file k.now.arrivals.pending).acts k
+    → performed keepings (closing r.closes) (numbers_given t r.draft) ≡ performed keepings (next_turn k.now link.terms file k.now.arrivals.pending).acts k
 first_answers k t link file p r is_link first prepared changed =
     let rest = others_pending k.now.arrivals.pending in
     let waits : k.now.arrivals.pending ≡ p ∷ rest = first_is k.now.arrivals.pending p first in

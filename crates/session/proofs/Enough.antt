@@ -1,20 +1,12 @@
 -- So many beats end each slice, in each world of sessions in which what is done to the program is done, and what is told of a tick leaves what it concludes.
 use Rattle.std.proofs.Common.{◌≡◌, ℕ, zero, suc, ◌+◌, ◌-◌, ◌*◌, ◌<◌, ◌≤◌, Bool, true, false, ltb, [], ◌∷◌, Option, Some, None, refl, sym, ap, ◌∙◌, subst, arith}
-use Rattle.std.specs.Prelude.{not}
-use Rattle.std.proofs.lemmas.Bool.Decides.{nat_tests}
-use Rattle.debuggee.specs.Programs.{Program, entered, moved, next_tick, stays, told, why_marked}
+use Rattle.session.proofs.Common.{concluded, entered, FULL, Mark, moved, nat_tests, next_tick, not, Now, Program, SliceEnd, stays, Tick, told, why_marked}
 use Rattle.debuggee.specs.declared.run.Why.TheVariants as why
-use Rattle.debuggee.specs.declared.run.Mark.{Mark}
-use Rattle.session.specs.declared.event.SliceEnd.{SliceEnd}
 use Rattle.session.specs.declared.event.SliceEnd.TheVariants as ending
-use Rattle.session.specs.declared.state.TheConstants.{FULL}
-use Rattle.session.specs.Acts.{Now}
-use Rattle.session.specs.Beats.{concluded}
 use Rattle.session.specs.Effects.{Slicing, after_beat, beats, enough, next_beat, next_by, sliced, World, performed}
 use Rattle.session.specs.Slices.{Beat, beat, beat_by, beat_of, becomes, ending_of, ends, goes, goes_unless, is_at_limit, is_runnable_by, makes_move, moves_by, runs, stops, telling}
 use Rattle.stepping.specs.declared.tick.Outcome.{Outcome}
 use Rattle.stepping.specs.declared.tick.Outcome.TheVariants.{Went, Stopped, Ended}
-use Rattle.stepping.specs.declared.tick.Tick.{Tick}
 use Rattle.session.proofs.Advancing.{move_leaves}
 use Rattle.session.proofs.Reaching.{if_keeps}
 use Rattle.session.proofs.ByMove.{by_move}

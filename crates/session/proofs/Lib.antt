@@ -1,3 +1,4 @@
+pub mod Common
 pub mod Told
 pub mod Deciding
 pub mod Stretching
@@ -5,7 +6,6 @@ pub mod ByMove
 pub mod Advancing
 pub mod Enough
 pub mod Slicing
-pub mod Simulation
 pub mod Standing
 pub mod Drafting
 pub mod Happening

@@ -4,7 +4,7 @@ use Rattle.std.specs.Prelude.{IsTrue, MatchResult, MatchOption, ⊤, take, codes
 use Rattle.std.specs.Result.{result_err}
 use Rattle.answers.specs.Disassemble.{disassembled, start_by as place_by}
 use Rattle.answers.specs.Evaluate.{if_valued, unless_refused, valued}
-use Rattle.answers.specs.Looking.{looks_in}
+use Rattle.session.proofs.Common.{agreeing, Answering, changing, Command, Debugged, Done, Given, Hart, has_text, initializes, looks_in, Program, Refusal, refusing, ResponseBody, Setting, SetVariableArguments, Terms, with_hart, WriteMemoryArguments, Writing, written}
 use Rattle.answers.specs.ReadMemory.{can_begin, read, start_at, start_by as read_from}
 use Rattle.numerals.specs.MemoryReferences.{offset_by}
 use Rattle.numerals.specs.Words.{word_of}
@@ -14,38 +14,21 @@ use Rattle.answers.specs.SetVariable.{has_name, set_in, set_variable, setting_of
 use Rattle.answers.specs.Targets.{frame_of, frame_refusal, if_frame, refused, target_of}
 use Rattle.answers.specs.Variables.{body_by as variables_by, variables_in}
 use Rattle.answers.specs.WriteMemory.{fitting, start_by as written_from, write_memory, written as written_by}
-use Rattle.answers.specs.declared.set_variable.Setting.{Setting}
-use Rattle.answers.specs.declared.write_memory.Writing.{Writing}
-use Rattle.debuggee.specs.Programs.{Program, with_hart, written}
 use Rattle.expressions.specs.Trees.{Tree}
 use Rattle.expressions.specs.Values.{value_of}
 use Rattle.expressions.specs.declared.error.ExprFault.{ExprFault}
-use Rattle.protocol.specs.Refusals.{has_text}
-use Rattle.protocol.specs.declared.command.Command.{Command}
 use Rattle.protocol.specs.declared.command.Command.TheVariants.{StackTrace, Scopes, Variables, Evaluate, Disassemble, ReadMemory}
 use Rattle.protocol.specs.declared.disassemble.DisassembleArguments.{DisassembleArguments}
 use Rattle.protocol.specs.declared.read_memory.ReadMemoryArguments.{ReadMemoryArguments}
-use Rattle.protocol.specs.declared.refusal.Refusal.{Refusal}
 use Rattle.protocol.specs.declared.refusal.Refusal.TheVariants.{NotWritable, ReferencesExhausted, UnknownName}
-use Rattle.protocol.specs.declared.set_variable.SetVariableArguments.{SetVariableArguments}
 use Rattle.protocol.specs.declared.variables.VariablesArguments.{VariablesArguments}
-use Rattle.protocol.specs.declared.write_memory.WriteMemoryArguments.{WriteMemoryArguments}
-use Rattle.replies.specs.declared.response.ResponseBody.{ResponseBody}
 use Rattle.replies.specs.declared.response.ResponseBody.TheVariants as body
-use Rattle.rv32i.specs.declared.hart.Hart.{Hart}
-use Rattle.handlers.specs.declared.terms.Terms.{Terms}
-use Rattle.handlers.specs.Given.{Answering}
-use Rattle.handlers.specs.Given.{Given}
 use Rattle.rv32i.specs.Names.{number_named}
-use Rattle.session.specs.Kinds.{initializes}
-use Rattle.replies.specs.declared.response.Outcome.TheVariants.{Done}
 use Rattle.handlers.specs.Looking.{issues, looks_on, seen_in, shows_by}
 use Rattle.handlers.specs.SetVariable.{sets_by, sets_on}
 use Rattle.handlers.specs.WriteMemory.{writes_by, writes_on}
-use Rattle.handlers.specs.Successes.{agreeing, changing, refusing}
 use Rattle.session.proofs.Breaking.{IsPlain}
 use Rattle.session.proofs.Reaching.{if_keeps}
-use Rattle.stepping.specs.Ticks.{Debugged}
 use Rattle.variables.specs.Numbers.{Numbers, found_in, has_room}
 use Rattle.variables.specs.Registers.{name_answer, unless_zero}
 use Rattle.variables.specs.Stack.{stack_words}

@@ -1,15 +1,6 @@
 -- The references that an answer issues have numbers.
-use Rattle.std.proofs.Common.{ℕ, List, Option, sym, subst}
-use Rattle.queues.specs.declared.pending.Pending.{Pending}
-use Rattle.session.specs.declared.prepared.Prepared.{Prepared}
-use Rattle.handlers.specs.declared.terms.Terms.{Terms}
-use Rattle.handlers.specs.Given.{Answering}
-use Rattle.session.specs.Acts.{Now, given_of}
-use Rattle.handlers.specs.Changes.{call_of}
+use Rattle.session.proofs.Common.{answer_to, Answering, Call, call_of, given_of, IsPrepared, List, Now, Option, Pending, Prepared, subst, sym, Terms, ℕ}
 use Rattle.session.specs.Kept.{HasNumbers}
-use Rattle.session.specs.Preparing.{IsPrepared}
-use Rattle.session.specs.Outcomes.{answer_to}
-use Rattle.variables.specs.Laws.{Call}
 use Rattle.session.proofs.Serving.{of_answer}
 use Rattle.session.proofs.BySuccess.{BySuccess, by_success}
 

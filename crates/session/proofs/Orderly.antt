@@ -1,31 +1,21 @@
 -- What the editor is told of the program has numbers of 32 bits: breakpoints have such numbers, and so have lines and an end.
-use Rattle.std.proofs.Common.{◌≡◌, ℕ, ℤ, ◌+◌, ◌<◌, Bool, true, false, List, [], ◌∷◌, ◌++◌, map, filter, Option, Some, None, Result, Ok, Err, refl, sym, ap, ◌∙◌, subst, arith}
+use Rattle.std.proofs.Common.{◌≡◌, ℕ, ℤ, ◌+◌, ◌<◌, Bool, true, false, List, [], ◌∷◌, ◌++◌, map, filter, Option, Some, None, Result, Ok, refl, sym, ap, ◌∙◌, subst, arith}
 use Rattle.std.specs.Prelude.{All, ◌^◌, ◌&&◌, ◌≤ℤ◌, not, int_le, pos, neg_ℤ}
 use Rattle.std.specs.List.{list_all}
-use Rattle.std.specs.declared.alloc.AllocError.{AllocError}
+use Rattle.session.proofs.Common.{AllocError, Back, by_tick, Command, Go, Goal, Hart, In, Instr, Mark, Out, Over, Position, ReverseGo, Run, Stepped, the_tick, Tick, Why}
+use Rattle.protocol.specs.declared.command.Command.TheVariants.{SetBreakpoints, SetFunctionBreakpoints, SetInstructionBreakpoints}
 use Rattle.std.proofs.lemmas.Int.{ints}
 use Rattle.assembler.specs.Assembled.{IsNarrowRow}
 use Rattle.breakpoints.specs.Stops.{Lists, Placed, Wanted, checked, counted, fresh, ids_where, is_hit, looked, reset, stands, stops, stopping_ids}
 use Rattle.debuggee.specs.Programs.{Debuggee, Program, ended, entered, first_run, is_ended, is_running, just_loaded, left, marked, marked_by, moved, next_tick, on_program, owing_by, restarted, resumed, stopped, told, with_hart, written}
-use Rattle.debuggee.specs.declared.run.Mark.{Mark}
-use Rattle.debuggee.specs.declared.run.Run.{Run}
 use Rattle.debuggee.specs.declared.run.Run.TheVariants as run
-use Rattle.debuggee.specs.declared.run.Why.{Why}
 use Rattle.debuggee.specs.declared.run.Why.TheVariants as why
 use Rattle.image.specs.declared.Image.{Image}
-use Rattle.protocol.specs.declared.command.Command.{Command}
-use Rattle.protocol.specs.declared.command.Command.TheVariants.{SetBreakpoints, SetFunctionBreakpoints, SetInstructionBreakpoints}
-use Rattle.course.specs.Positions.{Position}
-use Rattle.stepping.specs.declared.goal.Goal.{Goal}
-use Rattle.stepping.specs.declared.goal.Goal.TheVariants.{Go, In, Over, Out, Back, ReverseGo}
 use Rattle.message_parts.specs.Forms.{is_signed_word, is_word}
 use Rattle.message_parts.specs.declared.stopped.Reason.{Reason as AReason}
 use Rattle.replies.specs.Events.{IsProperEvent}
 use Rattle.replies.specs.declared.event.Event.TheVariants as event
 use Rattle.rv32i.specs.Laws.{IsSignedWord}
-use Rattle.rv32i.specs.declared.hart.Hart.{Hart}
-use Rattle.rv32i.specs.declared.instr.Instr.{Instr}
-use Rattle.rv32i.specs.declared.stepped.Stepped.{Stepped}
 use Rattle.rv32i.specs.declared.stepped.Stepped.TheVariants as stepped
 use Rattle.image.specs.Memory.{first_address}
 use Rattle.range_laws.specs.Debugging.{HartInRange, ImageInRange}
@@ -34,12 +24,9 @@ use Rattle.range_laws.specs.Programs.{ProgramInRange}
 use Rattle.range_laws.proofs.Programs.{ended_in_range, entered_in_range, first_run_in_range, just_loaded_in_range, left_in_range, moved_in_range, restarted_in_range, resumed_in_range, stopped_in_range, told_in_range, with_functions_in_range, with_hart_in_range, with_instructions_in_range, with_source_in_range, written_in_range}
 use Rattle.stepping.specs.Loading.{no_breakpoints}
 use Rattle.stepping.specs.RunLaws.{HasSignedCode}
-use Rattle.stepping.specs.Ticks.{Debugged, IsTick, Settles, entry_checked, entry_tick, gone_back, hit_at_pc, looked_at, moved_as, settled, undone, undone_by}
+use Rattle.stepping.specs.Ticks.{Debugged, IsTick, entry_checked, entry_tick, gone_back, hit_at_pc, looked_at, moved_as, settled, undone, undone_by}
 use Rattle.stepping.specs.declared.tick.Outcome.{Outcome}
 use Rattle.stepping.specs.declared.tick.Outcome.TheVariants.{Went, Stopped, Ended}
-use Rattle.stepping.specs.declared.tick.Tick.{Tick}
-use Rattle.stepping.proofs.Cases.{by_tick}
-use Rattle.stepping.proofs.Existing.{the_tick}
 use Rattle.stepping.proofs.Exiting.{ends_with_codes, no_end}
 use Rattle.handlers.specs.Breaks.{with_list}
 use Rattle.handlers.specs.Disconnect.{departed}
@@ -139,12 +126,6 @@ settled_orderly stepped.Break instr before d h = checked_orderly d.hart.pc d.har
 settled_orderly (stepped.Exit code) instr before d h = none_named d.lists h
 settled_orderly (stepped.Trap cause) instr before d h = none_named d.lists h
 
-answer_orderly : (s : Result Stepped AllocError) (before after : Debugged) (instr : Option Instr) (answer : Result Tick AllocError)
-    → Settles before instr s answer after → AreOrderly before.lists → AreOrderly after.lists
-answer_orderly (Ok s) before after instr answer e h =
-    subst (λ (d : Debugged). AreOrderly d.lists) (sym e.1) (settled_orderly s instr before (moved_as before after) h)
-answer_orderly (Err error) before after instr answer e h = subst (λ (d : Debugged). AreOrderly d.lists) (sym e.1) h
-
 undone_orderly : (past : List Position) (d : Debugged) → AreOrderly d.lists → AreOrderly (undone_by past d).lists
 undone_orderly [] d h = h
 undone_orderly (before ∷ past) d h = h
@@ -167,7 +148,8 @@ tick_orderly before after answer t h =
     (λ _ e. subst (λ (d : Debugged). AreOrderly d.lists) (sym e.1)
     (checked_orderly before.hart.pc before.hart before.memory before.lists h))
     (λ _ _ e. subst (λ (d : Debugged). AreOrderly d.lists) (sym e.1) (back_orderly before h))
-    (λ _ _ m. answer_orderly m.stepped before after m.instr answer m.settles h)
+    (λ _ _ m. subst (λ (d : Debugged). AreOrderly d.lists) (sym m.settles.1)
+    (settled_orderly m.stepped m.instr before (moved_as before after) h))
 
 -- ---- the program
 

@@ -1,14 +1,9 @@
 -- What holds at the start, and is kept by each event and by each cut slice, holds of whatever is reached; and what each act keeps, these do.
 use Rattle.std.proofs.Common.{◌≡◌, ℕ, zero, suc, Bool, true, false, cond, ltb, List, [], ◌∷◌, ◌++◌, map, Option, Some, None, get_or, refl}
-use Rattle.std.specs.Prelude.{All}
+use Rattle.session.proofs.Common.{Act, All, beat, Connect, DropConnection, Hold, outcome, Recv, Sent, Slice, SliceEnd, Turn}
 use Rattle.std.proofs.lemmas.List.Elements.{All-push, All-head, All-tail}
 use Rattle.session.specs.declared.event.Event.{Event}
-use Rattle.session.specs.Acts.{Act}
-use Rattle.session.specs.declared.event.SliceEnd.{SliceEnd}
-use Rattle.session.specs.declared.event.Event.TheVariants.{Connect, Recv, Turn, Slice, Hold, Sent, DropConnection}
-use Rattle.session.specs.Slices.{beat}
 use Rattle.session.specs.Effects.{performed, after_all, beats, enough, next_by}
-use Rattle.session.specs.Outcomes.{outcome}
 use Rattle.session.specs.Reached.{Happened, Whole, Cut, Reached, leaves, led_to}
 use Rattle.session.specs.Sessions.{Beginning, Session, Life, no_life, lives, life_of, performed_on, histories, Effect, start}
 

@@ -1,24 +1,16 @@
 -- An answer refuses, or it is the success of a request that the phase takes: so a request that could not be read is refused.
 use Rattle.std.proofs.Common.{◌≡◌, ℕ, Bool, true, false, List, [], ◌∷◌, ◌++◌, Option, Some, None, ◌⊎◌, inl, inr, refl}
 use Rattle.std.specs.Prelude.{not, ◌&&◌}
-use Rattle.protocol.specs.Refusals.{has_text}
-use Rattle.protocol.specs.declared.refusal.Refusal.{Refusal}
+use Rattle.session.proofs.Common.{answer_to, Answering, demand_of, given_of, has_text, is_taken_in, Now, Refusal, refusing, Run, success_of, Terms}
 use Rattle.protocol.specs.declared.refusal.Refusal.TheVariants.{RepeatedSequence, Cancelled as IsCancelled, WrongPhase, RequestGone, NoMachine, Ended, NoThread, NotStopped}
 use Rattle.protocol.specs.declared.request.Request.{Request as ARequest}
 use Rattle.queues.specs.declared.pending.Ask.{Ask}
 use Rattle.queues.specs.declared.pending.Ask.TheVariants.{Request, Bad}
 use Rattle.queues.specs.declared.pending.Fate.{Fate}
-use Rattle.handlers.specs.Given.{Answering}
-use Rattle.session.specs.Acts.{Now, given_of}
 use Rattle.queues.specs.Arrivals.{is_repeat}
 use Rattle.handlers.specs.Refusals.{is_cancelled, misread, names_none, where_so, first_refusal, answer_by, unmet}
-use Rattle.session.specs.Outcomes.{answer_to}
-use Rattle.handlers.specs.Requests.{demand_of, is_taken_in, success_of}
-use Rattle.handlers.specs.Successes.{refusing}
 use Rattle.handlers.specs.Demands.{goes_on, has_ended, has_none, is_no_thread, run_of}
 use Rattle.handlers.specs.declared.demand.Demand.{Demand}
-use Rattle.handlers.specs.declared.terms.Terms.{Terms}
-use Rattle.debuggee.specs.declared.run.Run.{Run}
 
 -- what holds where a reason applies, and where the others decide, holds
 by_reason : (P : Option Refusal → Type 0) (reason : Bool) (refusal : Refusal) (rest : List (Option Refusal)) → P (Some refusal)

@@ -1,11 +1,8 @@
 -- A slice, stretch by stretch.
 use Rattle.std.proofs.Common.{List, ◌≡◌, ℕ, ◌+◌, ◌-◌, ◌≤◌, Option, Some, None, Result, Ok, refl, sym, ap, ◌∙◌, subst, arith, ltb}
-use Rattle.session.specs.declared.event.Applied.{Applied}
+use Rattle.session.proofs.Common.{Applied, EventError, Link, Now, Pending, Slice, SliceEnd, told}
 use Rattle.session.specs.declared.event.Applied.TheVariants.{Slice as DidSlice}
-use Rattle.session.specs.declared.event.SliceEnd.{SliceEnd}
 use Rattle.session.specs.declared.event.SliceEnd.TheVariants.{Spent, Full, Idle, Stopped, Ended, NoMemory}
-use Rattle.session.specs.declared.event.Event.TheVariants.{Slice}
-use Rattle.session.specs.declared.event.EventError.{EventError}
 use Rattle.session.specs.declared.slices.Step.{Step}
 use Rattle.session.specs.Beats.{Reached, Stretches, going, unless_memory, concluded}
 use Rattle.session.specs.Effects.{EndsWell, Slicing, MayLack, answer, beats, beats_on, enough, from_here, ran_out_at, slice_answer, sliced}
@@ -13,10 +10,6 @@ use Rattle.session.specs.Kept.{Kept, keepings, settled}
 use Rattle.session.proofs.Advancing.{beats_after}
 use Rattle.session.proofs.Enough.{is_sliced, not_after, Follows}
 use Rattle.session.proofs.Told.{tick_tells, with_one}
-use Rattle.debuggee.specs.Programs.{told}
-use Rattle.session.specs.declared.link.Link.{Link}
-use Rattle.queues.specs.declared.pending.Pending.{Pending}
-use Rattle.session.specs.Acts.{Now}
 use Rattle.session.proofs.Reaching.{if_keeps}
 
 -- ---- so many beats end a slice of what is kept

@@ -1,169 +1,117 @@
--- What is kept stands for a session with its past, act by act.
-use Rattle.std.proofs.Common.{◌≡◌, ℕ, zero, suc, Bool, true, false, cond, ltb, List, [], ◌∷◌, ◌++◌, length, take, drop, Option, Some, None, refl, sym, ap, ◌∙◌, subst, append-nil, append_assoc, take-append-drop}
-use Rattle.std.specs.List.{flat_map}
-use Rattle.std.proofs.lemmas.List.{drop_at}
-use Rattle.std.proofs.lemmas.List.Concat.{flat_map-append}
-use Rattle.replies.specs.declared.message.Message.{Message}
+-- What is kept after an act, a slice or an event depends on what was kept alone, and so does the answer: no past is needed.
+use Rattle.std.proofs.Common.{◌≡◌, ℕ, zero, suc, ◌+◌, Bool, true, false, cond, ltb, List, [], ◌∷◌, Option, Some, None, Result, Ok, refl, sym, ap, ◌∙◌, subst}
+use Rattle.session.proofs.Common.{Applied, beat, Call, Connect, DropConnection, EventError, Hold, Link, Message, outcome, Pending, Program, Recv, response_to, Sent, Slice, SliceEnd, Terms, Turn}
 use Rattle.replies.specs.declared.message.Message.TheVariants.{Response, Event as IsEvent}
 use Rattle.replies.specs.declared.response.Outcome.{Outcome}
-use Rattle.session.specs.declared.link.Link.{Link}
-use Rattle.queues.specs.declared.pending.Pending.{Pending}
-use Rattle.handlers.specs.declared.terms.Terms.{Terms}
-use Rattle.debuggee.specs.Programs.{Program}
-use Rattle.variables.specs.Laws.{Call}
-use Rattle.session.specs.Acts.{Now, Act, Open, Close, Accept, Agree, Become, Refer, Reply, Tell, HangUp, Take, closed}
+use Rattle.session.specs.declared.event.Applied.TheVariants.{Slice as DidSlice}
+use Rattle.session.specs.declared.event.Event.{Event}
+use Rattle.session.specs.Acts.{Act, Open, Close, Accept, Agree, Become, Refer, Reply, Tell, HangUp, Take}
 use Rattle.session.specs.Config.{first_program}
-use Rattle.session.specs.Kept.{Kept, Stands, kept_said, kept_replied, kept_accepted, kept_agreed, kept_referred, kept_opened, kept_hung, kept_performed, keepings, nothing_kept}
-use Rattle.session.specs.Prefixes.{IsPrefixOf}
-use Rattle.handlers.specs.Refusals.{response_to}
-use Rattle.session.specs.Sessions.{Beginning, Session, Said, bytes_of, nothing_with, frame_said, not_taken, waiting_of, said_on, said_next, replied_on, accepted_on, agreed_on, referred_on, opened_on, hung_on, performed_on, histories, start}
-use Rattle.session.proofs.Simulation.{Simulates}
+use Rattle.session.specs.Effects.{BreaksOff, MayLack, Slicing, answer, beats, effect, enough, next_beat, next_by, performed, slice_answer}
+use Rattle.session.specs.Kept.{Kept, Stands, alone, keepings, keeps, kept_of, nothing_kept}
+use Rattle.session.specs.Sessions.{Beginning, Session, accepted_on, agreed_on, histories, hung_on, opened_on, performed_on, referred_on, replied_on, said_on, start}
 
--- ---- prefixes
+-- ---- an act
 
-pub rest_is : {X : Type 0} (prefix all : List X) (f : IsPrefixOf prefix all) → drop (length prefix) all ≡ f.0
-rest_is prefix all f = ap (drop (length prefix)) f.1 ∙ drop_at prefix f.0 (length prefix) refl
+abbrev IsKept : (Session → Session) → Session → Type 0
+IsKept f s = kept_of (f s) ≡ keeps f (kept_of s)
 
-pub prefix_of_more : {X : Type 0} (prefix all more : List X) → IsPrefixOf prefix all → IsPrefixOf prefix (all ++ more)
-prefix_of_more prefix all more f = (f.0 ++ more, ap (λ l. l ++ more) f.1 ∙ append_assoc prefix f.0 more)
+either : (b : Bool) (s t x y : Session) → kept_of s ≡ kept_of x → kept_of t ≡ kept_of y → kept_of (cond b s t) ≡ kept_of (cond b x y)
+either true s t x y h i = h
+either false s t x y h i = i
 
--- ---- bytes
+opened_kept : (l : Option Link) (s : Session) → IsKept (opened_on l) s
+opened_kept None s = refl
+opened_kept (Some link) s = refl
 
-pub bytes_more : (said : List Said) (m : Said) → flat_map frame_said (said ++ m ∷ []) ≡ flat_map frame_said said ++ frame_said m
-bytes_more said m = flat_map-append frame_said said (m ∷ []) ∙ ap (λ l. flat_map frame_said said ++ l) (append-nil (frame_said m))
+accepted_kept : (l : Option Link) (piece : List ℕ) (s : Session) → IsKept (accepted_on l piece) s
+accepted_kept None piece s = refl
+accepted_kept (Some link) piece s = either link.is_closing _ _ _ _ refl refl
 
-waits_more : (bytes taken more : List ℕ) → IsPrefixOf taken bytes → drop (length taken) (bytes ++ more) ≡ drop (length taken) bytes ++ more
-unfolding prefix_of_more
-waits_more bytes taken more f =
-    rest_is taken (bytes ++ more) (prefix_of_more taken bytes more f) ∙ sym (ap (λ l. l ++ more) (rest_is taken bytes f))
+agreed_kept : (l : Option Link) (terms : Terms) (s : Session) → IsKept (agreed_on l terms) s
+agreed_kept None terms s = refl
+agreed_kept (Some link) terms s = refl
 
-take_none : (n : ℕ) → take n (let none : List ℕ = [] in none) ≡ []
-take_none zero = refl
-take_none (suc n) = refl
+referred_kept : (l : Option Link) (call : Option Call) (s : Session) → IsKept (referred_on l call) s
+referred_kept None call s = refl
+referred_kept (Some link) call s = refl
 
-drop_none : (n : ℕ) → drop n (let none : List ℕ = [] in none) ≡ []
-drop_none zero = refl
-drop_none (suc n) = refl
+said_kept : (l : Option Link) (message : Message) (rest : List Pending) (s : Session) → IsKept (said_on l message rest) s
+said_kept None message rest s = refl
+said_kept (Some link) message rest s = either (ltb link.seq s.now.limits.last_seq) _ _ _ _ refl refl
 
-pub more_taken : (link : Option Link) (bytes taken : List ℕ) (n : ℕ) → IsPrefixOf taken bytes
-    → IsPrefixOf (taken ++ take n (not_taken link bytes taken)) bytes
-more_taken None bytes taken n f = subst (λ l. IsPrefixOf l bytes) (sym (ap (λ l. taken ++ l) (take_none n) ∙ append-nil taken)) f
-more_taken (Some link) bytes taken n f = (
-  drop n f.0,
-  f.1 ∙ ap (λ l. taken ++ l) (sym (take-append-drop n f.0)) ∙ sym (append_assoc taken (take n f.0) (drop n f.0))
-      ∙ ap (λ l. (taken ++ take n l) ++ drop n f.0) (sym (rest_is taken bytes f)),
-)
+replied_kept : (pending : List Pending) (outcome : Outcome) (s : Session) → IsKept (replied_on pending outcome) s
+replied_kept [] outcome s = refl
+replied_kept (p ∷ rest) outcome s = said_kept s.now.link (Response (response_to p.ask outcome)) rest s
 
-still_waits : (link : Option Link) (bytes taken : List ℕ) (n : ℕ) → IsPrefixOf taken bytes
-    → drop n (not_taken link bytes taken) ≡ not_taken link bytes (taken ++ take n (not_taken link bytes taken))
-unfolding more_taken
-still_waits None bytes taken n f = drop_none n
-still_waits (Some link) bytes taken n f =
-    ap (drop n) (rest_is taken bytes f) ∙ sym (rest_is _ bytes (more_taken (Some link) bytes taken n f))
+hung_kept : (l : Option Link) (s : Session) → IsKept (hung_on l) s
+hung_kept None s = refl
+hung_kept (Some link) s = refl
 
--- ---- what is seen
+act_kept : (act : Act) (s : Session) → IsKept (performed_on act) s
+act_kept Open s = opened_kept s.now.link s
+act_kept Close s = refl
+act_kept (Accept piece) s = accepted_kept s.now.link piece s
+act_kept (Agree terms) s = agreed_kept s.now.link terms s
+act_kept (Refer call) s = referred_kept s.now.link call s
+act_kept (Become debuggee) s = refl
+act_kept (Reply outcome) s = replied_kept s.now.arrivals.pending outcome s
+act_kept (Tell event) s = said_kept s.now.link (IsEvent event) s.now.arrivals.pending s
+act_kept HangUp s = hung_kept s.now.link s
+act_kept (Take n) s = refl
 
-sees : (k : Kept) (s : Session) → Stands k s → keepings.see k ≡ histories.see s
-sees k s h =
-    let now : k.now ≡ s.now = h.now in
-    let waits : length k.waiting ≡ length (waiting_of s) = ap length h.waiting in
-    cc
+acts_kept : (acts : List Act) (s : Session) → kept_of (performed histories acts s) ≡ performed keepings acts (kept_of s)
+acts_kept [] s = refl
+acts_kept (act ∷ acts) s = acts_kept acts (performed_on act s) ∙ ap (performed keepings acts) (act_kept act s)
 
--- ---- acts, by the connection
+-- ---- a slice
 
-abbrev with_link : Option Link → Session → Session
-with_link l s = record s { now = record s.now { link = l } }
+abbrev kept_in : Slicing Session → Slicing Kept
+kept_in d = record { state = kept_of d.state; moved = d.moved; ending = d.ending }
 
-both : (b : Bool) (k l : Kept) (s t : Session) → Stands k s → Stands l t → Stands (cond b k l) (cond b s t)
-both true k l s t h i = h
-both false k l s t h i = i
+next_kept : (n : ℕ) (ending : Option SliceEnd) (d : Slicing Session)
+    → kept_in (next_by histories n ending d) ≡ next_by keepings n ending (kept_in d)
+next_kept n (Some e) d = refl
+next_kept n None d =
+    let b = beat (histories.see d.state) (ltb d.moved n) in
+    ap (λ (k : Kept). let e : Slicing Kept = record { state = k; moved = d.moved + b.moved; ending = b.ending } in e) (acts_kept b.acts d.state)
 
--- it is enough to look at what is kept beside the very same now
-abbrev kept_at : Session → Kept → Kept
-kept_at s k = record { now = s.now; waiting = k.waiting }
+beats_kept : (n k : ℕ) (s : Session) → kept_in (beats histories n k s) ≡ beats keepings n k (kept_of s)
+beats_kept n zero s = refl
+beats_kept n (suc k) s =
+    next_kept n (beats histories n k s).ending (beats histories n k s) ∙ ap (next_beat keepings n) (beats_kept n k s)
 
-at_now : (f : Kept → Kept) (g : Session → Session) (k : Kept) (s : Session) → Stands k s
-    → (Stands (kept_at s k) s → Stands (f (kept_at s k)) (g s)) → Stands (f k) (g s)
-at_now f g k s h i =
-    subst (λ (n : Now). Stands (f (record { now = n; waiting = k.waiting })) (g s)) (sym h.now)
-    (i (record { now = refl; waiting = h.waiting; taken = h.taken }))
+-- a slice that breaks off does so whatever its past
+pub breaks_kept : (n moved : ℕ) (s : Session) (new : Kept) → BreaksOff keepings n moved (kept_of s) (λ k. new ≡ k)
+    → BreaksOff histories n moved s (λ t. Stands new t)
+breaks_kept n moved s new b =
+    let same = beats_kept n b.count s in
+    record {
+      count = b.count;
+      goes_on = ap (λ (d : Slicing Kept). d.ending) same ∙ b.goes_on;
+      moves = ap (λ (d : Slicing Kept). d.moved) same ∙ b.moves;
+      lacks = subst (λ (d : Slicing Kept). MayLack (keepings.see d.state) (ltb d.moved n)) (sym same) b.lacks;
+      holds = b.holds ∙ sym (ap (λ (d : Slicing Kept). d.state) same);
+    }
 
-said_stands : (l : Option Link) (m : Message) (rest : List Pending) (k : Kept) (s : Session)
-    → Stands (kept_at (with_link l s) k) (with_link l s)
-    → Stands (kept_said l m rest (kept_at (with_link l s) k)) (said_on l m rest (with_link l s))
-said_stands None m rest k s h = h
-said_stands (Some link) m rest k s h =
-    let next : Said = said_next s.now link m in
-    both (ltb link.seq s.now.limits.last_seq) _ _ _ _ (record {
-      now = refl;
-      waiting =
-          ap (λ x. x ++ frame_said next) h.waiting ∙ sym
-          (ap (drop (length s.life.taken)) (bytes_more s.life.said next) ∙ waits_more (bytes_of s.life) s.life.taken
-          (frame_said next) h.taken);
-      taken =
-          subst (IsPrefixOf s.life.taken) (sym (bytes_more s.life.said next))
-          (prefix_of_more s.life.taken (bytes_of s.life) (frame_said next) h.taken);
-    }) h
+-- ---- an event
 
-replied_stands : (pending : List Pending) (outcome : Outcome) (k : Kept) (s : Session) → Stands (kept_at s k) s
-    → Stands (kept_replied pending outcome (kept_at s k)) (replied_on pending outcome s)
-replied_stands [] outcome k s h = h
-replied_stands (p ∷ rest) outcome k s h = said_stands s.now.link (Response (response_to p.ask outcome)) rest k s h
+pub effect_kept : (e : Event) (s : Session) → kept_of (effect histories e s) ≡ effect keepings e (kept_of s)
+effect_kept Connect s = acts_kept (outcome (histories.see s) Connect).acts s
+effect_kept (Recv piece) s = acts_kept (outcome (histories.see s) (Recv piece)).acts s
+effect_kept (Turn file) s = acts_kept (outcome (histories.see s) (Turn file)).acts s
+effect_kept (Slice n) s = ap (λ (d : Slicing Kept). d.state) (beats_kept n (enough n) s)
+effect_kept Hold s = acts_kept (outcome (histories.see s) Hold).acts s
+effect_kept (Sent n) s = acts_kept (outcome (histories.see s) (Sent n)).acts s
+effect_kept DropConnection s = acts_kept (outcome (histories.see s) DropConnection).acts s
 
-accepted_stands : (l : Option Link) (piece : List ℕ) (k : Kept) (s : Session) → Stands (kept_at (with_link l s) k) (with_link l s)
-    → Stands (kept_accepted l piece (kept_at (with_link l s) k)) (accepted_on l piece (with_link l s))
-accepted_stands None piece k s h = h
-accepted_stands (Some link) piece k s h = both link.is_closing _ _ _ _ h (record { now = refl; waiting = h.waiting; taken = h.taken })
+pub answer_kept : (e : Event) (s : Session) → answer histories e s ≡ answer keepings e (kept_of s)
+answer_kept (Slice n) s =
+    ap (λ (d : Slicing Kept). let r : Result Applied EventError = Ok (DidSlice (slice_answer d)) in r) (beats_kept n (enough n) s)
+answer_kept other s = refl
 
-agreed_stands : (l : Option Link) (terms : Terms) (k : Kept) (s : Session) → Stands (kept_at (with_link l s) k) (with_link l s)
-    → Stands (kept_agreed l terms (kept_at (with_link l s) k)) (agreed_on l terms (with_link l s))
-agreed_stands None terms k s h = h
-agreed_stands (Some link) terms k s h = record { now = refl; waiting = h.waiting; taken = h.taken }
-
-referred_stands : (l : Option Link) (call : Option Call) (k : Kept) (s : Session) → Stands (kept_at (with_link l s) k) (with_link l s)
-    → Stands (kept_referred l call (kept_at (with_link l s) k)) (referred_on l call (with_link l s))
-referred_stands None call k s h = h
-referred_stands (Some link) call k s h = record { now = refl; waiting = h.waiting; taken = h.taken }
-
-opened_stands : (l : Option Link) (k : Kept) (s : Session) → Stands (kept_at (with_link l s) k) (with_link l s)
-    → Stands (kept_opened l (kept_at (with_link l s) k)) (opened_on l (with_link l s))
-opened_stands (Some link) k s h = h
-opened_stands None k s h = record { now = refl; waiting = refl; taken = ([], refl) }
-
-hung_stands : (l : Option Link) (k : Kept) (s : Session) → Stands (kept_at (with_link l s) k) (with_link l s)
-    → Stands (kept_hung l (kept_at (with_link l s) k)) (hung_on l (with_link l s))
-hung_stands None k s h = h
-hung_stands (Some link) k s h = record { now = refl; waiting = h.waiting; taken = h.taken }
-
-act_stands : (act : Act) (k : Kept) (s : Session) → Stands k s → Stands (kept_performed act k) (performed_on act s)
-act_stands Open k s h = at_now (kept_performed Open) (performed_on Open) k s h (opened_stands s.now.link k s)
-act_stands Close k s h = record { now = ap closed h.now; waiting = refl; taken = h.taken }
-act_stands (Accept piece) k s h =
-    at_now (kept_performed (Accept piece)) (performed_on (Accept piece)) k s h (accepted_stands s.now.link piece k s)
-act_stands (Agree terms) k s h =
-    at_now (kept_performed (Agree terms)) (performed_on (Agree terms)) k s h (agreed_stands s.now.link terms k s)
-act_stands (Refer call) k s h = at_now (kept_performed (Refer call)) (performed_on (Refer call)) k s h (referred_stands s.now.link call k s)
-act_stands (Become debuggee) k s h =
-    record { now = ap (λ (n : Now). record n { debuggee = debuggee }) h.now; waiting = h.waiting; taken = h.taken }
-act_stands (Tell event) k s h =
-    at_now (kept_performed (Tell event)) (performed_on (Tell event)) k s h
-    (said_stands s.now.link (IsEvent event) s.now.arrivals.pending k s)
-act_stands (Reply outcome) k s h =
-    at_now (kept_performed (Reply outcome)) (performed_on (Reply outcome)) k s h (replied_stands s.now.arrivals.pending outcome k s)
-act_stands HangUp k s h = at_now (kept_performed HangUp) (performed_on HangUp) k s h (hung_stands s.now.link k s)
-act_stands (Take n) k s h = record {
-  now = h.now;
-  waiting = ap (drop n) h.waiting ∙ still_waits s.now.link (bytes_of s.life) s.life.taken n h.taken;
-  taken = more_taken s.now.link (bytes_of s.life) s.life.taken n h.taken;
-}
-
-pub standing : Simulates keepings histories Stands
-standing = record { sees = sees; acts = act_stands }
+-- ---- the beginning
 
 pub begins : (from : Beginning) (program : Option Program) → program ≡ first_program from.program from.size
     → Stands (nothing_kept from.limits from.size program) (start from)
-begins from program e = record {
-  now = ap (nothing_with from.limits from.size) e;
-  waiting = refl;
-  taken = ([], refl);
-}
+begins from program e = ap (nothing_kept from.limits from.size) e

@@ -3,24 +3,15 @@ use Rattle.std.proofs.Common.{◌≡◌, ℕ, ◌+◌, Bool, true, false, ◌&&�
 use Rattle.std.proofs.lemmas.Bool.{or_left, or_right}
 use Rattle.replies.specs.declared.event.Event.{Event as Told}
 use Rattle.replies.specs.declared.event.Event.TheVariants as event
-use Rattle.handlers.specs.Telling.{stop_event}
-use Rattle.session.specs.Acts.{Now, Tell}
+use Rattle.session.proofs.Common.{after_beat, beats_on, ended, entered, is_active, keepings, Kept, MayLack, nat_tests, next_tick, Now, performed, Program, SliceEnd, Slicing, stays, stop_event, stopped, Tell, Tick, Why}
 use Rattle.session.specs.Outcomes.{is_owed, is_owed_by, is_to_tell, needs_memory}
-use Rattle.session.specs.Phases.{is_active}
-use Rattle.std.proofs.lemmas.Bool.Decides.{nat_tests}
-use Rattle.debuggee.specs.Programs.{Program, ended, entered, next_tick, stays, stopped}
 use Rattle.debuggee.specs.declared.run.Why.TheVariants as why
-use Rattle.debuggee.specs.declared.run.Why.{Why}
-use Rattle.session.specs.declared.event.SliceEnd.{SliceEnd}
 use Rattle.session.specs.declared.event.SliceEnd.TheVariants as ending
 use Rattle.session.specs.declared.slices.Next.TheVariants as next
 use Rattle.session.specs.Beats.{Decides, Stretches, going, owed_of, unless_memory}
-use Rattle.session.specs.Effects.{MayLack, Slicing, after_beat, beats_on, performed}
-use Rattle.session.specs.Kept.{Kept, keepings}
 use Rattle.session.specs.Slices.{Beat, IsFree, beat, beat_by, beat_of, becomes, concludes, ending_of, ends, halts, moves_by, stops, telling, tells as telling_of}
 use Rattle.stepping.specs.declared.tick.Outcome.{Outcome}
 use Rattle.stepping.specs.declared.tick.Outcome.TheVariants.{Went, Stopped, Ended}
-use Rattle.stepping.specs.declared.tick.Tick.{Tick}
 use Rattle.session.proofs.Deciding.{free_beat}
 use Rattle.session.proofs.ByMove.{by_move}
 

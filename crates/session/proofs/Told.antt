@@ -1,24 +1,14 @@
 -- What a beat tells is written first, and numbered at once.
 use Rattle.std.proofs.Common.{◌≡◌, ℕ, Bool, true, false, cond, ltb, List, [], ◌∷◌, ◌++◌, map, Option, Some, None, Result, Ok, Err, OnOk, refl, sym, ap, ◌∙◌, append-nil}
-use Rattle.debuggee.specs.Programs.{Debuggee, Program, ended, stays, stopped, told}
-use Rattle.debuggee.specs.declared.run.Why.{Why}
+use Rattle.session.proofs.Common.{Act, alone, Become, Debuggee, draft_on, draft_told, Drafted, drafted, drafted_all, ended, is_active, keepings, keeps, Kept, kept_of, Limits, Link, Message, Pending, performed, Program, said_on, saying, stays, stopped, Tell, Tick, told, Why}
 use Rattle.debuggee.specs.declared.run.Why.TheVariants as why
 use Rattle.replies.specs.declared.event.Event.{Event}
-use Rattle.replies.specs.declared.message.Message.{Message}
 use Rattle.replies.specs.declared.message.Message.TheVariants.{Event as IsEvent}
-use Rattle.session.specs.declared.link.Link.{Link}
-use Rattle.queues.specs.declared.pending.Pending.{Pending}
-use Rattle.session.specs.Acts.{Act, Become, Tell}
 use Rattle.session.specs.Beats.{concluded, outcome_events, queued_with, tick_events}
-use Rattle.session.specs.Effects.{performed}
-use Rattle.session.specs.Kept.{Drafted, Kept, draft_on, draft_told, drafted, drafted_all, keepings, kept_said}
-use Rattle.session.specs.declared.limits.Limits.{Limits}
-use Rattle.session.specs.Phases.{is_active}
 use Rattle.session.specs.Slices.{concludes, halts, logged, output_events, printed_events, telling}
 use Rattle.handlers.specs.Telling.{exit_events, log_event, stop_event}
 use Rattle.stepping.specs.declared.tick.Outcome.{Outcome}
 use Rattle.stepping.specs.declared.tick.Outcome.TheVariants.{Went, Stopped, Ended}
-use Rattle.stepping.specs.declared.tick.Tick.{Tick}
 use Rattle.session.proofs.Drafting.{settling, tells_if, tells_told}
 
 abbrev pub debugging : Debuggee → Kept → Kept
@@ -29,20 +19,20 @@ abbrev pub with_one : Program → Kept → Kept
 with_one p k = debugging (record k.now.debuggee { program = Some p }) k
 
 -- it is all the same when the program changes
-either_way : (b : Bool) (d : Debuggee) (x y : Kept) → debugging d (cond b x y) ≡ cond b (debugging d x) (debugging d y)
-either_way true d x y = refl
-either_way false d x y = refl
-
 said_before : (l : Option Link) (m : Message) (rest : List Pending) (d : Debuggee) (k : Kept)
-    → debugging d (kept_said l m rest k) ≡ kept_said l m rest (debugging d k)
+    → debugging d (keeps (said_on l m rest) k) ≡ keeps (said_on l m rest) (debugging d k)
 said_before None m rest d k = refl
-said_before (Some link) m rest d k = either_way (ltb link.seq k.now.limits.last_seq) d _ k
+said_before (Some link) m rest d k = by (ltb link.seq k.now.limits.last_seq) where
+  by : (b : Bool) → debugging d (kept_of (cond b (saying link m rest (alone k)) (alone k)))
+      ≡ kept_of (cond b (saying link m rest (alone (debugging d k))) (alone (debugging d k)))
+  by true = refl
+  by false = refl
 
 all_before : (events : List Event) (d : Debuggee) (k : Kept)
     → debugging d (performed keepings (map Tell events) k) ≡ performed keepings (map Tell events) (debugging d k)
 all_before [] d k = refl
 all_before (e ∷ es) d k =
-    all_before es d (kept_said k.now.link (IsEvent e) k.now.arrivals.pending k) ∙ ap (performed keepings (map Tell es))
+    all_before es d (keeps (said_on k.now.link (IsEvent e) k.now.arrivals.pending) k) ∙ ap (performed keepings (map Tell es))
     (said_before k.now.link (IsEvent e) k.now.arrivals.pending d k)
 
 performed_append : (xs ys : List Act) (k : Kept) → performed keepings (xs ++ ys) k ≡ performed keepings ys (performed keepings xs k)

@@ -1,12 +1,5 @@
 -- The file that the answer to the first request wants.
-use Rattle.std.proofs.Common.{◌≡◌, ℕ, List, [], ◌∷◌, Option, Some, None, refl, sym, ap, ◌∙◌}
-use Rattle.debuggee.specs.declared.run.Run.{Run}
-use Rattle.session.specs.declared.link.Link.{Link}
-use Rattle.queues.specs.declared.pending.Pending.{Pending}
-use Rattle.handlers.specs.declared.phase.Phase.{Phase}
-use Rattle.session.specs.Acts.{Now}
-use Rattle.queues.specs.Arrivals.{first_pending}
-use Rattle.handlers.specs.Demands.{run_of}
+use Rattle.session.proofs.Common.{[], ap, first_pending, Link, List, None, Now, Option, Pending, Phase, refl, Run, run_of, Some, sym, ℕ, ◌∙◌, ◌∷◌, ◌≡◌}
 use Rattle.handlers.specs.Refusals.{first_refusal, path_in, refusals, wanted_by}
 use Rattle.session.specs.Outcomes.{wanted_on}
 

@@ -1,9 +1,8 @@
 -- What the code of a session keeps, and which sessions with a past it stands for.
-use Rattle.std.specs.Prelude.{◌≡◌, ℕ, nat_lt, ◌+◌, ◌==◌, if◌then◌else◌, Bool, true, false, List, [], ◌∷◌, ◌++◌}
-use Rattle.std.specs.Prelude.{length, drop, Option, Some, None, Result, Ok, Err, ⊤}
+use Rattle.std.specs.Prelude.{◌≡◌, ℕ, nat_lt, ◌+◌, ◌==◌, if◌then◌else◌, true, List, [], ◌∷◌, ◌++◌}
+use Rattle.std.specs.Prelude.{length, Option, Some, None, Result, Ok, Err, ⊤}
 use Rattle.replies.specs.declared.message.Message.{Message}
-use Rattle.replies.specs.declared.message.Message.TheVariants.{Response, Event as IsEvent}
-use Rattle.replies.specs.declared.response.Outcome.{Outcome}
+use Rattle.replies.specs.declared.message.Message.TheVariants.{Event as IsEvent}
 use Rattle.session.specs.declared.event.Applied.{Applied}
 use Rattle.session.specs.declared.event.Event.{Event}
 use Rattle.session.specs.declared.event.EventError.{EventError}
@@ -15,73 +14,40 @@ use Rattle.debuggee.specs.Programs.{Program}
 use Rattle.replies.specs.declared.event.Event.{Event as AnEvent}
 use Rattle.handlers.specs.declared.change.Change.{Change}
 use Rattle.handlers.specs.Changes.{call_of, changed}
-use Rattle.session.specs.Acts.{Now, Seen, Act, Open, Close, Accept, Agree, Become, Refer, Reply, Tell, HangUp, Take}
-use Rattle.session.specs.References.{referred}
+use Rattle.session.specs.Acts.{Now, Seen}
+use Rattle.session.specs.References.{no_references, referred}
 use Rattle.variables.specs.Laws.{Call}
 use Rattle.variables.specs.Laws.Call.{EndStop, Issue}
 use Rattle.variables.specs.Numbers.{Numbers, has_room}
-use Rattle.session.specs.Acts.{opened, closed, agreed, hung, numbered, accepted, read_on, refers}
 use Rattle.session.specs.Effects.{World, Ends}
 use Rattle.session.specs.Phases.{is_active}
-use Rattle.session.specs.Prefixes.{IsPrefixOf}
-use Rattle.handlers.specs.Refusals.{response_to}
-use Rattle.session.specs.Sessions.{Session, bytes_of, waiting_of, histories, nothing_with}
+use Rattle.session.specs.Sessions.{Session, agreed_on, histories, no_life, nothing_with, performed_on}
 use Rattle.queues.specs.Writing.{frame_of}
 
--- what the session is now, and the bytes that wait
+-- what a session is now, and the bytes that wait
 pub record Kept : Type 0 where
   pub now : Now
   pub waiting : List ℕ
 
--- ---- what an act makes of what is kept
+-- what is kept of a session
+abbrev pub kept_of : Session → Kept
+kept_of s = record { now = s.now; waiting = s.waiting }
 
-abbrev pub kept_opened : Option Link → Kept → Kept
-kept_opened (Some link) k = k
-kept_opened None k = record { now = opened k.now; waiting = [] }
+-- What is kept stands for each session of which it is kept.
+abbrev pub Stands : Kept → Session → Type 0
+Stands k s = k ≡ kept_of s
 
-abbrev pub kept_accepted : Option Link → List ℕ → Kept → Kept
-kept_accepted None piece k = k
-kept_accepted (Some link) piece k =
-    if link.is_closing then k else record k { now = accepted k.now (read_on k.now piece) link }
+-- what is kept, as a session without a past
+abbrev pub alone : Kept → Session
+alone k = record { now = k.now; waiting = k.waiting; before = []; life = no_life; references = no_references }
 
-abbrev pub kept_agreed : Option Link → Terms → Kept → Kept
-kept_agreed None terms k = k
-kept_agreed (Some link) terms k = record k { now = agreed k.now link terms }
-
-abbrev pub kept_referred : Option Link → Option Call → Kept → Kept
-kept_referred None call k = k
-kept_referred (Some link) call k = record k { now = refers k.now call }
-
-abbrev pub kept_said : Option Link → Message → List Pending → Kept → Kept
-kept_said None message rest k = k
-kept_said (Some link) message rest k = if nat_lt link.seq k.now.limits.last_seq then record k {
-  now = numbered k.now link rest;
-  waiting = k.waiting ++ frame_of (link.seq + 1) message;
-} else k
-
-abbrev pub kept_replied : List Pending → Outcome → Kept → Kept
-kept_replied [] outcome k = k
-kept_replied (p ∷ rest) outcome k = kept_said k.now.link (Response (response_to p.ask outcome)) rest k
-
-abbrev pub kept_hung : Option Link → Kept → Kept
-kept_hung None k = k
-kept_hung (Some link) k = record k { now = hung k.now link }
-
-abbrev pub kept_performed : Act → Kept → Kept
-kept_performed Open k = kept_opened k.now.link k
-kept_performed Close k = record { now = closed k.now; waiting = [] }
-kept_performed (Accept piece) k = kept_accepted k.now.link piece k
-kept_performed (Agree terms) k = kept_agreed k.now.link terms k
-kept_performed (Become debuggee) k = record k { now = record k.now { debuggee = debuggee } }
-kept_performed (Refer call) k = kept_referred k.now.link call k
-kept_performed (Reply outcome) k = kept_replied k.now.arrivals.pending outcome k
-kept_performed (Tell event) k = kept_said k.now.link (IsEvent event) k.now.arrivals.pending k
-kept_performed HangUp k = kept_hung k.now.link k
-kept_performed (Take n) k = record k { waiting = drop n k.waiting }
+-- what is kept after this was made of a session that needs no past for it, as an act
+abbrev pub keeps : (Session → Session) → Kept → Kept
+keeps f k = kept_of (f (alone k))
 
 -- what is kept, as events see it
 abbrev pub keepings : World Kept
-keepings = record { see = λ k. record { now = k.now; waits = length k.waiting }; perform = kept_performed }
+keepings = record { see = λ k. record { now = k.now; waits = length k.waiting }; perform = λ act. keeps (performed_on act) }
 
 -- what is seen of what is kept
 abbrev pub see_kept : Kept → Seen
@@ -106,7 +72,7 @@ now_changed c now =
 
 -- what is kept after a change on a connection, and what is agreed with it
 abbrev pub kept_changed : Change → Terms → Kept → Kept
-kept_changed c terms k = kept_agreed k.now.link terms (record k { now = now_changed c k.now })
+kept_changed c terms k = keeps (agreed_on k.now.link terms) (record k { now = now_changed c k.now })
 
 -- their bytes, and the last number given
 pub record Drafted : Type 0 where
@@ -141,18 +107,6 @@ settled (Some link) seq rest now = let is_last = seq == now.limits.last_seq in
       link = Some (record link { seq = seq; is_closing = if is_last then true else link.is_closing });
       arrivals = record now.arrivals { pending = if is_last then [] else rest };
     } else now
-
--- what is kept after an answer that closes the connection, or does not
-abbrev pub kept_closing : Bool → Kept → Kept
-kept_closing true k = kept_hung k.now.link k
-kept_closing false k = k
-
--- What is kept stands for a session with all of its past: what it is now is the same, and the bytes that wait are those
--- of the connection that were not taken. What was taken of it is a prefix of its bytes.
-pub record Stands (k : Kept) (s : Session) : Type 0 where
-  pub now : k.now ≡ s.now
-  pub waiting : k.waiting ≡ waiting_of s
-  pub taken : IsPrefixOf s.life.taken (bytes_of s.life)
 
 -- a call's answer among those of all calls
 abbrev pub answered : {X : Type 0} → (X → Applied) → Result X EventError → Result Applied EventError

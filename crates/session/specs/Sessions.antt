@@ -2,7 +2,9 @@
 --
 -- Nothing that was queued, taken or asked is forgotten here: a session is what it is now, and the lives of all its
 -- connections. A connection has a number, from 1. Its bytes are the frames of the messages that were queued for it, in
--- order; those that were not taken yet wait, as long as the connection lasts.
+-- order. Those that were not taken yet wait, as long as the connection lasts: a message that is queued waits with all its
+-- bytes, what is taken are the first bytes that wait, and what waits is dropped where a connection ends. An act needs no
+-- past: what it makes of what a session is now, and of the bytes that wait, depends on these alone (`Kept`).
 use Rattle.std.specs.Prelude.{◌≡◌, ℕ, ◌+◌, nat_lt, Bool, true, if◌then◌else◌, List, [], ◌∷◌, ◌++◌, length, take, drop, get_or}
 use Rattle.std.specs.Prelude.{Option, Some, None, is_some, Result}
 use Rattle.std.specs.List.{flat_map}
@@ -53,10 +55,12 @@ pub record Life : Type 0 where
 abbrev pub no_life : Life
 no_life = record { accepted = []; heard = []; said = []; taken = [] }
 
--- A session: what it is now, the life of the last connection that was made, the lives before it, and all references that
--- were ever issued. A life stays when its connection ends. The first is that of no connection: nothing happened in it.
+-- A session: what it is now, the bytes that wait, the life of the last connection that was made, the lives before it, and all
+-- references that were ever issued. A life stays when its connection ends. The first is that of no connection: nothing
+-- happened in it.
 pub record Session : Type 0 where
   pub now : Now
+  pub waiting : List ℕ
   pub before : List Life
   pub life : Life
   pub references : References
@@ -77,15 +81,6 @@ frame_said m = frame_of m.seq m.message
 abbrev pub bytes_of : Life → List ℕ
 bytes_of life = flat_map frame_said life.said
 
--- the bytes that wait on the present connection, by all its bytes and those that were taken
-abbrev pub not_taken : Option Link → List ℕ → List ℕ → List ℕ
-not_taken None bytes taken = []
-not_taken (Some link) bytes taken = drop (length taken) bytes
-
--- the bytes that wait
-abbrev pub waiting_of : Session → List ℕ
-waiting_of s = not_taken s.now.link (bytes_of s.life) s.life.taken
-
 -- whether a stream has a fault: of one of its bodies, or where it goes on as no frame can
 abbrev pub is_faulty : List ℕ → Bool
 is_faulty stream = is_some (fault_of_reading (reading_of BODY_LIMIT stream))
@@ -100,7 +95,7 @@ up_to_fault stream (byte ∷ piece) = if is_faulty stream then stream else up_to
 -- a connection is made, if there is none
 abbrev pub opened_on : Option Link → Session → Session
 opened_on (Some link) s = s
-opened_on None s = record { now = opened s.now; before = lives s; life = no_life; references = s.references }
+opened_on None s = record { now = opened s.now; waiting = []; before = lives s; life = no_life; references = s.references }
 
 -- a life in which a piece more came, after what had come of the next frame
 abbrev pub with_piece : Life → Now → List ℕ → Life
@@ -109,13 +104,14 @@ with_piece life now piece = record life {
   heard = life.heard ++ asks_of (read_on now piece).bodies;
 }
 
+-- a piece is taken on a connection
+abbrev pub accepting : Link → List ℕ → Session → Session
+accepting link piece s = record s { now = accepted s.now (read_on s.now piece) link; life = with_piece s.life s.now piece }
+
 -- a piece is taken, if there is a connection that takes one
 abbrev pub accepted_on : Option Link → List ℕ → Session → Session
 accepted_on None piece s = s
-accepted_on (Some link) piece s = if link.is_closing then s else record s {
-  now = accepted s.now (read_on s.now piece) link;
-  life = with_piece s.life s.now piece;
-}
+accepted_on (Some link) piece s = if link.is_closing then s else accepting link piece s
 
 -- this is agreed on the connection, if there is one
 abbrev pub agreed_on : Option Link → Terms → Session → Session
@@ -142,13 +138,18 @@ said_next now link message = record { seq = link.seq + 1; message = message; sna
 abbrev pub with_said : Life → Said → Life
 with_said life m = record life { said = life.said ++ m ∷ [] }
 
--- a message is queued, if there is a connection and a number for it; these requests wait then
+-- a message is queued on a connection, with its next number; these requests wait then
+abbrev pub saying : Link → Message → List Pending → Session → Session
+saying link message rest s = record s {
+  now = numbered s.now link rest;
+  waiting = s.waiting ++ frame_of (link.seq + 1) message;
+  life = with_said s.life (said_next s.now link message);
+}
+
+-- a message is queued, if there is a connection and a number for it
 abbrev pub said_on : Option Link → Message → List Pending → Session → Session
 said_on None message rest s = s
-said_on (Some link) message rest s = if nat_lt link.seq s.now.limits.last_seq then record s {
-  now = numbered s.now link rest;
-  life = with_said s.life (said_next s.now link message);
-} else s
+said_on (Some link) message rest s = if nat_lt link.seq s.now.limits.last_seq then saying link message rest s else s
 
 -- the first of the requests that wait is answered
 abbrev pub replied_on : List Pending → Outcome → Session → Session
@@ -167,7 +168,7 @@ with_taken life bytes = record life { taken = life.taken ++ bytes }
 -- a session with its past, after an act
 abbrev pub performed_on : Act → Session → Session
 performed_on Open s = opened_on s.now.link s
-performed_on Close s = record s { now = closed s.now; references = ended s.references }
+performed_on Close s = record s { now = closed s.now; waiting = []; references = ended s.references }
 performed_on (Accept piece) s = accepted_on s.now.link piece s
 performed_on (Agree terms) s = agreed_on s.now.link terms s
 performed_on (Refer call) s = referred_on s.now.link call s
@@ -175,11 +176,11 @@ performed_on (Become debuggee) s = record s { now = record s.now { debuggee = de
 performed_on (Reply outcome) s = replied_on s.now.arrivals.pending outcome s
 performed_on (Tell event) s = said_on s.now.link (IsEvent event) s.now.arrivals.pending s
 performed_on HangUp s = hung_on s.now.link s
-performed_on (Take n) s = record s { life = with_taken s.life (take n (waiting_of s)) }
+performed_on (Take n) s = record s { waiting = drop n s.waiting; life = with_taken s.life (take n s.waiting) }
 
 -- sessions with their past, as events see them
 abbrev pub histories : World Session
-histories = record { see = λ s. record { now = s.now; waits = length (waiting_of s) }; perform = performed_on }
+histories = record { see = λ s. record { now = s.now; waits = length s.waiting }; perform = performed_on }
 
 -- what an event leaves of a session
 abbrev pub Effect : Session → Event → Session
@@ -218,7 +219,7 @@ nothing_yet from = nothing_with from.limits from.size (first_program from.progra
 
 -- a session to which nothing happened
 abbrev pub start : Beginning → Session
-start from = record { now = nothing_yet from; before = []; life = no_life; references = no_references }
+start from = record { now = nothing_yet from; waiting = []; before = []; life = no_life; references = no_references }
 
 -- what a list of events leaves
 abbrev pub After : Beginning → List Event → Session

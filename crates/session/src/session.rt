@@ -6,9 +6,9 @@ ghost use Rattle.session.specs.declared.event.Applied.TheVariants as applied;
 ghost use Rattle.session.specs.Begins.{Begins};
 ghost use Rattle.session.specs.Outcomes.{is_finished, wanted_on};
 ghost use Rattle.session.specs.Slices.{is_runnable};
-ghost use Rattle.session.specs.Sessions.{snapshot_of, start, waiting_of, histories};
+ghost use Rattle.session.specs.Sessions.{snapshot_of, start};
 ghost use Rattle.snapshots.specs.Snapshots.{IsTaken};
-ghost use Rattle.session.specs.Kept.{Happens, OfEach, Stands, answered, see_kept};
+ghost use Rattle.session.specs.Kept.{Happens, Stands, answered, see_kept};
 
 use crate::config::{Config, ConfigError, first_program, is_size};
 use crate::event::{Applied, Event, EventError, LinkFault, Sliced, Turned};
@@ -176,16 +176,14 @@ impl Session {
 
     /// The bytes that wait to be sent. Without a connection none does.
     pub fn waiting(&self) -> &[u8]
-        ensures now { result.now ≡ self.now.waiting }
-        ensures stands { OfEach self.now (λ s. result.now ≡ waiting_of s) }
+        ensures { result.now ≡ self.now.waiting }
     {
         self.state.waiting()
     }
 
     /// How many requests wait for their answers.
     pub fn pending(&self) -> usize
-        ensures now { result ≡ length self.now.now.arrivals.pending }
-        ensures stands { OfEach self.now (λ s. result ≡ length s.now.arrivals.pending) }
+        ensures { result ≡ length self.now.now.arrivals.pending }
     {
         self.state.pending()
     }
@@ -193,16 +191,14 @@ impl Session {
     /// Whether all is said on the connection: it takes nothing more, no request waits for its answer,
     /// and no byte waits to be sent. Without a connection it is not.
     pub fn finished(&self) -> bool
-        ensures now { result ≡ is_finished (see_kept self.now) }
-        ensures stands { OfEach self.now (λ s. result ≡ is_finished (histories.see s)) }
+        ensures { result ≡ is_finished (see_kept self.now) }
     {
         self.state.finished()
     }
 
     /// Whether a slice would do something: a program runs, and its editor, if there is one, has said all.
     pub fn runnable(&self) -> bool
-        ensures now { result ≡ is_runnable self.now.now }
-        ensures stands { OfEach self.now (λ s. result ≡ is_runnable s.now) }
+        ensures { result ≡ is_runnable self.now.now }
     {
         self.state.runnable()
     }
@@ -210,10 +206,7 @@ impl Session {
     /// The path of the file that the next answer wants, if it wants one: `turn` is to be given what it
     /// holds.
     pub fn wants_file(&self) -> Option<&str>
-        ensures now { option_map (λ path. path.now) result
-            ≡ wanted_on self.now.now self.now.now.link }
-        ensures stands { OfEach self.now
-            (λ s. option_map (λ path. path.now) result ≡ wanted_on s.now s.now.link) }
+        ensures { option_map (λ path. path.now) result ≡ wanted_on self.now.now self.now.now.link }
     {
         self.state.wants_file()
     }
@@ -222,9 +215,7 @@ impl Session {
     ///
     /// `Err`: no memory was left. Where there is no program, it takes none.
     pub fn snapshot(&self) -> Result<Snapshot, AllocError>
-        ensures now { IfOk result (λ taken. IsTaken taken (snapshot_of self.now.now)) }
-        ensures stands { OfEach self.now
-            (λ s. IfOk result (λ taken. IsTaken taken (snapshot_of s.now))) }
+        ensures ok { IfOk result (λ taken. IsTaken taken (snapshot_of self.now.now)) }
         ensures err { OnErr result (self.now.now.debuggee.program ≢ None) }
     {
         self.state.snapshot()
@@ -233,8 +224,7 @@ impl Session {
     /// What closed the connection, if what came on it was no frame or no message. It is kept after the
     /// connection ended, until the next one.
     pub fn link_fault(&self) -> Option<LinkFault>
-        ensures now { result ≡ self.now.now.fault }
-        ensures stands { OfEach self.now (λ s. result ≡ s.now.fault) }
+        ensures { result ≡ self.now.now.fault }
     {
         self.state.link_fault()
     }

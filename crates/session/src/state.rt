@@ -6,7 +6,7 @@ ghost use Rattle.queues.specs.declared.pending.Pending.{Pending as APending};
 ghost use Rattle.std.specs.Prelude.{if◌then◌else◌};
 ghost use Rattle.session.specs.declared.event.Applied.TheVariants as applied;
 ghost use Rattle.handlers.specs.Changes.{answering_as, changed, events_of, call_of};
-ghost use Rattle.session.specs.Kept.{Drafted, Goes, HasNumbers, answered, draft_on, drafted, drafted_all, kept_agreed, kept_changed, kept_closing, now_changed, nothing_kept, keepings, see_kept, settled};
+ghost use Rattle.session.specs.Kept.{Drafted, Goes, HasNumbers, answered, draft_on, drafted, drafted_all, kept_changed, keeps, now_changed, nothing_kept, keepings, see_kept, settled};
 ghost use Rattle.handlers.specs.Breaks.{Numbered as ANumbered};
 ghost use Rattle.handlers.specs.Sizes.{IsSize};
 ghost use Rattle.handlers.specs.Demands.{run_of};
@@ -22,7 +22,7 @@ ghost use Rattle.handlers.specs.Refusals.{response_to};
 ghost use Rattle.session.specs.Outcomes.{wanted_on};
 ghost use Rattle.session.specs.Preparing.{IsPrepared};
 ghost use Rattle.handlers.specs.declared.change.Change.TheVariants as a_change;
-ghost use Rattle.session.specs.Sessions.{snapshot_of};
+ghost use Rattle.session.specs.Sessions.{agreed_on, snapshot_of};
 ghost use Rattle.session.specs.Slices.{is_runnable};
 ghost use Rattle.snapshots.specs.Snapshots.{IsTaken};
 ghost use Rattle.session.specs.Effects.{performed};
@@ -490,7 +490,7 @@ impl State {
 
     // This is agreed on the connection.
     fn agree(&mut self, terms: Terms)
-        ensures { self.new ≡ kept_agreed self.old.now.link terms self.old }
+        ensures { self.new ≡ keeps (agreed_on self.old.now.link terms) self.old }
     {
         if let Some(link) = self.link {
             self.link = Some(Link { terms, ..link });
@@ -538,7 +538,7 @@ impl State {
 
     // The connection takes nothing more, where it closes.
     fn hang_up(&mut self, closes: bool)
-        ensures { self.new ≡ kept_closing closes self.old }
+        ensures { self.new ≡ performed keepings (spec.closing closes) self.old }
     {
         if !closes {
             return;

@@ -1,11 +1,10 @@
 -- What is kept where an act does something is kept by acts.
-use Rattle.session_laws.proofs.Common.{[], Accept, accepted_on, Agree, agreed_on, Answering, Become, Call, Close, Debuggee, false, hung_on, if_keeps, Link, List, ltb, ltb-true, None, Open, Option, past_referred, Pending, performed_on, read_on, Refer, referred_on, replied_on, Reply, Response, response_to, said_next, said_on, Session, Some, Take, Tell, Terms, ℕ, ◌<◌, ◌∷◌, ◌≡◌}
-use Rattle.replies.specs.declared.message.Message.{Message}
+use Rattle.session_laws.proofs.Common.{[], Accept, accepted_on, Agree, agreed_on, Answering, Become, Call, Close, Debuggee, false, hung_on, if_keeps, Link, List, ltb, ltb-true, None, Open, Option, past_referred, Pending, performed_on, Refer, referred_on, replied_on, Reply, Response, response_to, said_on, Session, Some, Take, Tell, Terms, ℕ, ◌<◌, ◌∷◌, ◌≡◌}
 use Rattle.replies.specs.declared.message.Message.TheVariants.{Event as IsEvent}
 use Rattle.replies.specs.declared.response.Outcome.{Outcome}
 use Rattle.replies.specs.declared.event.Event.{Event}
-use Rattle.session.specs.Acts.{HangUp, numbered, accepted, refers}
-use Rattle.session.specs.Sessions.{with_said, with_piece, opened_on}
+use Rattle.session.specs.Acts.{HangUp, refers}
+use Rattle.session.specs.Sessions.{accepting, opened_on, saying}
 use Rattle.session.proofs.Reaching.{KeptByActs}
 
 -- a session once an answer's change is made and its references are issued, before it is queued
@@ -21,14 +20,6 @@ on l s = record s { now = record s.now { link = l } }
 
 abbrev pub on_with : Option Link → List Pending → Session → Session
 on_with l pending s = record s { now = record s.now { link = l; arrivals = record s.now.arrivals { pending = pending } } }
-
--- the session after a message
-abbrev pub saying : Link → Message → List Pending → Session → Session
-saying l m rest s = record s { now = numbered s.now l rest; life = with_said s.life (said_next s.now l m) }
-
--- and after a piece
-abbrev pub accepting : Link → List ℕ → Session → Session
-accepting l piece s = record s { now = accepted s.now (read_on s.now piece) l; life = with_piece s.life s.now piece }
 
 -- What keeps P act by act, but for answers: what each act does where it does something.
 pub record KeptByOthers (P : Session → Type 0) : Type 0 where

@@ -27,7 +27,7 @@ pub use Rattle.session.specs.Kinds.{is_success}
 pub use Rattle.session.specs.Outcomes.{answer_to, answering, answers_next, closing, done, next_turn, outcome_at, turn_by, turn_of}
 pub use Rattle.session.specs.Reached.{Happened, Reached}
 pub use Rattle.session.specs.References.{Reference, past_referred, referred, without_connection}
-pub use Rattle.session.specs.Sessions.{Beginning, Effect, Life, Said, Session, accepted_on, agreed_on, histories, hung_on, is_faulty, performed_on, referred_on, replied_on, said_next, said_on, start, up_to_fault, waiting_of}
+pub use Rattle.session.specs.Sessions.{Beginning, Effect, Life, Said, Session, accepted_on, agreed_on, histories, hung_on, is_faulty, performed_on, referred_on, replied_on, said_next, said_on, start, up_to_fault}
 pub use Rattle.session.specs.Slices.{Beat, beat, beat_by, beat_of, becomes, concludes, ending_of, ends, exits, goes, goes_unless, halts, is_at_limit, is_runnable_by, logged, makes_move, moves_by, output_events, stops, telling, tells}
 pub use Rattle.session.specs.declared.event.Event.TheVariants.{Connect, DropConnection, Hold, Recv, Sent, Slice, Turn}
 pub use Rattle.session.specs.declared.event.SliceEnd.{SliceEnd}

@@ -13,7 +13,8 @@ use Rattle.session.specs.Acts.{tail_kept}
 use Rattle.session_laws.specs.Laws.{RequestsAreRead, FaultIsOfTheBytes, IsTaken, CutsDoNotMatter}
 use Rattle.session.specs.Outcomes.{Outcome, refused, outcome}
 use Rattle.session.specs.Sessions.{Answer}
-use Rattle.session_laws.proofs.ByForms.{on, accepting, KeptByOthers, KeptByAnswers, by_forms}
+use Rattle.session_laws.proofs.ByForms.{on, KeptByOthers, KeptByAnswers, by_forms}
+use Rattle.session.specs.Sessions.{accepting}
 use Rattle.session_laws.proofs.Reading.{asks_of-append, message_fault_of-append, fault_stays, asks_up_to, fault_up_to, up_to_fault_all, up_to_fault-append, ends_at_fault, reading_after-append, no_message_fault, none_if}
 
 -- ---- the requests of a connection are those of its bytes

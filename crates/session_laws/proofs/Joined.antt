@@ -1,5 +1,5 @@
 -- Two slices, one after the other, leave what one of all their moves leaves.
-use Rattle.session_laws.proofs.Common.{[], Act, ap, arith, Beat, beat, beat_by, beat_of, beats, becomes, Bool, by_move, concluded, concludes, cond, Debuggee, ending_of, ends, enough, exit_events, exits, false, FULL, goes, goes_unless, halts, histories, if_keeps, inl, inr, is_at_limit, is_runnable_by, is_running, length, List, logged, ltb, makes_move, map, Mark, moved, moves_by, nat_tests, next_by, next_tick, None, not, Now, Option, output_events, performed, performed_append, performed_on, Program, refl, Seen, Session, sliced, SliceEnd, Slicing, Some, stop_event, stopped, stops, subst, suc, sym, Tell, telling, tells, Tick, told, true, waiting_of, Went, Why, why_marked, zero, ℕ, ℤ, ◌&&◌, ◌+◌, ◌<◌, ◌∙◌, ◌∷◌, ◌≡◌, ◌≤◌, ◌⊎◌}
+use Rattle.session_laws.proofs.Common.{[], Act, ap, arith, Beat, beat, beat_by, beat_of, beats, becomes, Bool, by_move, concluded, concludes, cond, Debuggee, ending_of, ends, enough, exit_events, exits, false, FULL, goes, goes_unless, halts, histories, if_keeps, inl, inr, is_at_limit, is_runnable_by, is_running, length, List, logged, ltb, makes_move, map, Mark, moved, moves_by, nat_tests, next_by, next_tick, None, not, Now, Option, output_events, performed, performed_append, performed_on, Program, refl, Seen, Session, sliced, SliceEnd, Slicing, Some, stop_event, stopped, stops, subst, suc, sym, Tell, telling, tells, Tick, told, true, Went, Why, why_marked, zero, ℕ, ℤ, ◌&&◌, ◌+◌, ◌<◌, ◌∙◌, ◌∷◌, ◌≡◌, ◌≤◌, ◌⊎◌}
 use Rattle.debuggee.specs.Programs.{ended}
 use Rattle.debuggee.specs.declared.run.Why.TheVariants as why
 use Rattle.replies.specs.declared.event.Event.{Event as Told}
@@ -249,14 +249,14 @@ owed_still None s p more is owes =
       ending.Idle,
       ap (λ (o : Option Tick). beat_by o (histories.see s) p again) owes
           ∙ ap (λ (b : Bool). cond b (ends ending.Idle)
-          (cond (ltb FULL (length (waiting_of s))) (ends ending.Full) (goes_unless p.mark s.now p again))) idle,
+          (cond (ltb FULL (length s.waiting)) (ends ending.Full) (goes_unless p.mark s.now p again))) idle,
     ))))
-    (λ runs. if_keeps (EndsStill s) (ltb FULL (length (waiting_of s))) _ _
+    (λ runs. if_keeps (EndsStill s) (ltb FULL (length s.waiting)) _ _
     (λ full. same_still s ending.Full (still_as s (Some p) is (λ again. (
       ending.Full,
       ap (λ (o : Option Tick). beat_by o (histories.see s) p again) owes
           ∙ ap (λ (b : Bool). cond b (ends ending.Idle)
-          (cond (ltb FULL (length (waiting_of s))) (ends ending.Full) (goes_unless p.mark s.now p again))) runs
+          (cond (ltb FULL (length s.waiting)) (ends ending.Full) (goes_unless p.mark s.now p again))) runs
           ∙ ap (λ (b : Bool). cond b (ends ending.Full) (goes_unless p.mark s.now p again)) full,
     ))))
     (λ _. unless_still p.mark s p more owes))

@@ -6,11 +6,13 @@ use Rattle.std.proofs.lemmas.List.Concat.{flat_map-append}
 use Rattle.replies.specs.declared.message.Message.TheVariants.{Event as IsEvent}
 use Rattle.session.specs.Prefixes.{IsPrefixOf}
 use Rattle.session_laws.specs.Laws.{asked_as, answered_as, asked_in, answered_in, pending_as, AnswersInOrder, AreNumberedFrom, NumbersRise}
-use Rattle.session.proofs.Standing.{prefix_of_more}
 use Rattle.session_laws.proofs.Joining.{all_joined_as}
 use Rattle.session_laws.proofs.ByForms.{KeptByOthers, KeptByAnswers, by_forms}
 
 -- ---- answers in order
+
+prefix_of_more : {X : Type 0} (prefix all more : List X) → IsPrefixOf prefix all → IsPrefixOf prefix (all ++ more)
+prefix_of_more prefix all more f = (f.0 ++ more, ap (λ l. l ++ more) f.1 ∙ append_assoc prefix f.0 more)
 
 abbrev Prefix : Life → Type 0
 Prefix life = IsPrefixOf (answered_in life) (asked_in life)

@@ -1,5 +1,5 @@
 -- A program that runs and is marked retires no instruction.
-use Rattle.session_laws.proofs.Common.{[], Agree, agreed_on, agrees, answer_to, Answering, answering, ap, arith, assembled, Beat, beat_by, beat_of, beats, Become, Bool, by_success, BySuccess, bytes_eq, Call, closing, Command, concluded, Connect, Debuggee, done, DropConnection, Effect, ending_of, ends, enough, eqb, false, first_run, FULL, given_of, goes_on, goes_unless, histories, Hold, hung_on, if_keeps, inl, inr, is_runnable_by, is_running, is_success, IsTrue, just_loaded, LAST_CONNECTION, leb, length, Link, List, ltb, map, Mark, marked, marked_by, MOST_PENDING, MOST_PIECE, name_asked, next_by, None, not, Now, of_answer, on_program, Option, outcome_at, Pending, performed, performed_append, performed_on, Program, Recv, Refer, referred_on, refl, replied_on, Reply, response_to, restarted, Run, run_of, Sent, Session, Slice, SliceEnd, Slicing, Some, steps, stop_event, stopped, subst, suc, sym, Tell, telling, tells, Terms, Tick, told, true, Turn, waiting_of, Went, why_marked, zero, ℕ, ◌&&◌, ◌||◌, ◌∙◌, ◌∷◌, ◌≡◌, ◌⊎◌}
+use Rattle.session_laws.proofs.Common.{[], Agree, agreed_on, agrees, answer_to, Answering, answering, ap, arith, assembled, Beat, beat_by, beat_of, beats, Become, Bool, by_success, BySuccess, bytes_eq, Call, closing, Command, concluded, Connect, Debuggee, done, DropConnection, Effect, ending_of, ends, enough, eqb, false, first_run, FULL, given_of, goes_on, goes_unless, histories, Hold, hung_on, if_keeps, inl, inr, is_runnable_by, is_running, is_success, IsTrue, just_loaded, LAST_CONNECTION, leb, length, Link, List, ltb, map, Mark, marked, marked_by, MOST_PENDING, MOST_PIECE, name_asked, next_by, None, not, Now, of_answer, on_program, Option, outcome_at, Pending, performed, performed_append, performed_on, Program, Recv, Refer, referred_on, refl, replied_on, Reply, response_to, restarted, Run, run_of, Sent, Session, Slice, SliceEnd, Slicing, Some, steps, stop_event, stopped, subst, suc, sym, Tell, telling, tells, Terms, Tick, told, true, Turn, Went, why_marked, zero, ℕ, ◌&&◌, ◌||◌, ◌∙◌, ◌∷◌, ◌≡◌, ◌⊎◌}
 use Rattle.std.proofs.lemmas.Bool.{or_left, or_right}
 use Rattle.std.specs.Prelude.{is_some, MatchOption}
 use Rattle.answers.specs.Answers.{sets_breakpoints}
@@ -110,7 +110,7 @@ owed_rests : (owed : Option Tick) (s : Session) (p : Program) (more : Bool) → 
 owed_rests (Some tick) s p more is r m = tick_rests s p tick r m
 owed_rests None s p more is r m =
     if_keeps (Rests s) (not (is_runnable_by s.now.link p.run)) _ _ (λ _. idle_rests s p ending.Idle is r m)
-    (λ _. if_keeps (Rests s) (ltb FULL (length (waiting_of s))) _ _ (λ _. idle_rests s p ending.Full is r m)
+    (λ _. if_keeps (Rests s) (ltb FULL (length s.waiting)) _ _ (λ _. idle_rests s p ending.Full is r m)
     (λ _. mark_rests s p p.mark more m))
 
 program_rests : (program : Option Program) (s : Session) (more : Bool) → program_of s ≡ program
@@ -320,7 +320,7 @@ outcome_passes (Some l) (Turn file) s h = turn_passes file (on (Some l) s) h
 outcome_passes (Some l) (Slice n) s h = inr (still_marked (program_of s) h)
 outcome_passes (Some l) Hold s h = inr (hold_waits (program_of s) h)
 outcome_passes (Some l) (Sent n) s h =
-    if_keeps (Passes (on (Some l) s) (Sent n)) (ltb (length (waiting_of (on (Some l) s))) n) _ _ (λ _. inr (still_marked (program_of s) h))
+    if_keeps (Passes (on (Some l) s) (Sent n)) (ltb (length (on (Some l) s).waiting) n) _ _ (λ _. inr (still_marked (program_of s) h))
     (λ _. inr (still_marked (program_of s) h))
 outcome_passes (Some l) DropConnection s h = inl refl
 

@@ -20,7 +20,8 @@ use Rattle.replies.specs.declared.response.Outcome.TheVariants.{Done}
 use Rattle.queues.specs.Arrivals.{number_of}
 use Rattle.handlers.specs.Views.{view_of}
 use Rattle.session_laws.specs.Laws.{AnswersAreProper}
-use Rattle.session_laws.proofs.ByForms.{on, on_with, saying, with_change}
+use Rattle.session_laws.proofs.ByForms.{on, on_with, with_change}
+use Rattle.session.specs.Sessions.{saying}
 use Rattle.session_laws.proofs.Turning.{BoundsIn, KeptByEvents, reached_by_events}
 use Rattle.session_laws.proofs.Asked.{AreRead, IsRead, asks_that_wait, has_no_text, number_is}
 use Rattle.session.proofs.Breaking.{answer_on}

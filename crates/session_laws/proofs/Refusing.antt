@@ -1,5 +1,5 @@
 -- An event that is refused changes nothing.
-use Rattle.session_laws.proofs.Common.{[], Act, answers_next, Connect, done, DropConnection, eqb, Err, FULL, histories, Hold, if_keeps, LAST_CONNECTION, leb, length, Link, List, ltb, MOST_PENDING, MOST_PIECE, next_turn, None, Now, Option, outcome_at, Pending, performed, Program, Recv, refl, Result, Sent, Session, Slice, Some, Terms, Tick, Turn, turn_by, turn_of, waiting_of, ℕ, ◌∷◌, ◌≡◌}
+use Rattle.session_laws.proofs.Common.{[], Act, answers_next, Connect, done, DropConnection, eqb, Err, FULL, histories, Hold, if_keeps, LAST_CONNECTION, leb, length, Link, List, ltb, MOST_PENDING, MOST_PIECE, next_turn, None, Now, Option, outcome_at, Pending, performed, Program, Recv, refl, Result, Sent, Session, Slice, Some, Terms, Tick, Turn, turn_by, turn_of, ℕ, ◌∷◌, ◌≡◌}
 use Rattle.std.proofs.Common.{Ok}
 use Rattle.session.specs.declared.event.Applied.{Applied}
 use Rattle.session.specs.declared.event.Event.{Event}
@@ -27,7 +27,7 @@ module _ (s : Session) (error : EventError) where
 
   answers_is : (l : Link) (file : Option (List ℕ)) → Unchanged (answers_next (histories.see s) l file)
   answers_is l file =
-      if_keeps Unchanged (ltb FULL (length (waiting_of s))) _ _ (λ _. done_is _ _) (λ _. turn_is s.now l.terms file s.now.arrivals.pending)
+      if_keeps Unchanged (ltb FULL (length s.waiting)) _ _ (λ _. done_is _ _) (λ _. turn_is s.now l.terms file s.now.arrivals.pending)
 
   owed_is : (l : Link) (file : Option (List ℕ)) (p : Program) (owed : Option Tick) → Unchanged (turn_by owed (histories.see s) l p file)
   owed_is l file p None = answers_is l file
@@ -53,7 +53,7 @@ module _ (s : Session) (error : EventError) where
   refused_on (Some l) (Turn file) = program_is l file s.now.debuggee.program
   refused_on (Some l) (Slice n) = done_is _ _
   refused_on (Some l) Hold = done_is _ _
-  refused_on (Some l) (Sent n) = if_keeps Unchanged (ltb (length (waiting_of s)) n) _ _ (λ _. refused_is _) (λ _. done_is _ _)
+  refused_on (Some l) (Sent n) = if_keeps Unchanged (ltb (length s.waiting) n) _ _ (λ _. refused_is _) (λ _. done_is _ _)
   refused_on (Some l) DropConnection = done_is _ _
 
 pub refused_changes_nothing : (s : Session) → RefusedChangesNothing s

@@ -1,5 +1,5 @@
 -- The machine of the program remembers all that has retired since it was loaded or restarted.
-use Rattle.session_laws.proofs.Common.{[], agrees, answer_to, Answering, ap, arith, assembled, Beat, beat_by, beat_of, beats, becomes, Bool, by_move, by_success, BySuccess, Command, concluded, cond, Connect, Debuggee, DropConnection, Effect, ending_of, ends, enough, entered, eqb, Err, exit_events, exits, false, first_run, FULL, given_of, goes, goes_unless, histories, Hold, if_keeps, inl, inr, is_at_limit, is_ended, is_runnable_by, is_running, is_success, just_loaded, LAST_CONNECTION, leb, left, length, Link, List, ltb, makes_move, Mark, marked, marked_by, MOST_PENDING, MOST_PIECE, moved, moves_by, next_by, next_tick, None, not, Now, of_answer, on_program, Option, outcome_at, Pending, performed, Program, Recv, refl, restarted, Result, resumed, Run, Sent, Session, Slice, SliceEnd, Slicing, Some, start, stays, steps, stop_event, stopped, stops, subst, suc, sym, telling, tells, Terms, Tick, told, true, Turn, waiting_of, Went, Why, why_marked, with_hart, written, zero, ℕ, ℤ, ◌&&◌, ◌++◌, ◌+◌, ◌||◌, ◌∙◌, ◌∷◌, ◌≡◌, ◌≤◌}
+use Rattle.session_laws.proofs.Common.{[], agrees, answer_to, Answering, ap, arith, assembled, Beat, beat_by, beat_of, beats, becomes, Bool, by_move, by_success, BySuccess, Command, concluded, cond, Connect, Debuggee, DropConnection, Effect, ending_of, ends, enough, entered, eqb, Err, exit_events, exits, false, first_run, FULL, given_of, goes, goes_unless, histories, Hold, if_keeps, inl, inr, is_at_limit, is_ended, is_runnable_by, is_running, is_success, just_loaded, LAST_CONNECTION, leb, left, length, Link, List, ltb, makes_move, Mark, marked, marked_by, MOST_PENDING, MOST_PIECE, moved, moves_by, next_by, next_tick, None, not, Now, of_answer, on_program, Option, outcome_at, Pending, performed, Program, Recv, refl, restarted, Result, resumed, Run, Sent, Session, Slice, SliceEnd, Slicing, Some, start, stays, steps, stop_event, stopped, stops, subst, suc, sym, telling, tells, Terms, Tick, told, true, Turn, Went, Why, why_marked, with_hart, written, zero, ℕ, ℤ, ◌&&◌, ◌++◌, ◌+◌, ◌||◌, ◌∙◌, ◌∷◌, ◌≡◌, ◌≤◌}
 use Rattle.std.proofs.Common.{◌-◌, Ok, MatchResult, take, length-append}
 use Rattle.std.proofs.lemmas.List.{take_at}
 use Rattle.std.proofs.lemmas.Bool.{or_left, or_right}
@@ -85,7 +85,7 @@ fetched_by : (word : Result ℕ MemFault) → MatchResult word (λ w. IsDecoding
 fetched_by (Ok word) = (the_decoding word).is
 fetched_by (Err fault) = refl
 
-is_fetched : (m : Machine) → IsFetched m (decoded (word_at m.memory m.pc))
+pub is_fetched : (m : Machine) → IsFetched m (decoded (word_at m.memory m.pc))
 is_fetched m = fetched_by (word_at m.memory m.pc)
 
 -- the one that retires is the one at pc
@@ -120,7 +120,7 @@ move_past p retired due forward goes h =
           absurd (omega (arith, more, was, fewer, count))
 
 -- where it goes back it is the last that is undone
-last_off : (left : List Retired) (last : Retired) → take (length (left ++ last ∷ []) - 1) (left ++ last ∷ []) ≡ left
+pub last_off : (left : List Retired) (last : Retired) → take (length (left ++ last ∷ []) - 1) (left ++ last ∷ []) ≡ left
 last_off left last =
     let long = length-append left (last ∷ []) in
     let fewer : length (left ++ last ∷ []) - 1 ≡ length left = omega (arith, long) in
@@ -281,7 +281,7 @@ owed_past : (owed : Option Tick) (s : Session) (p : Program) (more : Bool) → p
 owed_past (Some tick) s p more is = tick_past s p tick is
 owed_past None s p more is =
     if_keeps (Past s) (not (is_runnable_by s.now.link p.run)) _ _ (λ _. idle_past s ending.Idle)
-    (λ _. if_keeps (Past s) (ltb FULL (length (waiting_of s))) _ _ (λ _. idle_past s ending.Full) (λ _. mark_past s p p.mark more is))
+    (λ _. if_keeps (Past s) (ltb FULL (length s.waiting)) _ _ (λ _. idle_past s ending.Full) (λ _. mark_past s p p.mark more is))
 
 beat_past : (program : Option Program) (s : Session) (more : Bool) → program_of s ≡ program
     → Past s (beat_of program (histories.see s) more)
@@ -459,7 +459,7 @@ outcome_past (Some l) (Turn file) s retired e h =
 outcome_past (Some l) (Slice n) s retired e h = h
 outcome_past (Some l) Hold s retired e h = on_past (marked mark.Hold) (program_of s) retired (λ p. marked_by_keeps p.run mark.Hold p) h
 outcome_past (Some l) (Sent n) s retired e h =
-    if_keeps (λ (o : Does). Leaves (on (Some l) s) retired o retired) (ltb (length (waiting_of (on (Some l) s))) n) _ _ (λ _ x. x)
+    if_keeps (λ (o : Does). Leaves (on (Some l) s) retired o retired) (ltb (length (on (Some l) s).waiting) n) _ _ (λ _ x. x)
     (λ _ x. x) h
 outcome_past (Some l) DropConnection s retired e h =
     on_past left (program_of s) retired (λ p. record { calls = refl; count = refl; past = λ _ h. h }) h

@@ -1,5 +1,5 @@
 -- A slice stops where a run stops.
-use Rattle.session_laws.proofs.Common.{[], ap, arith, Beat, beat_by, beat_of, beats, becomes, Bool, by_move, concluded, cond, ending_of, ends, entered, Err, exit_events, exits, false, FULL, goes, goes_unless, histories, if_keeps, IfSome, is_at_limit, is_runnable_by, is_running, IsTrue, length, List, ltb, makes_move, Mark, MatchBool, moved, moves_by, next_by, next_tick, None, not, Option, performed, Program, refl, Result, Run, Session, sliced, SliceEnd, Slicing, Some, stays, stop_event, stopped, stops, subst, suc, sym, telling, tells, Tick, told, true, waiting_of, Went, Why, why_marked, zero, ℕ, ℤ, ◌&&◌, ◌+◌, ◌∙◌, ◌∷◌, ◌≡◌}
+use Rattle.session_laws.proofs.Common.{[], ap, arith, Beat, beat_by, beat_of, beats, becomes, Bool, by_move, concluded, cond, ending_of, ends, entered, exit_events, exits, false, FULL, goes, goes_unless, histories, if_keeps, IfSome, is_at_limit, is_runnable_by, is_running, IsTrue, length, List, ltb, makes_move, Mark, MatchBool, moved, moves_by, next_by, next_tick, None, not, Option, performed, Program, refl, Result, Run, Session, sliced, SliceEnd, Slicing, Some, stays, stop_event, stopped, stops, subst, suc, sym, telling, tells, Tick, told, true, Went, Why, why_marked, zero, ℕ, ℤ, ◌&&◌, ◌+◌, ◌∙◌, ◌∷◌, ◌≡◌}
 use Rattle.std.proofs.Common.{Ok, ◌*◌}
 use Rattle.std.specs.declared.alloc.AllocError.{AllocError}
 use Rattle.breakpoints.specs.declared.breakpoint.Hit.{Hit}
@@ -62,14 +62,13 @@ none_yet (suc ticks) start now forward g =
 abbrev but_logs : List ℕ → Debugged → Debugged
 but_logs logs d = record d { lists = record d.lists { logs = logs } }
 
-settles_so : (logs : List ℕ) (d : Debugged) (instr : Option Instr) (s : Result Stepped AllocError) (tick : Tick) (after : Debugged)
+settles_so : (logs : List ℕ) (d : Debugged) (instr : Option Instr) (s : Stepped) (tick : Tick) (after : Debugged)
     → Settles (but_logs logs d) instr s (Ok tick) after → Settles d instr s (Ok tick) after
-settles_so logs d instr (Ok stepped.Retired) tick after h = h
-settles_so logs d instr (Ok (stepped.Printed number)) tick after h = h
-settles_so logs d instr (Ok stepped.Break) tick after h = h
-settles_so logs d instr (Ok (stepped.Exit code)) tick after h = h
-settles_so logs d instr (Ok (stepped.Trap cause)) tick after h = h
-settles_so logs d instr (Err error) tick after h = absurd (let no = h.0 in cc)
+settles_so logs d instr stepped.Retired tick after h = h
+settles_so logs d instr (stepped.Printed number) tick after h = h
+settles_so logs d instr stepped.Break tick after h = h
+settles_so logs d instr (stepped.Exit code) tick after h = h
+settles_so logs d instr (stepped.Trap cause) tick after h = h
 
 back_says : (g : Goal) (past : List Position) (logs : List ℕ) (d : Debugged)
     → back_outcome g (undone_by past (but_logs logs d)) ≡ back_outcome g (undone_by past d)
@@ -446,7 +445,7 @@ unfolding Middle
 owed_far (Some tick) start made s p more is o = tick_far start made s p tick o
 owed_far None start made s p more is g =
     if_keeps (FarBy start made s) (not (is_runnable_by s.now.link p.run)) _ _ (λ _. idle_far start made s p ending.Idle is g)
-    (λ _. if_keeps (FarBy start made s) (ltb FULL (length (waiting_of s))) _ _ (λ _. idle_far start made s p ending.Full is g)
+    (λ _. if_keeps (FarBy start made s) (ltb FULL (length s.waiting)) _ _ (λ _. idle_far start made s p ending.Full is g)
     (λ _. mark_far start made s p p.mark more is g))
 
 beat_far : (program : Option Program) (start : Debugged) (made : ℕ) (s : Session) (more : Bool) → program_of s ≡ program

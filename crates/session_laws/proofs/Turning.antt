@@ -1,5 +1,5 @@
 -- What is kept by each event, where answers are looked at whole.
-use Rattle.session_laws.proofs.Common.{[], Act, Agree, agreed_on, answer_to, Answering, answering, answers_next, append-nil, arith, assembled, Beat, beat, beat_by, beat_of, beats, Become, Beginning, Bool, by_move, by_success, BySuccess, Call, Close, closing, Command, concludes, Connect, Debuggee, DropConnection, Effect, ends, enough, eqb, Err, exit_events, exits, false, first_run, FULL, given_of, goes, goes_unless, halts, Happened, histories, Hold, hung_on, if_keeps, IfOk, IfSome, is_at_limit, is_runnable_by, LAST_CONNECTION, leb, left, length, Link, List, logged, ltb, ltb-true, makes_move, map, Mark, marked, MOST_PENDING, MOST_PIECE, moves_by, nat_tests, next_by, next_tick, next_turn, None, not, Now, of_answer, Open, Option, outcome_at, output_events, Pending, performed, performed_append, performed_on, Program, Reached, read_on, Recv, Refer, referred, referred_on, refl, Refusal, replied_on, Reply, response_to, restarted, Result, resumed, said_on, SaysItsRun, Seen, Sent, Session, Slice, SliceEnd, Some, start, stop_event, stopped, subst, suc, sym, Take, Tell, telling, tells, Terms, Tick, told, true, Turn, turn_by, turn_of, waiting_of, Went, Why, why_marked, with_hart, written, zero, ℕ, ℤ, ◌&&◌, ◌++◌, ◌+◌, ◌<◌, ◌^◌, ◌∷◌, ◌≡◌, ◌≤◌}
+use Rattle.session_laws.proofs.Common.{[], Act, Agree, agreed_on, answer_to, Answering, answering, answers_next, append-nil, arith, assembled, Beat, beat, beat_by, beat_of, beats, Become, Beginning, Bool, by_move, by_success, BySuccess, Call, Close, closing, Command, concludes, Connect, Debuggee, DropConnection, Effect, ends, enough, eqb, Err, exit_events, exits, false, first_run, FULL, given_of, goes, goes_unless, halts, Happened, histories, Hold, hung_on, if_keeps, IfOk, IfSome, is_at_limit, is_runnable_by, LAST_CONNECTION, leb, left, length, Link, List, logged, ltb, ltb-true, makes_move, map, Mark, marked, MOST_PENDING, MOST_PIECE, moves_by, nat_tests, next_by, next_tick, next_turn, None, not, Now, of_answer, Open, Option, outcome_at, output_events, Pending, performed, performed_append, performed_on, Program, Reached, read_on, Recv, Refer, referred, referred_on, refl, Refusal, replied_on, Reply, response_to, restarted, Result, resumed, said_on, SaysItsRun, Seen, Sent, Session, Slice, SliceEnd, Some, start, stop_event, stopped, subst, suc, sym, Take, Tell, telling, tells, Terms, Tick, told, true, Turn, turn_by, turn_of, Went, Why, why_marked, with_hart, written, zero, ℕ, ℤ, ◌&&◌, ◌++◌, ◌+◌, ◌<◌, ◌^◌, ◌∷◌, ◌≡◌, ◌≤◌}
 use Rattle.std.proofs.Common.{Ok}
 use Rattle.std.specs.Prelude.{take}
 use Rattle.assembler.proofs.Narrow.{assembled_is_narrow}
@@ -28,7 +28,8 @@ use Rattle.stepping.specs.declared.tick.Outcome.{Outcome as CameTo}
 use Rattle.stepping.specs.declared.tick.Outcome.TheVariants.{Stopped, Ended}
 use Rattle.stepping.specs.declared.tick.Reason.TheVariants as met
 use Rattle.session.proofs.Reaching.{reached}
-use Rattle.session_laws.proofs.ByForms.{on, on_with, accepting, saying}
+use Rattle.session_laws.proofs.ByForms.{on, on_with}
+use Rattle.session.specs.Sessions.{accepting, saying}
 use Rattle.session.proofs.Breaking.{ids_are_words}
 use Rattle.handlers.specs.Looking.{seen_in}
 use Rattle.answers.specs.SetVariable.{set_in, setting_of, set_variable}
@@ -470,7 +471,7 @@ module _ (P : Session → Type 0) (k : KeptByEvents P) where
   answers_keep : (l : Link) (file : Option (List ℕ)) (s : Session) → Both (on (Some l) s)
       → Both (performed histories (answers_next (histories.see (on (Some l) s)) l file).acts (on (Some l) s))
   answers_keep l file s h =
-      if_keeps (λ (o : Outcome). Both (performed histories o.acts (on (Some l) s))) (ltb FULL (length (waiting_of (on (Some l) s)))) _ _
+      if_keeps (λ (o : Outcome). Both (performed histories o.acts (on (Some l) s))) (ltb FULL (length (on (Some l) s).waiting)) _ _
       (λ _. h) (λ _. turn_keeps l file s.now.arrivals.pending s h)
 
   owed_keeps : (owed : Option Tick) (l : Link) (file : Option (List ℕ)) (p : Program) (s : Session) → p.owed ≡ owed → Orderly p
@@ -516,7 +517,7 @@ module _ (P : Session → Type 0) (k : KeptByEvents P) where
   outcome_keeps (Some l) (Slice n) s h = h
   outcome_keeps (Some l) Hold s h = hold_keeps (on (Some l) s) h
   outcome_keeps (Some l) (Sent n) s h =
-      if_keeps (λ (o : Outcome). Both (performed histories o.acts (on (Some l) s))) (ltb (length (waiting_of (on (Some l) s))) n) _ _
+      if_keeps (λ (o : Outcome). Both (performed histories o.acts (on (Some l) s))) (ltb (length (on (Some l) s).waiting) n) _ _
       (λ _. h) (λ _. (k.takes n (on (Some l) s) h.0, record { program = h.1.program; bounds = h.1.bounds; asks = h.1.asks }))
   outcome_keeps (Some l) DropConnection s h = drop_keeps (on (Some l) s) h
 

@@ -13,7 +13,7 @@ use Rattle.session.specs.declared.event.Event.{Event}
 use Rattle.session.specs.declared.event.Event.TheVariants.{Connect, Recv, Turn, Sent}
 use Rattle.session.specs.Limits.{greatest_limits}
 use Rattle.session.specs.Outcomes.{is_finished}
-use Rattle.session.specs.Sessions.{After, Beginning, histories, waiting_of}
+use Rattle.session.specs.Sessions.{After, Beginning, histories}
 use Rattle.queues.specs.Writing.{frame_of}
 
 -- the header part of a frame, by the digits of its length
@@ -48,7 +48,7 @@ success = header (codes "81")
 abbrev one_answered : List Event
 one_answered = Connect ∷ Recv first_piece ∷ Turn None ∷ []
 
-the_refusal_waits : waiting_of (After first one_answered) ≡ refusal
+the_refusal_waits : (After first one_answered).waiting ≡ refusal
 unfolding json_on_literals reading_of start_of json_of incoming_of frame_of
 the_refusal_waits = refl
 
@@ -56,12 +56,12 @@ the_refusal_waits = refl
 abbrev both_answered : List Event
 both_answered = one_answered ++ Recv second_piece ∷ Turn None ∷ []
 
-both_answers_wait : waiting_of (After first both_answered) ≡ refusal ++ success
+both_answers_wait : (After first both_answered).waiting ≡ refusal ++ success
 unfolding json_on_literals reading_of start_of json_of incoming_of frame_of
 both_answers_wait = refl
 
 -- 180 bytes were sent
-the_rest_waits : waiting_of (After first (both_answered ++ Sent 180 ∷ [])) ≡ drop 180 (refusal ++ success)
+the_rest_waits : (After first (both_answered ++ Sent 180 ∷ [])).waiting ≡ drop 180 (refusal ++ success)
 unfolding json_on_literals reading_of start_of json_of incoming_of frame_of
 the_rest_waits = refl
 

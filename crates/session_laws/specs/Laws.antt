@@ -33,7 +33,7 @@ use Rattle.session.specs.Acts.{fault_of_reading}
 use Rattle.queues.specs.Arrivals.{number_of, name_asked, asks_of}
 use Rattle.session.specs.Prefixes.{IsPrefixOf}
 use Rattle.session.specs.Reached.{Happened, Whole, Cut, OfEvent, leaves}
-use Rattle.session.specs.Sessions.{Session, Life, Said, life_of, bytes_of, waiting_of, histories, Effect, Answer}
+use Rattle.session.specs.Sessions.{Session, Life, Said, life_of, bytes_of, histories, Effect, Answer}
 use Rattle.session.specs.Effects.{beats, enough, sliced}
 use Rattle.session_laws.specs.Turns.{Answered, answered}
 
@@ -45,10 +45,12 @@ LivesAreNumbered s = life_of s.now.connections s ≡ s.life
 
 -- ---- bytes
 
--- What was taken of a connection is a prefix of its bytes; on the present connection the bytes that wait are the rest.
+-- What was taken of a connection is a prefix of its bytes. On the present connection the bytes that wait are the rest; without one
+-- none wait.
 pub record EveryByteIsTakenOrWaits (s : Session) : Type 0 where
   pub prefixes : (c : ℕ) → IsPrefixOf (life_of c s).taken (bytes_of (life_of c s))
-  pub rest : (link : Link) → s.now.link ≡ Some link → bytes_of s.life ≡ s.life.taken ++ waiting_of s
+  pub rest : (link : Link) → s.now.link ≡ Some link → bytes_of s.life ≡ s.life.taken ++ s.waiting
+  pub none : s.now.link ≡ None → s.waiting ≡ []
 
 -- messages have the numbers from this one on
 abbrev pub AreNumberedFrom : ℕ → List Said → Type 0

@@ -1,25 +1,10 @@
 -- Moves at which an instruction retires, and ticks: they are the same, and a machine has one.
-use Rattle.std.proofs.Common.{◌≡◌, ℕ, zero, suc, ◌<◌, Bool, true, false, List, Option, None, Some, Result, Ok, Err, IsOk, IsTrue, is_ok, eqb, Decides, bytes_eq, MatchResult, refl, sym, ap, subst, ◌∙◌, arith}
-use Rattle.std.proofs.lemmas.Bool.Decides.{Decides-eqb, not_from_Decides}
+use Rattle.std.proofs.Common.{◌≡◌, ℕ, zero, suc, ◌<◌, Bool, true, false, List, Option, None, Some, Result, Ok, Err, IsTrue, is_ok, eqb, Decides, bytes_eq, MatchResult, refl, sym, ap, subst, ◌∙◌, arith}
+use Rattle.stepping.proofs.Common.{Advances, After, AllocError, Answers, Debugged, Decides-eqb, Effect, effect_of, Encodes, entered, fetch_fault, gone_on, has_retired, Illegal, Instr, IsFetched, IsIllegal, IsMove, KeepsMachine, Machine, machine_of, MemFault, moved_as, Moves, not_from_Decides, one_move, settled, stayed, step_keeps, Stepped, tick_of, trapped, word_at}
 use Rattle.std.proofs.lemmas.Slice.Eq.{bytes_eq-Decides}
-use Rattle.std.specs.declared.alloc.AllocError.{AllocError}
-use Rattle.image.specs.Memory.{word_at}
-use Rattle.image.specs.declared.fault.MemFault.{MemFault}
 use Rattle.image.specs.declared.fault.MemFault.TheVariants as fault
-use Rattle.rv32i.specs.Encoding.{Encodes, IsIllegal}
-use Rattle.rv32i.specs.Machine.{Effect, IsMove, KeepsMachine, Machine, effect_of, fetch_fault, machine_of, trapped}
-use Rattle.rv32i.specs.declared.instr.Instr.{Instr}
-use Rattle.rv32i.specs.declared.stepped.Cause.TheVariants.{Illegal}
-use Rattle.rv32i.specs.declared.stepped.Stepped.{Stepped}
 use Rattle.rv32i.specs.declared.stepped.Stepped.TheVariants.{Retired, Printed, Break as Breakpoint, Exit, Trap}
-use Rattle.rv32i.proofs.Keeps.{step_keeps}
-use Rattle.rv32i.proofs.Moving.{moves_answer}
-use Rattle.rv32i.proofs.OneMove.{one_move}
-use Rattle.stepping.specs.Goals.{turns_back}
 use Rattle.stepping.specs.RunLaws.{EachTickAnswers}
-use Rattle.stepping.specs.Stopping.{Advances, After, Answers, entered, has_retired}
-use Rattle.course.specs.Positions.{IsFetched}
-use Rattle.stepping.specs.Ticks.{Debugged, Moves, Settles, gone_on, moved_as, settled, stayed, tick_of}
 use Rattle.stepping.proofs.Cases.{by_tick}
 use Rattle.stepping.proofs.Determined.{harts_equal, one_settled}
 use Rattle.stepping.proofs.Moving.{decoded_is_fetched}
@@ -40,16 +25,8 @@ advance_answers before after a = (machine_of after.hart after.memory, a.moved)
 -- ---- a tick answers
 
 pub each_tick_answers : EachTickAnswers
-each_tick_answers before after answer t = by_tick before after answer t (λ due h. ap is_ok h.0) (λ due turns h. ap is_ok h.0) answers where
-  moved : (s : Result Stepped AllocError) (instr : Option Instr) → is_ok s ≡ true → Settles before instr s answer after → IsOk answer
-  moved (Ok s) instr o h = ap is_ok h.0
-  moved (Err error) instr o h = let never : false ≡ true = o in cc
-
-  answers : before.check_due ≡ false → turns_back before.goal ≡ false → Moves before answer after → IsOk answer
-  answers due forward h =
-      moved h.stepped h.instr
-      (moves_answer (machine_of before.hart before.memory)
-      (record { answer = h.stepped; machine = machine_of after.hart after.memory }) h.moved) h.settles
+each_tick_answers before after answer t =
+    by_tick before after answer t (λ due h. ap is_ok h.0) (λ due turns h. ap is_ok h.0) (λ due forward m. ap is_ok m.settles.0)
 
 -- ---- one move more is one tick
 
@@ -66,7 +43,7 @@ pub advance_moves : (before after : Debugged) → (a : Advances before after)
     → Moves before (Ok (tick_of a.answer (Some a.instr) before.hart.pc (moved_as before after))) after
 advance_moves before after a = record {
   instr = Some a.instr;
-  stepped = Ok a.answer;
+  stepped = a.answer;
   fetched = decoded_is_fetched (machine_of before.hart before.memory) (Some a.instr) a.decoded;
   moved = a.moved;
   settles = (refl, retires_settled a.answer a.instr before after a.retires a.leaves);

@@ -1,9 +1,6 @@
 -- Instructions in a row are ticks of which there is nothing to report.
 use Rattle.std.proofs.Common.{◌≡◌, ℕ, zero, suc, ◌+◌, ◌<◌, ◌≤◌, ◌^◌, Bool, true, false, cond, List, [], ◌∷◌, Some, None, Result, Ok, refl, sym, ap, subst, ◌∙◌, arith, add-one}
-use Rattle.std.specs.declared.alloc.AllocError.{AllocError}
-use Rattle.breakpoints.specs.Stops.{Lists}
-use Rattle.rv32i.specs.declared.performing.Halt.{Halt}
-use Rattle.rv32i.specs.declared.instr.Instr.{Instr}
+use Rattle.stepping.proofs.Common.{AllocError, Burst, BurstEnd, course_of, Debugged, Goes, Halt, HasMoved, Instr, IsTick, Lists, Outcome, plain_tick, position_of, seen, Tick, turns_back, with_check}
 use Rattle.rv32i.specs.declared.instr.Instr.TheVariants.{Jal, Jalr}
 use Rattle.rv32i.specs.declared.stepped.Stepped.TheVariants.{Retired}
 use Rattle.course.specs.Calls.{Kept, noted, with_marks}
@@ -11,16 +8,8 @@ use Rattle.course.specs.Marks.{is_link, jalr_marks}
 use Rattle.course.specs.Marks.Mark.{Push}
 use Rattle.course.specs.Positions.{Course, GoesOn, Halts, Position, Retires, machine_at, position_at}
 use Rattle.stepping.specs.Bursts.{Bursts, Ends, EndsBurst, IsFar, Retire, moved_by}
-use Rattle.stepping.specs.Goals.{turns_back}
-use Rattle.stepping.specs.Plain.{plain_tick}
 use Rattle.stepping.specs.Running.{IsOutOfReach}
-use Rattle.stepping.specs.Runs.{Goes, HasMoved}
-use Rattle.stepping.specs.Ticks.{Debugged, IsTick, course_of, position_of, seen, with_check}
-use Rattle.stepping.specs.declared.burst.Burst.{Burst}
-use Rattle.stepping.specs.declared.burst.BurstEnd.{BurstEnd}
 use Rattle.stepping.specs.declared.burst.BurstEnd.TheVariants.{Spent, Near, Halted}
-use Rattle.stepping.specs.declared.tick.Tick.{Tick}
-use Rattle.stepping.specs.declared.tick.Outcome.{Outcome}
 use Rattle.stepping.proofs.Cases.{tick_of_move}
 use Rattle.stepping.proofs.Moving.{decoded_is_fetched}
 use Rattle.stepping.proofs.Quiet.{quiet}
@@ -84,7 +73,7 @@ retired_ticks n at next p q d due forward g =
     let count : d.retired + suc n ≡ d.retired + n + 1 = omega arith in
     tick_of_move (midway n at p d) (with_check m) (looked m) due forward (record {
       instr = Some r.instr;
-      stepped = Ok Retired;
+      stepped = Retired;
       fetched = decoded_is_fetched (machine_at at p.now) (Some r.instr) r.decoded;
       moved = r.moves;
       settles = (

@@ -1,9 +1,7 @@
 -- A tick is the check at the entry, where that is due; and else a move that is undone, where the run goes back, or a move.
 use Rattle.std.proofs.Common.{◌≡◌, Bool, true, false, Result, MatchBool, refl, sym, ◌∙◌, subst}
-use Rattle.std.specs.declared.alloc.AllocError.{AllocError}
-use Rattle.stepping.specs.Goals.{turns_back}
+use Rattle.stepping.proofs.Common.{AllocError, Tick, turns_back}
 use Rattle.stepping.specs.Ticks.{Comes, Debugged, IsTick, Moves, back_tick, entry_checked, entry_tick, gone_back}
-use Rattle.stepping.specs.declared.tick.Tick.{Tick}
 
 abbrev pub Enters : Debugged → Result Tick AllocError → Debugged → Type 0
 Enters before answer after = Comes (entry_tick before) (entry_checked before) answer after

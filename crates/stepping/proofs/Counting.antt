@@ -1,15 +1,8 @@
 -- How many instructions have retired: before each of the recorded moves no more calls were open than had retired then.
-use Rattle.std.proofs.Common.{◌≡◌, ℕ, zero, suc, ◌+◌, ◌-◌, ◌<◌, ◌≤◌, List, [], ◌∷◌, length, take, Some, Result, Ok, Err, refl, sym, ap, subst, arith}
-use Rattle.std.specs.Prelude.{slice_get}
-use Rattle.breakpoints.specs.Stops.{Lists}
-use Rattle.rv32i.specs.declared.stepped.Stepped.{Stepped}
+use Rattle.stepping.proofs.Common.{[], ap, arith, Burst, BurstEnd, Bursts, EndsBurst, Err, Kept, length, List, Lists, moved_by, Ok, refl, Result, Retire, slice_get, Some, Stepped, subst, suc, sym, take, zero, ℕ, ◌+◌, ◌-◌, ◌<◌, ◌∷◌, ◌≡◌, ◌≤◌}
 use Rattle.rv32i.specs.declared.stepped.Stepped.TheVariants.{Retired, Printed, Break, Exit, Trap}
-use Rattle.course.specs.Calls.{Kept}
 use Rattle.course.specs.Positions.{Course, GoesOn, Position, gone_back, past_after, past_left, position_at, recorded, undone_to}
-use Rattle.stepping.specs.Bursts.{Bursts, EndsBurst, Retire, moved_by}
 use Rattle.stepping.specs.Running.{AreCounted, counted_by}
-use Rattle.stepping.specs.declared.burst.Burst.{Burst}
-use Rattle.stepping.specs.declared.burst.BurstEnd.{BurstEnd}
 use Rattle.stepping.specs.declared.burst.BurstEnd.TheVariants.{Spent, Near, Halted}
 use Rattle.stepping.proofs.Bursting.{retires_deeper}
 

@@ -1,23 +1,10 @@
 -- A machine has one tick. Its move is the only one, so the hart after it is known by pc and registers, and all else that
 -- a tick answers and leaves follows.
-use Rattle.std.proofs.Common.{◌≡◌, ℕ, List, Option, None, Some, Result, Ok, Err, refl, sym, ap, subst, ◌∙◌}
+use Rattle.stepping.proofs.Common.{AllocError, ap, Debugged, Effect, Err, Hart, Instr, IsDecoding, IsFetched, List, Machine, machine_of, MemFault, moved_as, Moves, None, Ok, one_instruction, one_move, Option, refl, Result, settled, Settles, Some, Stepped, subst, sym, Tick, tick_of, word_at, ℕ, ◌∙◌, ◌≡◌}
 use Rattle.std.proofs.Math.Nat.{ℕ_set}
 use Rattle.std.specs.Prelude.{slice_index}
 use Rattle.std.specs.Result.{MatchResult}
-use Rattle.std.specs.declared.alloc.AllocError.{AllocError}
-use Rattle.image.specs.Memory.{word_at}
-use Rattle.image.specs.declared.fault.MemFault.{MemFault}
-use Rattle.rv32i.specs.Encoding.{IsDecoding}
-use Rattle.rv32i.specs.Machine.{Effect, Machine, machine_of}
-use Rattle.rv32i.specs.declared.hart.Hart.{Hart}
-use Rattle.rv32i.specs.declared.instr.Instr.{Instr}
-use Rattle.rv32i.specs.declared.stepped.Stepped.{Stepped}
-use Rattle.rv32i.proofs.OneMove.{one_move}
-use Rattle.rv32i.proofs.Unique.{one_instruction}
-use Rattle.course.specs.Positions.{IsFetched}
-use Rattle.stepping.specs.Ticks.{Debugged, Moves, Settles, moved_as, settled, tick_of}
 use Rattle.stepping.specs.RunLaws.{TickIsDeterministic}
-use Rattle.stepping.specs.declared.tick.Tick.{Tick}
 use Rattle.stepping.proofs.Cases.{back_of, by_tick, entry_of, move_of}
 
 -- ---- harts with the same pc and registers are equal: that x0 is 0 is a fact
@@ -56,14 +43,13 @@ one_fetched m a b x y = go (word_at m.memory m.pc) x y where
 -- ---- and makes one move
 
 -- what a debugged machine leaves of a move is what it settles
-settle_equal : (before after other : Debugged) (instr : Option Instr) (s : Result Stepped AllocError) (answer another : Result Tick AllocError)
+settle_equal : (before after other : Debugged) (instr : Option Instr) (s : Stepped) (answer another : Result Tick AllocError)
     → moved_as before after ≡ moved_as before other → Settles before instr s answer after → Settles before instr s another other
     → (answer ≡ another) × (after ≡ other)
-settle_equal before after other instr (Ok s) answer another e a b = (
+settle_equal before after other instr s answer another e a b = (
   a.0 ∙ ap (λ (d : Debugged). Ok (tick_of s instr before.hart.pc d)) e ∙ sym b.0,
   a.1 ∙ ap (λ (d : Debugged). settled s instr before d) e ∙ sym b.1,
 )
-settle_equal before after other instr (Err error) answer another e a b = (a.0 ∙ sym b.0, a.1 ∙ sym b.1)
 
 abbrev with_move : Debugged → Hart → List ℕ → Debugged
 with_move d hart memory = record d { hart = hart; memory = memory }
@@ -72,11 +58,12 @@ pub one_settled : (before after other : Debugged) (answer another : Result Tick 
     → Moves before another other → (answer ≡ another) × (after ≡ other)
 one_settled before after other answer another a b =
     let m : Machine = machine_of before.hart before.memory in
-    let left : Effect = record { answer = a.stepped; machine = machine_of after.hart after.memory } in
-    let right : Effect = record { answer = b.stepped; machine = machine_of other.hart other.memory } in
+    let left : Effect = record { answer = Ok a.stepped; machine = machine_of after.hart after.memory } in
+    let right : Effect = record { answer = Ok b.stepped; machine = machine_of other.hart other.memory } in
     let instr : a.instr ≡ b.instr = one_fetched m a.instr b.instr a.fetched b.fetched in
     let effect : left ≡ right = one_move m left right a.moved b.moved in
-    let stepped : a.stepped ≡ b.stepped = ap (λ (e : Effect). e.answer) effect in
+    let both : Ok a.stepped ≡ Ok b.stepped = ap (λ (e : Effect). e.answer) effect in
+    let stepped : a.stepped ≡ b.stepped = cc in
     let hart : after.hart ≡ other.hart = harts_equal after.hart other.hart (ap (λ (e : Effect). e.machine.pc) effect)
     (ap (λ (e : Effect). e.machine.x) effect) in
     let memory : after.memory ≡ other.memory = ap (λ (e : Effect). e.machine.memory) effect in

@@ -1,19 +1,10 @@
 -- Each machine has a tick.
-use Rattle.std.proofs.Common.{◌≡◌, ℕ, Bool, true, false, Option, None, Result, Ok, Err, refl, sym, ap, ◌∙◌, subst}
+use Rattle.stepping.proofs.Common.{AllocError, ap, Bool, Effect, Err, false, Hart, Instr, IsFetched, IsMove, Machine, machine_of, MemFault, None, Ok, Option, refl, Result, Stepped, subst, sym, true, turns_back, word_at, ℕ, ◌∙◌, ◌≡◌}
 use Rattle.std.specs.Prelude.{is_ok}
-use Rattle.std.specs.declared.alloc.AllocError.{AllocError}
-use Rattle.image.specs.Memory.{word_at}
-use Rattle.image.specs.declared.fault.MemFault.{MemFault}
 use Rattle.rv32i.specs.Laws.{HasMove}
-use Rattle.rv32i.specs.Machine.{Effect, IsMove, Machine, machine_of}
-use Rattle.rv32i.specs.declared.hart.Hart.{Hart}
-use Rattle.rv32i.specs.declared.instr.Instr.{Instr}
-use Rattle.rv32i.specs.declared.stepped.Stepped.{Stepped}
 use Rattle.rv32i.specs.declared.stepped.Stepped.TheVariants.{Retired, Printed, Break, Exit, Trap}
 use Rattle.rv32i.proofs.Moving.{moves_answer, the_decoding, the_move}
 use Rattle.stepping.specs.RunLaws.{HasTick}
-use Rattle.course.specs.Positions.{IsFetched}
-use Rattle.stepping.specs.Goals.{turns_back}
 use Rattle.stepping.specs.Ticks.{Debugged, back_tick, entry_checked, entry_tick, gone_back, moved_as, settled, tick_of}
 use Rattle.stepping.proofs.Cases.{tick_of_back, tick_of_entry, tick_of_move}
 
@@ -66,7 +57,7 @@ moves d due forward move = by_answer move.effect.answer refl (moves_answer (mach
         after = after;
         is = tick_of_move d after (Ok (tick_of stepped f.instr d.hart.pc middle)) due forward (record {
           instr = f.instr;
-          stepped = Ok stepped;
+          stepped = stepped;
           fetched = f.is;
           moved =
               subst (IsMove (machine_of d.hart d.memory))

@@ -1,24 +1,13 @@
 -- A program ends with a code of 32 bits.
-use Rattle.std.proofs.Common.{◌≡◌, ℕ, Bool, true, false, List, [], ◌∷◌, Option, Result, Ok, Err, sym, subst}
-use Rattle.std.specs.declared.alloc.AllocError.{AllocError}
-use Rattle.breakpoints.specs.Stops.{standing_in}
-use Rattle.breakpoints.specs.declared.breakpoint.Hit.{Hit}
+use Rattle.stepping.proofs.Common.{[], AllocError, Back, Bool, false, Go, Hit, In, Instr, List, machine_of, Ok, Option, Out, Outcome, Over, Position, Result, ReverseGo, standing_in, Stepped, subst, sym, Tick, true, turns_back, ℕ, ◌∷◌, ◌≡◌}
 use Rattle.rv32i.specs.Laws.{HasCode}
-use Rattle.rv32i.specs.Machine.{machine_of}
-use Rattle.rv32i.specs.declared.instr.Instr.{Instr}
-use Rattle.rv32i.specs.declared.stepped.Stepped.{Stepped}
 use Rattle.rv32i.specs.declared.stepped.Stepped.TheVariants.{Retired, Printed, Break, Exit, Trap}
 use Rattle.rv32i.proofs.Codes.{exit_codes_are_words}
-use Rattle.course.specs.Positions.{Position}
-use Rattle.stepping.specs.Goals.{turns_back}
 use Rattle.stepping.specs.RunLaws.{EndsWithCodes, HasSignedCode}
 use Rattle.stepping.specs.Ticks.{Debugged, Moves, Settles, back_outcome, back_tick, entry_tick, hit_at_pc, moved_as, outcome_of, outcome_or, tick_of, undone, unless_start}
 use Rattle.stepping.specs.declared.goal.Goal.{Goal}
-use Rattle.stepping.specs.declared.goal.Goal.TheVariants.{Go, In, Over, Out, Back, ReverseGo}
-use Rattle.stepping.specs.declared.tick.Outcome.{Outcome}
 use Rattle.stepping.specs.declared.tick.Outcome.TheVariants.{Went, Stopped}
 use Rattle.stepping.specs.declared.tick.Reason.TheVariants as why
-use Rattle.stepping.specs.declared.tick.Tick.{Tick}
 use Rattle.stepping.proofs.Cases.{Enters, GoesBack, by_tick}
 
 -- no reason of a breakpoint is an end
@@ -62,13 +51,12 @@ IsAnswer answer tick = answer ≡ Ok tick
 one_tick : (tick other : Tick) → IsAnswer (Ok tick) other → tick ≡ other
 one_tick tick other e = cc
 
-of_answer : (answer : Result Stepped AllocError) (before after : Debugged) (instr : Option Instr) (tick : Tick) → HasCode answer
-    → Settles before instr answer (Ok tick) after → HasSignedCode tick.outcome
-of_answer (Ok stepped) before after instr tick h s =
+of_answer : (stepped : Stepped) (before after : Debugged) (instr : Option Instr) (tick : Tick) → HasCode (Ok stepped)
+    → Settles before instr stepped (Ok tick) after → HasSignedCode tick.outcome
+of_answer stepped before after instr tick h s =
     let is : Tick = tick_of stepped instr before.hart.pc (moved_as before after) in
     subst (λ (t : Tick). HasSignedCode t.outcome) (sym (one_tick tick is s.0))
     (of_stepped stepped instr before.hart.pc (moved_as before after) h)
-of_answer (Err error) before after instr tick h s = absurd (let e : Ok tick ≡ Err error = s.0 in cc)
 
 pub ends_with_codes : EndsWithCodes
 ends_with_codes before after tick t = by_tick before after (Ok tick) t entry back moved where
@@ -84,4 +72,4 @@ ends_with_codes before after tick t = by_tick before after (Ok tick) t entry bac
   moved due forward h =
       of_answer h.stepped before after h.instr tick
       (exit_codes_are_words (machine_of before.hart before.memory)
-      (record { answer = h.stepped; machine = machine_of after.hart after.memory }) h.moved) h.settles
+      (record { answer = Ok h.stepped; machine = machine_of after.hart after.memory }) h.moved) h.settles

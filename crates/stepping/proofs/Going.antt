@@ -1,20 +1,13 @@
 -- The ticks of a run, and how it ends with one.
-use Rattle.std.proofs.Common.{◌≡◌, ℕ, zero, suc, ◌+◌, ◌-◌, ◌<◌, ◌≤◌, true, List, [], ◌∷◌, Option, Some, None, Result, Ok, Err, refl, sym, ap, subst, ◌∙◌, arith, add-one}
-use Rattle.std.specs.declared.alloc.AllocError.{AllocError}
-use Rattle.rv32i.specs.declared.stepped.Stepped.{Stepped}
+use Rattle.stepping.proofs.Common.{[], add-one, AllocError, ap, arith, Back, Go, In, List, None, Ok, Option, Out, Over, plain_tick, Position, refl, Result, ReverseGo, RunEnd, Some, Stepped, subst, suc, sym, Tick, true, zero, ℕ, ◌+◌, ◌-◌, ◌<◌, ◌∙◌, ◌∷◌, ◌≡◌, ◌≤◌}
 use Rattle.rv32i.specs.declared.stepped.Stepped.TheVariants.{Retired, Printed, Break, Exit, Trap}
-use Rattle.course.specs.Positions.{Position}
 use Rattle.stepping.specs.Bursts.{EndsHalted, stretch_of}
-use Rattle.stepping.specs.Plain.{plain_tick}
 use Rattle.stepping.specs.Running.{IsEnding, Stretches}
 use Rattle.stepping.specs.Runs.{EndsRun, Goes, HasMoved, IsRun, MayLackMemory}
 use Rattle.stepping.specs.Ticks.{Debugged, IsTick, Moves, Settles, entry_checked, entry_tick, gone_back, looked_at, seen, undone_by, with_check}
 use Rattle.stepping.specs.declared.goal.Goal.{Goal}
-use Rattle.stepping.specs.declared.goal.Goal.TheVariants.{Go, In, Over, Out, Back, ReverseGo}
 use Rattle.stepping.specs.declared.tick.Ran.{Ran}
-use Rattle.stepping.specs.declared.tick.RunEnd.{RunEnd}
 use Rattle.stepping.specs.declared.tick.RunEnd.TheVariants.{Spent, Ticked, NoMemory}
-use Rattle.stepping.specs.declared.tick.Tick.{Tick}
 use Rattle.stepping.proofs.Cases.{by_tick}
 
 -- ---- how many instructions retire
@@ -49,19 +42,16 @@ ticked before after answer h =
     so : (left : Debugged) → HasTicked before left → after ≡ left → HasTicked before after
     so left t e = subst (λ (d : Debugged). HasTicked before d) (sym e) t
 
-    by_stepped : (m : Moves before answer after) (s : Result Stepped AllocError) → Settles before m.instr s answer after
-        → HasTicked before after
-    by_stepped m (Ok Retired) e =
+    by_stepped : (m : Moves before answer after) (s : Stepped) → Settles before m.instr s answer after → HasTicked before after
+    by_stepped m Retired e =
         record { retires = omega (arith, ap (λ (d : Debugged). d.retired) e.1); goal = ap (λ (d : Debugged). d.goal) e.1 }
-    by_stepped m (Ok (Printed number)) e =
+    by_stepped m (Printed number) e =
         record { retires = omega (arith, ap (λ (d : Debugged). d.retired) e.1); goal = ap (λ (d : Debugged). d.goal) e.1 }
-    by_stepped m (Ok Break) e =
+    by_stepped m Break e =
         record { retires = omega (arith, ap (λ (d : Debugged). d.retired) e.1); goal = ap (λ (d : Debugged). d.goal) e.1 }
-    by_stepped m (Ok (Exit code)) e =
+    by_stepped m (Exit code) e =
         record { retires = omega (arith, ap (λ (d : Debugged). d.retired) e.1); goal = ap (λ (d : Debugged). d.goal) e.1 }
-    by_stepped m (Ok (Trap cause)) e =
-        record { retires = omega (arith, ap (λ (d : Debugged). d.retired) e.1); goal = ap (λ (d : Debugged). d.goal) e.1 }
-    by_stepped m (Err error) e =
+    by_stepped m (Trap cause) e =
         record { retires = omega (arith, ap (λ (d : Debugged). d.retired) e.1); goal = ap (λ (d : Debugged). d.goal) e.1 }
 
 pub tick_retires : (before after : Debugged) (answer : Result Tick AllocError) → IsTick before answer after

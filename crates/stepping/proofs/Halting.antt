@@ -1,22 +1,13 @@
 -- An instruction that halts ends a run.
-use Rattle.std.proofs.Common.{◌≡◌, ◌≢◌, ℕ, ◌+◌, Bool, true, false, cond, eqb, List, [], Some, None, Result, Ok, Err, refl, sym, ap, subst, ◌∙◌, arith}
+use Rattle.stepping.proofs.Common.{[], AllocError, ap, arith, Bool, cond, course_of, Debugged, eqb, Err, false, Halt, Halts, IsFetched, IsTick, List, MayLackMemory, None, Ok, past_after, plain_tick, position_of, refl, Result, settled, Some, stayed, Stepped, subst, sym, Tick, tick_of, true, turns_back, ℕ, ◌+◌, ◌∙◌, ◌≡◌, ◌≢◌}
 use Rattle.std.specs.Prelude.{alloc_error}
-use Rattle.std.specs.declared.alloc.AllocError.{AllocError}
 use Rattle.rv32i.specs.Machine.{Effect, IsMove, Machine, calls, machine_of, signed, sum, trapped, value}
 use Rattle.rv32i.specs.Steps.{settles}
 use Rattle.rv32i.specs.declared.instr.Instr.TheVariants.{Ecall, Ebreak}
-use Rattle.rv32i.specs.declared.performing.Halt.{Halt}
 use Rattle.rv32i.specs.declared.performing.Halt.TheVariants.{Stopped, NoMemory, Calls, Breaks}
 use Rattle.rv32i.specs.declared.stepped.Cause.TheVariants.{UnknownCall}
-use Rattle.rv32i.specs.declared.stepped.Stepped.{Stepped}
 use Rattle.rv32i.specs.declared.stepped.Stepped.TheVariants.{Retired, Printed, Break, Exit, Trap}
-use Rattle.course.specs.Positions.{Halts, IsFetched, past_after}
-use Rattle.stepping.specs.Goals.{turns_back}
-use Rattle.stepping.specs.Plain.{plain_tick}
-use Rattle.stepping.specs.Runs.{MayLackMemory}
 use Rattle.stepping.specs.Running.{counted_by, left_by}
-use Rattle.stepping.specs.Ticks.{Debugged, IsTick, course_of, position_of, settled, stayed, tick_of}
-use Rattle.stepping.specs.declared.tick.Tick.{Tick}
 use Rattle.stepping.proofs.Cases.{tick_of_move}
 use Rattle.stepping.proofs.Moving.{settled_moves}
 

@@ -1,27 +1,12 @@
 -- The past leads to where the machine is, and one that is undone is one less.
 use Rattle.std.proofs.Common.{◌≡◌, ℕ, zero, suc, ◌+◌, ◌-◌, ◌≤◌, Bool, true, false, List, [], ◌∷◌, length, take, Option, Some, None, Result, Ok, Err, MatchResult, refl, sym, ap, ◌∙◌, subst, arith}
-use Rattle.std.specs.declared.alloc.AllocError.{AllocError}
-use Rattle.image.specs.Memory.{word_at}
-use Rattle.image.specs.declared.fault.MemFault.{MemFault}
+use Rattle.stepping.proofs.Common.{AllocError, Back, course_of, Debugged, Effect, effect_of, Encodes, fetch_fault, Go, gone_on, has_retired, Illegal, In, Instr, IsDecodedAtPc, IsDecoding, IsIllegal, IsMove, KeepsMachine, looked_at, Machine, machine_of, MemFault, moved_as, Moves, noted, one_instruction, one_move, Out, Over, position_of, ReverseGo, settled, stayed, step_keeps, Stepped, Tick, trapped, undone_by, word_at}
 use Rattle.image.specs.declared.fault.MemFault.TheVariants as fault
-use Rattle.rv32i.specs.Encoding.{Encodes, IsDecoding, IsIllegal}
-use Rattle.rv32i.specs.Machine.{Effect, IsDecodedAtPc, IsMove, KeepsMachine, Machine, effect_of, fetch_fault, machine_of, trapped}
-use Rattle.rv32i.specs.declared.instr.Instr.{Instr}
-use Rattle.rv32i.specs.declared.stepped.Cause.TheVariants.{Illegal}
-use Rattle.rv32i.specs.declared.stepped.Stepped.{Stepped}
 use Rattle.rv32i.specs.declared.stepped.Stepped.TheVariants as stepped
-use Rattle.rv32i.proofs.Keeps.{step_keeps}
-use Rattle.rv32i.proofs.OneMove.{one_move}
-use Rattle.rv32i.proofs.Unique.{one_instruction}
-use Rattle.course.specs.Calls.{noted}
 use Rattle.course.specs.Positions.{Course, IsFetched, Position, gone_back, undone_to}
 use Rattle.course.proofs.Moving.{harts_equal}
 use Rattle.stepping.specs.Leading.{BackAndForth, LeadTo, Makes, MovesFromOldest, MovesTo, OneLess, PastLeads, TicksLead, back, oldest, oldest_of}
-use Rattle.stepping.specs.Stopping.{has_retired}
-use Rattle.stepping.specs.Ticks.{Debugged, Moves, Settles, course_of, gone_on, looked_at, moved_as, position_of, settled, stayed, undone_by}
 use Rattle.stepping.specs.declared.goal.Goal.{Goal}
-use Rattle.stepping.specs.declared.goal.Goal.TheVariants.{Go, In, Over, Out, Back, ReverseGo}
-use Rattle.stepping.specs.declared.tick.Tick.{Tick}
 use Rattle.stepping.proofs.Cases.{back_of, by_tick}
 
 -- ---- a position makes one move
@@ -175,12 +160,7 @@ settled_run (stepped.Trap cause) before after instr f m e h =
 
 moved_run : (before after : Debugged) (answer : Result Tick AllocError) → Moves before answer after → PastLeads (course_of before)
     → PastLeads (course_of after)
-moved_run before after answer m h = go m.stepped m.moved m.settles where
-  go : (s : Result Stepped AllocError)
-      → IsMove (machine_of before.hart before.memory) (record { answer = s; machine = machine_of after.hart after.memory })
-      → Settles before m.instr s answer after → PastLeads (course_of after)
-  go (Ok s) i t = settled_run s before after m.instr m.fetched i t.1 h
-  go (Err error) i t = subst (λ (d : Debugged). PastLeads (course_of d)) (sym t.1) h
+moved_run before after answer m h = settled_run m.stepped before after m.instr m.fetched m.moved m.settles.1 h
 
 pub ticks_lead : TicksLead
 ticks_lead before after answer h t = by_tick before after answer t

@@ -1,13 +1,10 @@
 -- One machine is as an image says.
-use Rattle.std.proofs.Common.{◌≡◌, ℕ, ◌+◌, false, [], refl, sym, subst}
+use Rattle.stepping.proofs.Common.{[], Debugged, false, Go, Lists, refl, subst, sym, ℕ, ◌+◌, ◌≡◌}
 use Rattle.std.specs.Prelude.{replicate}
 use Rattle.image.specs.Memory.{first_address, with_bytes}
 use Rattle.image.specs.declared.Image.{Image}
-use Rattle.breakpoints.specs.Stops.{Lists}
 use Rattle.course.specs.Calls.{nothing_kept}
 use Rattle.stepping.specs.Loading.{IsLoaded, loaded, LabelsAreNotLoaded, not_hit, OneIsLoaded, OneIsReloaded, started}
-use Rattle.stepping.specs.Ticks.{Debugged}
-use Rattle.stepping.specs.declared.goal.Goal.TheVariants.{Go}
 use Rattle.stepping.proofs.Determined.{harts_equal}
 
 loads : (image : Image) (size : ℕ) (lists : Lists) → IsLoaded image size lists (loaded image size lists)

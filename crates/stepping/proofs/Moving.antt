@@ -1,12 +1,6 @@
 -- What a move comes to is a tick.
-use Rattle.std.proofs.Common.{List, ℕ, Option, Ok, refl}
-use Rattle.rv32i.specs.Machine.{IsDecodedAtPc, IsMove, Machine, machine_of}
-use Rattle.rv32i.specs.declared.hart.Hart.{Hart}
-use Rattle.rv32i.specs.declared.instr.Instr.{Instr}
-use Rattle.rv32i.specs.declared.stepped.Stepped.{Stepped}
+use Rattle.stepping.proofs.Common.{Debugged, Hart, Instr, IsDecodedAtPc, IsFetched, IsMove, List, Machine, machine_of, Moves, Ok, Option, refl, settled, Stepped, tick_of, ℕ}
 use Rattle.rv32i.specs.declared.stepped.Stepped.TheVariants as stepped
-use Rattle.course.specs.Positions.{IsFetched}
-use Rattle.stepping.specs.Ticks.{Debugged, Moves, settled, tick_of}
 
 -- the machine whose hart and memory have moved
 abbrev pub with_machine : Debugged → Hart → List ℕ → Debugged
@@ -20,12 +14,12 @@ pub settled_moves : (before : Debugged) (hart : Hart) (memory : List ℕ) (instr
     → IsMove (machine_of before.hart before.memory) (record { answer = Ok s; machine = machine_of hart memory })
     → Moves before (Ok (tick_of s instr before.hart.pc (with_machine before hart memory))) (settled s instr before (with_machine before hart memory))
 settled_moves before hart memory instr stepped.Retired f m =
-    record { instr = instr; stepped = Ok stepped.Retired; fetched = f; moved = m; settles = (refl, refl) }
+    record { instr = instr; stepped = stepped.Retired; fetched = f; moved = m; settles = (refl, refl) }
 settled_moves before hart memory instr (stepped.Printed number) f m =
-    record { instr = instr; stepped = Ok (stepped.Printed number); fetched = f; moved = m; settles = (refl, refl) }
+    record { instr = instr; stepped = stepped.Printed number; fetched = f; moved = m; settles = (refl, refl) }
 settled_moves before hart memory instr stepped.Break f m =
-    record { instr = instr; stepped = Ok stepped.Break; fetched = f; moved = m; settles = (refl, refl) }
+    record { instr = instr; stepped = stepped.Break; fetched = f; moved = m; settles = (refl, refl) }
 settled_moves before hart memory instr (stepped.Exit code) f m =
-    record { instr = instr; stepped = Ok (stepped.Exit code); fetched = f; moved = m; settles = (refl, refl) }
+    record { instr = instr; stepped = stepped.Exit code; fetched = f; moved = m; settles = (refl, refl) }
 settled_moves before hart memory instr (stepped.Trap cause) f m =
-    record { instr = instr; stepped = Ok (stepped.Trap cause); fetched = f; moved = m; settles = (refl, refl) }
+    record { instr = instr; stepped = stepped.Trap cause; fetched = f; moved = m; settles = (refl, refl) }

@@ -1,12 +1,8 @@
 -- Where no breakpoint is at pc and the goal is out of reach, there is nothing to see.
-use Rattle.std.proofs.Common.{◌≡◌, Bool, false, ap, ◌∙◌}
+use Rattle.stepping.proofs.Common.{ap, Bool, Debugged, false, Hit, is_met, Lists, outcome_of, ◌∙◌, ◌≡◌}
 use Rattle.breakpoints.specs.Places.{is_among}
-use Rattle.breakpoints.specs.Stops.{Lists}
-use Rattle.breakpoints.specs.declared.breakpoint.Hit.{Hit}
 use Rattle.breakpoints.proofs.Lists.{no_check, no_hit}
-use Rattle.stepping.specs.Goals.{is_met}
 use Rattle.stepping.specs.Running.{IsQuiet}
-use Rattle.stepping.specs.Ticks.{Debugged, outcome_of}
 
 pub quiet : (d : Debugged) → is_among d.hart.pc d.lists.source d.lists.instructions d.lists.functions ≡ false
     → is_met d.goal d.start d.table d.hart.pc d.calls.depth ≡ false → IsQuiet d

@@ -1,18 +1,10 @@
 -- What one tick after the entry says: it goes on where no reason applies, and else gives the first.
-use Rattle.std.proofs.Common.{◌≡◌, ℕ, ◌≤◌, Bool, true, false, Result, Ok, Err, IsTrue, refl, sym, ap, subst, ◌∙◌, arith}
-use Rattle.std.specs.List.{list_any}
-use Rattle.std.specs.declared.alloc.AllocError.{AllocError}
-use Rattle.breakpoints.specs.Stops.{stops}
-use Rattle.rv32i.specs.Machine.{IsMove, machine_of}
-use Rattle.rv32i.specs.declared.stepped.Stepped.{Stepped}
+use Rattle.stepping.proofs.Common.{AllocError, ap, arith, Bool, Err, false, is_met, IsMove, IsTrue, list_any, machine_of, Ok, Outcome, refl, Result, Stepped, stops, subst, sym, Tick, true, ℕ, ◌∙◌, ◌≡◌, ◌≤◌}
 use Rattle.rv32i.specs.declared.stepped.Stepped.TheVariants.{Retired, Printed, Break, Exit, Trap}
-use Rattle.stepping.specs.Goals.{is_met}
 use Rattle.stepping.specs.Stopping.{Advances, Answers, Applies, MeetsFunction, MeetsGoal, MeetsInstruction, MeetsSource, OneStops, has_retired, place}
 use Rattle.stepping.specs.Ticks.{Debugged, Moves, Settles, gone_on, meets_goal, moved_as, outcome_of, settled, stayed, went_on}
-use Rattle.stepping.specs.declared.tick.Outcome.{Outcome}
 use Rattle.stepping.specs.declared.tick.Outcome.TheVariants.{Went, Stopped, Ended}
 use Rattle.stepping.specs.declared.tick.Reason.TheVariants.{Exception, Ebreak, Source, Instruction, Function, Goal, Start}
-use Rattle.stepping.specs.declared.tick.Tick.{Tick}
 use Rattle.stepping.proofs.Advancing.{advance_answers, advance_equal, advances_so, answers_equal, stays_so}
 
 -- the first reason at an instruction
@@ -253,27 +245,25 @@ one_says before after tick m = go m.stepped m.moved m.settles where
       (at_function before after moves) (meets_goal m.instr before.hart.pc (moved_as before after)) refl refl refl
       (ap (at_goal before after moves) g)
 
-  go : (s : Result Stepped AllocError)
-      → IsMove (machine_of before.hart before.memory) (record { answer = s; machine = machine_of after.hart after.memory })
+  go : (s : Stepped) → IsMove (machine_of before.hart before.memory) (record { answer = Ok s; machine = machine_of after.hart after.memory })
       → Settles before m.instr s (Ok tick) after → SaysOnce tick.outcome before after
-  go (Err error) i t = absurd (let never = t.0 in cc)
-  go (Ok (Trap cause)) i t =
+  go (Trap cause) i t =
       subst (λ (o : Outcome). SaysOnce o before after) (sym (ap (outcome_in Went) t.0)) (
         record { applies = answered (Trap cause) i; first = above before (Trap cause) (answered (Trap cause) i) },
         stays_so before after
             (Trap cause) refl i t.1,
       )
-  go (Ok (Exit code)) i t =
+  go (Exit code) i t =
       subst (λ (o : Outcome). SaysOnce o before after) (sym (ap (outcome_in Went) t.0)) (
         record { applies = answered (Exit code) i; first = above before (Exit code) (answered (Exit code) i) },
         stays_so before after
             (Exit code) refl i t.1,
       )
-  go (Ok Break) i t =
+  go Break i t =
       subst (λ (o : Outcome). SaysOnce o before after) (sym (ap (outcome_in Went) t.0)) (
         record { applies = answered Break i; first = above before Break (answered Break i) },
         (advances_so before after m.instr Break m.fetched i refl t.1).1.1,
       )
-  go (Ok Retired) i t = subst (λ (o : Outcome). SaysOnce o before after) (sym (ap (outcome_in Went) t.0)) (went Retired refl refl i t.1 t.1)
-  go (Ok (Printed number)) i t =
+  go Retired i t = subst (λ (o : Outcome). SaysOnce o before after) (sym (ap (outcome_in Went) t.0)) (went Retired refl refl i t.1 t.1)
+  go (Printed number) i t =
       subst (λ (o : Outcome). SaysOnce o before after) (sym (ap (outcome_in Went) t.0)) (went (Printed number) refl refl i t.1 t.1)

@@ -2,24 +2,13 @@
 use Rattle.std.proofs.Common.{◌≡◌, ℕ, zero, suc, ◌+◌, ◌⊎◌, inl, inr, List, [], ◌∷◌, ◌++◌, length, take, Option, None, Some, Result, Ok, Err, refl, sym, ap, subst, ◌∙◌, arith, length-append}
 use Rattle.std.specs.Prelude.{⊤, ℤ}
 use Rattle.std.specs.Result.{MatchResult}
-use Rattle.std.specs.declared.alloc.AllocError.{AllocError}
-use Rattle.image.specs.Memory.{word_at}
-use Rattle.image.specs.declared.fault.MemFault.{MemFault}
+use Rattle.stepping.proofs.Common.{AllocError, Back, Debugged, Effect, effect_of, Encodes, fetch_fault, Go, gone_on, Illegal, In, Instr, IsDecoding, IsFetched, IsIllegal, IsMove, looked_at, Machine, machine_of, MemFault, moved_as, Moves, Out, Over, Position, position_of, ReverseGo, Settles, stayed, Stepped, Tick, trapped, undone_by, word_at}
 use Rattle.image.specs.declared.fault.MemFault.TheVariants as fault
-use Rattle.rv32i.specs.Encoding.{Encodes, IsDecoding, IsIllegal}
-use Rattle.rv32i.specs.Machine.{Effect, IsMove, Machine, effect_of, fetch_fault, machine_of, trapped}
-use Rattle.rv32i.specs.declared.instr.Instr.{Instr}
-use Rattle.rv32i.specs.declared.stepped.Cause.TheVariants.{Illegal}
-use Rattle.rv32i.specs.declared.stepped.Stepped.{Stepped}
 use Rattle.rv32i.specs.declared.stepped.Stepped.TheVariants as stepped
 use Rattle.course.specs.Calls.{Kept, StandsFor, with_retired}
 use Rattle.course.specs.Marks.{Retired}
 use Rattle.stepping.specs.Past.{IsChanged, LoadedRemembersNone, Remembers, RemembersPast, TicksRemember}
-use Rattle.course.specs.Positions.{IsFetched, Position}
-use Rattle.stepping.specs.Ticks.{Debugged, Moves, Settles, gone_on, looked_at, moved_as, position_of, stayed, undone_by}
 use Rattle.stepping.specs.declared.goal.Goal.{Goal}
-use Rattle.stepping.specs.declared.goal.Goal.TheVariants.{Go, In, Over, Out, Back, ReverseGo}
-use Rattle.stepping.specs.declared.tick.Tick.{Tick}
 use Rattle.course.proofs.Standing.{noted_stands, nothing_stands}
 use Rattle.stepping.proofs.Cases.{by_tick}
 
@@ -112,7 +101,7 @@ one_more before after retired (Some instr) s which f m a h =
 
 moved_on : (before after : Debugged) (answer : Result Tick AllocError) (retired : List Retired) → Remembers before retired
     → Moves before answer after → Left before after retired
-moved_on before after answer retired h m = go m.stepped refl m.moved m.settles where
+moved_on before after answer retired h m = go m.stepped m.moved m.settles where
   stays : after ≡ stayed (moved_as before after) → Left before after retired
   stays e =
       same before after retired (record {
@@ -121,16 +110,14 @@ moved_on before after answer retired h m = go m.stepped refl m.moved m.settles w
         past = ap (λ (d : Debugged). d.past) e;
       }) h
 
-  go : (s : Result Stepped AllocError) → s ≡ s
-      → IsMove (machine_of before.hart before.memory) (record { answer = s; machine = machine_of after.hart after.memory })
+  go : (s : Stepped) → IsMove (machine_of before.hart before.memory) (record { answer = Ok s; machine = machine_of after.hart after.memory })
       → Settles before m.instr s answer after → Left before after retired
-  go (Err error) e i t = (retired, (inl refl, subst (λ (d : Debugged). Remembers d retired) (sym t.1) h))
-  go (Ok (stepped.Exit code)) e i t = stays t.1
-  go (Ok (stepped.Trap cause)) e i t = stays t.1
-  go (Ok stepped.Retired) e i t = one_more before after retired m.instr (Ok stepped.Retired) (inl refl) m.fetched i t.1 h
-  go (Ok (stepped.Printed number)) e i t =
+  go (stepped.Exit code) i t = stays t.1
+  go (stepped.Trap cause) i t = stays t.1
+  go stepped.Retired i t = one_more before after retired m.instr (Ok stepped.Retired) (inl refl) m.fetched i t.1 h
+  go (stepped.Printed number) i t =
       one_more before after retired m.instr (Ok (stepped.Printed number)) (inr (inl (number, refl))) m.fetched i t.1 h
-  go (Ok stepped.Break) e i t = one_more before after retired m.instr (Ok stepped.Break) (inr (inr refl)) m.fetched i t.1 h
+  go stepped.Break i t = one_more before after retired m.instr (Ok stepped.Break) (inr (inr refl)) m.fetched i t.1 h
 
 -- a move is undone
 looked_alike : (g : Goal) (d : Debugged) → Alike d (looked_at g d)

@@ -1,18 +1,10 @@
 -- A run back stops at the newest machine of the past at which a breakpoint stands.
-use Rattle.std.proofs.Common.{◌≡◌, ◌≤◌, Bool, true, false, cond, List, [], ◌∷◌, length, Ok, refl, sym, ap, ◌∙◌, subst, arith}
+use Rattle.stepping.proofs.Common.{[], ap, arith, back_outcome, back_tick, Bool, cond, Course, course_of, Debugged, false, Hit, length, List, list_any, looked_at, Ok, Outcome, outcome_or, Position, position_of, refl, stands, subst, sym, Tick, true, turns_back, undone_by, unless_start, ◌∙◌, ◌∷◌, ◌≡◌, ◌≤◌}
 use Rattle.std.specs.Prelude.{◌||◌}
-use Rattle.std.specs.List.{list_any}
-use Rattle.breakpoints.specs.Stops.{stands}
-use Rattle.breakpoints.specs.declared.breakpoint.Hit.{Hit}
-use Rattle.course.specs.Positions.{Course, Position}
-use Rattle.stepping.specs.Goals.{turns_back}
 use Rattle.stepping.specs.StoppingBack.{BackTicksTurn, TurnsTo, one_stands, turned, turned_from}
-use Rattle.stepping.specs.Ticks.{Debugged, course_of, back_outcome, back_tick, looked_at, position_of, outcome_or, undone_by, unless_start}
 use Rattle.stepping.specs.declared.goal.Goal.{Goal}
 use Rattle.stepping.specs.declared.goal.Goal.TheVariants as goal
-use Rattle.stepping.specs.declared.tick.Outcome.{Outcome}
 use Rattle.stepping.specs.declared.tick.Outcome.TheVariants.{Went, Stopped, Ended}
-use Rattle.stepping.specs.declared.tick.Tick.{Tick}
 use Rattle.stepping.proofs.Cases.{GoesBack, back_of}
 
 abbrev as_before : Position → List Position → Debugged → Debugged

@@ -1,15 +1,10 @@
 -- A run stops at one number, wherever its moves are counted from.
 use Rattle.std.proofs.Common.{◌≡◌, ◌≢◌, ℕ, zero, suc, ◌+◌, ◌-◌, ◌<◌, ◌≤◌, Bool, true, false, ltb, Decides, refl, sym, ap, subst, ◌∙◌, arith}
-use Rattle.std.specs.Prelude.{ℤ}
+use Rattle.stepping.proofs.Common.{Advances, After, Applies, AppliesAt, AppliesAtEntry, Debugged, entered, Exit, has_retired, NoneBelow, Outcome, place, Reason, StopsAt, Trap, ℤ}
 use Rattle.std.proofs.lemmas.Bool.Decides.{Decides-ltb, not_from_Decides}
 use Rattle.rv32i.specs.declared.stepped.Cause.{Cause}
-use Rattle.rv32i.specs.declared.stepped.Stepped.TheVariants.{Exit, Trap}
-use Rattle.stepping.specs.Stopping.{Advances, After, Applies, AppliesAt, AppliesAtEntry, NoneBelow, StopsAt, entered, has_retired, place}
-use Rattle.stepping.specs.Ticks.{Debugged}
 use Rattle.stepping.specs.RunLaws.{CountsAnew, MovesEnd, StopIsUnique}
-use Rattle.stepping.specs.declared.tick.Outcome.{Outcome}
 use Rattle.stepping.specs.declared.tick.Outcome.TheVariants.{Went, Stopped, Ended}
-use Rattle.stepping.specs.declared.tick.Reason.{Reason}
 use Rattle.stepping.specs.declared.tick.Reason.TheVariants.{Exception, Ebreak, Source, Instruction, Function, Goal, Start}
 use Rattle.stepping.proofs.Advancing.{Made, advance_answers, after_equal, after_lower, after_ready, answers_equal}
 

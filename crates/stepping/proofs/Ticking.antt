@@ -1,22 +1,10 @@
 -- Ticks stop at the least number at which a reason applies.
 use Rattle.std.proofs.Common.{◌≡◌, ℕ, zero, suc, ◌<◌, ◌≤◌, Bool, true, false, ◌⊎◌, inl, inr, Option, None, Result, Ok, Err, IsOk, List, if◌then◌else◌, eqb, Decides, refl, sym, ap, subst, ◌∙◌, arith}
-use Rattle.std.specs.Prelude.{ℤ}
-use Rattle.std.specs.List.{list_any}
-use Rattle.std.specs.declared.alloc.AllocError.{AllocError}
-use Rattle.std.proofs.lemmas.Bool.Decides.{Decides-eqb, not_from_Decides}
-use Rattle.breakpoints.specs.Stops.{Placed, stops}
-use Rattle.stepping.specs.Goals.{turns_back}
-use Rattle.stepping.specs.Plain.{plain_tick}
-use Rattle.stepping.specs.Runs.{EndsRun, Goes}
-use Rattle.stepping.specs.Stopping.{After, Applies, AppliesAt, AppliesAtEntry, NoneBelow, StopsAt, place}
-use Rattle.stepping.specs.Ticks.{Debugged, IsTick, outcome_of}
+use Rattle.stepping.proofs.Common.{After, AllocError, Applies, AppliesAt, AppliesAtEntry, Debugged, Decides-eqb, EndsRun, Goes, IsTick, list_any, NoneBelow, not_from_Decides, Outcome, outcome_of, place, Placed, plain_tick, RunEnd, stops, StopsAt, Tick, turns_back, ℤ}
 use Rattle.stepping.specs.RunLaws.{AnswersWith, EndingSays, GoOn, RunsSayWhere, RunsStopThere, Says, TicksSayWhere, number_after}
-use Rattle.stepping.specs.declared.tick.RunEnd.{RunEnd}
 use Rattle.stepping.specs.declared.tick.RunEnd.TheVariants.{Spent, Ticked, NoMemory}
-use Rattle.stepping.specs.declared.tick.Outcome.{Outcome}
 use Rattle.stepping.specs.declared.tick.Outcome.TheVariants.{Went, Stopped, Ended}
 use Rattle.stepping.specs.declared.tick.Reason.TheVariants.{Exception, Ebreak, Source, Instruction, Function, Goal, Start}
-use Rattle.stepping.specs.declared.tick.Tick.{Tick}
 use Rattle.stepping.proofs.Advancing.{after_goal, after_ready, each_tick_answers}
 use Rattle.stepping.proofs.Cases.{entry_of, move_of}
 use Rattle.stepping.proofs.Reasons.{SaysOnce, one_says}

@@ -1,25 +1,13 @@
 -- Where a run back stops.
 use Rattle.std.proofs.Common.{◌≡◌, ℕ, zero, suc, ◌+◌, ◌≤◌, ◌<◌, Bool, true, false, IsTrue, ◌⊎◌, inl, inr, List, [], ◌∷◌, length, drop, Some, Result, Ok, refl, sym, ap, ◌∙◌, subst, arith}
-use Rattle.std.specs.Prelude.{slice_get}
-use Rattle.std.specs.List.{list_any}
+use Rattle.stepping.proofs.Common.{AllocError, back_outcome, back_tick, Debugged, GoOn, Hit, IsTick, list_any, looked_at, Outcome, outcome_or, place, Placed, Position, position_of, Reason, slice_get, standing_in, stands, Tick, turns_back, undone_by, unless_start}
 use Rattle.std.proofs.Math.Nat.{le-suc_iff}
 use Rattle.std.proofs.lemmas.List.{length-drop}
-use Rattle.std.specs.declared.alloc.AllocError.{AllocError}
-use Rattle.breakpoints.specs.Stops.{Placed, stands, standing_in}
-use Rattle.breakpoints.specs.declared.breakpoint.Hit.{Hit}
-use Rattle.course.specs.Positions.{Position}
-use Rattle.stepping.specs.Goals.{turns_back}
-use Rattle.stepping.specs.RunLaws.{GoOn}
-use Rattle.stepping.specs.Stopping.{place}
 use Rattle.stepping.specs.StoppingBack.{AppliesBack, AppliesThere, BackTicksSayWhere, LeavesBack, NoneBackBelow, OneStands, SaysBack, StopsBackAt}
-use Rattle.stepping.specs.Ticks.{Debugged, IsTick, back_outcome, back_tick, looked_at, position_of, outcome_or, undone_by, unless_start}
 use Rattle.stepping.specs.declared.goal.Goal.{Goal}
 use Rattle.stepping.specs.declared.goal.Goal.TheVariants as goal
-use Rattle.stepping.specs.declared.tick.Outcome.{Outcome}
 use Rattle.stepping.specs.declared.tick.Outcome.TheVariants.{Went, Stopped, Ended}
-use Rattle.stepping.specs.declared.tick.Reason.{Reason}
 use Rattle.stepping.specs.declared.tick.Reason.TheVariants as why
-use Rattle.stepping.specs.declared.tick.Tick.{Tick}
 use Rattle.stepping.proofs.Cases.{GoesBack, back_of}
 
 -- the machine where it was before a move, with what was recorded before that

@@ -13,7 +13,7 @@
 -- as they are, with their hits. A step back ends with that; a run back goes on until a breakpoint stands at pc, or
 -- nothing is recorded any more. Where nothing is recorded, such a tick undoes nothing.
 use Rattle.std.specs.Prelude.{◌≡◌, ℕ, ◌+◌, ◌-◌, Bool, false, if◌then◌else◌, List, [], ◌∷◌, Option, Some, None}
-use Rattle.std.specs.Prelude.{Result, Ok, Err, MatchBool}
+use Rattle.std.specs.Prelude.{Result, Ok, MatchBool}
 use Rattle.std.specs.declared.alloc.AllocError.{AllocError}
 use Rattle.breakpoints.specs.Stops.{Lists, checked, hit_in, looked, standing_in}
 use Rattle.breakpoints.specs.declared.breakpoint.Hit.{Hit}
@@ -175,26 +175,23 @@ gone_back d = looked_at d.goal (undone d)
 abbrev pub moved_as : Debugged → Debugged → Debugged
 moved_as before after = record before { hart = after.hart; memory = after.memory }
 
--- What a move comes to. A move is answered, and so is each tick (the laws `moves_answer` of `rv32i`, and
--- `each_tick_answers`): the last line is of none.
-abbrev pub Settles : Debugged → Option Instr → Result Stepped AllocError → Result Tick AllocError → Debugged → Type 0
-Settles before instr (Ok stepped) answer after =
-    (answer ≡ Ok (tick_of stepped instr before.hart.pc (moved_as before after)))
-    × (after ≡ settled stepped instr before (moved_as before after))
-Settles before instr (Err error) answer after = (answer ≡ Err error) × (after ≡ before)
+-- it answers this, and leaves this
+abbrev pub Comes : Tick → Debugged → Result Tick AllocError → Debugged → Type 0
+Comes tick left answer after = (answer ≡ Ok tick) × (after ≡ left)
+
+-- what a move comes to
+abbrev pub Settles : Debugged → Option Instr → Stepped → Result Tick AllocError → Debugged → Type 0
+Settles before instr stepped answer after =
+    Comes (tick_of stepped instr before.hart.pc (moved_as before after)) (settled stepped instr before (moved_as before after)) answer after
 
 -- the hart moves
 pub record Moves (before : Debugged) (answer : Result Tick AllocError) (after : Debugged) : Type 0 where
   pub instr : Option Instr
-  pub stepped : Result Stepped AllocError
+  pub stepped : Stepped
   pub fetched : IsFetched (machine_of before.hart before.memory) instr
   pub moved : IsMove (machine_of before.hart before.memory)
-      (record { answer = stepped; machine = machine_of after.hart after.memory })
+      (record { answer = Ok stepped; machine = machine_of after.hart after.memory })
   pub settles : Settles before instr stepped answer after
-
--- it answers this, and leaves this
-abbrev pub Comes : Tick → Debugged → Result Tick AllocError → Debugged → Type 0
-Comes tick left answer after = (answer ≡ Ok tick) × (after ≡ left)
 
 -- one tick: the check that is due at the entry; or, where the run goes back, a move that is undone; or a move
 abbrev pub IsTick : Debugged → Result Tick AllocError → Debugged → Type 0

@@ -18,7 +18,7 @@ use Rattle.session.specs.Effects.{BreaksOff, sliced}
 use Rattle.session.specs.Kept.{Kept, OfEach, Stands, Happens, answered, see_kept}
 use Rattle.session.specs.Outcomes.{is_finished, wanted_on}
 use Rattle.session.specs.Prefixes.{IsPrefixOf}
-use Rattle.session.specs.Sessions.{Session, Effect, histories, waiting_of}
+use Rattle.session.specs.Sessions.{Session, Effect, histories}
 use Rattle.session.specs.Slices.{is_runnable}
 use Rattle.wires.specs.Wires.{Line, Moved, one_more}
 use Rattle.transport.specs.Files.{KnownReads, Records}
@@ -69,12 +69,12 @@ pub sends_over : {X : Type 0} (past : KnownReads) (since : ℕ) (old new : Line)
     → n ≤ length waiting → (0 < length waiting → 1 ≤ n) → Moved old new [] (take n waiting) old.faults old.idle → (s : Session) → Stands k s
     → GoesOn past past since since old new s kept
 sends_over past since old new k kept n r waiting w d h ok most some m s st =
-    let few : n ≤ length (waiting_of s) = subst (λ (l : List ℕ). n ≤ length l) (w ∙ st.waiting) most in
+    let few : n ≤ length s.waiting = subst (λ (l : List ℕ). n ≤ length l) (w ∙ ap (λ (x : Kept). x.waiting) st) most in
     let wait : 0 < length waiting = subst (λ (l : List ℕ). 0 < length l) (sym w) (bytes_wait k d) in record {
       round = Did (Sent n);
       is_round = ((due_there k s Send st d, some wait, few), takes_sent (histories.see s) n few);
       counts = refl;
-      moved = subst (λ (l : List ℕ). Moved old new [] (take n l) old.faults old.idle) (w ∙ st.waiting) m;
+      moved = subst (λ (l : List ℕ). Moved old new [] (take n l) old.faults old.idle) (w ∙ ap (λ (x : Kept). x.waiting) st) m;
       files = Records-nil past;
       stands = happened (λ _. applied.Sent) k (Sent n) r kept s (λ x. refl) h ok st;
     }
@@ -85,13 +85,13 @@ pub sends_fail : (past : KnownReads) (old new : Line) (k kept : Kept) (waiting :
     → ((s : Session) → Stands k s → Stands kept (Effect s DropConnection)) → (s : Session) → Stands k s → Stops past past Fault old new s kept
 sends_fail past old new k kept waiting w d m dropped s st =
     let part : List ℕ = take m.0 waiting in
-    let prefix : IsPrefixOf part (waiting_of s) = subst (IsPrefixOf part) (w ∙ st.waiting)
+    let prefix : IsPrefixOf part s.waiting = subst (IsPrefixOf part) (w ∙ ap (λ (x : Kept). x.waiting) st)
     (drop m.0 waiting, sym (take-append-drop m.0 waiting)) in record {
       cause = CallFailed part;
       moved = m.1;
       files = Records-nil past;
       is_end = refl;
-      is_cause = λ turns made. subst (λ (x : Due). MayFail old.polls x (waiting_of s) part) (sym (due_there k s Send st d)) prefix;
+      is_cause = λ turns made. subst (λ (x : Due). MayFail old.polls x s.waiting part) (sym (due_there k s Send st d)) prefix;
       leaves = dropped s st;
     }
 
@@ -289,7 +289,7 @@ comes_fail past old new k kept d e may m dropped s st = record {
   moved = m;
   files = Records-nil past;
   is_end = refl;
-  is_cause = λ turns made. may_fail old.polls (due_in s) (waiting_of s) (may_come_there old.polls k s d st e may);
+  is_cause = λ turns made. may_fail old.polls (due_in s) s.waiting (may_come_there old.polls k s d st e may);
   leaves = dropped s st;
 }
 

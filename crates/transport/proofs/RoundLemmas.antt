@@ -17,7 +17,6 @@ use Rattle.session.specs.Effects.{BreaksOff, EndsWell, ran_out, slice_answer, sl
 use Rattle.session.specs.Kept.{Kept, Stands, Happens, answered, see_kept}
 use Rattle.session.specs.Outcomes.{wanted_on}
 use Rattle.session.specs.Sessions.{Session, Effect, Answer as answer_of, histories}
-use Rattle.session.proofs.Standing.{standing}
 use Rattle.transport.specs.Rounds.{Took, Due, due, due_in, Round, after_round, after_rounds, received_in, received, sent_in, sent, reads_in, reads, since_round, since_rounds, counted, moves_granted, wanted}
 
 -- where an event that is no slice is done, this is left
@@ -55,7 +54,7 @@ found_err r error e n h = n (same (sym e ∙ h)) where
 
 -- what is due is the same for what is kept and for what it stands for
 pub due_there : (k : Kept) (s : Session) (d : Due) → Stands k s → due (see_kept k) ≡ d → due_in s ≡ d
-due_there k s d st e = sym (ap due (standing.sees k s st)) ∙ e
+due_there k s d st e = sym (ap (λ (x : Kept). due (see_kept x)) st) ∙ e
 
 -- ---- one round
 
@@ -65,7 +64,7 @@ above_zero (suc n) h = omega arith
 
 -- what the next answer wants is the same for what is kept and for what it stands for
 pub wanted_there : (k : Kept) (s : Session) → Stands k s → wanted_on k.now k.now.link ≡ wanted s
-wanted_there k s st = ap (λ n. wanted_on n n.link) st.now
+wanted_there k s st = ap (λ (x : Kept). wanted_on x.now x.now.link) st
 
 -- ---- slices of a program
 

@@ -53,7 +53,7 @@ same_moves : (k mid : Kept) (n : ℕ) → n ≡ moves_granted → (s : Session) 
 same_moves k mid n e s st = subst (λ m. Stands mid (Effect s (Slice m))) e st
 
 runnable_there : (k : Kept) (s : Session) → Stands k s → is_runnable k.now ≡ true → is_runnable s.now ≡ true
-runnable_there k s st e = subst (λ n. is_runnable n ≡ true) st.now e
+runnable_there k s st e = subst (λ (x : Kept). is_runnable x.now ≡ true) st e
 
 -- a slice in which the program made moves
 pub stays_unattended : (past : KnownReads) (left : ℕ) (old new : Doorway) (k mid : Kept) (n : ℕ) (r : Sliced) → n ≡ moves_granted

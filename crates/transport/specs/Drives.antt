@@ -24,7 +24,7 @@ use Rattle.session.specs.declared.event.Event.{Event}
 use Rattle.session.specs.declared.event.Event.TheVariants.{Connect, Recv, Turn, Slice, Hold, Sent, DropConnection}
 use Rattle.session.specs.Kept.{Kept, Stands}
 use Rattle.session.specs.Prefixes.{IsPrefixOf}
-use Rattle.session.specs.Sessions.{Session, Effect, waiting_of}
+use Rattle.session.specs.Sessions.{Session, Effect}
 use Rattle.wires.specs.Wires.{Line, Moved, one_more}
 use Rattle.transport.specs.declared.end.DriveEnd.{DriveEnd}
 use Rattle.transport.specs.declared.end.DriveEnd.TheVariants.{Closed, Fault, Turns, NoMemory}
@@ -46,7 +46,7 @@ MayCome polls Receive = Unit {0}
 -- whether the event is what is to be done: at least one of the bytes that wait is sent, a request is answered with the
 -- file that it wants, or a piece of at least one byte is received
 abbrev pub DoesWhatIsDue : Bool → Session → Event → Type 0
-DoesWhatIsDue polls s (Sent n) = (due_in s ≡ Send) × (1 ≤ n) × (n ≤ length (waiting_of s))
+DoesWhatIsDue polls s (Sent n) = (due_in s ≡ Send) × (1 ≤ n) × (n ≤ length s.waiting)
 DoesWhatIsDue polls s (Turn file) = (due_in s ≡ Answer) × IsGiven (wanted s) file
 DoesWhatIsDue polls s (Recv piece) = MayCome polls (due_in s) × (1 ≤ length piece)
 DoesWhatIsDue polls s Connect = ⊥
@@ -164,7 +164,7 @@ AreUnused wants (read ∷ others) = (wants ≡ Some read.path) × IsShort read.g
 abbrev pub IsCause : Bool → Cause → Option (List ℕ) → ℕ → ℕ → Session → Type 0
 IsCause polls AllSaid left turns made s = due_in s ≡ Leave
 IsCause polls InputEnded left turns made s = MayCome polls (due_in s) × IsAtEnd left
-IsCause polls (CallFailed part) left turns made s = MayFail polls (due_in s) (waiting_of s) part
+IsCause polls (CallFailed part) left turns made s = MayFail polls (due_in s) s.waiting part
 IsCause polls NoRoom left turns made s = made ≡ 0
 IsCause polls (NoAnswer unused) left turns made s = (due_in s ≡ Answer) × AreUnused (wanted s) unused
 IsCause polls (PieceLost piece) left turns made s = MayCome polls (due_in s) × (1 ≤ length piece)

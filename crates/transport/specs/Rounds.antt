@@ -18,7 +18,7 @@ use Rattle.session.specs.Acts.{Seen}
 use Rattle.session.specs.Effects.{BreaksOff, sliced}
 use Rattle.session.specs.Kept.{Kept, Stands}
 use Rattle.session.specs.Outcomes.{is_finished, wanted_on}
-use Rattle.session.specs.Sessions.{Session, Effect, Answer as answer_of, histories, waiting_of}
+use Rattle.session.specs.Sessions.{Session, Effect, Answer as answer_of, histories}
 use Rattle.session.specs.Slices.{is_runnable}
 use Rattle.transport.specs.Files.{FileRead, IsShort}
 
@@ -130,7 +130,7 @@ received_in (Ran holds) = []
 
 -- the bytes that an event sent
 abbrev pub sent_by : Session → Event → List ℕ
-sent_by s (Sent n) = take n (waiting_of s)
+sent_by s (Sent n) = take n s.waiting
 sent_by s Connect = []
 sent_by s (Recv piece) = []
 sent_by s (Turn file) = []

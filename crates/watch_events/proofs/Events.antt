@@ -9,7 +9,7 @@ use Rattle.session_laws.proofs.Refusing.{refused_changes_nothing}
 use Rattle.session.specs.Effects.{after_all, performed}
 use Rattle.session.specs.Kept.{Kept, Stands}
 use Rattle.session.specs.Outcomes.{Outcome, done, outcome_at, refused}
-use Rattle.session.specs.Sessions.{Answer, Effect, Life, Said, Session, bytes_of, histories, life_of, lives, no_life, start, up_to_fault, waiting_of}
+use Rattle.session.specs.Sessions.{Answer, Effect, Life, Said, Session, bytes_of, histories, life_of, lives, no_life, start, up_to_fault}
 use Rattle.session.specs.Acts.{Accept, Open}
 use Rattle.headline.specs.News.{sight}
 use Rattle.session.specs.declared.event.Applied.{Applied}
@@ -119,7 +119,7 @@ sent_same : (l : Option Link) (n : ℕ) (s : Session)
 sent_same None n s = record { before = refl; said = refl; accepted = refl; connections = refl }
 sent_same (Some l) n s =
     if_keeps (λ (o : Outcome). SameLives (on (Some l) s) (performed histories o.acts (on (Some l) s)))
-    (ltb (length (waiting_of (on (Some l) s))) n) _ _
+    (ltb (length (on (Some l) s).waiting) n) _ _
     (λ _. record { before = refl; said = refl; accepted = refl; connections = refl })
     (λ _. record { before = refl; said = refl; accepted = refl; connections = refl })
 

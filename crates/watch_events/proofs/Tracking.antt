@@ -1,5 +1,5 @@
 -- What is kept while events are done stays so.
-use Rattle.std.proofs.Common.{◌≡◌, ℕ, zero, suc, ◌+◌, ◌-◌, ◌<◌, ◌≤◌, Bool, true, false, cond, eqb, leb, List, [], ◌∷◌, ◌++◌, map, length, take, drop, get_or, Option, Some, None, is_some, option_map, refl, sym, ap, ◌∙◌, subst, arith, length-append, append_assoc}
+use Rattle.std.proofs.Common.{◌≡◌, ℕ, zero, suc, ◌+◌, ◌-◌, ◌<◌, Bool, true, false, cond, eqb, leb, List, [], ◌∷◌, ◌++◌, map, length, take, drop, get_or, Option, Some, None, is_some, option_map, refl, sym, ap, ◌∙◌, subst, arith, length-append, append_assoc}
 use Rattle.std.specs.Prelude.{All, MatchOption}
 use Rattle.std.specs.List.{flat_map}
 use Rattle.std.proofs.lemmas.Bool.Decides.{nat_tests}
@@ -12,9 +12,10 @@ use Rattle.replies.specs.declared.message.Message.{Message}
 use Rattle.replies.specs.declared.message.Message.TheVariants.{Response as IsResponse, Event as IsEvent}
 use Rattle.session_laws.proofs.Waiting.{all_counted}
 use Rattle.session_laws.proofs.Waiting.{every_byte_is_taken_or_waits}
+use Rattle.session_laws.specs.Laws.{EveryByteIsTakenOrWaits}
 use Rattle.session.specs.Acts.{Now}
 use Rattle.session.specs.Kept.{Kept, Stands}
-use Rattle.session.specs.Sessions.{Life, Said, Session, bytes_of, frame_said, life_of, no_life, not_taken, snapshot_of, up_to_fault, waiting_of}
+use Rattle.session.specs.Sessions.{Life, Said, Session, bytes_of, frame_said, life_of, no_life, snapshot_of, up_to_fault}
 use Rattle.snapshots.specs.Shown.{Snapshot}
 use Rattle.snapshots.specs.Snapshots.{Captured, IsTaken, as_running as captured_running}
 use Rattle.session.specs.declared.link.Link.{Link}
@@ -72,29 +73,24 @@ said_bytes : (s t : Session) (h : IsFollowed s t) → bytes_of t.life ≡ bytes_
 unfolding frames
 said_bytes s t h = ap (λ (l : Life). flat_map frame_said l.said) h.newly.life ∙ frames_more s.life.said h.news
 
+all_bytes : (s : Session) → IsReached s → EveryByteIsTakenOrWaits s
+all_bytes s r = subst EveryByteIsTakenOrWaits (sym r.is) (every_byte_is_taken_or_waits r.from r.happened)
+
 waits_by : (ls lt : Option Link) (s t : Session) → s.now.link ≡ ls → t.now.link ≡ lt → IsReached s → IsReached t → (h : IsFollowed s t)
-    → drop (length (waiting_of s)) (waiting_of t) ≡ frames h.news
+    → drop (length s.waiting) t.waiting ≡ frames h.news
 unfolding frames
 waits_by None None s t es et rs rt h =
     let none : h.news ≡ [] = h.newly.silent (ap is_some es) in
-    let no_s : waiting_of s ≡ [] = ap (λ (l : Option Link). not_taken l (bytes_of s.life) s.life.taken) es in
-    let no_t : waiting_of t ≡ [] = ap (λ (l : Option Link). not_taken l (bytes_of t.life) t.life.taken) et in
-    ap (λ (l : List ℕ). drop (length l) (waiting_of t)) no_s ∙ no_t ∙ sym (ap frames none)
+    ap (λ (l : List ℕ). drop (length l) t.waiting) ((all_bytes s rs).none es) ∙ (all_bytes t rt).none et ∙ sym (ap frames none)
 waits_by None (Some lt) s t es et rs rt h = absurd (let no : true ≡ false = sym (ap is_some et) ∙ h.newly.linked ∙ ap is_some es in cc)
 waits_by (Some ls) None s t es et rs rt h = absurd (let no : false ≡ true = sym (ap is_some et) ∙ h.newly.linked ∙ ap is_some es in cc)
 waits_by (Some ls) (Some lt) s t es et rs rt h =
-    let s_rest : bytes_of s.life ≡ s.life.taken ++ waiting_of s = subst
-    (λ (x : Session). (link : Link) → x.now.link ≡ Some link → bytes_of x.life ≡ x.life.taken ++ waiting_of x) (sym rs.is)
-    (every_byte_is_taken_or_waits rs.from rs.happened).rest ls es in
-    let t_rest : bytes_of t.life ≡ t.life.taken ++ waiting_of t = subst
-    (λ (x : Session). (link : Link) → x.now.link ≡ Some link → bytes_of x.life ≡ x.life.taken ++ waiting_of x) (sym rt.is)
-    (every_byte_is_taken_or_waits rt.from rt.happened).rest lt et in
     let taken : t.life.taken ≡ s.life.taken = ap (λ (l : Life). l.taken) h.newly.life in
-    let sum : s.life.taken ++ waiting_of t ≡ s.life.taken ++ (waiting_of s ++ frames h.news) =
-    ap (λ (l : List ℕ). l ++ waiting_of t) (sym taken) ∙ sym t_rest ∙ said_bytes s t h ∙ ap (λ (l : List ℕ). l ++ frames h.news) s_rest
-    ∙ append_assoc s.life.taken (waiting_of s) (frames h.news) in
-    ap (drop (length (waiting_of s))) (append_cancel_left s.life.taken (waiting_of t) (waiting_of s ++ frames h.news) sum) ∙ drop_at
-    (waiting_of s) (frames h.news) (length (waiting_of s)) refl
+    let sum : s.life.taken ++ t.waiting ≡ s.life.taken ++ (s.waiting ++ frames h.news) =
+    ap (λ (l : List ℕ). l ++ t.waiting) (sym taken) ∙ sym ((all_bytes t rt).rest lt et) ∙ said_bytes s t h
+    ∙ ap (λ (l : List ℕ). l ++ frames h.news) ((all_bytes s rs).rest ls es) ∙ append_assoc s.life.taken s.waiting (frames h.news) in
+    ap (drop (length s.waiting)) (append_cancel_left s.life.taken t.waiting (s.waiting ++ frames h.news) sum) ∙ drop_at
+    s.waiting (frames h.news) (length s.waiting) refl
 
 -- ---- what was told
 
@@ -221,7 +217,7 @@ module _ (old new : Tracked) (s t : Session) (k : Kept) (rs : IsReached s) (rt :
   news_are : waited ≡ flat_map frame_said told.news
   unfolding frames
   news_are =
-      ap (λ (l : List ℕ). drop (length l) k.waiting) h.stands.waiting ∙ ap (drop (length (waiting_of s))) stands.waiting
+      ap (λ (l : List ℕ). drop (length l) k.waiting) (ap (λ (x : Kept). x.waiting) h.stands) ∙ ap (λ (x : Kept). drop (length s.waiting) x.waiting) stands
       ∙ waits_by s.now.link t.now.link s t refl refl rs rt told
 
   life_before : old.connection ≡ s.now.connections → life_of old.connection s ≡ s.life
@@ -277,7 +273,7 @@ module _ (old new : Tracked) (s t : Session) (k : Kept) (rs : IsReached s) (rt :
       let after = seen_after t (last_seen None (told_within old.count said)) old.snapshot new.snapshot ys None h.snapshot
       (told_hold (Fits t) news room told.newly.fits)
       (told_hold (λ (m : Said). PrintsRunning m.message m.snapshot.debuggee) news room run) tt
-      (subst (λ (now : Now). SeenAfter (last_from None (map (λ (m : Said). m.message) ys)) now old.snapshot new.snapshot) stands.now
+      (subst (λ (now : Now). SeenAfter (last_from None (map (λ (m : Said). m.message) ys)) now old.snapshot new.snapshot) (ap (λ (x : Kept). x.now) stands)
       (subst (λ (l : List Message). SeenAfter (last_from None l) k.now old.snapshot new.snapshot) messages (noted.snapshot none))) in
       let place : room ≡ old.count - length (flat_map frame_said said) = ap (λ (l : List ℕ). old.count - length l) h.queued in
       after ∙ ap (option_map sight) (sym (last_seen_more None (told_within old.count said) ys)

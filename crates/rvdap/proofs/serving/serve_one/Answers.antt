@@ -11,5 +11,5 @@ returns g c s st = record {
   driven =
       c.drive-end.ensures (Effect s Connect)
       (connected c.args.session.now c.connect.new.self c.connect.result c.connect.ensures.takes_none c.connect.ensures.stands s st);
-  is_ending = c.exit_reason_of.ensures ∙ ap (exit_reason_of c.drive-end.result) c.link_fault.ensures.now;
+  is_ending = c.exit_reason_of.ensures ∙ ap (exit_reason_of c.drive-end.result) c.link_fault.ensures;
 }

@@ -9,8 +9,8 @@ returns-then-finished-clause-went g c =
     let none : length c.waiting.result.now ≡ 0 = grind (arith, nat_tests) in
     rw c.leave.ensures.end
     (all_said _ _ c.args.session.now c.leave.new.session
-    (leave_is_due c.args.session.now c.waiting.result.now c.waiting.ensures.now none
-    (sym c.if-finished.ensures.now)) c.leave.ensures.dropped)
+    (leave_is_due c.args.session.now c.waiting.result.now c.waiting.ensures none
+    (sym c.if-finished.ensures)) c.leave.ensures.dropped)
 
 pub run-requires-clause-moves : goal.run-requires-clause-moves
 run-requires-clause-moves g c = granted
