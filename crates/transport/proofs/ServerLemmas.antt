@@ -1,6 +1,6 @@
 -- What a server has heard, body by body.
-use Rattle.std.proofs.Common.{◌≡◌, ℕ, Bool, true, false, List, [], ◌∷◌, ◌++◌, filter, map, Option, Some, None, Result, Ok, Err, refl, sym, ap, subst, ◌∙◌, append_assoc, append-nil}
-use Rattle.std.specs.Prelude.{if◌then◌else◌}
+use Rattle.std.proofs.Common.{◌≡◌, ℕ, Bool, true, false, List, [], ◌∷◌, ◌++◌, filter, map, Option, Some, None, Result, Ok, Err, inl, inr, refl, sym, ap, subst, ◌∙◌, append_assoc, append-nil}
+use Rattle.std.specs.Prelude.{if◌then◌else◌, ◌⊎◌}
 use Rattle.std.proofs.KnownBytes.{Consumes-nil, Consumes-trans}
 use Rattle.std.specs.Io.KnownBytes.{Consumes}
 use Rattle.std.proofs.lemmas.List.{map-append}
@@ -18,9 +18,9 @@ use Rattle.session.specs.declared.TheConstants.{BODY_LIMIT}
 use Rattle.transport.specs.declared.server.ServerError.{ServerError}
 use Rattle.transport.specs.declared.server.ServerError.TheVariants.{Frame, Message, Read, Write, TooManyReads, NoMemory as NoMemoryLeft, SeqSpent}
 use Rattle.transport.specs.Heard.{has_fault}
-use Rattle.transport.specs.Heard.{is_looked_at, messages_of, messages_in, Heard, HasHeard, and_gave, NextFails, Unread, HasRead, AllGiven, IsUnfinished, and_read}
+use Rattle.transport.specs.Heard.{is_looked_at, messages_of, messages_in, Heard, HasHeard, and_gave, NextFails, Unread, HasRead, AllGiven, IsUnfinished, NeedsMore, and_read}
 use Rattle.transport.specs.Servers.{Polled, Gave, Polls}
-use Rattle.transport.specs.Inbox.{Takes, polled_of, Reads, Listens}
+use Rattle.transport.specs.Inbox.{IsEmptied, Takes, polled_of, Reads, Listens}
 use Rattle.session_laws.proofs.Firsts.{first_some}
 
 messages_of-append : (xs ys : List (List ℕ)) → messages_of (xs ++ ys) ≡ messages_of xs ++ messages_of ys
@@ -147,30 +147,51 @@ faulty (Faulty k) e u = u
 
 pub polls : (old : Unread) (heard : Heard) (taken : Result (Option Incoming) MessageError) (is_faulty : Bool) (unframer : Unframed) (pending : List ℕ)
     → old.pending ≡ [] → pending ≡ [] → unframer.tail ≡ old.unframer.tail
-    → is_faulty ≡ has_fault old.unframer.tail → ((h : Heard) → HasHeard old.unframer h → Takes h taken unframer) → HasRead old heard
+    → is_faulty ≡ has_fault old.unframer.tail → ((h : Heard) → HasHeard old.unframer h → Takes h taken unframer)
+    → (taken ≡ Ok None → unframer.waiting ≡ []) → HasRead old heard
     → Polled heard (polled_of taken is_faulty) (record { unframer = unframer; pending = pending })
-polls old heard (Ok (Some i)) is_faulty unframer pending none still tail flag takes s =
+polls old heard (Ok (Some i)) is_faulty unframer pending none still tail flag takes all s =
     reads_all unframer pending (and_gave heard i) still (takes heard (all_fed old heard none s))
-polls old heard (Ok None) true unframer pending none still tail flag takes s =
+polls old heard (Ok None) true unframer pending none still tail flag takes all s =
     let t = takes heard (all_fed old heard none s) in (
-      reads_all unframer pending heard still t.0,
-      all_given unframer heard t.1 t.0,
-      λ u. faulty unframer.tail (flag ∙ ap has_fault (sym tail)) (subst IsUnfinished (tail_at unframer heard t.0) u),
+      reads_all unframer pending heard still t,
+      all_given unframer heard (all refl) t,
+      λ u. faulty unframer.tail (flag ∙ ap has_fault (sym tail)) (subst IsUnfinished (tail_at unframer heard t) u),
     )
-polls old heard (Ok None) false unframer pending none still tail flag takes s =
+polls old heard (Ok None) false unframer pending none still tail flag takes all s =
     let t = takes heard (all_fed old heard none s) in (
-      reads_all unframer pending heard still t.0,
-      all_given unframer heard t.1 t.0,
-      subst IsUnfinished (sym (tail_at unframer heard t.0)) (unfinished unframer.tail (flag ∙ ap has_fault (sym tail))),
+      reads_all unframer pending heard still t,
+      (
+        all_given unframer heard (all refl) t,
+        subst IsUnfinished (sym (tail_at unframer heard t)) (unfinished unframer.tail (flag ∙ ap has_fault (sym tail))),
+      ),
     )
-polls old heard (Err NotJson) is_faulty unframer pending none still tail flag takes s =
+polls old heard (Err NotJson) is_faulty unframer pending none still tail flag takes all s =
     let t = takes heard (all_fed old heard none s) in (reads_all unframer pending heard still t.0, (NotJson, t.1))
-polls old heard (Err NotAMessage) is_faulty unframer pending none still tail flag takes s =
+polls old heard (Err NotAMessage) is_faulty unframer pending none still tail flag takes all s =
     let t = takes heard (all_fed old heard none s) in (reads_all unframer pending heard still t.0, (NotAMessage, t.1))
-polls old heard (Err BadSeq) is_faulty unframer pending none still tail flag takes s =
+polls old heard (Err BadSeq) is_faulty unframer pending none still tail flag takes all s =
     let t = takes heard (all_fed old heard none s) in (reads_all unframer pending heard still t.0, (BadSeq, t.1))
-polls old heard (Err NoMemory) is_faulty unframer pending none still tail flag takes s =
+polls old heard (Err NoMemory) is_faulty unframer pending none still tail flag takes all s =
     reads_all unframer pending heard still (takes heard (all_fed old heard none s))
+
+-- where nothing is given, nothing is left to give
+taken_none : (taken : Result (Option Incoming) MessageError) (is_faulty : Bool) → polled_of taken is_faulty ≡ Ok None
+    → (taken ≡ Ok None) × (is_faulty ≡ false)
+taken_none (Ok (Some i)) is_faulty h = cc
+taken_none (Ok None) true h = cc
+taken_none (Ok None) false h = (refl, refl)
+taken_none (Err NotJson) is_faulty h = cc
+taken_none (Err NotAMessage) is_faulty h = cc
+taken_none (Err BadSeq) is_faulty h = cc
+taken_none (Err NoMemory) is_faulty h = cc
+
+pub emptied : (old unframer : Unframed) (taken : Result (Option Incoming) MessageError) (is_faulty : Bool) (pending : List ℕ) → pending ≡ []
+    → unframer.tail ≡ old.tail → is_faulty ≡ has_fault old.tail → (taken ≡ Ok None → unframer.waiting ≡ [])
+    → polled_of taken is_faulty ≡ Ok None → IsEmptied (record { unframer = unframer; pending = pending })
+emptied old unframer taken is_faulty pending none tail flag all h =
+    let t = taken_none taken is_faulty h in
+    (none, all t.0, unfinished unframer.tail (sym t.1 ∙ flag ∙ ap has_fault (sym tail)))
 
 -- ---- polling
 
@@ -191,12 +212,21 @@ gave_at left heard (Err TooManyReads) new d p = absurd p
 gave_at left heard (Err NoMemoryLeft) new d p = p
 gave_at left heard (Err SeqSpent) new d p = absurd p
 
-pub gives : (left_before left : Option (List ℕ)) (heard : Heard) (old new : Unread) (r : Result (Option Incoming) ServerError) → IsDecided r
-    → Listens left_before left heard old → ((h : Heard) → HasRead old h → Polled h r new)
-    → Polls left_before left heard r new
-gives left_before left heard old new r d l polled = record {
+-- more was needed before the first read too
+needs_first : (heard : Heard) (read : List ℕ) (reads : ℕ) → ((reads ≡ 0) × (read ≡ [])) ⊎ NeedsMore heard
+    → NeedsMore (and_read heard read) → NeedsMore heard
+needs_first heard read reads (inl none) more =
+    subst (λ r. NeedsMore (record { read = r; given = heard.given }))
+    (ap (λ (l : List ℕ). heard.read ++ l) none.1 ∙ append-nil heard.read) more
+needs_first heard read reads (inr first) more = first
+
+pub gives : (left_before left : Option (List ℕ)) (heard : Heard) (reads : ℕ) (old new : Unread) (r : Result (Option Incoming) ServerError)
+    → IsDecided r → Listens left_before left heard reads old → ((h : Heard) → HasRead old h → Polled h r new)
+    → Polls left_before left heard r reads new
+gives left_before left heard reads old new r d l polled = record {
   read = l.read;
   consumed = l.consumed;
+  needed = l.needed;
   gave = gave_at left (and_read heard l.read) r new d (polled (and_read heard l.read) l.has_read);
 }
 
@@ -204,13 +234,18 @@ gives left_before left heard old new r d l polled = record {
 read_again : (heard : Heard) (a b : List ℕ) (u : Unread) → HasRead u (and_read (and_read heard a) b) → HasRead u (and_read heard (a ++ b))
 read_again heard a b u s = subst (λ r. HasRead u (record { read = r; given = heard.given })) (append_assoc heard.read a b) s
 
-pub listens_on : (left_before left left' : Option (List ℕ)) (heard : Heard) (old new : Unread) → Listens left_before left heard old
-    → ((h : Heard) → HasRead old h → Reads left left' h (Ok true) new) → Listens left_before left' heard new
-listens_on left_before left left' heard old new l reads =
-    let r = reads (and_read heard l.read) l.has_read in
+-- nothing is given of what is whole, and a piece is read
+pub listens_on : (left_before left left' : Option (List ℕ)) (heard : Heard) (reads reads' : ℕ) (old mid new : Unread)
+    → Listens left_before left heard reads old
+    → ((h : Heard) → HasRead old h → Polled h (Ok None) mid) → ((h : Heard) → HasRead mid h → Reads left left' h (Ok true) new)
+    → Listens left_before left' heard reads' new
+listens_on left_before left left' heard reads reads' old mid new l polled read =
+    let p = polled (and_read heard l.read) l.has_read in
+    let r = read (and_read heard l.read) p.0 in
     record {
       read = l.read ++ r.0;
       consumed = Consumes-trans left_before left left' l.read r.0 l.consumed r.1;
+      needed = inr (needs_first heard l.read reads l.needed p.1);
       has_read = read_again heard l.read r.0 new r.2;
     }
 
@@ -220,57 +255,54 @@ no_more_read left_before left left' piece c d =
     subst (λ l. Consumes left_before left' l) (append-nil piece) (Consumes-trans left_before left left' piece [] c d)
 
 -- the end of the input
-pub ends_reading : (left_before left left' : Option (List ℕ)) (heard : Heard) (old mid new : Unread) → Listens left_before left heard old
+pub ends_reading : (left_before left left' : Option (List ℕ)) (heard : Heard) (reads reads' : ℕ) (old mid new : Unread)
+    → Listens left_before left heard reads old
     → ((h : Heard) → HasRead old h → Polled h (Ok None) mid) → ((h : Heard) → HasRead mid h → Reads left left' h (Ok false) new)
-    → Polls left_before left' heard (Ok None) new
-ends_reading left_before left left' heard old mid new l polled reads =
+    → Polls left_before left' heard (Ok None) reads' new
+ends_reading left_before left left' heard reads reads' old mid new l polled read =
     let p = polled (and_read heard l.read) l.has_read in
-    let r = reads (and_read heard l.read) p.0 in
+    let r = read (and_read heard l.read) p.0 in
     record {
       read = l.read;
       consumed = no_more_read left_before left left' l.read l.consumed r.0;
-      gave = ((r.2, p.1, p.2), r.1);
+      needed = inr (needs_first heard l.read reads l.needed p.1);
+      gave = ((r.2, p.1), r.1);
     }
 
-read_fails_at : (left_before left left' : Option (List ℕ)) (heard : Heard) (new : Unread) (piece : List ℕ) (e : ServerError)
-    → AllGiven (and_read heard piece) → IsUnfinished (reading_of BODY_LIMIT (and_read heard piece).read).tail
-    → Consumes left_before left piece → Reads left left' (and_read heard piece) (Err e) new → Polls left_before left' heard (Err e) new
-read_fails_at left_before left left' heard new piece Frame all unfinished c r = absurd r
-read_fails_at left_before left left' heard new piece Message all unfinished c r = absurd r
-read_fails_at left_before left left' heard new piece Read all unfinished c r =
-    record { read = piece; consumed = no_more_read left_before left left' piece c r.0; gave = (r.1, all, unfinished) }
-read_fails_at left_before left left' heard new piece Write all unfinished c r = absurd r
-read_fails_at left_before left left' heard new piece TooManyReads all unfinished c r = absurd r
-read_fails_at left_before left left' heard new piece NoMemoryLeft all unfinished c r =
-    record { read = piece; consumed = no_more_read left_before left left' piece c r.0; gave = r.1 }
-read_fails_at left_before left left' heard new piece SeqSpent all unfinished c r = absurd r
+read_fails_at : (left_before left left' : Option (List ℕ)) (heard : Heard) (reads : ℕ) (new : Unread) (piece : List ℕ) (e : ServerError)
+    → NeedsMore heard → NeedsMore (and_read heard piece)
+    → Consumes left_before left piece → Reads left left' (and_read heard piece) (Err e) new → Polls left_before left' heard (Err e) reads new
+read_fails_at left_before left left' heard reads new piece Frame first more c r = absurd r
+read_fails_at left_before left left' heard reads new piece Message first more c r = absurd r
+read_fails_at left_before left left' heard reads new piece Read first more c r =
+    record { read = piece; consumed = no_more_read left_before left left' piece c r.0; needed = inr first; gave = (r.1, more) }
+read_fails_at left_before left left' heard reads new piece Write first more c r = absurd r
+read_fails_at left_before left left' heard reads new piece TooManyReads first more c r = absurd r
+read_fails_at left_before left left' heard reads new piece NoMemoryLeft first more c r =
+    record { read = piece; consumed = no_more_read left_before left left' piece c r.0; needed = inr first; gave = r.1 }
+read_fails_at left_before left left' heard reads new piece SeqSpent first more c r = absurd r
 
-pub read_fails : (left_before left left' : Option (List ℕ)) (heard : Heard) (old mid new : Unread) (e : ServerError)
-    → Listens left_before left heard old → ((h : Heard) → HasRead old h → Polled h (Ok None) mid)
+pub read_fails : (left_before left left' : Option (List ℕ)) (heard : Heard) (reads reads' : ℕ) (old mid new : Unread) (e : ServerError)
+    → Listens left_before left heard reads old → ((h : Heard) → HasRead old h → Polled h (Ok None) mid)
     → ((h : Heard) → HasRead mid h → Reads left left' h (Err e) new)
-    → Polls left_before left' heard (Err e) new
-read_fails left_before left left' heard old mid new e l polled reads =
+    → Polls left_before left' heard (Err e) reads' new
+read_fails left_before left left' heard reads reads' old mid new e l polled read =
     let p = polled (and_read heard l.read) l.has_read in
-    read_fails_at left_before left left' heard new l.read e p.1 p.2 l.consumed (reads (and_read heard l.read) p.0)
+    read_fails_at left_before left left' heard reads' new l.read e (needs_first heard l.read reads l.needed p.1) p.1 l.consumed
+    (read (and_read heard l.read) p.0)
 
--- nothing was given yet, and nothing is given of what is whole
-pub listens_still : (left_before left : Option (List ℕ)) (heard : Heard) (old new : Unread) → Listens left_before left heard old
-    → ((h : Heard) → HasRead old h → Polled h (Ok None) new) → Listens left_before left heard new
-listens_still left_before left heard old new l polled = record {
-  read = l.read;
-  consumed = l.consumed;
-  has_read = (polled (and_read heard l.read) l.has_read).0;
-}
-
-pub reads_too_often : (left_before left : Option (List ℕ)) (heard : Heard) (old new : Unread) → Listens left_before left heard old
-    → ((h : Heard) → HasRead old h → Polled h (Ok None) new) → Polls left_before left heard (Err TooManyReads) new
-reads_too_often left_before left heard old new l polled =
+pub reads_too_often : (left_before left : Option (List ℕ)) (heard : Heard) (reads : ℕ) (old new : Unread)
+    → Listens left_before left heard reads old
+    → ((h : Heard) → HasRead old h → Polled h (Ok None) new) → Polls left_before left heard (Err TooManyReads) reads new
+reads_too_often left_before left heard reads old new l polled =
     let p = polled (and_read heard l.read) l.has_read in
-    record { read = l.read; consumed = l.consumed; gave = p }
+    record { read = l.read; consumed = l.consumed; needed = l.needed; gave = p }
 
-pub listens_at_first : (left : Option (List ℕ)) (heard : Heard) (u : Unread) → HasRead u heard → Listens left left heard u
-listens_at_first left heard u s = record {
+pub listens_at_first : (left : Option (List ℕ)) (heard : Heard) (reads : ℕ) (u : Unread) → reads ≡ 0 → HasRead u heard
+    → Listens left left heard reads u
+listens_at_first left heard reads u none s = record {
   read = [];
   consumed = Consumes-nil left;
+  needed = inl (none, refl);
   has_read = subst (λ r. HasRead u (record { read = r; given = heard.given })) (sym (append-nil heard.read)) s;
 }

@@ -77,6 +77,10 @@ abbrev pub IsUnfinished : Tail → Type 0
 IsUnfinished (Partial rest) = Unit {0}
 IsUnfinished (Faulty fault) = ⊥
 
+-- All messages of what was read were given, and the stream may still go on: more is to be read.
+abbrev pub NeedsMore : Heard → Type 0
+NeedsMore heard = AllGiven heard × IsUnfinished (reading_of BODY_LIMIT heard.read).tail
+
 -- a message of what was read is none
 abbrev pub IsNoMessage : Heard → Type 0
 IsNoMessage heard = (e : MessageError) × NextFails heard e

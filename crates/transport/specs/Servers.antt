@@ -1,15 +1,15 @@
 -- What a server gives of what it reads, and what it writes.
 --
--- A server is asked for the next request, and reads until it has one. Whatever pieces the reader gives, and however
+-- A server is asked for the next request, and reads until it has one, and no further. Whatever pieces the reader gives, and however
 -- often the server is asked, it gives the messages of the stream one after the other, and none twice. Where it finds no
 -- memory it has lost nothing. A fault of the stream, or a body that is no message, comes after all the messages before
 -- it, and stays.
-use Rattle.std.specs.Prelude.{◌≡◌, refl, ℕ, ◌+◌, ◌≤◌, List, [], ◌++◌, Option, Some, None, Result, Ok, Err}
+use Rattle.std.specs.Prelude.{◌≡◌, refl, ℕ, ◌+◌, ◌≤◌, List, [], ◌++◌, ◌⊎◌, Option, Some, None, Result, Ok, Err}
 use Rattle.std.specs.Io.KnownBytes.{Consumes, Appends, IsAtEnd}
 use Rattle.framing.specs.Reading.{reading_of}
 use Rattle.protocol.specs.declared.request.Incoming.{Incoming}
 use Rattle.session.specs.declared.TheConstants.{BODY_LIMIT}
-use Rattle.transport.specs.Heard.{Heard, and_gave, Unread, HasRead, and_read, AllGiven, IsUnfinished, IsNoMessage}
+use Rattle.transport.specs.Heard.{Heard, and_gave, Unread, HasRead, and_read, AllGiven, IsUnfinished, NeedsMore, IsNoMessage}
 use Rattle.replies.specs.declared.message.Message.{Message as AMessage}
 use Rattle.transport.specs.Outbox.{Queued}
 use Rattle.queues.specs.Writing.{frame_of}
@@ -25,7 +25,7 @@ most_reads = refl
 -- What a server answers, for what it has heard.
 abbrev pub Polled : Heard → Result (Option Incoming) ServerError → Unread → Type 0
 Polled heard (Ok (Some incoming)) new = HasRead new (and_gave heard incoming)
-Polled heard (Ok None) new = HasRead new heard × AllGiven heard × IsUnfinished (reading_of BODY_LIMIT heard.read).tail
+Polled heard (Ok None) new = HasRead new heard × NeedsMore heard
 Polled heard (Err Frame) new = HasRead new heard × AllGiven heard
     × (IsUnfinished (reading_of BODY_LIMIT heard.read).tail → ⊥)
 Polled heard (Err Message) new = HasRead new heard × IsNoMessage heard
@@ -41,19 +41,19 @@ Gave left heard (Ok (Some incoming)) new = Polled heard (Ok (Some incoming)) new
 Gave left heard (Ok None) new = Polled heard (Ok None) new × IsAtEnd left
 Gave left heard (Err Frame) new = Polled heard (Err Frame) new
 Gave left heard (Err Message) new = Polled heard (Err Message) new
-Gave left heard (Err Read) new = HasRead new heard × AllGiven heard
-    × IsUnfinished (reading_of BODY_LIMIT heard.read).tail
+Gave left heard (Err Read) new = HasRead new heard × NeedsMore heard
 Gave left heard (Err Write) new = ⊥
-Gave left heard (Err TooManyReads) new = HasRead new heard × AllGiven heard
-    × IsUnfinished (reading_of BODY_LIMIT heard.read).tail
+Gave left heard (Err TooManyReads) new = HasRead new heard × NeedsMore heard
 Gave left heard (Err NoMemoryLeft) new = HasRead new heard
 Gave left heard (Err SeqSpent) new = ⊥
 
--- Some bytes are read, and then what was heard before and with them decides.
+-- Some bytes are read, by so many reads, and then what was heard before and with them decides. There is no read while a
+-- message of what was heard is left to give, nor after a fault of the stream.
 pub record Polls (left_before left : Option (List ℕ)) (heard : Heard) (result : Result (Option Incoming) ServerError)
-    (new : Unread) : Type 0 where
+    (reads : ℕ) (new : Unread) : Type 0 where
   pub read : List ℕ
   pub consumed : Consumes left_before left read
+  pub needed : ((reads ≡ 0) × (read ≡ [])) ⊎ NeedsMore heard
   pub gave : Gave left (and_read heard read) result new
 
 -- How often a poll read: 2,097,152 times at most, and just so often where it gave up.

@@ -1,8 +1,8 @@
 //! What was read, and is not yet looked at.
-ghost use Rattle.std.specs.Prelude.{◌≡◌, ◌<◌, [], Err, OnOk, OnErr};
+ghost use Rattle.std.specs.Prelude.{◌≡◌, ◌<◌, [], Ok, None, Err, OnOk, OnErr};
 ghost use Rattle.transport.specs.Heard.{Heard, HasHeard, HasRead};
 ghost use Rattle.transport.specs.Servers.{Polled};
-ghost use Rattle.transport.specs.Inbox.{Takes, polled_of, Reads, reads_after};
+ghost use Rattle.transport.specs.Inbox.{IsEmptied, Takes, polled_of, Reads, reads_after};
 
 use crate::room::room_of;
 use crate::server::ServerError;
@@ -70,7 +70,7 @@ impl Inbox {
     fn take(&mut self) -> Result<Option<Incoming>, ServerError>
         requires { self.old.pending ≡ [] }
         ensures polled { (heard : Heard) → HasRead self.old heard → Polled heard result self.new }
-        ensures all_fed { self.new.pending ≡ [] }
+        ensures emptied { result ≡ Ok None → IsEmptied self.new }
         ensures patient { result ≡ Err ServerError.TooManyReads → ⊥ }
     {
         let taken = take_message(self.alloc, &mut self.unframer);
@@ -80,7 +80,7 @@ impl Inbox {
     /// Feeds what is pending, and takes the next message that an adapter looks at.
     pub(crate) fn next(&mut self) -> Result<Option<Incoming>, ServerError>
         ensures polled { (heard : Heard) → HasRead self.old heard → Polled heard result self.new }
-        ensures all_fed { OnOk result (self.new.pending ≡ []) }
+        ensures emptied { result ≡ Ok None → IsEmptied self.new }
         ensures patient { result ≡ Err ServerError.TooManyReads → ⊥ }
     {
         match self.feed() {
@@ -89,13 +89,14 @@ impl Inbox {
         }
     }
 
-    /// Reads one piece, and answers whether there was one; else the input has ended. It counts the read.
+    /// Reads one piece, where nothing is left to give before it, and answers whether there was one; else the input has ended.
+    /// It counts the read.
     pub(crate) fn read<R: Read>(
         &mut self,
         reader: &mut R,
         reads: &mut u32,
     ) -> Result<bool, ServerError>
-        requires nothing { self.old.pending ≡ [] }
+        requires emptied { IsEmptied self.old }
         requires few { reads.old < 2097152 }
         ensures reads { (heard : Heard) → HasRead self.old heard → Reads (R.remaining reader.old)
             (R.remaining reader.new) heard result self.new }
@@ -150,6 +151,7 @@ fn polled(
 fn take_message(alloc: Global, unframer: &mut Unframer) -> Result<Option<Incoming>, MessageError>
     ensures takes { (heard : Heard) → HasHeard unframer.old heard
         → Takes heard result unframer.new }
+    ensures all { result ≡ Ok None → unframer.new.waiting ≡ [] }
     ensures tail { unframer.new.tail ≡ unframer.old.tail }
 {
     while let Some(body) = unframer.peek_body() {

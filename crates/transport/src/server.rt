@@ -88,12 +88,12 @@ impl<R: Read, W: Write> Server<R, W> {
     }
 
     /// The next request, read from the stream: `None` at its end, where an unfinished message is
-    /// dropped. Responses and events are passed over.
+    /// dropped. Responses and events are passed over. It does not read while one that has come is left to give.
     pub fn poll_request(&mut self) -> Result<Option<Incoming>, ServerError>
         ensures stays { IfSome self.old.fault (λ e. (result ≡ Err e) × (self.new ≡ self.old)) }
         ensures polls { self.old.fault ≡ None → (heard : Heard) → HasRead self.old.inbox heard
             → Polls (R.remaining self.old.reader)
-            (R.remaining self.new.reader) heard result self.new.inbox }
+            (R.remaining self.new.reader) heard result self.new.reads self.new.inbox }
         ensures fault { self.old.fault ≡ None → self.new.fault ≡ lasting result }
         ensures counts { self.old.fault ≡ None → ReadSoOften result self.new.reads }
         ensures writes_nothing { (self.new.writer ≡ self.old.writer)
@@ -239,7 +239,7 @@ fn poll<R: Read>(
 ) -> Result<Option<Incoming>, ServerError>
     requires { reads.old ≡ 0 }
     ensures polls { (heard : Heard) → HasRead inbox.old heard
-        → Polls (R.remaining reader.old) (R.remaining reader.new) heard result inbox.new }
+        → Polls (R.remaining reader.old) (R.remaining reader.new) heard result reads.new inbox.new }
     ensures counts { ReadSoOften result reads.new }
 {
     'reading: while *reads < MOST_READS {

@@ -8,6 +8,7 @@ returns-in-Err c = record {
   takes =
       λ heard s. fails c.loop-body.unframer heard c.in-Some.body.now c.in-Err.error c.in-Some.ensures c.in-Err.ensures.means
       (c.loop-body.invariant.heard heard s);
+  all = λ h. cc;
   tail = c.loop-body.invariant.tail;
 }
 
@@ -23,5 +24,6 @@ pub returns-in_default-incoming : goal.returns-in_default-incoming
 returns-in_default-incoming c = record {
   takes =
       λ heard s. gave c.loop-body.unframer _ heard c.in-Some.body.now c.in-Ok.incoming c.in_default-incoming.not-Ignored c.in-Some.ensures c.next_body.follows.holds-at-none (sym c.in-Ok.ensures.means) (c.loop-body.invariant.heard heard s);
+  all = λ h. cc;
   tail = ap (λ (k : Unframed). k.tail) c.next_body.follows.holds-at-none ∙ c.loop-body.invariant.tail;
 }

@@ -8,7 +8,7 @@ abbrev pub invariant-reading : goal.invariant-reading
 invariant-reading g l = record {
   few : l.reads ≤ 2097152;
   listens : (heard : Heard) → HasRead l.fn.inbox heard
-      → Listens (g.R.Read.remaining l.fn.reader) (g.R.Read.remaining l.reader) heard l.inbox;
+      → Listens (g.R.Read.remaining l.fn.reader) (g.R.Read.remaining l.reader) heard l.reads l.inbox;
 }
 
 abbrev pub decreases-reading : goal.decreases-reading
