@@ -67,7 +67,7 @@ def serves(first_fails, second_fails):
 def served(lines):
     """What each wire took, and how often it failed."""
     ended, first, first_faults, _, second, second_faults, turn, number = lines[-8:]
-    expect((ended, turn, number), ("Closed 0 0", "NotConnected", "3"), "the end, and the number of the next connection")
+    expect((ended.split()[:3], turn, number), (["Closed", "0", "0"], "NotConnected", "3"), "the end, and the number of the next connection")
     return bytes.fromhex(first), int(first_faults), bytes.fromhex(second), int(second_faults)
 
 

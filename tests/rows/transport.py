@@ -58,8 +58,13 @@ def counts(faults=0, idle=0):
     return [("wire faults", str(faults)), ("wire idle", str(idle))]
 
 
+def waits(count):
+    """How often bytes were waited for."""
+    return "wire waits", str(count)
+
+
 def visits(answer, turns=TURNS, nobody=0, failing=0):
-    """Serves at a door that lends both wires, by which of its calls finds nobody, and which fails."""
+    """Serves at a door that lends both wires, by which of its calls finds nobody, and which fails: the end, and how many failed, found nobody, waited."""
     return "wire serve %d %d %d" % (turns, nobody, failing), answer
 
 
@@ -262,10 +267,10 @@ ROWS = [
             CONNECT, drives("Closed"), taken(STOPPED_AT_ENTRY + RAN), NO_FAULT] + counts() + ENDED, PROFILE),
     Row("over a wire that polls the editor is heard while a program runs", [
         file(FOREVER), wire(polls=True)] + pieces(FIRST + launch(), b"", PAUSE, b"") + [
-            CONNECT, drives("Closed"), taken(PAUSED), NO_FAULT] + counts(idle=2) + ENDED, PROFILE),
+            CONNECT, drives("Closed"), taken(PAUSED), NO_FAULT, waits(2)] + counts(idle=2) + ENDED, PROFILE),
     Row("over a wire that polls the end of the input is met while a program runs", [
         file(FOREVER), wire(polls=True)] + pieces(FIRST + launch(), b"", b"", b"") + [
-            CONNECT, drives("Closed"), taken(LAUNCHED), ("runnable", "true")] + counts(idle=3) + ENDED[:1], PROFILE),
+            CONNECT, drives("Closed"), taken(LAUNCHED), ("runnable", "true"), waits(1)] + counts(idle=3) + ENDED[:1], PROFILE),
     Row("over a wire that polls a fault is met while a program runs", [
         file(FOREVER), wire(polls=True, failing=8)] + pieces(FIRST + launch(), b"", b"", b"") + [
             CONNECT, drives("Fault"), taken(LAUNCHED), ("runnable", "true")] + counts(faults=1, idle=3), PROFILE),
@@ -287,20 +292,20 @@ ROWS = [
         CONNECT, drives("Closed"), taken(FIRST_ANSWER + HARTS_ANSWER), faulty("Frame(NoLength)")] + counts() + ENDED, PROFILE),
     Row("an editor goes in the middle of a frame, and the next one joins the program", [
         file(COUNTS), wire(polls=True)] + pieces(LEAVES) + [OTHER, wire(polls=True)] + pieces(JOINS) + [
-            OTHER, visits("Closed 0 0"), OTHER, taken(JOINED), files_read(COUNTS), ("runnable", "true")] + counts() + ENDED[:1], PROFILE),
+            OTHER, visits("Closed 0 0 1"), OTHER, taken(JOINED), files_read(COUNTS), ("runnable", "true")] + counts() + ENDED[:1], PROFILE),
     Row("a program runs on while nobody comes", [
         file(COUNTS), wire(polls=True)] + pieces(LEAVES) + [OTHER, wire(polls=True)] + pieces(JOINS) + [
-            OTHER, visits("Closed 0 1", nobody=2), OTHER, taken(JOINED), ("runnable", "true")] + counts() + ENDED[:1], PROFILE),
+            OTHER, visits("Closed 0 1 1", nobody=2), OTHER, taken(JOINED), ("runnable", "true")] + counts() + ENDED[:1], PROFILE),
     Row("a door that fails ends serving, and no connection", [
-        wire()] + pieces(SESSION) + [visits("Fault 1 0", failing=2), taken(ANSWERS), NO_FAULT] + counts() + ENDED, PROFILE),
+        wire()] + pieces(SESSION) + [visits("Fault 1 0 2", failing=2), taken(ANSWERS), NO_FAULT] + counts() + ENDED, PROFILE),
     Row("a wire that fails ends its connection alone", [
         wire(failing=1)] + pieces(SESSION) + [OTHER, wire()] + pieces(SESSION) + [
-            OTHER, visits("Closed 0 0"), taken(b"")] + counts(faults=1) + [OTHER, taken(ANSWERS), NO_FAULT, ("connect", "3")], PROFILE),
+            OTHER, visits("Closed 0 0 3"), taken(b"")] + counts(faults=1) + [OTHER, taken(ANSWERS), NO_FAULT, ("connect", "3")], PROFILE),
     Row("what is no frame ends the connection of one editor", [
         wire()] + pieces(FIRST + NO_FRAME) + [OTHER, wire()] + pieces(SESSION) + [
-            OTHER, visits("Closed 0 0"), taken(FIRST_ANSWER), OTHER, taken(ANSWERS), NO_FAULT, ("connect", "3")], PROFILE),
+            OTHER, visits("Closed 0 0 3"), taken(FIRST_ANSWER), OTHER, taken(ANSWERS), NO_FAULT, ("connect", "3")], PROFILE),
     Row("an editor that comes takes a turn, and where turns end its connection does", [
-        wire()] + pieces(SESSION) + [visits("Turns 0 0", turns=4), taken(FIRST_ANSWER), ("turn", "NotConnected"), ("connect", "2")], PROFILE),
+        wire()] + pieces(SESSION) + [visits("Turns 0 0 1", turns=4), taken(FIRST_ANSWER), ("turn", "NotConnected"), ("connect", "2")], PROFILE),
     Row("a session over a wire is driven again after it found no memory", [
         ("wire whole " + SESSION.hex(), "Closed " + ANSWERS.hex())], PROFILE, refused=True),
 ] + [Row("%d turns end with a prefix of the answers" % turns, drives_in_turns(turns), PROFILE) for turns in range(8)] \

@@ -215,7 +215,7 @@ def expect_served(which, wholes, answers):
     """How serving two wires went: what each was sent is the beginning of what is sent with memory, in whole messages, and all of it but on the wire whose
     connection ended, or which found no memory itself; and the second editor is answered wherever the first one's ended."""
     ended, first, first_faults, _, second, second_faults, turn, number = answers
-    expect((ended, turn), ("Closed 0 0", "NotConnected"), "%s: the end" % which)
+    expect((ended.split()[:3], turn), (["Closed", "0", "0"], "NotConnected"), "%s: the end" % which)
     way, taken = SERVED[int(number) - 1], (bytes.fromhex(first), bytes.fromhex(second))
     cut = (first_faults != "0" or way == SERVED[3], second_faults != "0" or way == SERVED[4])
     expect(len(taken[0]) in ends_of_messages(wholes[0]) and taken[0] == wholes[0][:len(taken[0])], True, "%s: what the first was sent" % which)

@@ -19,3 +19,4 @@ pub record Begins (line : Line) (remaining contents : Option (List ℕ)) : Type 
   pub contents_is : line.contents ≡ contents
   pub faults_is : line.faults ≡ 0
   pub idle_is : line.idle ≡ 0
+  pub waits_is : line.waits ≡ 0

@@ -11,7 +11,7 @@ use std::net::TcpStream;
 use wires::{Received, Wire, WireFault};
 
 /// A wire over a connection of TCP. It can poll. Where the wire is dropped, the connection is closed, and the peer gets all
-/// that was sent.
+/// that was sent, within the bounds of docs/PROTOCOL.md, section 6: some 16 MiB that it still sends, and a second.
 pub struct TcpWire {
     streams: StreamWire<TcpStream, TcpStream>,
 }
@@ -48,6 +48,10 @@ impl Wire for TcpWire {
 
     fn idle(&self) -> u64 {
         self.streams.idle()
+    }
+
+    fn waits(&self) -> u64 {
+        self.streams.waits()
     }
 }
 

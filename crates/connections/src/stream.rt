@@ -20,6 +20,7 @@ pub struct StreamWire<R, W> {
     polls: bool,
     faults: u64,
     idle: u64,
+    waits: u64,
 }
 
 impl<R: Read + AsRawFd, W: Write + AsRawFd> StreamWire<R, W> {
@@ -44,6 +45,7 @@ impl<R: Read + AsRawFd, W: Write + AsRawFd> StreamWire<R, W> {
             polls,
             faults: 0,
             idle: 0,
+            waits: 0,
         }
     }
 
@@ -58,6 +60,7 @@ impl<R: Read + AsRawFd, W: Write + AsRawFd> StreamWire<R, W> {
             polls: _,
             faults: _,
             idle: _,
+            waits: _,
         } = self;
         reader
     }
@@ -69,6 +72,7 @@ impl<R: Read + AsRawFd, W: Write + AsRawFd> Wire for StreamWire<R, W> {
       contents = ⟦<Waiting<W> as Write>⟧.contents w.writer;
       faults = w.faults;
       idle = w.idle;
+      waits = w.waits;
       polls = w.polls;
     } };
 
@@ -83,6 +87,7 @@ impl<R: Read + AsRawFd, W: Write + AsRawFd> Wire for StreamWire<R, W> {
     }
 
     fn recv_wait(&mut self, room: &mut [u8]) -> Result<usize, WireFault> {
+        self.waits = self.waits.saturating_add(1);
         match read_waiting(&mut self.reader, room) {
             Ok(count) => Ok(count),
             Err(_) => {
@@ -110,5 +115,9 @@ impl<R: Read + AsRawFd, W: Write + AsRawFd> Wire for StreamWire<R, W> {
 
     fn idle(&self) -> u64 {
         self.idle
+    }
+
+    fn waits(&self) -> u64 {
+        self.waits
     }
 }

@@ -3,6 +3,7 @@ ghost use Rattle.std.specs.Prelude.{◌≡◌, ◌≢◌, IfOk, IfErr, IsSome, O
 ghost use Rattle.std.specs.IoError.{error_kind, raw_os_error};
 ghost use Rattle.blocking_io.specs.Retries.{IsAfter};
 ghost use Rattle.wires.specs.Doors.{Knocks, Admits};
+ghost use Rattle.wires.specs.Wires.{one_more};
 ghost use Rattle.connections.specs.Failures.{failed_accept, is_made_again};
 
 use crate::connection::{TcpWire, tcp_wire};
@@ -21,19 +22,21 @@ pub struct TcpDoor {
     listener: TcpListener,
     faults: u64,
     idle: u64,
+    waits: u64,
 }
 
 impl TcpDoor {
     /// A door at this listener, which is made non-blocking: so a look never waits, also where a peer has left again.
     pub fn new(listener: TcpListener) -> io::Result<TcpDoor>
         ensures { IfOk result (λ door. ⟦<TcpDoor as Door>⟧.doorway door
-            ≡ record { wires = None; faults = 0; idle = 0 }) }
+            ≡ record { wires = None; faults = 0; idle = 0; waits = 0 }) }
     {
         listener.set_nonblocking(true)?;
         Ok(TcpDoor {
             listener,
             faults: 0,
             idle: 0,
+            waits: 0,
         })
     }
 }
@@ -86,11 +89,18 @@ fn accept_waiting(listener: &TcpListener) -> Result<TcpWire, Lasting>
 impl Door for TcpDoor {
     type Wire = TcpWire;
 
-    ghost doorway = { λ d. record { wires = None; faults = d.faults; idle = d.idle } };
+    ghost doorway = { λ d. record {
+      wires = None;
+      faults = d.faults;
+      idle = d.idle;
+      waits = d.waits;
+    } };
 
     fn accept_now(&mut self) -> Result<Came<TcpWire>, DoorFault>
         ensures counts { Knocks ⟦<TcpWire as Wire>⟧.line (⟦<TcpDoor as Door>⟧.doorway self.old)
             (⟦<TcpDoor as Door>⟧.doorway self.new) result }
+        ensures waits { (⟦<TcpDoor as Door>⟧.doorway self.new).waits
+            ≡ (⟦<TcpDoor as Door>⟧.doorway self.old).waits }
         ensures stays_open { result ≢ Ok Came.End }
     {
         let found = came(accept_once(&self.listener));
@@ -105,8 +115,11 @@ impl Door for TcpDoor {
     fn accept_wait(&mut self) -> Result<Option<TcpWire>, DoorFault>
         ensures counts { Admits ⟦<TcpWire as Wire>⟧.line (⟦<TcpDoor as Door>⟧.doorway self.old)
             (⟦<TcpDoor as Door>⟧.doorway self.new) result }
+        ensures waits { (⟦<TcpDoor as Door>⟧.doorway self.new).waits
+            ≡ one_more (⟦<TcpDoor as Door>⟧.doorway self.old).waits }
         ensures stays_open { IfOk result IsSome }
     {
+        self.waits = self.waits.saturating_add(1);
         match accept_waiting(&self.listener) {
             Ok(wire) => Ok(Some(wire)),
             Err(_) => {
@@ -122,5 +135,9 @@ impl Door for TcpDoor {
 
     fn idle(&self) -> u64 {
         self.idle
+    }
+
+    fn waits(&self) -> u64 {
+        self.waits
     }
 }

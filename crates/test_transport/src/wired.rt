@@ -98,6 +98,7 @@ impl Wired {
             ["taken"] => hexadecimal(alloc, self.wires[0].taken()),
             ["faults"] => shown(alloc, self.wires[0].faults()),
             ["idle"] => shown(alloc, self.wires[0].idle()),
+            ["waits"] => shown(alloc, self.wires[0].waits()),
             _ => Err(Fault::NoCommand),
         }
     }
@@ -114,14 +115,14 @@ impl Wired {
     }
 
     // Serves the connections of a door that lends both wires: how serving ended, how many of the door's calls
-    // failed, and how many polls of it accepted no wire.
+    // failed, how many polls of it accepted no wire, and how often it was waited for.
     fn served(&mut self, alloc: Global, turns: u64, visits: Visits) -> Result<String, Fault> {
         let mut door = MemoryDoor::new(&mut self.wires, visits);
         match serve(alloc, &mut self.session, &mut door, &mut self.files, turns) {
             DriveEnd::NoMemory => Err(Fault::NoMemoryInCall),
             end => {
-                let (faults, idle) = (door.faults(), door.idle());
-                Ok(format!(in alloc; "{end:?} {faults} {idle}")?)
+                let (faults, idle, waits) = (door.faults(), door.idle(), door.waits());
+                Ok(format!(in alloc; "{end:?} {faults} {idle} {waits}")?)
             }
         }
     }

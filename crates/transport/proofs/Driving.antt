@@ -23,7 +23,7 @@ use Rattle.session.specs.Slices.{is_runnable}
 use Rattle.wires.specs.Wires.{Line, Moved, one_more}
 use Rattle.transport.specs.Files.{KnownReads, Records}
 use Rattle.transport.specs.Rounds.{IsGiven, read_for, wanted, Took, Due, Send, Leave, Answer, Run, Receive, due, due_in, Round, Did, Ran, IsTaken, after_round, after_rounds, received_in, received, sent_in, sent, reads_in, reads, since_round, since_rounds, counted, held_after, moves_granted, moves_made}
-use Rattle.transport.specs.Drives.{MayCome, MayFail, is_held, IsRound, AreRounds, idle_looked, idle_after, idle_after_rounds, Cause, AllSaid, InputEnded, CallFailed, NoRoom, NoAnswer, PieceLost, TimeCut, TurnsMade, failed_by, unused_by, idle_by, AreUnused, IsCause, Driven, turns_of, HasBegun, DroveFor, Passed, GoesOn, Stops, Went, Driving}
+use Rattle.transport.specs.Drives.{MayCome, MayFail, is_held, IsRound, AreRounds, idle_looked, idle_after, idle_after_rounds, waits_at, waits_after_rounds, Cause, AllSaid, InputEnded, CallFailed, NoRoom, NoAnswer, PieceLost, TimeCut, TurnsMade, failed_by, unused_by, idle_by, waits_by, AreUnused, IsCause, Driven, turns_of, HasBegun, DroveFor, Passed, GoesOn, Stops, Went, Driving}
 use Rattle.transport.proofs.FileReads.{Records-nil, Records-trans, records_as, unused}
 use Rattle.transport.proofs.RoundLemmas.{happened, due_there, wanted_there, Goes, goes_with, breaks_off, after_rounds-append, received-append, sent-append, reads-append, since_rounds-append}
 use Rattle.transport.proofs.Taking.{send_test, takes_sent, takes_turn, takes_received, takes_running}
@@ -300,6 +300,11 @@ idle_after_rounds-append : (polls : Bool) (count : ℕ) (xs ys : List Round)
 idle_after_rounds-append polls count [] ys = refl
 idle_after_rounds-append polls count (x ∷ xs) ys = idle_after_rounds-append polls (idle_after polls count x) xs ys
 
+waits_after_rounds-append : (count : ℕ) (s : Session) (xs ys : List Round)
+    → waits_after_rounds count s (xs ++ ys) ≡ waits_after_rounds (waits_after_rounds count s xs) (after_rounds s xs) ys
+waits_after_rounds-append count s [] ys = refl
+waits_after_rounds-append count s (x ∷ xs) ys = waits_after_rounds-append (waits_at (due_in s) count) (after_round s x) xs ys
+
 are_rounds-append : (polls : Bool) (since : ℕ) (s : Session) (xs ys : List Round) → AreRounds polls since s xs
     → AreRounds polls (since_rounds since s xs) (after_rounds s xs) ys → AreRounds polls since s (xs ++ ys)
 are_rounds-append polls since s [] ys a b = b
@@ -315,6 +320,7 @@ begins_driving past line k s st = record {
   count = refl;
   counts = refl;
   moved = still line;
+  waits = refl;
   files = Records-nil past;
   stands = st;
 }
@@ -334,9 +340,18 @@ idle_then a b xs x p i =
     ap (λ (p : Bool). idle_after p b.idle x) p ∙ ap (λ (n : ℕ). idle_after a.polls n x) i ∙ sym
     (idle_after_rounds-append a.polls a.idle xs (x ∷ []))
 
+-- a turn waits where only a piece is to be received
+waits_then : (a b c : Line) (s : Session) (k : Kept) (rounds : List Round) → Stands k (after_rounds s rounds)
+    → b.waits ≡ waits_after_rounds a.waits s rounds → c.waits ≡ waits_at (due (see_kept k)) b.waits
+    → c.waits ≡ waits_at (due_in (after_rounds s rounds)) (waits_after_rounds a.waits s rounds)
+waits_then a b c s k rounds st before now =
+    let t = after_rounds s rounds in
+    now ∙ ap (λ (d : Due). waits_at d b.waits) (sym (due_there k t (due (see_kept k)) st refl)) ∙ ap (waits_at (due_in t)) before
+
 goes_on_driving : (f g h : KnownReads) (a b c : Line) (made since next : ℕ) (s : Session) (k new : Kept) (v : Driving f g a b made since s k)
+    → c.waits ≡ waits_at (due_in (after_rounds s v.rounds)) (waits_after_rounds a.waits s v.rounds)
     → GoesOn g h since next b c (after_rounds s v.rounds) new → Driving f h a c (made + 1) next s new
-goes_on_driving f g h a b c made since next s k new v w =
+goes_on_driving f g h a b c made since next s k new v waits w =
     let t = after_rounds s v.rounds in
     let here : IsRound a.polls since t w.round = subst (λ (p : Bool). IsRound p since t w.round) v.moved.polls w.is_round in
     let is_round : IsRound a.polls (since_rounds 0 s v.rounds) t w.round = subst (λ (n : ℕ). IsRound a.polls n t w.round)
@@ -348,6 +363,7 @@ goes_on_driving f g h a b c made since next s k new v w =
       moved =
           moved_as a c _ _ _ _ _ _ _ _ (received_then v.rounds w.round) (sent_then s v.rounds w.round) v.moved.faults
           (idle_then a b v.rounds w.round v.moved.polls v.moved.idle) (moved-trans a b c _ _ _ _ _ _ _ _ v.moved w.moved);
+      waits = waits ∙ sym (waits_after_rounds-append a.waits s v.rounds (w.round ∷ []));
       files =
           records_as f h (reads s v.rounds ++ reads_in t w.round) (reads s (v.rounds ++ w.round ∷ [])) (reads_then s v.rounds w.round)
           (Records-trans f g h (reads s v.rounds) (reads_in t w.round) v.files w.files);
@@ -356,47 +372,39 @@ goes_on_driving f g h a b c made since next s k new v w =
 
 -- where a turn answered how many moves there are
 pub goes_on_with : (f g h : KnownReads) (a b c : Line) (made since : ℕ) (s : Session) (k new : Kept) (result : Result ℕ DriveEnd) (next : ℕ)
-    → result ≡ Ok next → ((t : Session) → Stands k t → Went g h since result b c t new) → Driving f g a b made since s k
+    → result ≡ Ok next → ((t : Session) → Stands k t → Went g h since result b c t new)
+    → c.waits ≡ waits_at (due (see_kept k)) b.waits → Driving f g a b made since s k
     → Driving f h a c (made + 1) next s new
-goes_on_with f g h a b c made since s k new result next e went v =
+goes_on_with f g h a b c made since s k new result next e went waits v =
     let t = after_rounds s v.rounds in
-    goes_on_driving f g h a b c made since next s k new v (subst (λ (r : Result ℕ DriveEnd). Went g h since r b c t new) e (went t v.stands))
+    goes_on_driving f g h a b c made since next s k new v (waits_then a b c s k v.rounds v.stands v.waits waits)
+    (subst (λ (r : Result ℕ DriveEnd). Went g h since r b c t new) e (went t v.stands))
 
--- what ends a turn is no cause of before it, nor one of the last
-begun : (polls : Bool) (cause : Cause) (left : Option (List ℕ)) (s : Session) → ((turns made : ℕ) → IsCause polls cause left turns made s)
-    → HasBegun cause
-begun polls AllSaid left s h = tt
-begun polls InputEnded left s h = tt
-begun polls (CallFailed part) left s h = tt
-begun polls NoRoom left s h = absurd (one_is_none (h 0 1)) where
+-- What ends a turn is no cause of before it, nor one of the last: it takes a turn of its own.
+in_its_turn : (polls : Bool) (cause : Cause) (left : Option (List ℕ)) (s : Session) (n : ℕ) (d : Due) (waits : ℕ)
+    → ((turns made : ℕ) → IsCause polls cause left turns made s)
+    → HasBegun cause × (turns_of cause n ≡ n + 1) × (waits_by cause d waits ≡ waits_at d waits)
+in_its_turn polls AllSaid left s n d waits h = (tt, refl, refl)
+in_its_turn polls InputEnded left s n d waits h = (tt, refl, refl)
+in_its_turn polls (CallFailed part) left s n d waits h = (tt, refl, refl)
+in_its_turn polls NoRoom left s n d waits h = absurd (one_is_none (h 0 1)) where
   one_is_none : (let n : ℕ = 1 in n) ≡ 0 → ⊥
   one_is_none e = omega arith
-begun polls (NoAnswer unused) left s h = tt
-begun polls (PieceLost piece) left s h = tt
-begun polls TimeCut left s h = tt
-begun polls TurnsMade left s h = tt
-
-one_turn_more : (polls : Bool) (cause : Cause) (left : Option (List ℕ)) (s : Session) (n : ℕ)
-    → ((turns made : ℕ) → IsCause polls cause left turns made s) → turns_of cause n ≡ n + 1
-one_turn_more polls AllSaid left s n h = refl
-one_turn_more polls InputEnded left s n h = refl
-one_turn_more polls (CallFailed part) left s n h = refl
-one_turn_more polls NoRoom left s n h = absurd (one_is_none (h 0 1)) where
-  one_is_none : (let n : ℕ = 1 in n) ≡ 0 → ⊥
-  one_is_none e = omega arith
-one_turn_more polls (NoAnswer unused) left s n h = refl
-one_turn_more polls (PieceLost piece) left s n h = refl
-one_turn_more polls TimeCut left s n h = refl
-one_turn_more polls TurnsMade left s n h = absurd (one_is_none (h 0 1)) where
+in_its_turn polls (NoAnswer unused) left s n d waits h = (tt, refl, refl)
+in_its_turn polls (PieceLost piece) left s n d waits h = (tt, refl, refl)
+in_its_turn polls TimeCut left s n d waits h = (tt, refl, refl)
+in_its_turn polls TurnsMade left s n d waits h = absurd (one_is_none (h 0 1)) where
   one_is_none : (let n : ℕ = 1 in n) ≡ 0 → ⊥
   one_is_none e = omega arith
 
 ends_after : (f g h : KnownReads) (a b c : Line) (made since turns taken : ℕ) (s : Session) (k new : Kept) (end : DriveEnd) → made < turns
-    → taken ≡ made + 1 → (v : Driving f g a b made since s k) → Stops g h end b c (after_rounds s v.rounds) new
-    → DroveFor f h a c turns taken s new end
-ends_after f g h a b c made since turns taken s k new end few more v w =
-    let counts : turns_of w.cause (length v.rounds) ≡ taken = one_turn_more b.polls w.cause c.remaining (after_rounds s v.rounds)
-    (length v.rounds) w.is_cause ∙ ap (λ n. n + 1) v.count ∙ sym more in record {
+    → taken ≡ made + 1 → (v : Driving f g a b made since s k)
+    → c.waits ≡ waits_at (due_in (after_rounds s v.rounds)) (waits_after_rounds a.waits s v.rounds)
+    → Stops g h end b c (after_rounds s v.rounds) new → DroveFor f h a c turns taken s new end
+ends_after f g h a b c made since turns taken s k new end few more v waits w =
+    let t = after_rounds s v.rounds in
+    let turn = in_its_turn b.polls w.cause c.remaining t (length v.rounds) (due_in t) (waits_after_rounds a.waits s v.rounds) w.is_cause in
+    let counts : turns_of w.cause (length v.rounds) ≡ taken = turn.1 ∙ ap (λ n. n + 1) v.count ∙ sym more in record {
       rounds = v.rounds;
       cause = w.cause;
       drove = record {
@@ -406,22 +414,24 @@ ends_after f g h a b c made since turns taken s k new end few more v w =
             moved_as a c _ _ _ _ _ _ _ _ refl refl (ap (failed_by w.cause) v.moved.faults)
             (ap (λ (p : Bool). idle_by p w.cause b.idle) v.moved.polls ∙ ap (idle_by a.polls w.cause) v.moved.idle)
             (moved-trans a b c _ _ _ _ _ _ _ _ v.moved w.moved);
+        waits = waits ∙ sym turn.2;
         is_cause =
-            subst (λ (p : Bool). IsCause p w.cause c.remaining turns (length v.rounds) (after_rounds s v.rounds)) v.moved.polls
-            (w.is_cause turns (length v.rounds));
+            subst (λ (p : Bool). IsCause p w.cause c.remaining turns (length v.rounds) t) v.moved.polls (w.is_cause turns (length v.rounds));
       };
       files = Records-trans f g h (reads s v.rounds) (unused_by w.cause) v.files w.files;
       is_end = w.is_end;
       leaves = w.leaves;
-      began = begun b.polls w.cause c.remaining (after_rounds s v.rounds) w.is_cause;
+      began = turn.0;
       counts = counts;
     }
 
 pub ends_driving : (f g h : KnownReads) (a b c : Line) (made since turns taken : ℕ) (s : Session) (k new : Kept) (end : DriveEnd)
-    → made < turns → taken ≡ made + 1 → OfEach k (λ t. Stops g h end b c t new) → Driving f g a b made since s k
+    → made < turns → taken ≡ made + 1 → OfEach k (λ t. Stops g h end b c t new)
+    → c.waits ≡ waits_at (due (see_kept k)) b.waits → Driving f g a b made since s k
     → DroveFor f h a c turns taken s new end
-ends_driving f g h a b c made since turns taken s k new end few more stops v =
-    ends_after f g h a b c made since turns taken s k new end few more v (stops (after_rounds s v.rounds) v.stands)
+ends_driving f g h a b c made since turns taken s k new end few more stops waits v =
+    ends_after f g h a b c made since turns taken s k new end few more v (waits_then a b c s k v.rounds v.stands v.waits waits)
+    (stops (after_rounds s v.rounds) v.stands)
 
 -- all turns were made
 pub stops_driving : (f g : KnownReads) (a b : Line) (made since turns taken : ℕ) (s : Session) (k : Kept) → made ≡ turns → taken ≡ turns
@@ -433,6 +443,7 @@ stops_driving f g a b made since turns taken s k all same v = record {
     are_rounds = v.are_rounds;
     few = subst (λ (n : ℕ). n ≤ turns) (sym (v.count ∙ all)) (omega arith);
     moved = moved_as a b _ _ _ _ _ _ _ _ (sym (append-nil (received v.rounds))) (sym (append-nil (sent s v.rounds))) refl refl v.moved;
+    waits = v.waits;
     is_cause = v.count ∙ all;
   };
   files = records_as f g (reads s v.rounds) (reads s v.rounds ++ []) (sym (append-nil (reads s v.rounds))) v.files;
@@ -454,7 +465,7 @@ pub no_room_to_drive : (past : KnownReads) (line : Line) (turns : ℕ) (s : Sess
 no_room_to_drive past line turns s k st = record {
   rounds = [];
   cause = NoRoom;
-  drove = record { are_rounds = tt; few = omega arith; moved = still line; is_cause = refl };
+  drove = record { are_rounds = tt; few = omega arith; moved = still line; waits = refl; is_cause = refl };
   files = Records-nil past;
   is_end = refl;
   leaves = st;

@@ -1,5 +1,5 @@
 -- Lemmas on serving: one iteration after the other, until serving ends.
-use Rattle.std.proofs.Common.{◌≡◌, ℕ, ◌+◌, ◌-◌, ◌≤◌, List, [], ◌∷◌, ◌++◌, true, Option, Some, None, Result, Ok, Err, refl, sym, ap, ◌∙◌, subst, arith, append-nil, append_assoc, inl, inr}
+use Rattle.std.proofs.Common.{◌≡◌, ℕ, ◌+◌, ◌-◌, ◌<◌, ◌≤◌, Bool, List, [], ◌∷◌, ◌++◌, true, Option, Some, None, Result, Ok, Err, refl, sym, ap, ◌∙◌, subst, arith, append-nil, append_assoc, inl, inr}
 use Rattle.std.specs.Prelude.{IsOk, IsErr, ◌⊎◌}
 use Rattle.transport.specs.declared.end.DriveEnd.{DriveEnd}
 use Rattle.transport.specs.declared.end.DriveEnd.TheVariants.{Closed, Fault, Turns, NoMemory as OutOfMemory}
@@ -20,7 +20,7 @@ use Rattle.wires.specs.Wires.{Line, one_more}
 use Rattle.transport.specs.Files.{KnownReads}
 use Rattle.transport.specs.Rounds.{moves_granted, after_rounds}
 use Rattle.transport.specs.Drives.{Cause, AllSaid, InputEnded, CallFailed, NoRoom, NoAnswer, PieceLost, TimeCut, TurnsMade, end_of, Leaves, HasBegun, IsLeaving, DroveFor}
-use Rattle.transport.specs.Serving.{Iteration, Unattended, Connection, HasLeft, IsCut, IsIteration, turns_in, after_iteration, lines_in, reads_within, idle_in, AreIterations, turns_taken, after_iterations, lines_of, reads_of, reads_at, idle_after_iterations, DoorClosed, Refused, DoorFailed, AllMade, NoRoomYet, UnattendedCut, ConnectionCut, failed_at, idle_at, IsWhy, LeavesCut, Served, Iterated, Ended, IteratedOrEnded, ServedSoFar}
+use Rattle.transport.specs.Serving.{Iteration, Unattended, Connection, HasLeft, IsCut, IsIteration, turns_in, after_iteration, lines_in, reads_within, idle_in, AreIterations, turns_taken, after_iterations, lines_of, reads_of, reads_at, idle_after_iterations, waits_while, waits_after_iterations, waits_until, DoorClosed, Refused, DoorFailed, AllMade, NoRoomYet, UnattendedCut, ConnectionCut, Why, failed_at, idle_at, IsWhy, LeavesCut, Served, Iterated, Ended, IteratedOrEnded, ServedSoFar}
 use Rattle.transport.proofs.FileReads.{Records-nil, Records-trans, records_as}
 use Rattle.transport.proofs.RoundLemmas.{Goes, goes_with, breaks_off}
 
@@ -52,8 +52,11 @@ same_moves : (k mid : Kept) (n : ℕ) → n ≡ moves_granted → (s : Session) 
     → Stands mid (Effect s (Slice moves_granted))
 same_moves k mid n e s st = subst (λ m. Stands mid (Effect s (Slice m))) e st
 
+runs_there : (k : Kept) (s : Session) → Stands k s → is_runnable k.now ≡ is_runnable s.now
+runs_there k s st = ap (λ (x : Kept). is_runnable x.now) st
+
 runnable_there : (k : Kept) (s : Session) → Stands k s → is_runnable k.now ≡ true → is_runnable s.now ≡ true
-runnable_there k s st e = subst (λ (x : Kept). is_runnable x.now ≡ true) st e
+runnable_there k s st e = sym (runs_there k s st) ∙ e
 
 -- a slice in which the program made moves
 pub stays_unattended : (past : KnownReads) (left : ℕ) (old new : Doorway) (k mid : Kept) (n : ℕ) (r : Sliced) → n ≡ moves_granted
@@ -288,6 +291,12 @@ idle_after_iterations-append : (count : ℕ) (xs ys : List Iteration)
 idle_after_iterations-append count [] ys = refl
 idle_after_iterations-append count (x ∷ xs) ys = idle_after_iterations-append (idle_in count x) xs ys
 
+waits_after_iterations-append : (count : ℕ) (s : Session) (xs ys : List Iteration)
+    → waits_after_iterations count s (xs ++ ys) ≡ waits_after_iterations (waits_after_iterations count s xs) (after_iterations s xs) ys
+waits_after_iterations-append count s [] ys = refl
+waits_after_iterations-append count s (x ∷ xs) ys =
+    waits_after_iterations-append (waits_while (is_runnable s.now) count) (after_iteration s x) xs ys
+
 -- ---- the loop
 
 pub begins_serving : (past : KnownReads) (door : Doorway) (turns : ℕ) (k : Kept) (s : Session) → Stands k s
@@ -297,6 +306,7 @@ begins_serving past door turns k s st = record {
   are_iterations = tt;
   count = refl;
   opened = opened-refl door;
+  waits = refl;
   files = Records-nil past;
   stands = st;
 }
@@ -313,9 +323,18 @@ idle_then : (a b : Doorway) (xs : List Iteration) (x : Iteration) → b.idle ≡
     → idle_in b.idle x ≡ idle_after_iterations a.idle (xs ++ x ∷ [])
 idle_then a b xs x i = ap (λ (n : ℕ). idle_in n x) i ∙ sym (idle_after_iterations-append a.idle xs (x ∷ []))
 
+-- a call of the door waits where no program runs
+waits_then : (a b c : Doorway) (s : Session) (k : Kept) (xs : List Iteration) → Stands k (after_iterations s xs)
+    → b.waits ≡ waits_after_iterations a.waits s xs → c.waits ≡ waits_while (is_runnable k.now) b.waits
+    → c.waits ≡ waits_while (is_runnable (after_iterations s xs).now) (waits_after_iterations a.waits s xs)
+waits_then a b c s k xs st before now =
+    let t = after_iterations s xs in
+    now ∙ ap (λ (r : Bool). waits_while r b.waits) (runs_there k t st) ∙ ap (waits_while (is_runnable t.now)) before
+
 continues_serving : (f g h : KnownReads) (a b c : Doorway) (turns taken count : ℕ) (s : Session) (k new : Kept) (v : ServedSoFar f g a b turns taken s k)
+    → c.waits ≡ waits_while (is_runnable (after_iterations s v.iterations).now) (waits_after_iterations a.waits s v.iterations)
     → Iterated g h (turns - taken) count b c (after_iterations s v.iterations) new → ServedSoFar f h a c turns (taken + count) s new
-continues_serving f g h a b c turns taken count s k new v w =
+continues_serving f g h a b c turns taken count s k new v waits w =
     let is_iteration : IsIteration (turns - turns_taken v.iterations) (after_iterations s v.iterations) w.iteration = subst
     (λ (n : ℕ). IsIteration (turns - n) (after_iterations s v.iterations) w.iteration) (sym v.count) w.is_iteration in
     let counts : turns_in w.iteration ≡ count = w.counts in
@@ -326,6 +345,7 @@ continues_serving f g h a b c turns taken count s k new v w =
       opened =
           opened_as a c _ _ _ _ _ _ (lines_then v.iterations w.iteration) v.opened.faults
           (idle_then a b v.iterations w.iteration v.opened.idle) (opened-trans a b c _ _ _ _ _ _ v.opened w.opened);
+      waits = waits ∙ sym (waits_after_iterations-append a.waits s v.iterations (w.iteration ∷ []));
       files =
           records_as f h (reads_of s v.iterations ++ reads_within (after_iterations s v.iterations) w.iteration)
           (reads_of s (v.iterations ++ w.iteration ∷ [])) (reads_then s v.iterations w.iteration)
@@ -335,24 +355,38 @@ continues_serving f g h a b c turns taken count s k new v w =
 
 -- after one more pass of the loop serving continues
 pub serving_continues : (f g h : KnownReads) (a b c : Doorway) (turns taken : ℕ) (s : Session) (k new : Kept) (result : Result ℕ DriveEnd) (count : ℕ)
-    → result ≡ Ok count → OfEach k (λ t. IteratedOrEnded g h (turns - taken) result b c t new) → ServedSoFar f g a b turns taken s k
+    → result ≡ Ok count → OfEach k (λ t. IteratedOrEnded g h (turns - taken) result b c t new)
+    → c.waits ≡ waits_while (is_runnable k.now) b.waits → ServedSoFar f g a b turns taken s k
     → ServedSoFar f h a c turns (taken + count) s new
-serving_continues f g h a b c turns taken s k new result count e pass v =
+serving_continues f g h a b c turns taken s k new result count e pass waits v =
     let t = after_iterations s v.iterations in
-    continues_serving f g h a b c turns taken count s k new v
+    continues_serving f g h a b c turns taken count s k new v (waits_then a b c s k v.iterations v.stands v.waits waits)
     (subst (λ (r : Result ℕ DriveEnd). IteratedOrEnded g h (turns - taken) r b c t new) e (pass t v.stands))
 
-ends_after : (f g h : KnownReads) (a b c : Doorway) (turns taken : ℕ) (s : Session) (k new : Kept) (end : DriveEnd) → taken ≤ turns
-    → (v : ServedSoFar f g a b turns taken s k) → Ended g h (turns - taken) end b c (after_iterations s v.iterations) new
-    → Served f h a c turns s new end
-ends_after f g h a b c turns taken s k new end few v w = record {
+-- what ends serving in a call of the door is no reason of before it, nor that of the last turn
+by_a_call : (why : Why) (wires : Option (List Line)) (left : ℕ) (s : Session) (runs : Bool) (waits : ℕ) → 0 < left
+    → ((taken : ℕ) → IsWhy why wires left taken s) → waits_until why runs waits ≡ waits_while runs waits
+by_a_call DoorClosed wires left s runs waits some h = refl
+by_a_call (Refused line) wires left s runs waits some h = refl
+by_a_call DoorFailed wires left s runs waits some h = refl
+by_a_call AllMade wires left s runs waits some h = let none : left ≡ 0 = h 0 in absurd (omega arith)
+by_a_call NoRoomYet wires left s runs waits some h = let none : (let n : ℕ = 1 in n) ≡ 0 = h 1 in absurd (omega arith)
+by_a_call UnattendedCut wires left s runs waits some h = refl
+by_a_call (ConnectionCut old new rounds cause) wires left s runs waits some h = refl
+
+ends_after : (f g h : KnownReads) (a b c : Doorway) (turns taken : ℕ) (s : Session) (k new : Kept) (end : DriveEnd) → taken < turns
+    → (v : ServedSoFar f g a b turns taken s k)
+    → c.waits ≡ waits_while (is_runnable (after_iterations s v.iterations).now) (waits_after_iterations a.waits s v.iterations)
+    → Ended g h (turns - taken) end b c (after_iterations s v.iterations) new → Served f h a c turns s new end
+ends_after f g h a b c turns taken s k new end few v waits w = record {
   iterations = v.iterations;
   why = w.why;
   are_iterations = v.are_iterations;
-  few = subst (λ (n : ℕ). n ≤ turns) (sym v.count) few;
+  few = subst (λ (n : ℕ). n ≤ turns) (sym v.count) (omega arith);
   opened =
       opened_as a c _ _ _ _ _ _ refl (ap (failed_at w.why) v.opened.faults) (ap (idle_at w.why) v.opened.idle)
       (opened-trans a b c _ _ _ _ _ _ v.opened w.opened);
+  waits = waits ∙ sym (by_a_call w.why c.wires (turns - taken) (after_iterations s v.iterations) _ _ (omega arith) w.is_why);
   files = Records-trans f g h (reads_of s v.iterations) (reads_at (after_iterations s v.iterations) w.why) v.files w.files;
   is_end = w.is_end;
   is_why =
@@ -361,10 +395,12 @@ ends_after f g h a b c turns taken s k new end few v w = record {
   leaves = w.leaves;
 }
 
-pub serving_ends : (f g h : KnownReads) (a b c : Doorway) (turns taken : ℕ) (s : Session) (k new : Kept) (end : DriveEnd) → taken ≤ turns
-    → OfEach k (λ t. Ended g h (turns - taken) end b c t new) → ServedSoFar f g a b turns taken s k → Served f h a c turns s new end
-serving_ends f g h a b c turns taken s k new end few ends v =
-    ends_after f g h a b c turns taken s k new end few v (ends (after_iterations s v.iterations) v.stands)
+pub serving_ends : (f g h : KnownReads) (a b c : Doorway) (turns taken : ℕ) (s : Session) (k new : Kept) (end : DriveEnd) → taken < turns
+    → OfEach k (λ t. Ended g h (turns - taken) end b c t new)
+    → c.waits ≡ waits_while (is_runnable k.now) b.waits → ServedSoFar f g a b turns taken s k → Served f h a c turns s new end
+serving_ends f g h a b c turns taken s k new end few ends waits v =
+    ends_after f g h a b c turns taken s k new end few v (waits_then a b c s k v.iterations v.stands v.waits waits)
+    (ends (after_iterations s v.iterations) v.stands)
 
 -- all turns were taken
 pub all_taken : (f g : KnownReads) (a b : Doorway) (turns taken : ℕ) (s : Session) (k : Kept) → taken ≡ turns
@@ -376,6 +412,7 @@ all_taken f g a b turns taken s k all v =
       are_iterations = v.are_iterations;
       few = omega arith;
       opened = opened_as a b _ _ _ _ _ _ (sym (append-nil (lines_of v.iterations))) refl refl v.opened;
+      waits = v.waits;
       files = records_as f g (reads_of s v.iterations) (reads_of s v.iterations ++ []) (sym (append-nil (reads_of s v.iterations))) v.files;
       is_end = refl;
       is_why = omega arith;
@@ -392,6 +429,7 @@ no_room_to_serve past door turns s k st =
       are_iterations = tt;
       few = omega arith;
       opened = opened-refl door;
+      waits = refl;
       files = Records-nil past;
       is_end = refl;
       is_why = refl;

@@ -5,6 +5,8 @@
 -- that runs is given time for 100,000 moves; and else a piece is received, and waited for. So nothing waits unsent while
 -- a wait for bytes may last.
 --
+-- Bytes are waited for only where nothing else is due. So a program that runs is given time, however silent its editor is.
+--
 -- The editor is heard while a program runs. A wire that can be looked at without waiting is looked at before each slice:
 -- a piece that has come is received, and time is given only where none has. On another wire the program is held once it
 -- made 10,000,000 moves since bytes came, or since driving began where none came yet: it stops then, and a piece is
@@ -13,10 +15,10 @@
 -- A round is an event of the session, or two where the program is held after its time. The end of the input ends the
 -- connection, and so does a call of the wire that fails.
 --
--- A wire may say which bytes it has left to give and which it has taken, and it counts the calls that failed and the
--- looks that found nothing (`Line` of `Wires`); what is said here of bytes and counts is held against these. So may files
--- say which reads they have answered, and what each gave (`Files`): what requests were answered with is held against
--- that, read by read.
+-- A wire may say which bytes it has left to give and which it has taken, and it counts the calls that failed, the looks
+-- that found nothing, and the waits (`Line` of `Wires`); what is said here of bytes and counts is held against these. So
+-- may files say which reads they have answered, and what each gave (`Files`): what requests were answered with is held
+-- against that, read by read.
 use Rattle.std.specs.Prelude.{◌≡◌, ℕ, ◌+◌, ◌≤◌, nat_le, Bool, true, false, List, [], ◌∷◌, ◌++◌, length}
 use Rattle.std.specs.Prelude.{Option, Some, Result, Ok, Err}
 use Rattle.std.specs.Io.KnownBytes.{IsAtEnd}
@@ -76,6 +78,12 @@ abbrev pub idle_after : Bool → ℕ → Round → ℕ
 idle_after polls count (Did e) = count
 idle_after polls count (Ran holds) = idle_looked polls count
 
+-- how many waits there were after a turn, by what was due in it and how many there were before: one more where only a piece was
+-- to be received
+abbrev pub waits_at : Due → ℕ → ℕ
+waits_at Receive count = one_more count
+waits_at _ count = count
+
 -- ---- one round after the other
 
 -- each round is one of the session after the rounds before it
@@ -88,6 +96,11 @@ AreRounds polls since s (r ∷ rounds) =
 abbrev pub idle_after_rounds : Bool → ℕ → List Round → ℕ
 idle_after_rounds polls count [] = count
 idle_after_rounds polls count (r ∷ rounds) = idle_after_rounds polls (idle_after polls count r) rounds
+
+-- how many waits there were, after rounds
+abbrev pub waits_after_rounds : ℕ → Session → List Round → ℕ
+waits_after_rounds count s [] = count
+waits_after_rounds count s (r ∷ rounds) = waits_after_rounds (waits_at (due_in s) count) (after_round s r) rounds
 
 -- ---- the end
 
@@ -146,6 +159,12 @@ abbrev pub idle_by : Bool → Cause → ℕ → ℕ
 idle_by polls TimeCut count = idle_looked polls count
 idle_by polls _ count = count
 
+-- how many waits there were where driving ended, by what was due then and how many there were before
+abbrev pub waits_by : Cause → Due → ℕ → ℕ
+waits_by NoRoom due count = count
+waits_by TurnsMade due count = count
+waits_by _ due count = waits_at due count
+
 -- A call of the wire may fail where one is due. One that sends may have written a prefix of the bytes that wait.
 abbrev pub MayFail : Bool → Due → List ℕ → List ℕ → Type 0
 MayFail polls Send waiting part = IsPrefixOf part waiting
@@ -194,13 +213,15 @@ turns_of _ made = made + 1
 -- is due. The pieces that they received are what
 -- the wire gave, but for a piece that was lost at the end; the bytes that they sent are what it took, but for what a call
 -- that failed had written. The wire counts one call that failed where one ends driving, and else none; and one look that
--- found nothing for each slice that a program got, where it can be looked at, and else none.
+-- found nothing for each slice that a program got, where it can be looked at, and else none; and one wait for each turn
+-- in which only a piece was to be received, and else none.
 pub record Drove (old new : Line) (turns : ℕ) (s : Session) (rounds : List Round) (cause : Cause)
     : Type 0 where
   pub are_rounds : AreRounds old.polls 0 s rounds
   pub few : turns_of cause (length rounds) ≤ turns
   pub moved : Moved old new (received rounds ++ lost_by cause) (sent s rounds ++ written_by cause)
       (failed_by cause old.faults) (idle_by old.polls cause (idle_after_rounds old.polls old.idle rounds))
+  pub waits : new.waits ≡ waits_by cause (due_in (after_rounds s rounds)) (waits_after_rounds old.waits s rounds)
   pub is_cause : IsCause old.polls cause new.remaining turns (length rounds) (after_rounds s rounds)
 
 -- There are rounds, and a cause for which driving ends after them. The reads that the files answered are those that the
@@ -276,5 +297,6 @@ pub record Driving (before after : KnownReads) (old new : Line) (made since : �
   pub counts : since_rounds 0 s rounds ≡ since
   pub moved : Moved old new (received rounds) (sent s rounds) old.faults
       (idle_after_rounds old.polls old.idle rounds)
+  pub waits : new.waits ≡ waits_after_rounds old.waits s rounds
   pub files : Records before after (reads s rounds)
   pub stands : Stands kept (after_rounds s rounds)

@@ -1,13 +1,14 @@
 -- How editors are served one after the other, each over a wire of its own that a door accepts.
 --
 -- While no editor is connected, the door is asked for the next wire: it is polled while a program runs, and waited for
--- where none runs. An editor whose wire was accepted is connected, and its connection is driven over that wire (`Drives`)
--- until it ends. Where a poll accepts no wire, the program runs unattended: it is given a slice of 100,000 moves. A
--- failed call of a wire ends its connection alone; a failed call of the door ends serving.
+-- only where none runs; so a program that runs is given time, however long no editor comes. An editor whose wire was
+-- accepted is connected, and its connection is driven over that wire (`Drives`) until it ends. Where a poll accepts no
+-- wire, the program runs unattended: it is given a slice of 100,000 moves. A failed call of a wire ends its connection
+-- alone; a failed call of the door ends serving.
 --
 -- A turn is one of these: a connection that is accepted, a slice of an unattended program, a round of a connection, and
 -- the end of a connection. Where turns or memory end serving while an editor is connected, its connection ends too.
-use Rattle.std.specs.Prelude.{◌≡◌, ℕ, ◌+◌, ◌-◌, ◌≤◌, true, List, [], ◌∷◌, ◌++◌, length, Option, Result, Ok, Err, IsOk, IsErr}
+use Rattle.std.specs.Prelude.{◌≡◌, ℕ, ◌+◌, ◌-◌, ◌≤◌, Bool, true, false, List, [], ◌∷◌, ◌++◌, length, Option, Result, Ok, Err, IsOk, IsErr}
 use Rattle.session.specs.declared.event.Event.TheVariants.{Connect, Slice, DropConnection}
 use Rattle.session.specs.Effects.{BreaksOff}
 use Rattle.session.specs.Kept.{Kept, Stands}
@@ -88,6 +89,12 @@ abbrev pub idle_in : ℕ → Iteration → ℕ
 idle_in count Unattended = one_more count
 idle_in count (Connection old new rounds cause) = count
 
+-- how many waits for an editor there were after a call of the door, by whether a program runs and how many there were
+-- before: one more where none runs
+abbrev pub waits_while : Bool → ℕ → ℕ
+waits_while true count = count
+waits_while false count = one_more count
+
 -- ---- one iteration after the other
 
 -- The session may have these iterations, where that many turns are left.
@@ -120,6 +127,12 @@ reads_of s (x ∷ iterations) = reads_within s x ++ reads_of (after_iteration s 
 abbrev pub idle_after_iterations : ℕ → List Iteration → ℕ
 idle_after_iterations count [] = count
 idle_after_iterations count (x ∷ iterations) = idle_after_iterations (idle_in count x) iterations
+
+-- how many waits for an editor there were, after that many before
+abbrev pub waits_after_iterations : ℕ → Session → List Iteration → ℕ
+waits_after_iterations count s [] = count
+waits_after_iterations count s (x ∷ iterations) =
+    waits_after_iterations (waits_while (is_runnable s.now) count) (after_iteration s x) iterations
 
 -- ---- the end
 
@@ -172,6 +185,12 @@ abbrev pub idle_at : Why → ℕ → ℕ
 idle_at UnattendedCut count = one_more count
 idle_at _ count = count
 
+-- the same, where serving ended
+abbrev pub waits_until : Why → Bool → ℕ → ℕ
+waits_until AllMade runs count = count
+waits_until NoRoomYet runs count = count
+waits_until _ runs count = waits_while runs count
+
 -- Serving may end for this reason, where the door has these wires left to accept, that many turns are left, that many were
 -- taken, and no editor is connected to the session.
 abbrev pub IsWhy : Why → Option (List Line) → ℕ → ℕ → Session → Type 0
@@ -197,7 +216,8 @@ LeavesBy _ s new = Stands new s
 
 -- There are iterations, one after the other, and after them serving ends. The accepted wires are those that the door gave.
 -- The door counts one failed call where serving ends as a fault, else none, and one poll that accepted no wire for each slice
--- of an unattended program. The reads that the files answered are those for the connections, one after the other.
+-- of an unattended program. It counts one wait for each call where no program ran, and else none. The reads that the files answered are
+-- those for the connections, one after the other.
 pub record Served (before after : KnownReads) (old new : Doorway) (turns : ℕ) (s : Session) (kept : Kept) (end : DriveEnd)
     : Type 0 where
   pub iterations : List Iteration
@@ -206,6 +226,7 @@ pub record Served (before after : KnownReads) (old new : Doorway) (turns : ℕ) 
   pub few : turns_taken iterations ≤ turns
   pub opened : Opened old new (lines_of iterations ++ lines_by why) (failed_at why old.faults)
       (idle_at why (idle_after_iterations old.idle iterations))
+  pub waits : new.waits ≡ waits_until why (is_runnable (after_iterations s iterations).now) (waits_after_iterations old.waits s iterations)
   pub files : Records before after (reads_of s iterations ++ reads_at (after_iterations s iterations) why)
   pub is_end : end_by why ≡ end
   pub is_why : IsWhy why new.wires (turns - turns_taken iterations) (turns_taken iterations)
@@ -246,5 +267,6 @@ pub record ServedSoFar (before after : KnownReads) (old new : Doorway) (turns ta
   pub are_iterations : AreIterations turns s iterations
   pub count : turns_taken iterations ≡ taken
   pub opened : Opened old new (lines_of iterations) old.faults (idle_after_iterations old.idle iterations)
+  pub waits : new.waits ≡ waits_after_iterations old.waits s iterations
   pub files : Records before after (reads_of s iterations)
   pub stands : Stands kept (after_iterations s iterations)

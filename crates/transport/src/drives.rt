@@ -1,11 +1,11 @@
 //! A session over a wire.
 ghost use Rattle.std.specs.Prelude.{◌≡◌, ◌+◌, ◌<◌, ◌≤◌, length, true, Err, IfOk, ℕ};
 ghost use Rattle.session.specs.Kept.{OfEach, Stands, see_kept};
-ghost use Rattle.transport.specs.Drives.{Driven, DroveFor, Passed, Went, is_held};
+ghost use Rattle.transport.specs.Drives.{Driven, DroveFor, Passed, Went, is_held, waits_at};
 ghost use Rattle.transport.specs.Files.{KnownReads};
 ghost use Rattle.transport.specs.Rounds as spec;
 ghost use Rattle.transport.specs.Rounds.{due};
-ghost use Rattle.wires.specs.Wires.{Line};
+ghost use Rattle.wires.specs.Wires.{Line, one_more};
 
 use crate::end::DriveEnd;
 use crate::files::Files;
@@ -25,7 +25,7 @@ const MOST_MOVES: u64 = 10_000_000;
 ///
 /// A turn does what is due: while bytes wait, it sends some; when all is said on the connection, it ends
 /// it; where a request waits, it answers it, with the file that it wants, out of `files`; where no program
-/// runs, it waits for a piece. While a program runs, it looks for a piece over a wire that can poll, and
+/// runs, and only then, it waits for a piece. While a program runs, it looks for a piece over a wire that can poll, and
 /// grants a slice of 100,000 moves where none has come; over another wire it grants the slice, and holds
 /// the program once it made 10,000,000 moves since bytes came, or since the call where none came yet. A
 /// piece has at most 65,536 bytes. At most `turns` are made.
@@ -110,6 +110,8 @@ fn turn<W: Wire, F: Files>(
         (λ s. Went (F.past files.old) (F.past files.new) since result (W.line wire.old)
         (W.line wire.new) s session.new) }
     ensures since { IfOk result (λ moves. moves ≤ 10000000) }
+    ensures waits { (W.line wire.new).waits
+        ≡ waits_at (due (see_kept session.old)) (W.line wire.old).waits }
 {
     if !session.waiting().is_empty() {
         return send(session, wire, since);
@@ -135,6 +137,7 @@ fn send<W: Wire>(session: &mut Session, wire: &mut W, since: u64) -> Result<u64,
         → OfEach session.old (λ s. Went past past since result (W.line wire.old)
         (W.line wire.new) s session.new) }
     ensures same { IfOk result (λ moves. moves ≡ since) }
+    ensures waits { (W.line wire.new).waits ≡ (W.line wire.old).waits }
 {
     match wire.send(session.waiting()) {
         Ok(count) => {
@@ -185,6 +188,7 @@ fn look<W: Wire>(
         → OfEach session.old (λ s. Went past past since result (W.line wire.old)
         (W.line wire.new) s session.new) }
     ensures since { IfOk result (λ moves. moves ≤ 10000000) }
+    ensures waits { (W.line wire.new).waits ≡ (W.line wire.old).waits }
 {
     match wire.recv_now(room) {
         Ok(Received::Bytes(count)) => take(session, &room[..count]),
@@ -239,6 +243,7 @@ fn receive<W: Wire>(
         → OfEach session.old (λ s. Went past past since result (W.line wire.old)
         (W.line wire.new) s session.new) }
     ensures fewer { IfOk result (λ moves. moves ≤ since) }
+    ensures waits { (W.line wire.new).waits ≡ one_more (W.line wire.old).waits }
 {
     match wire.recv_wait(room) {
         Ok(0) => leave(session, DriveEnd::Closed),

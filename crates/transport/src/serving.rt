@@ -4,7 +4,7 @@ ghost use Rattle.session.specs.Kept.{OfEach};
 ghost use Rattle.session.specs.Slices.{is_runnable};
 ghost use Rattle.transport.specs.Files.{KnownReads};
 ghost use Rattle.transport.specs.Rounds.{moves_granted};
-ghost use Rattle.transport.specs.Serving.{IteratedOrEnded, Served};
+ghost use Rattle.transport.specs.Serving.{IteratedOrEnded, Served, waits_while};
 ghost use Rattle.wires.specs.Doors.{Doorway, Opened};
 ghost use Rattle.wires.specs.Wires.{one_more};
 
@@ -19,7 +19,7 @@ use wires::{Came, Door, Wire};
 
 /// Serves the editors whose wires a door accepts, one after the other, each over its wire as `drive` does. While
 /// none is connected, a program that runs is given a slice of 100,000 moves after each poll of the door that
-/// accepts no wire, and where no program runs the next wire is waited for.
+/// accepts no wire, and only where no program runs the next wire is waited for.
 ///
 /// A call of a wire that fails ends its connection alone. A turn is taken by each connection that is accepted,
 /// by each turn of a connection, and by each slice while no editor is connected; at most `turns` are taken.
@@ -72,6 +72,8 @@ fn accept<D: Door, F: Files>(
         (λ s. IteratedOrEnded (F.past files.old) (F.past files.new) left result
         (D.doorway door.old) (D.doorway door.new) s session.new) }
     ensures some { IfOk result (λ count. (1 ≤ count) × (count ≤ left)) }
+    ensures waits { (D.doorway door.new).waits
+        ≡ waits_while (is_runnable session.old.now) (D.doorway door.old).waits }
 {
     if session.runnable() {
         return poll_accept(alloc, session, door, files, room, left);
@@ -100,6 +102,7 @@ fn poll_accept<D: Door, F: Files>(
         (λ s. IteratedOrEnded (F.past files.old) (F.past files.new) left result
         (D.doorway door.old) (D.doorway door.new) s session.new) }
     ensures some { IfOk result (λ count. (1 ≤ count) × (count ≤ left)) }
+    ensures waits { (D.doorway door.new).waits ≡ (D.doorway door.old).waits }
 {
     match door.accept_now() {
         Ok(Came::Wire(mut wire)) => serve_connection(alloc, session, &mut wire, files, room, left),

@@ -27,13 +27,14 @@ consumes items given room copied start n e few copy =
     subst (λ l. drop start l ≡ take n (copied ++ drop n room) ++ drop (start + n) l) e
     (t ∙ ap (λ l. take n (copied ++ drop n room) ++ l) (drop-drop n start given))
 
-pub gives : (old : Line) (items given taken room copied : List ℕ) (start n f i : ℕ) (p : Bool)
-    → (let l : Line = record { remaining = Some (drop start items); contents = Some taken; faults = f; idle = i; polls = p } in l) ≡ old
+pub gives : (old : Line) (items given taken room copied : List ℕ) (start n f i w : ℕ) (p : Bool)
+    → (let l : Line = record { remaining = Some (drop start items); contents = Some taken; faults = f; idle = i; waits = w; polls = p } in l) ≡ old
     → given ≡ items → n ≤ length given - start → copied ≡ take n (take (length given - start) (drop start given))
-    → Moved old (record { remaining = Some (drop (start + n) items); contents = Some taken; faults = f; idle = i; polls = p }) (take n (copied ++ drop n room)) [] old.faults old.idle
-gives old items given taken room copied start n f i p view e few copy =
+    → Moved old (record { remaining = Some (drop (start + n) items); contents = Some taken; faults = f; idle = i; waits = w; polls = p })
+    (take n (copied ++ drop n room)) [] old.faults old.idle
+gives old items given taken room copied start n f i w p view e few copy =
     subst (λ (l : Line). Moved l
-    (record { remaining = Some (drop (start + n) items); contents = Some taken; faults = f; idle = i; polls = p })
+    (record { remaining = Some (drop (start + n) items); contents = Some taken; faults = f; idle = i; waits = w; polls = p })
     (take n (copied ++ drop n room)) [] l.faults l.idle) view (record {
       consumed = consumes items given room copied start n e few copy;
       appended = sym (append-nil taken);

@@ -1,19 +1,20 @@
 -- What a door does: an editor comes in over a wire of its own, nobody is there, or a call fails.
 --
 -- A door may say which wires it has left to give, as they are seen; where it does not say so, nothing is claimed of them. It
--- counts the calls that failed and the looks that found nobody, as a wire does.
+-- counts the calls that failed, the looks that found nobody, and the waits for an editor, as a wire does.
 use Rattle.std.specs.Prelude.{◌≡◌, ℕ, List, [], ◌∷◌, ◌++◌, Option, Some, None, Result, Ok, Err, ⊤}
 use Rattle.wires.specs.Wires.{Line, one_more}
 use Rattle.wires.specs.declared.door.Came.{Came}
 use Rattle.wires.specs.declared.door.Came.TheVariants.{Wire, Nothing, End}
 use Rattle.wires.specs.declared.door.DoorFault.{DoorFault}
 
--- a door, as it is seen: the wires that it has left to give, where they are known, how many calls failed, and how many looks
--- found nobody
+-- a door, as it is seen: the wires that it has left to give, where they are known, how many calls failed, how many looks found
+-- nobody, and how many waits for an editor there were
 pub record Doorway : Type 0 where
   pub wires : Option (List Line)
   pub faults : ℕ
   pub idle : ℕ
+  pub waits : ℕ
 
 -- known wires begin with these, and lose them
 abbrev pub Loses : Option (List Line) → Option (List Line) → List Line → Type 0

@@ -1,8 +1,8 @@
 -- What a wire does: bytes come over it and are sent over it, a look for bytes finds none, and a call fails.
 --
 -- A wire may say which bytes it has left to give, and which it has taken (`Rattle.std.specs.Io.KnownBytes`); where it
--- does not say so, nothing is claimed of them. It counts the calls that failed and the looks that found nothing. A count
--- that has reached its last value stays there, and a fault at that value counts as growth.
+-- does not say so, nothing is claimed of them. It counts the calls that failed, the looks that found nothing, and the waits
+-- for bytes. A count that has reached its last value stays there, and a fault at that value counts as growth.
 use Rattle.std.specs.Prelude.{◌≡◌, ℕ, ◌+◌, ◌<◌, ◌≤◌, nat_lt, Bool, if◌then◌else◌, List, [], length, take, Option, Result, Ok, Err}
 use Rattle.std.specs.Io.KnownBytes.{Consumes, Appends, IsAtEnd}
 use Rattle.wires.specs.declared.wire.Received.{Received}
@@ -10,12 +10,13 @@ use Rattle.wires.specs.declared.wire.Received.TheVariants.{Bytes, Nothing, End}
 use Rattle.wires.specs.declared.wire.WireFault.{WireFault}
 
 -- a wire, as it is seen: the bytes that it has left to give and those that it took, where they are known, how many calls
--- failed, how many looks found nothing, and whether it can be looked at without waiting
+-- failed, how many looks found nothing, how many waits for bytes there were, and whether it can be looked at without waiting
 pub record Line : Type 0 where
   pub remaining : Option (List ℕ)
   pub contents : Option (List ℕ)
   pub faults : ℕ
   pub idle : ℕ
+  pub waits : ℕ
   pub polls : Bool
 
 -- the last value of a count

@@ -34,6 +34,7 @@ pub struct MemoryWire {
     calls: u64,
     faults: u64,
     idle: u64,
+    waits: u64,
 }
 
 impl Model for MemoryWire {
@@ -47,6 +48,7 @@ impl Model for MemoryWire {
       contents = Some w.taken.items;
       faults = w.faults;
       idle = w.idle;
+      waits = w.waits;
       polls = w.habits.polls;
     } };
 
@@ -61,6 +63,7 @@ impl MemoryWire {
           contents = Some [];
           faults = 0;
           idle = 0;
+          waits = 0;
           polls = habits.polls;
         } }
     {
@@ -74,6 +77,7 @@ impl MemoryWire {
             calls: 0,
             faults: 0,
             idle: 0,
+            waits: 0,
         }
     }
 
@@ -99,6 +103,7 @@ impl MemoryWire {
     fn counts(&mut self) -> bool
         ensures ok { result ≡ false → self.new ≡ self.old }
         ensures fails { result ≡ true → Failed self.old self.new [] }
+        ensures waits { self.new.waits ≡ self.old.waits }
     {
         self.calls = self.calls.saturating_add(1);
         if self.calls != self.habits.failing {
@@ -127,6 +132,7 @@ impl MemoryWire {
     fn give(&mut self, most: usize, room: &mut [u8]) -> usize
         ensures bound { result ≤ length room.new }
         ensures gave { Gave self.old self.new (take result room.new) }
+        ensures waits { self.new.waits ≡ self.old.waits }
         ensures some { 0 < most → result ≡ 0 → 0 < length room.new → IsAtEnd self.new.remaining }
     {
         let left = &self.given[self.start..];
@@ -171,6 +177,7 @@ impl Wire for MemoryWire {
     }
 
     fn recv_wait(&mut self, room: &mut [u8]) -> Result<usize, WireFault> {
+        self.waits = one_more(self.waits);
         if self.counts() {
             return Err(WireFault);
         }
@@ -201,5 +208,9 @@ impl Wire for MemoryWire {
 
     fn idle(&self) -> u64 {
         self.idle
+    }
+
+    fn waits(&self) -> u64 {
+        self.waits
     }
 }

@@ -28,13 +28,14 @@ pub struct MemoryDoor<'a> {
     calls: u64,
     faults: u64,
     idle: u64,
+    waits: u64,
 }
 
 impl<'a> MemoryDoor<'a> {
     /// A door that lends these wires.
     pub fn new(wires: &'a mut [MemoryWire], visits: Visits) -> MemoryDoor<'a>
         ensures { ⟦<MemoryDoor<'a> as Door>⟧.doorway result
-            ≡ record { wires = Some wires.old; faults = 0; idle = 0 } }
+            ≡ record { wires = Some wires.old; faults = 0; idle = 0; waits = 0 } }
     {
         MemoryDoor {
             wires: wires.iter_mut(),
@@ -42,6 +43,7 @@ impl<'a> MemoryDoor<'a> {
             calls: 0,
             faults: 0,
             idle: 0,
+            waits: 0,
         }
     }
 
@@ -49,6 +51,7 @@ impl<'a> MemoryDoor<'a> {
     fn counts(&mut self) -> bool
         ensures wires { self.new.wires ≡ self.old.wires }
         ensures idle { self.new.idle ≡ self.old.idle }
+        ensures waits { self.new.waits ≡ self.old.waits }
         ensures faults { self.new.faults
             ≡ (if result then one_more self.old.faults else self.old.faults) }
     {
@@ -64,7 +67,12 @@ impl<'a> MemoryDoor<'a> {
 impl<'a> Door for MemoryDoor<'a> {
     type Wire = &'a mut MemoryWire;
 
-    ghost doorway = { λ d. record { wires = Some (iter_mut_rest d.wires); faults = d.faults; idle = d.idle } };
+    ghost doorway = { λ d. record {
+      wires = Some (iter_mut_rest d.wires);
+      faults = d.faults;
+      idle = d.idle;
+      waits = d.waits;
+    } };
 
     fn accept_now(&mut self) -> Result<Came<&'a mut MemoryWire>, DoorFault> {
         if self.counts() {
@@ -81,6 +89,7 @@ impl<'a> Door for MemoryDoor<'a> {
     }
 
     fn accept_wait(&mut self) -> Result<Option<&'a mut MemoryWire>, DoorFault> {
+        self.waits = one_more(self.waits);
         if self.counts() {
             return Err(DoorFault);
         }
@@ -93,5 +102,9 @@ impl<'a> Door for MemoryDoor<'a> {
 
     fn idle(&self) -> u64 {
         self.idle
+    }
+
+    fn waits(&self) -> u64 {
+        self.waits
     }
 }

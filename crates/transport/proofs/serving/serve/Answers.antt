@@ -7,7 +7,7 @@ returns-in_default g c s st = no_room_to_serve _ _ c.args.turns s c.args.session
 
 pub returns-in-Err : goal.returns-in-Err
 returns-in-Err g c s st =
-    serving_ends _ _ _ _ _ _ c.args.turns c.serving.taken s c.serving.session c.accept.new.session c.in-Err.end c.serving.invariant.few c.in-Err.ensures.outcome (c.serving.invariant.serving s st)
+    serving_ends _ _ _ _ _ _ c.args.turns c.serving.taken s c.serving.session c.accept.new.session c.in-Err.end c.serving-test.true c.in-Err.ensures.outcome c.in-Err.ensures.waits (c.serving.invariant.serving s st)
 
 pub returns : goal.returns
 returns g c s st =
@@ -21,5 +21,5 @@ serving-preserved g c =
       room = c.serving.invariant.room;
       few = omega arith;
       serving =
-          λ s st. serving_continues _ _ _ _ _ _ c.args.turns c.serving.taken s c.serving.session c.accept.new.session c.accept.result c.in-Ok-accept.count c.in-Ok-accept.is c.accept.ensures.outcome (c.serving.invariant.serving s st);
+          λ s st. serving_continues _ _ _ _ _ _ c.args.turns c.serving.taken s c.serving.session c.accept.new.session c.accept.result c.in-Ok-accept.count c.in-Ok-accept.is c.accept.ensures.outcome c.accept.ensures.waits (c.serving.invariant.serving s st);
     }
