@@ -3,7 +3,9 @@
 -- POSIX, `read` and `write`: the error is EINTR where a signal came before any byte, and EAGAIN or EWOULDBLOCK where
 -- the descriptor is non-blocking and the call would block. Nothing was read or written, and the same call may be made
 -- again.
-use Rattle.std.specs.Prelude.{Bool, true, false}
+use Rattle.std.specs.Prelude.{◌≡◌, Bool, true, false, IsSome}
+use Rattle.std.specs.IoError.{error_kind, raw_os_error}
+use Rattle.std.specs.declared.io.Error.{Error}
 use Rattle.std.specs.declared.io.ErrorKind.{ErrorKind}
 use Rattle.std.specs.declared.io.ErrorKind.TheVariants.{Interrupted, WouldBlock}
 
@@ -17,3 +19,7 @@ passes _ = false
 abbrev pub is_interrupted : ErrorKind → Bool
 is_interrupted Interrupted = true
 is_interrupted _ = false
+
+-- an error that stays, with a number of the system, as those of a wait are
+abbrev pub IsOfWait : Error → Type 0
+IsOfWait error = IsSome (raw_os_error error) × (passes (error_kind error) ≡ false)

@@ -2,7 +2,7 @@
 --
 -- A signal may come at any call, and how many do is not known beforehand. So a call is made again up to a last time
 -- that no machine gets to, and only then given up.
-use Rattle.std.specs.Prelude.{◌≡◌, ℕ, ◌+◌, ◌<◌, Bool, true, false, Result, Ok, Err}
+use Rattle.std.specs.Prelude.{◌≡◌, ℕ, ◌+◌, ◌<◌, ◌⊎◌, Bool, true, false, Result, Ok, Err}
 use Rattle.std.specs.declared.io.Error.{Error}
 use Rattle.std.specs.declared.io.ErrorKind.TheVariants.{TimedOut}
 use Rattle.std.specs.IoError.{error_kind}
@@ -18,3 +18,7 @@ IsAfter before error false (Ok nothing) after = ⊥
 IsAfter before error false (Err stays) after = (stays ≡ error) × (after ≡ before)
 IsAfter before error true (Ok nothing) after = (before < most_retries) × (after ≡ before + 1)
 IsAfter before error true (Err stays) after = (before ≡ most_retries) × (error_kind stays ≡ TimedOut) × (after ≡ before)
+
+-- An error that stays, of a call that was made again so often: it is one of these, or the call was made again as often as it may be.
+abbrev pub Stays : (Error → Type 0) → ℕ → Error → Type 0
+Stays fails_with count error = fails_with error ⊎ (count ≡ most_retries)

@@ -1,11 +1,11 @@
 //! Waiting until a descriptor is ready.
-ghost use Rattle.std.specs.Prelude.{◌≡◌, ◌<◌, ◌+◌, OnOk, Err, ◌↔◌, IsOk, IfOk, IfErr, Some, true, false};
+ghost use Rattle.std.specs.Prelude.{◌≡◌, ◌<◌, ◌+◌, ◌⊎◌, OnOk, Err, ◌↔◌, IsOk, IfOk, IfErr, Some, true, false};
 ghost use Rattle.std.specs.IoError.{error_kind, raw_os_error};
-ghost use Rattle.blocking_io.specs.Passing.{passes};
-ghost use Rattle.blocking_io.specs.Retries.{most_retries};
+ghost use Rattle.blocking_io.specs.Passing.{passes, IsOfWait};
+ghost use Rattle.blocking_io.specs.Retries.{most_retries, Stays};
 ghost use Rattle.blocking_io.specs.Polling.{events_of, has_ended, is_ready, Found};
 
-use crate::retries::{Lasting, Retries};
+use crate::retries::Retries;
 use libc::net;
 use libc::types::pollfd;
 use std::io;
@@ -37,18 +37,23 @@ pub(crate) fn wait_after(
     fd: RawFd,
     direction: Direction,
     retries: &mut Retries,
-) -> Result<(), Lasting>
+) -> io::Result<()>
     ensures again { OnOk result
         ((retries.old < most_retries) × (retries.new ≡ retries.old + 1)) }
     ensures stays { passes (error_kind error) ≡ false → result ≡ Err error }
     ensures err { IfErr result (λ e. passes (error_kind e) ≡ false) }
+    ensures given { IfErr result (Stays (λ e. (e ≡ error) ⊎ IsOfWait e) retries.new) }
 {
     let passed = passes(&error);
     retries.after(error, passed)?;
-    match wait(fd, direction) {
-        Ok(()) => Ok(()),
-        Err(error) => retries.after(error, false),
-    }
+    wait(fd, direction)
+}
+
+/// Waits until a read of the stream would not block, however long it takes. A signal may end the wait early.
+pub fn wait_to_read<S: AsRawFd>(stream: &S) -> io::Result<()>
+    ensures err { IfErr result IsOfWait }
+{
+    wait(stream.as_raw_fd(), Direction::Read)
 }
 
 /// Whether a read of the stream would not block: there is something to read, or its input has ended or is
@@ -94,7 +99,7 @@ fn passes(error: &io::Error) -> bool
 
 // Waits until a call in this direction would not block.
 fn wait(fd: RawFd, direction: Direction) -> io::Result<()>
-    ensures { IfErr result (λ e. passes (error_kind e) ≡ false) }
+    ensures { IfErr result IsOfWait }
 {
     let (count, errno) = poll_one(fd, direction, NO_LIMIT);
     after_poll(count, errno)

@@ -20,38 +20,6 @@ impl Model for Retries {
     ghost view = { λ r. r.count };
 }
 
-/// An error that stays: that of a call that is not made again, or `TimedOut` where one was made again 2^64 - 1 times.
-/// Only `Retries::after` makes one, so a loop that makes a call again and fails has asked it. That it asked of its own call's
-/// error no clause can say.
-#[derive(Debug, Drop)]
-pub struct Lasting {
-    error: io::Error,
-}
-
-impl Model for Lasting {
-    ghost use Rattle.std.specs.declared.io.Error.{Error};
-
-    ghost Value = { Error };
-
-    ghost view = { λ l. l.error };
-}
-
-impl Lasting {
-    /// The error that stays.
-    pub fn error(&self) -> &io::Error
-        ensures { result.now ≡ self.now }
-    {
-        &self.error
-    }
-
-    /// The error that stays.
-    pub fn into_error(self) -> io::Error
-        ensures { result ≡ self }
-    {
-        self.error
-    }
-}
-
 impl Retries {
     /// No call was made again yet.
     pub fn none() -> Retries
@@ -62,16 +30,14 @@ impl Retries {
 
     /// After an error of a call: where it passes, the call is to be made again, and that is counted. Any other error
     /// stays, and so does `TimedOut` where 2^64 - 1 were counted.
-    pub fn after(&mut self, error: io::Error, passes: bool) -> Result<(), Lasting>
+    pub fn after(&mut self, error: io::Error, passes: bool) -> io::Result<()>
         ensures { IsAfter self.old error passes result self.new }
     {
         if !passes {
-            return Err(Lasting { error });
+            return Err(error);
         }
         if self.count == u64::MAX {
-            return Err(Lasting {
-                error: ErrorKind::TimedOut.into(),
-            });
+            return Err(ErrorKind::TimedOut.into());
         }
         self.count += 1;
         Ok(())

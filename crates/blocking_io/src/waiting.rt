@@ -1,12 +1,14 @@
 //! A stream whose calls wait.
-ghost use Rattle.std.specs.Prelude.{◌≡◌, IfErr, false};
+ghost use Rattle.std.specs.Prelude.{◌≡◌, ◌⊎◌, IfErr, false};
 ghost use Rattle.std.specs.Io.{ReadsAtMost, WritesAtMost};
 ghost use Rattle.std.specs.Io.KnownBytes.{ReadConsumes, WriteAppends};
 ghost use Rattle.std.specs.IoError.{error_kind};
-ghost use Rattle.blocking_io.specs.Passing.{passes};
+ghost use Rattle.blocking_io.specs.Passing.{passes, IsOfWait};
+ghost use Rattle.blocking_io.specs.Retries.{Stays};
 
+use crate::attempts::{FallibleRead, FallibleWrite};
 use crate::ready::{Direction, wait_after};
-use crate::retries::{Lasting, Retries};
+use crate::retries::Retries;
 use std::io;
 use std::io::{Read, Write};
 use std::os::fd::AsRawFd;
@@ -39,10 +41,7 @@ impl<S: Read + AsRawFd> Read for Waiting<S> {
             result buf.new }
         ensures waited { IfErr result (λ e. passes (error_kind e) ≡ false) }
     {
-        match read_waiting(&mut self.stream, buf) {
-            Ok(count) => Ok(count),
-            Err(stays) => Err(stays.into_error()),
-        }
+        read_waiting(&mut self.stream, buf, &mut Retries::none())
     }
 }
 
@@ -56,10 +55,7 @@ impl<S: Write + AsRawFd> Write for Waiting<S> {
             result buf.now }
         ensures waited { IfErr result (λ e. passes (error_kind e) ≡ false) }
     {
-        match write_waiting(&mut self.stream, buf) {
-            Ok(count) => Ok(count),
-            Err(stays) => Err(stays.into_error()),
-        }
+        write_waiting(&mut self.stream, buf, &mut Retries::none())
     }
 
     fn flush(&mut self) -> io::Result<()> {
@@ -68,35 +64,43 @@ impl<S: Write + AsRawFd> Write for Waiting<S> {
 }
 
 // A read that waits.
-fn read_waiting<S: Read + AsRawFd>(stream: &mut S, buf: &mut [u8]) -> Result<usize, Lasting>
+fn read_waiting<S: FallibleRead + AsRawFd>(
+    stream: &mut S,
+    buf: &mut [u8],
+    retries: &mut Retries,
+) -> io::Result<usize>
     ensures bound { ReadsAtMost result buf.new }
     ensures bytes { ReadConsumes (S.Read.remaining stream.old)
         (S.Read.remaining stream.new)
         result buf.new }
     ensures waited { IfErr result (λ e. passes (error_kind e) ≡ false) }
+    ensures given { IfErr result (Stays (λ e. S.fails_with e ⊎ IsOfWait e) retries.new) }
 {
-    let mut retries = Retries::none();
     'waiting: loop {
-        match stream.read(buf) {
+        match stream.attempt_read(buf) {
             Ok(count) => return Ok(count),
-            Err(error) => wait_after(error, stream.as_raw_fd(), Direction::Read, &mut retries)?,
+            Err(error) => wait_after(error, stream.as_raw_fd(), Direction::Read, retries)?,
         }
     }
 }
 
 // A write that waits.
-fn write_waiting<S: Write + AsRawFd>(stream: &mut S, buf: &[u8]) -> Result<usize, Lasting>
+fn write_waiting<S: FallibleWrite + AsRawFd>(
+    stream: &mut S,
+    buf: &[u8],
+    retries: &mut Retries,
+) -> io::Result<usize>
     ensures bound { WritesAtMost result buf.now }
     ensures bytes { WriteAppends (S.Write.contents stream.old)
         (S.Write.contents stream.new)
         result buf.now }
     ensures waited { IfErr result (λ e. passes (error_kind e) ≡ false) }
+    ensures given { IfErr result (Stays (λ e. S.fails_with e ⊎ IsOfWait e) retries.new) }
 {
-    let mut retries = Retries::none();
     'waiting: loop {
-        match stream.write(buf) {
+        match stream.attempt_write(buf) {
             Ok(count) => return Ok(count),
-            Err(error) => wait_after(error, stream.as_raw_fd(), Direction::Write, &mut retries)?,
+            Err(error) => wait_after(error, stream.as_raw_fd(), Direction::Write, retries)?,
         }
     }
 }

@@ -5,10 +5,11 @@ ghost use Rattle.std.specs.Io.KnownBytes.{Appends, WriteAppends};
 ghost use Rattle.std.specs.IoError.{error_kind};
 ghost use Rattle.std.specs.declared.io.ErrorKind.TheVariants.{Interrupted};
 ghost use Rattle.blocking_io.specs.Passing.{is_interrupted};
-ghost use Rattle.blocking_io.specs.Retries.{IsAfter};
+ghost use Rattle.blocking_io.specs.Retries.{IsAfter, Stays};
 ghost use Rattle.blocking_io.specs.Writing.{IsPartWritten};
 
-use crate::retries::{Lasting, Retries};
+use crate::attempts::FallibleWrite;
+use crate::retries::Retries;
 use std::io;
 use std::io::{ErrorKind, Write};
 
@@ -39,30 +40,31 @@ pub fn write_some<W: Write>(writer: &mut W, bytes: &[u8]) -> io::Result<usize>
     ensures bytes { WriteAppends (W.contents writer.old) (W.contents writer.new) result bytes.now }
     ensures again { IfErr result (λ e. error_kind e ≢ Interrupted) }
 {
-    match write_once(writer, bytes) {
-        Ok(count) => Ok(count),
-        Err(stays) => Err(stays.into_error()),
-    }
+    write_once(writer, bytes, &mut Retries::none())
 }
 
 // One write, made again as long as signals interrupt it.
-fn write_once<W: Write>(writer: &mut W, bytes: &[u8]) -> Result<usize, Lasting>
+fn write_once<W: FallibleWrite>(
+    writer: &mut W,
+    bytes: &[u8],
+    retries: &mut Retries,
+) -> io::Result<usize>
     ensures bound { WritesAtMost result bytes.now }
     ensures bytes { WriteAppends (W.contents writer.old) (W.contents writer.new) result bytes.now }
     ensures again { IfErr result (λ e. error_kind e ≢ Interrupted) }
+    ensures given { IfErr result (Stays W.fails_with retries.new) }
 {
-    let mut retries = Retries::none();
     'writing: loop {
-        match writer.write(bytes) {
+        match writer.attempt_write(bytes) {
             Ok(count) => return Ok(count),
-            Err(error) => after_write(error, &mut retries)?,
+            Err(error) => after_write(error, retries)?,
         }
     }
 }
 
 // After an error of a write: where a signal interrupted it, the write is to be made again, which is counted. Any other
 // error stays, also that of a write that would block: one that is made again at once would find the same.
-fn after_write(error: io::Error, retries: &mut Retries) -> Result<(), Lasting>
+fn after_write(error: io::Error, retries: &mut Retries) -> io::Result<()>
     ensures { IsAfter retries.old error (is_interrupted (error_kind error)) result retries.new }
 {
     let interrupted = is_interrupted(&error);

@@ -1,7 +1,6 @@
 -- What a look, a write and a knock come to, by what the call of the system said.
-use Rattle.std.specs.Prelude.{◌≡◌, ◌≢◌, ℕ, zero, suc, Bool, true, false, Result, Ok, Err, IfErr, IsErrAnd}
+use Rattle.std.specs.Prelude.{◌≡◌, ◌≢◌, ℕ, zero, suc, Bool, true, false, Result, Ok, Err, IfErr}
 use Rattle.std.specs.declared.io.Error.{Error}
-use Rattle.std.specs.declared.io.ErrorKind.TheVariants.{WouldBlock}
 use Rattle.std.specs.IoError.{error_kind, raw_os_error}
 use Rattle.wires.specs.declared.wire.Received.{Received}
 use Rattle.wires.specs.declared.wire.Received.TheVariants.{Bytes, Nothing, End}
@@ -40,12 +39,6 @@ sent (Ok (suc n)) has_bytes = Ok (suc n)
 sent (Ok zero) true = Err (record {})
 sent (Ok zero) false = Ok zero
 sent (Err e) has_bytes = Err (record {})
-
--- A read of no bytes would block where there is nothing to read, and else gives none.
-abbrev pub IsReadiness : Result Bool Error → Result ℕ Error → Type 0
-IsReadiness (Ok true) read = read ≡ Ok zero
-IsReadiness (Ok false) read = IsErrAnd read (λ e. error_kind e ≡ WouldBlock)
-IsReadiness (Err error) read = read ≡ Err error
 
 -- an accept that failed found nobody, or it is a fault
 abbrev pub came_failed : {W : Type 0} → Failure → Result (Came W) DoorFault

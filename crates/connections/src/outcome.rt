@@ -3,18 +3,17 @@ ghost use Rattle.std.specs.Prelude.{◌≡◌};
 ghost use Rattle.connections.specs.Outcomes as spec;
 
 use crate::failure::{Failure, failed_accept, failed_read};
-use blocking_io::Lasting;
 use std::io;
 use wires::{Came, DoorFault, Received, WireFault};
 
 /// What a read comes to that did not wait, into a room that has room for a byte or not.
-pub(crate) fn received(read: Result<usize, Lasting>, has_room: bool) -> Result<Received, WireFault>
+pub(crate) fn received(read: io::Result<usize>, has_room: bool) -> Result<Received, WireFault>
     ensures { result ≡ spec.received read has_room }
 {
     match read {
         Ok(0) if has_room => Ok(Received::End),
         Ok(count) => Ok(Received::Bytes(count)),
-        Err(error) => match failed_read(error.error()) {
+        Err(error) => match failed_read(&error) {
             Failure::Nothing => Ok(Received::Nothing),
             Failure::Again | Failure::Fault => Err(WireFault),
         },
@@ -33,12 +32,12 @@ pub(crate) fn sent(written: io::Result<usize>, has_bytes: bool) -> Result<usize,
 }
 
 /// What an accept comes to that did not wait.
-pub(crate) fn came<W: Drop>(accepted: Result<W, Lasting>) -> Result<Came<W>, DoorFault>
+pub(crate) fn came<W: Drop>(accepted: io::Result<W>) -> Result<Came<W>, DoorFault>
     ensures { result ≡ spec.came accepted }
 {
     match accepted {
         Ok(wire) => Ok(Came::Wire(wire)),
-        Err(error) => match failed_accept(error.error()) {
+        Err(error) => match failed_accept(&error) {
             Failure::Nothing => Ok(Came::Nothing),
             Failure::Again | Failure::Fault => Err(DoorFault),
         },

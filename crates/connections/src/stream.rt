@@ -5,7 +5,7 @@ ghost use Rattle.connections.specs.Readers.{Begins};
 
 use crate::outcome::sent;
 use crate::reading::{look, read_waiting};
-use blocking_io::{Waiting, can_read};
+use blocking_io::{Retries, Waiting, can_read};
 use std::io::{Read, Write};
 use std::os::fd::AsRawFd;
 use wires::{Received, Wire, WireFault};
@@ -88,7 +88,7 @@ impl<R: Read + AsRawFd, W: Write + AsRawFd> Wire for StreamWire<R, W> {
 
     fn recv_wait(&mut self, room: &mut [u8]) -> Result<usize, WireFault> {
         self.waits = self.waits.saturating_add(1);
-        match read_waiting(&mut self.reader, room) {
+        match read_waiting(&mut self.reader, room, &mut Retries::none()) {
             Ok(count) => Ok(count),
             Err(_) => {
                 self.faults = self.faults.saturating_add(1);

@@ -1,7 +1,9 @@
 //! Doors over TCP.
-ghost use Rattle.std.specs.Prelude.{◌≡◌, ◌≢◌, IfOk, IfErr, IsSome, Ok, None, true};
+ghost use Rattle.std.specs.Prelude.{◌≡◌, ◌≢◌, ◌≤◌, ◌⊎◌, IfOk, IfErr, IsSome, Ok, None, true};
 ghost use Rattle.std.specs.IoError.{error_kind, raw_os_error};
-ghost use Rattle.blocking_io.specs.Retries.{IsAfter};
+ghost use Rattle.std.specs.declared.io.Error.{Error};
+ghost use Rattle.blocking_io.specs.Passing.{IsOfWait};
+ghost use Rattle.blocking_io.specs.Retries.{IsAfter, Stays};
 ghost use Rattle.wires.specs.Doors.{Knocks, Admits};
 ghost use Rattle.wires.specs.Wires.{one_more};
 ghost use Rattle.connections.specs.Failures.{failed_accept, is_made_again};
@@ -10,7 +12,7 @@ use crate::connection::{TcpWire, tcp_wire};
 use crate::failure::{Failure, failed_accept, is_made_again};
 use crate::outcome::came;
 use crate::reading::wait_after;
-use blocking_io::{Lasting, Retries};
+use blocking_io::Retries;
 use std::io;
 use std::net::TcpListener;
 use std::os::fd::AsRawFd;
@@ -41,22 +43,46 @@ impl TcpDoor {
     }
 }
 
+// A listener, with something that holds of each error that an accept of it fails with, as of a `FallibleRead`.
+trait FallibleAccept {
+    type Peer: Drop;
+
+    ghost fails_with: { Error → Type 0 };
+
+    // Takes the peer that is first of those who wait, where its connection stands.
+    fn first_peer(&self) -> io::Result<Self::Peer>
+        ensures { IfErr result fails_with };
+}
+
+impl FallibleAccept for TcpListener {
+    type Peer = TcpWire;
+
+    ghost fails_with = { λ e. Unit {0} };
+
+    fn first_peer(&self) -> io::Result<TcpWire> {
+        let (stream, _address) = self.accept()?;
+        tcp_wire(stream)
+    }
+}
+
 // Takes the peer that is first of those who wait, and passes over those whose connection broke.
-fn accept_once(listener: &TcpListener) -> Result<TcpWire, Lasting>
-    ensures { IfErr result (λ e. failed_accept (error_kind e) (raw_os_error e) ≢ Failure.Again) }
+fn accept_once<L: FallibleAccept>(listener: &L, retries: &mut Retries) -> io::Result<L::Peer>
+    ensures again { IfErr result
+        (λ e. failed_accept (error_kind e) (raw_os_error e) ≢ Failure.Again) }
+    ensures given { IfErr result (Stays L.fails_with retries.new) }
+    ensures counts { retries.old ≤ retries.new }
 {
-    let mut retries = Retries::none();
     'accepting: loop {
-        match first_peer(listener) {
+        match listener.first_peer() {
             Ok(wire) => return Ok(wire),
-            Err(error) => after_accept(error, &mut retries)?,
+            Err(error) => after_accept(error, retries)?,
         }
     }
 }
 
 // After an error of an accept: where the peer is passed over, or a signal interrupted it, the accept is to be made again,
 // which is counted. Any other error stays, also that of an accept that found nobody.
-fn after_accept(error: io::Error, retries: &mut Retries) -> Result<(), Lasting>
+fn after_accept(error: io::Error, retries: &mut Retries) -> io::Result<()>
     ensures { IsAfter retries.old error
         (is_made_again (failed_accept (error_kind error) (raw_os_error error))) result retries.new }
 {
@@ -64,23 +90,21 @@ fn after_accept(error: io::Error, retries: &mut Retries) -> Result<(), Lasting>
     retries.after(error, again)
 }
 
-// Takes the peer that is first of those who wait, where its connection stands.
-fn first_peer(listener: &TcpListener) -> io::Result<TcpWire> {
-    let (stream, _address) = listener.accept()?;
-    tcp_wire(stream)
-}
-
 // Takes the next peer, and waits for it.
-fn accept_waiting(listener: &TcpListener) -> Result<TcpWire, Lasting>
-    ensures { IfErr result (λ e. failed_accept (error_kind e) (raw_os_error e) ≢ Failure.Nothing) }
+fn accept_waiting<L: FallibleAccept + AsRawFd>(
+    listener: &L,
+    retries: &mut Retries,
+) -> io::Result<L::Peer>
+    ensures waited { IfErr result
+        (λ e. failed_accept (error_kind e) (raw_os_error e) ≢ Failure.Nothing) }
+    ensures given { IfErr result (Stays (λ e. L.fails_with e ⊎ IsOfWait e) retries.new) }
 {
-    let mut retries = Retries::none();
     'accepting: loop {
-        match accept_once(listener) {
+        match accept_once(listener, retries) {
             Ok(wire) => return Ok(wire),
-            Err(stays) => {
-                let nobody = failed_accept(stays.error()) == Failure::Nothing;
-                wait_after(stays, nobody, listener.as_raw_fd(), &mut retries)?;
+            Err(error) => {
+                let nobody = failed_accept(&error) == Failure::Nothing;
+                wait_after(error, nobody, listener.as_raw_fd(), retries)?;
             }
         }
     }
@@ -103,7 +127,7 @@ impl Door for TcpDoor {
             ≡ (⟦<TcpDoor as Door>⟧.doorway self.old).waits }
         ensures stays_open { result ≢ Ok Came.End }
     {
-        let found = came(accept_once(&self.listener));
+        let found = came(accept_once(&self.listener, &mut Retries::none()));
         match &found {
             Ok(Came::Nothing) => self.idle = self.idle.saturating_add(1),
             Ok(Came::Wire(_) | Came::End) => {}
@@ -120,7 +144,7 @@ impl Door for TcpDoor {
         ensures stays_open { IfOk result IsSome }
     {
         self.waits = self.waits.saturating_add(1);
-        match accept_waiting(&self.listener) {
+        match accept_waiting(&self.listener, &mut Retries::none()) {
             Ok(wire) => Ok(Some(wire)),
             Err(_) => {
                 self.faults = self.faults.saturating_add(1);
