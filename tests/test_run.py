@@ -21,6 +21,8 @@ ENDLESS = b"li a7, 1\nli a0, 1\ne: ecall\nj e\n"
 # Prints 1, and then loads from address 0, on line 4.
 TRAPS = b"li a7, 1\nli a0, 1\nf: ecall\nlw a0, 0(zero)\n"
 EBREAK = b"f: nop\nebreak\nnop\n"
+# Prints 5, and then stores into a page that nothing was stored into; six instructions retire.
+STORES = b"li a7, 1\nli a0, 5\necall\nsw a0, -4(sp)\nli a7, 93\nli a0, 0\necall\n"
 
 
 def run(*words, stdout=subprocess.PIPE, environment=None):
@@ -116,7 +118,9 @@ def output_that_fails_ends_it():
         os.close(reading)
         expect(run(path, stdout=writing)[1:], ("rvdap: read or write fault\n", 1), "a pipe that nobody reads")
         os.close(writing)
-    with file_of(PRINTS) as path:
+    with file_of(PRINTS) as path, open("/dev/full", "wb") as full:
+        said = "rvdap: retired instructions: 8\nrvdap: read or write fault\n"
+        expect(run("--count", path, stdout=full)[1:], (said, 1), "a count where output fails")
         ran = subprocess.run(["sh", "-c", 'exec "$0" run "$1" >&-', PROGRAM, path], stdin=subprocess.DEVNULL, stderr=subprocess.PIPE, timeout=60)
         expect((ran.stderr, ran.returncode), (b"rvdap: read or write fault\n", 1), "no standard output")
 
@@ -138,7 +142,16 @@ def without_memory_it_ends_with_a_line():
                 expect((out, said), (PRINTED, ""), "a whole run")
             else:
                 expect((said, status), ("rvdap: no memory\n", 1), "out of memory")
-                expect(out, PRINTED[:len(out)], "what was printed before it")
+                expect(out in (b"", b"-7\n", PRINTED), True, "what was printed before it: %r" % out)
+
+
+def what_was_printed_before_memory_ran_out_is_there():
+    """The page of the store is refused, or room for a line after the first: the number is there, and so is the count."""
+    none, counted = "rvdap: no memory\n", "rvdap: retired instructions: %d\n"
+    with file_of(STORES) as path:
+        ends = set(each_refusal(lambda environment: run("--count", path, environment=environment)))
+    whole = (b"5\n", counted % 6, 0)
+    expect(ends - {whole}, {(b"", none, 1), (b"", counted % 0 + none, 1), (b"5\n", counted % 3 + none, 1)}, "the ends")
 
 
 def the_document_for_teachers_shows_what_is_so():
@@ -237,6 +250,7 @@ def checks():
         output_that_fails_ends_it,
         a_fifo_is_read,
         without_memory_it_ends_with_a_line,
+        what_was_printed_before_memory_ran_out_is_there,
         the_document_for_teachers_shows_what_is_so,
         submissions_are_graded,
         the_loop_of_the_guide_grades,

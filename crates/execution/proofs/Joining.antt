@@ -1,5 +1,5 @@
 -- Ticks, and further ticks after them.
-use Rattle.std.proofs.Common.{◌≡◌, ℕ, zero, suc, ◌+◌, ◌<◌, ◌≤◌, inl, inr, ℤ, ◌-◌, List, [], ◌∷◌, ◌++◌, length, take, Option, Some, None, Result, Ok, Err, ◌^◌, refl, sym, ap, subst, ◌∙◌, arith, append_assoc}
+use Rattle.std.proofs.Common.{◌≡◌, ℕ, zero, suc, ◌+◌, ◌<◌, ◌≤◌, inl, inr, ℤ, ◌-◌, List, [], ◌∷◌, ◌++◌, Option, Some, None, Result, Ok, Err, ◌^◌, refl, sym, ap, subst, ◌∙◌, arith, append_assoc}
 use Rattle.std.specs.Prelude.{OnErr}
 use Rattle.std.proofs.lemmas.List.{append-nil}
 use Rattle.stepping.proofs.Going.{tick_retires}
@@ -53,20 +53,6 @@ pub ends_within : (limit : ℕ) (end : ExecutionEnd) (start after : Debugged) (l
 ends_within limit (Ended code) start after lines h = h
 ends_within limit (Stopped reason) start after lines h = h
 ends_within limit Limit start after lines h = absurd h
-
-pub made_join : (n m most : ℕ) (start middle after : Debugged) (lines more : List ℕ) → n + m ≤ most
-    → Goes n start lines middle → Made m middle more after → Made most start (lines ++ more) after
-made_join n m most start middle after lines more few g (inl (ticks, below, h)) =
-    inl (n + ticks, omega (arith, few, below), goes_join n ticks start middle after lines more g h)
-made_join n m most start middle after lines more few g (inr (end, h)) =
-    inr (end, ends_join n m most end start middle after lines more few g h)
-
--- the first of some lines, and of those after them
-pub take_later : (lines more : List ℕ) (count : ℕ) → take (length lines + count) (lines ++ more) ≡ lines ++ take count more
-take_later [] more count = let e : 0 + count ≡ count = omega arith in ap (λ n. take n more) e
-take_later (x ∷ lines) more count =
-    let e : suc (length lines) + count ≡ suc (length lines + count) = omega arith in
-    ap (λ n. take n (x ∷ lines ++ more)) e ∙ ap (λ t. x ∷ t) (take_later lines more count)
 
 -- ---- how many instructions retire
 
@@ -126,60 +112,56 @@ one_more n most (outcome.Ended code) number start middle after below g tick made
 -- ---- what a run comes to
 
 -- where as many went as were asked for
-pub spent : (most : ℕ) (start after : Debugged) (ran : Ran) (text : List ℕ) → 1 ≤ most → IsRun most start ran after
-    → ran.ending ≡ run_end.Spent
-    → IsSlice most most None start after text text
-spent most start after ran text some r is =
+pub spent : (most : ℕ) (start after : Debugged) (ran : Ran) (text text' : List ℕ) → 1 ≤ most → IsRun most start ran after
+    → ran.ending ≡ run_end.Spent → text' ≡ text → IsSlice most most None start after text text'
+spent most start after ran text text' some r is same =
     let e : (ran.went ≡ most) × (after ≡ r.middle) = subst (λ x. EndsRun most ran.went x r.middle after) is r.ends in
     let goes : GoesPlain most start after = subst (λ d. GoesPlain most start d) (sym e.1)
     (subst (λ k. GoesPlain k start r.middle) e.0 r.goes) in
     record {
       lines = [];
       comes = (some, omega arith, plain_goes most start after goes);
-      text_is = sym (append-nil text);
+      text_is = same ∙ sym (append-nil text);
     }
 
 -- where one more ticked
-pub ticked : (most : ℕ) (start after : Debugged) (ran : Ran) (tick : Tick) (text text' : List ℕ) (made : ℕ) (end : Option ExecutionEnd)
+pub ticked : (most : ℕ) (start after : Debugged) (ran : Ran) (tick : Tick) (text text' text'' : List ℕ) (made : ℕ) (end : Option ExecutionEnd)
     → IsRun most start ran after → ran.ending ≡ run_end.Ticked tick → end ≡ end_by tick.outcome
-    → (end_by tick.outcome ≡ None → made ≡ ran.went + 1) → text' ≡ text ++ line_of tick.printed
-    → IsSlice most made end start after text text'
-ticked most start after ran tick text text' made end r is ends counts line =
+    → (end_by tick.outcome ≡ None → made ≡ ran.went + 1) → text' ≡ text → text'' ≡ text' ++ line_of tick.printed
+    → IsSlice most made end start after text text''
+ticked most start after ran tick text text' text'' made end r is ends counts same line =
     let e : (ran.went < most) × ((IsPlain tick after → ⊥) × IsTick r.middle (Ok tick) after) =
     subst (λ x. EndsRun most ran.went x r.middle after) is r.ends in
     record {
       lines = line_of tick.printed;
       comes = subst (λ x. Comes most made x start (line_of tick.printed) after) (sym ends)
           (one_more ran.went most tick.outcome tick.printed start r.middle after e.0 r.goes e.1.1 made counts);
-      text_is = line;
+      text_is = line ∙ ap (λ t. t ++ line_of tick.printed) same;
     }
 
--- the same, where no memory was left for its line
-pub unsaid : (most : ℕ) (start after : Debugged) (ran : Ran) (tick : Tick) (text text' : List ℕ)
-    → IsRun most start ran after → ran.ending ≡ run_end.Ticked tick → text' ≡ text → BreaksOff most start after text text'
-unsaid most start after ran tick text text' r is same =
-    let e : (ran.went < most) × ((IsPlain tick after → ⊥) × IsTick r.middle (Ok tick) after) =
-    subst (λ x. EndsRun most ran.went x r.middle after) is r.ends in
-    let comes = one_more ran.went most tick.outcome tick.printed start r.middle after e.0 r.goes e.1.1 (ran.went + 1) (λ h. refl) in
-    record {
-      lines = line_of tick.printed;
-      made = made_of most (ran.went + 1) (end_by tick.outcome) start after (line_of tick.printed) comes;
-      count = 0;
-      text_is = same ∙ sym (append-nil text);
-    }
+-- where no memory was left for its line, before it was made
+pub none_made : (most : ℕ) (start : Debugged) (text text' : List ℕ) → 1 ≤ most → text' ≡ text → BreaksOff most start start text text'
+none_made most start text text' some same = record {
+  ticks = 0;
+  below = omega (arith, some);
+  lines = [];
+  goes = (refl, refl);
+  text_is = same ∙ sym (append-nil text);
+}
 
 -- where no memory was left for a page
-pub lacked : (most : ℕ) (start after : Debugged) (ran : Ran) (text : List ℕ)
-    → IsRun most start ran after → ran.ending ≡ run_end.NoMemory → BreaksOff most start after text text
-lacked most start after ran text r is =
+pub lacked : (most : ℕ) (start after : Debugged) (ran : Ran) (text text' : List ℕ)
+    → IsRun most start ran after → ran.ending ≡ run_end.NoMemory → text' ≡ text → BreaksOff most start after text text'
+lacked most start after ran text text' r is same =
     let e : (ran.went < most) × ((after ≡ r.middle) × MayLackMemory r.middle) = subst
     (λ x. EndsRun most ran.went x r.middle after) is r.ends in
     let goes : GoesPlain ran.went start after = subst (λ d. GoesPlain ran.went start d) (sym e.1.0) r.goes in
     record {
+      ticks = ran.went;
+      below = e.0;
       lines = [];
-      made = inl (ran.went, omega (arith, e.0), plain_goes ran.went start after goes);
-      count = 0;
-      text_is = sym (append-nil text);
+      goes = plain_goes ran.went start after goes;
+      text_is = same ∙ sym (append-nil text);
     }
 
 -- ---- slices, one after the other
@@ -235,11 +217,11 @@ whole_slice most n start after text text' some few s =
 pub breaks_in_slice : (most n : ℕ) (start middle after : Debugged) (text text' text'' : List ℕ) → n ≤ most
     → SoFar n start middle text text' → BreaksOff (most - n) middle after text' text'' → BreaksOff most start after text text''
 breaks_in_slice most n start middle after text text' text'' few s h = record {
+  ticks = n + h.ticks;
+  below = omega (arith, few, h.below);
   lines = s.lines ++ h.lines;
-  made = made_join n (most - n) most start middle after s.lines h.lines (omega (arith, few)) s.goes h.made;
-  count = length s.lines + h.count;
-  text_is = more_text text s.lines (take h.count h.lines) text' text'' s.text_is h.text_is
-      ∙ ap (λ t. text ++ t) (sym (take_later s.lines h.lines h.count));
+  goes = goes_join n h.ticks start middle after s.lines h.lines s.goes h.goes;
+  text_is = more_text text s.lines h.lines text' text'' s.text_is h.text_is;
 }
 
 pub on_err : {T E P : Type 0} (answer : Result T E) → P → OnErr answer P

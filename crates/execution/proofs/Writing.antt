@@ -1,15 +1,15 @@
 -- Slices of which the lines are written, one after the other.
-use Rattle.std.proofs.Common.{◌≡◌, ℕ, zero, suc, ◌+◌, ◌-◌, ◌<◌, ◌≤◌, ◌^◌, List, [], ◌∷◌, ◌++◌, length, take, Option, Some, None, Result, Ok, Err, refl, sym, ap, subst, ◌∙◌, arith, append_assoc, length-append}
-use Rattle.std.proofs.Math.Nat.{min-le_left}
+use Rattle.std.proofs.Common.{◌≡◌, ℕ, ◌+◌, ◌-◌, ◌<◌, ◌≤◌, ◌^◌, List, [], ◌++◌, length, take, Option, Some, None, Result, Ok, Err, inl, refl, sym, ap, subst, ◌∙◌, arith, append_assoc}
+use Rattle.std.proofs.Math.Nat.{min-le_left, min_comm}
 use Rattle.std.specs.Prelude.{IfOk, OnErr, min}
 use Rattle.std.specs.Io.KnownBytes.{Appends}
 use Rattle.std.specs.declared.alloc.AllocError.{AllocError}
 use Rattle.std.proofs.lemmas.List.{append-nil}
 use Rattle.blocking_io.specs.Writing.{IsPartWritten}
 use Rattle.stepping.specs.Ticks.{Debugged}
-use Rattle.execution.proofs.Joining.{ends_join, ends_within, goes_join, goes_retire, made_join, made_of, take_later}
-use Rattle.execution.specs.Executions.{Executes, Goes, IsGivenUp, IsShort}
-use Rattle.execution.specs.Slices.{BreaksOff, IsSlice, Writes}
+use Rattle.execution.proofs.Joining.{ends_join, ends_within, goes_join, goes_retire, made_of}
+use Rattle.execution.specs.Executions.{Executes, Goes, IsGivenUp, IsUnwritten, LacksMemory, Made}
+use Rattle.execution.specs.Slices.{BreaksOff, GivesUp, IsSlice, Writes}
 use Rattle.execution.specs.declared.end.ExecutionEnd.{ExecutionEnd}
 use Rattle.execution.specs.declared.end.ExecutionEnd.TheVariants.{Limit}
 use Rattle.execution.specs.declared.end.ExecutionFault.{ExecutionFault}
@@ -28,41 +28,41 @@ appends_join (Some xs) None c lines more h k = absurd h
 appends_join (Some xs) (Some ys) None lines more h k = absurd k
 appends_join (Some xs) (Some ys) (Some zs) lines more h k = k ∙ ap (λ t. t ++ more) h ∙ append_assoc xs lines more
 
--- a first part of a first part
-first_part : (n c : ℕ) (l : List ℕ) → (k : ℕ) × (take n (take c l) ≡ take k l) × (n < length (take c l) → k < length l)
-first_part zero zero l = (0, refl, λ h. absurd (omega (arith, h)))
-first_part zero (suc c) [] = (0, refl, λ h. absurd (omega (arith, h)))
-first_part zero (suc c) (x ∷ l) = (0, refl, λ h. omega arith)
-first_part (suc n) zero l = (0, refl, λ h. absurd (omega (arith, h)))
-first_part (suc n) (suc c) [] = (0, refl, λ h. absurd (omega (arith, h)))
-first_part (suc n) (suc c) (x ∷ l) =
-    let p = first_part n c l in (suc p.0, ap (λ t. x ∷ t) p.1, λ h. let short = p.2 (omega (arith, h)) in omega (arith, short))
-
 -- ---- a slice
+
+-- some ticks were made, and their lines are the text that was not all written
+not_whole : (most : ℕ) (start after : Debugged) (lines text : List ℕ) (before now : Option (List ℕ)) → Made most start lines after
+    → text ≡ lines → IsPartWritten before now text → IsUnwritten most start after before now
+not_whole most start after lines text before now made is w = record {
+  lines = lines;
+  made = made;
+  count = w.count;
+  short = subst (λ t. w.count < length t) is w.short;
+  written = subst (λ t. Appends before now (take w.count t)) is w.appended;
+}
 
 -- where the writer failed
 pub unwritten : (most : ℕ) (start after : Debugged) (r : Result Slice AllocError) (text text' : List ℕ) (before now : Option (List ℕ))
     → text ≡ []
     → IfOk r (λ s. IsSlice most s.made s.end start after text text') → OnErr r (BreaksOff most start after text text')
-    → IsPartWritten before now text' → IsGivenUp most Write start after before now
+    → IsPartWritten before now text' → IsUnwritten most start after before now
 unwritten most start after (Ok s) text text' before now none h e w =
-    let is : text' ≡ h.lines = h.text_is ∙ ap (λ t. t ++ h.lines) none in
-    record {
-      lines = h.lines;
-      made = made_of most s.made s.end start after h.lines h.comes;
-      count = w.count;
-      short = subst (λ t. w.count < length t) is w.short;
-      written = subst (λ t. Appends before now (take w.count t)) is w.appended;
-    }
+    not_whole most start after h.lines text' before now (made_of most s.made s.end start after h.lines h.comes)
+    (h.text_is ∙ ap (λ t. t ++ h.lines) none) w
 unwritten most start after (Err error) text text' before now none h e w =
-    let is : text' ≡ take e.count e.lines = e.text_is ∙ ap (λ t. t ++ take e.count e.lines) none in
-    let part = first_part w.count e.count e.lines in
+    not_whole most start after e.lines text' before now (inl (e.ticks, omega (arith, e.below), e.goes))
+    (e.text_is ∙ ap (λ t. t ++ e.lines) none) w
+
+-- where no memory was left
+pub lacking : (most : ℕ) (start after : Debugged) (text text' : List ℕ) (before now : Option (List ℕ)) → text ≡ []
+    → BreaksOff most start after text text' → Appends before now text' → LacksMemory most start after before now
+lacking most start after text text' before now none e w =
     record {
+      ticks = e.ticks;
+      below = e.below;
       lines = e.lines;
-      made = e.made;
-      count = part.0;
-      short = part.2 (subst (λ t. w.count < length t) is w.short);
-      written = subst (λ t. Appends before now t) (ap (take w.count) is ∙ part.1) w.appended;
+      goes = e.goes;
+      written = let is : text' ≡ e.lines = e.text_is ∙ ap (λ t. t ++ e.lines) none in subst (λ t. Appends before now t) is w;
     }
 
 -- ---- slices, one after the other
@@ -110,23 +110,28 @@ ended limit left most made end start middle after before now later few s w = rec
   written = appends_join before now later s.lines w.lines s.written w.written;
 }
 
--- what is short stays so with lines before it
-still_short : (fault : ExecutionFault) (count : ℕ) (lines more : List ℕ) → IsShort fault count more
-    → IsShort fault (length lines + count) (lines ++ more)
-still_short Write count lines more h = omega (arith, h, length-append lines more)
-still_short NoMemory count lines more h = tt
-
 pub given_up : (fault : ExecutionFault) (limit left most : ℕ) (start middle after : Debugged) (before now later : Option (List ℕ))
-    → most ≤ left
-    → SoWritten limit left start middle before now → IsGivenUp most fault middle after now later
+    → most ≤ left → most ≤ 100000
+    → SoWritten limit left start middle before now → GivesUp most fault middle after now later
     → IsGivenUp limit fault start after before later
-given_up fault limit left most start middle after before now later few s g = record {
+given_up Write limit left most start middle after before now later few slice s g = record {
+  ticks = limit - left;
+  lines = s.lines;
+  middle = middle;
+  goes = s.goes;
+  between = now;
+  written = s.written;
+  next = most;
+  few = slice;
+  within = omega (arith, s.few, few);
+  unwritten = g;
+}
+given_up NoMemory limit left most start middle after before now later few slice s g = record {
+  ticks = limit - left + g.ticks;
+  below = omega (arith, s.few, few, g.below);
   lines = s.lines ++ g.lines;
-  made = made_join (limit - left) most limit start middle after s.lines g.lines (omega (arith, s.few, few)) s.goes g.made;
-  count = length s.lines + g.count;
-  short = still_short fault g.count s.lines g.lines g.short;
-  written = subst (λ t. Appends before later t) (sym (take_later s.lines g.lines g.count))
-      (appends_join before now later s.lines (take g.count g.lines) s.written g.written);
+  goes = goes_join (limit - left) g.ticks start middle after s.lines g.lines s.goes g.goes;
+  written = appends_join before now later s.lines g.lines s.written g.written;
 }
 
 pub limit_met : (limit left : ℕ) (start after : Debugged) (before now : Option (List ℕ)) → left ≤ 0
@@ -140,3 +145,6 @@ limit_met limit left start after before now none s = record {
 
 pub at_most : (left slice most : ℕ) → most ≡ min left slice → most ≤ left
 at_most left slice most e = subst (λ n. n ≤ left) (sym e) (min-le_left left slice)
+
+pub in_slice : (left slice most : ℕ) → most ≡ min left slice → most ≤ slice
+in_slice left slice most e = subst (λ n. n ≤ slice) (sym (e ∙ min_comm left slice)) (min-le_left slice left)

@@ -7,7 +7,7 @@
 -- It ends with the first tick that ends the program or stops the machine. In a program that was just loaded, without
 -- breakpoints and without a goal, that is the first instruction that traps, the first call that ends the program, or
 -- the first EBREAK, and each instruction before it has retired.
-use Rattle.std.specs.Prelude.{◌≡◌, ℕ, ℤ, zero, suc, ◌<◌, ◌≤◌, ◌⊎◌, List, [], ◌++◌, length, take, codes, ⊤, Option, Some, None, Ok}
+use Rattle.std.specs.Prelude.{◌≡◌, ℕ, ℤ, zero, suc, ◌+◌, ◌<◌, ◌≤◌, ◌⊎◌, List, [], ◌++◌, length, take, codes, Option, Some, None, Ok}
 use Rattle.std.specs.Fmt.{signed_decimal}
 use Rattle.std.specs.Io.KnownBytes.{Appends}
 use Rattle.stepping.specs.Ticks.{Debugged, IsTick}
@@ -66,15 +66,36 @@ abbrev pub Made : ℕ → Debugged → List ℕ → Debugged → Type 0
 Made limit start lines after = ((ticks : ℕ) × (ticks ≤ limit) × Goes ticks start lines after)
     ⊎ ((end : ExecutionEnd) × EndsBefore limit end start lines after)
 
--- how much of the lines is written where it is given up: where the writer failed, not all
-abbrev pub IsShort : ExecutionFault → ℕ → List ℕ → Type 0
-IsShort Write count lines = count < length lines
-IsShort NoMemory count lines = ⊤
-
--- It was given up: the machine has made some of its ticks, and a first part of their lines was written.
-pub record IsGivenUp (limit : ℕ) (fault : ExecutionFault) (start after : Debugged) (before now : Option (List ℕ)) : Type 0 where
+-- Some of its ticks were made, and of their lines the first bytes were written, and not all.
+pub record IsUnwritten (limit : ℕ) (start after : Debugged) (before now : Option (List ℕ)) : Type 0 where
   pub lines : List ℕ
   pub made : Made limit start lines after
   pub count : ℕ
-  pub short : IsShort fault count lines
+  pub short : count < length lines
   pub written : Appends before now (take count lines)
+
+-- The writer failed: the lines of some ticks were written, and those of the next ones, of which there are 100,000 at most, were not all.
+pub record FailsToWrite (limit : ℕ) (start after : Debugged) (before now : Option (List ℕ)) : Type 0 where
+  pub ticks : ℕ
+  pub lines : List ℕ
+  pub middle : Debugged
+  pub goes : Goes ticks start lines middle
+  pub between : Option (List ℕ)
+  pub written : Appends before between lines
+  pub next : ℕ
+  pub few : next ≤ 100000
+  pub within : ticks + next ≤ limit
+  pub unwritten : IsUnwritten next middle after between now
+
+-- No memory was left: fewer ticks were made than are allowed, each of which went on, and all of their lines were written.
+pub record LacksMemory (limit : ℕ) (start after : Debugged) (before now : Option (List ℕ)) : Type 0 where
+  pub ticks : ℕ
+  pub below : ticks < limit
+  pub lines : List ℕ
+  pub goes : Goes ticks start lines after
+  pub written : Appends before now lines
+
+-- what was made and written where it is given up
+abbrev pub IsGivenUp : ℕ → ExecutionFault → Debugged → Debugged → Option (List ℕ) → Option (List ℕ) → Type 0
+IsGivenUp limit Write start after before now = FailsToWrite limit start after before now
+IsGivenUp limit NoMemory start after before now = LacksMemory limit start after before now

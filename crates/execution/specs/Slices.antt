@@ -1,12 +1,14 @@
 -- For private clauses alone: how the code goes, in slices, and what it writes of each.
-use Rattle.std.specs.Prelude.{◌≡◌, ℕ, ◌≤◌, List, ◌++◌, take, Option, Some, None}
+use Rattle.std.specs.Prelude.{◌≡◌, ℕ, ◌<◌, ◌≤◌, List, ◌++◌, Option, Some, None}
 use Rattle.std.specs.Io.KnownBytes.{Appends}
 use Rattle.stepping.specs.Ticks.{Debugged}
 use Rattle.stepping.specs.declared.tick.Outcome.{Outcome}
 use Rattle.stepping.specs.declared.tick.Outcome.TheVariants as outcome
-use Rattle.execution.specs.Executions.{EndsBefore, Goes, Made}
+use Rattle.execution.specs.Executions.{EndsBefore, Goes, IsUnwritten, LacksMemory}
 use Rattle.execution.specs.declared.end.ExecutionEnd.{ExecutionEnd}
 use Rattle.execution.specs.declared.end.ExecutionEnd.TheVariants.{Ended, Stopped}
+use Rattle.execution.specs.declared.end.ExecutionFault.{ExecutionFault}
+use Rattle.execution.specs.declared.end.ExecutionFault.TheVariants.{Write, NoMemory}
 
 -- how an execution ends by the outcome of a tick, if it does
 abbrev pub end_by : Outcome → Option ExecutionEnd
@@ -25,15 +27,21 @@ pub record IsSlice (most made : ℕ) (end : Option ExecutionEnd) (start after : 
   pub comes : Comes most made end start lines after
   pub text_is : text' ≡ text ++ lines
 
--- where no memory was left, a first part of its lines does
+-- where no memory was left for one more tick, so do the lines of those that were made
 pub record BreaksOff (most : ℕ) (start after : Debugged) (text text' : List ℕ) : Type 0 where
+  pub ticks : ℕ
+  pub below : ticks < most
   pub lines : List ℕ
-  pub made : Made most start lines after
-  pub count : ℕ
-  pub text_is : text' ≡ text ++ take count lines
+  pub goes : Goes ticks start lines after
+  pub text_is : text' ≡ text ++ lines
 
 -- its lines were written
 pub record Writes (most made : ℕ) (end : Option ExecutionEnd) (start after : Debugged) (before now : Option (List ℕ)) : Type 0 where
   pub lines : List ℕ
   pub comes : Comes most made end start lines after
   pub written : Appends before now lines
+
+-- or it is given up
+abbrev pub GivesUp : ℕ → ExecutionFault → Debugged → Debugged → Option (List ℕ) → Option (List ℕ) → Type 0
+GivesUp most Write start after before now = IsUnwritten most start after before now
+GivesUp most NoMemory start after before now = LacksMemory most start after before now

@@ -2,7 +2,7 @@
 
 ghost use Rattle.std.specs.Prelude.{◌≡◌, ◌+◌, ◌^◌, ◌≤◌, IfErr, IfOk};
 ghost use Rattle.execution.specs.Executions.{Executes, IsGivenUp};
-ghost use Rattle.execution.specs.Slices.{Writes};
+ghost use Rattle.execution.specs.Slices.{GivesUp, Writes};
 
 use crate::end::{ExecutionEnd, ExecutionFault};
 use crate::slices::{Slice, run_slice};
@@ -17,9 +17,9 @@ const SLICE: u64 = 100_000;
 /// Lets a machine go on until it ends or stops, for `limit` instructions at most, and writes the numbers that it prints, each in decimal
 /// on a line. They are written after each 100,000 instructions, and at the end. No more than 2^62 instructions will have retired.
 ///
-/// - `Write`: the writer failed. It has the first part of what was printed, and the machine has gone on for at most 100,000 instructions
-///   since.
-/// - `NoMemory`: no memory was left, for a page of the machine's memory or for what it printed. The writer has the first part of that.
+/// - `Write`: the writer failed. It has all that was printed before the last 100,000 instructions or fewer, and of what these printed the
+///   first bytes, not all.
+/// - `NoMemory`: no memory was left for one more instruction, as for a page of the machine's memory. The writer has all that was printed.
 pub fn execute<W: Write>(
     alloc: Global,
     runner: &mut Runner,
@@ -58,11 +58,11 @@ fn write_slice<W: Write>(
     requires few { runner.old.retired + most ≤ 2 ^ 62 }
     ensures ok { IfOk result (λ slice. Writes most slice.made slice.end runner.old runner.new
         (W.contents writer.old) (W.contents writer.new)) }
-    ensures err { IfErr result (λ fault. IsGivenUp most fault runner.old runner.new
+    ensures err { IfErr result (λ fault. GivesUp most fault runner.old runner.new
         (W.contents writer.old) (W.contents writer.new)) }
 {
     let mut lines = String::new(alloc);
-    let answer = run_slice(alloc, runner, most, &mut lines);
+    let answer = run_slice(runner, most, &mut lines);
     if write_whole(writer, lines.as_bytes()).is_err() {
         return Err(ExecutionFault::Write);
     }

@@ -1,11 +1,13 @@
 //! Instructions in a row, and the lines that they print.
 
-ghost use Rattle.std.specs.Prelude.{◌≡◌, ◌+◌, ◌^◌, ◌≤◌, ◌++◌, None, IfOk, OnErr, OnOk, string_bytes};
+ghost use Rattle.std.specs.Prelude.{◌≡◌, ◌+◌, ◌^◌, ◌≤◌, ◌++◌, None, IfOk, OnErr, string_bytes, string_len};
+ghost use Rattle.std.specs.String.{string_capacity};
 ghost use Rattle.execution.specs.Executions.{line_of};
 ghost use Rattle.execution.specs.Slices.{BreaksOff, IsSlice, end_by};
 
 use crate::end::ExecutionEnd;
-use std::alloc::{AllocError, Global};
+use itoa::Buffer;
+use std::alloc::AllocError;
 use stepping::{Outcome, RunEnd, Runner};
 
 /// What came of some instructions in a row.
@@ -18,9 +20,8 @@ pub(crate) struct Slice {
 }
 
 /// So many instructions, or fewer where the execution ends before. Their lines are put after those that are there. `Err`: no memory was
-/// left for one of these, or for a page of the machine's memory.
+/// left for one more, as for a page of the machine's memory; the lines of those that were made are there.
 pub(crate) fn run_slice(
-    alloc: Global,
     runner: &mut Runner,
     most: u32,
     lines: &mut String,
@@ -34,7 +35,7 @@ pub(crate) fn run_slice(
 {
     let mut made = 0;
     while made < most {
-        let part = stretch(alloc, runner, most - made, lines)?;
+        let part = stretch(runner, most - made, lines)?;
         match part.end {
             Some(end) => {
                 return Ok(Slice {
@@ -48,13 +49,12 @@ pub(crate) fn run_slice(
     Ok(Slice { made, end: None })
 }
 
-// So many instructions at most, up to the first of which there is something to report.
-fn stretch(
-    alloc: Global,
-    runner: &mut Runner,
-    most: u32,
-    lines: &mut String,
-) -> Result<Slice, AllocError>
+// The longest line of a number, in bytes: `-2147483648` and a line feed.
+const LONGEST_LINE: usize = 12;
+
+// So many instructions at most, up to the first of which there is something to report. Room for its line is made first: what an
+// instruction printed that was made is never lost.
+fn stretch(runner: &mut Runner, most: u32, lines: &mut String) -> Result<Slice, AllocError>
     requires some { 1 ≤ most }
     requires few { runner.old.retired + most ≤ 2 ^ 62 }
     ensures ok { IfOk result (λ slice. IsSlice most slice.made slice.end runner.old runner.new
@@ -62,6 +62,7 @@ fn stretch(
     ensures err { OnErr result (BreaksOff most runner.old runner.new
         (string_bytes lines.old) (string_bytes lines.new)) }
 {
+    lines.reserve(LONGEST_LINE)?;
     let ran = runner.run(most);
     match ran.ending {
         RunEnd::Spent => Ok(Slice {
@@ -69,7 +70,7 @@ fn stretch(
             end: None,
         }),
         RunEnd::Ticked(tick) => {
-            push_line(alloc, lines, tick.printed)?;
+            push_line(lines, tick.printed);
             Ok(slice_to(ran.went, tick.outcome))
         }
         RunEnd::NoMemory => Err(AllocError),
@@ -98,16 +99,14 @@ fn slice_to(went: u32, outcome: Outcome) -> Slice
     }
 }
 
-// The line of a number that was printed, if one was, after others.
-fn push_line(alloc: Global, lines: &mut String, printed: Option<i32>) -> Result<(), AllocError>
-    ensures ok { OnOk result (string_bytes lines.new ≡ string_bytes lines.old ++ line_of printed) }
-    ensures err { OnErr result (string_bytes lines.new ≡ string_bytes lines.old) }
+// The line of a number that was printed, if one was, after others. There is room for it.
+fn push_line(lines: &mut String, printed: Option<i32>)
+    requires { string_len lines.old + LONGEST_LINE ≤ string_capacity lines.old }
+    ensures { string_bytes lines.new ≡ string_bytes lines.old ++ line_of printed }
 {
-    match printed {
-        None => Ok(()),
-        Some(number) => {
-            let line = format!(in alloc; "{number}\n")?;
-            lines.push_str(line.as_str())
-        }
+    if let Some(number) = printed {
+        let mut digits = Buffer::new();
+        lines.push_str(digits.format(number)).unwrap();
+        lines.push('\n').unwrap();
     }
 }

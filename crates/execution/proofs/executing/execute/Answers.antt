@@ -1,11 +1,12 @@
-use Rattle.execution.proofs.Writing.{at_most, ended, given_up, more_written}
+use Rattle.execution.proofs.Writing.{at_most, ended, given_up, in_slice, more_written}
 use Rattle.execution.proofs.executing.execute.Goals as goal
 
 pub returns-in-Err-clause-err : goal.returns-in-Err-clause-err
 returns-in-Err-clause-err g c =
     given_up c.in-Err.fault c.args.limit c.loop-left.left _ c.args.runner.now c.loop-left.runner c.write_slice.new.runner
     (g.W.Write.contents c.args.writer.now) (g.W.Write.contents c.loop-left.writer) (g.W.Write.contents c.write_slice.new.writer)
-    (at_most c.loop-left.left 100000 _ c.min-most.ensures) c.loop-left.invariant c.in-Err.ensures.err
+    (at_most c.loop-left.left 100000 _ c.min-most.ensures) (in_slice c.loop-left.left 100000 _ c.min-most.ensures) c.loop-left.invariant
+    c.in-Err.ensures.err
 
 pub returns-in-Some-clause-ok : goal.returns-in-Some-clause-ok
 returns-in-Some-clause-ok g c =
