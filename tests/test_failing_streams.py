@@ -1,10 +1,13 @@
-"""The built program where its streams fail: devices that are full, descriptors that are closed or too few, and peers that go or stop reading."""
+"""The built program where its streams fail: devices that are full, descriptors that are closed or too few, limits of the system, and peers
+that go or stop reading."""
 import contextlib
 import os
 import resource
+import signal
 import socket
 import struct
 import subprocess
+import tempfile
 import time
 from dataclasses import dataclass
 
@@ -90,6 +93,33 @@ def an_output_that_nobody_reads_is_a_fault_and_no_signal():
             finally:
                 os.close(its_output)
             expect((ran.stderr, ran.returncode), (FAULT, 1), "the end of %s" % (words,))
+
+
+# ---- limits of the system
+
+def a_limit_of_file_size_ends_it_by_a_signal():
+    """As the system has it, unless the signal is ignored: then the write fails."""
+    limit = lambda: resource.setrlimit(resource.RLIMIT_FSIZE, (0, 0))
+    with file_of(b"nop\n" * 100) as path:
+        for words in (("asm", path), ("--help",), ()):
+            for restored, wanted in ((True, (b"", -signal.SIGXFSZ)), (False, (FAULT, 1))):
+                with tempfile.TemporaryFile() as output:
+                    # Python ignores the signal, and hands that on unless it is told to restore it.
+                    ran = subprocess.run([PROGRAM, *words], input=SESSION, stdout=output, stderr=subprocess.PIPE, preexec_fn=limit,
+                                         restore_signals=restored, timeout=SECONDS)
+                expect((ran.stderr, ran.returncode), wanted, "the end of %s, the signal restored: %s" % (words, restored))
+
+
+def a_stack_of_128_kib_is_enough():
+    """Also for JSON and for an expression as deep as they may be."""
+    deep = frame('{"seq":3,"type":"request","command":"threads","x":%s}' % ("[" * 126 + "]" * 126))
+    with file_of(CIRCLES) as path:
+        breakpoint = {"line": 1, "condition": "(" * 64 + "1" + ")" * 64}
+        sets = request(4, "setBreakpoints", source={"path": path}, breakpoints=[breakpoint])
+        data = FIRST + request(2, "launch", program=path) + deep + sets + request(5, "disconnect")
+        whole = shell('exec "$0"', data)
+        expect((b'"verified":true' in whole[0], *whole[1:]), (True, b"", 0), "the session with the stack that there is")
+        expect(shell('ulimit -s 128; exec "$0"', data), whole, "the session with a stack of 128 KiB")
 
 
 # ---- descriptors
@@ -233,6 +263,8 @@ def checks():
         a_standard_error_that_is_closed_or_full_changes_nothing_else,
         a_server_whose_standard_streams_are_closed_serves,
         an_output_that_nobody_reads_is_a_fault_and_no_signal,
+        a_limit_of_file_size_ends_it_by_a_signal,
+        a_stack_of_128_kib_is_enough,
         a_file_for_which_there_is_no_descriptor_cannot_be_read,
         an_editor_for_whom_there_is_no_descriptor_is_a_fault,
         with_descriptors_for_one_editor_each_is_served,

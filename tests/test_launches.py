@@ -7,6 +7,7 @@ from support.allocations import each_refusal
 from support.files import file_of
 from support.launches import (CONTINUED, DONE, EXITED, FAILED, INITIALIZED, PRINTED, STOPPED, TERMINATED, TRAPPED, expect_all, frames,
                               is_told, is_told_however_cut, started)
+from support.preloading import preload
 from support.program import SECONDS, Talk, answered, expect, frame, run
 from support.programs import CIRCLES
 from support.streams import FAULT, Streams, pipes
@@ -138,6 +139,19 @@ def a_file_that_cannot_be_read_is_refused_and_the_session_goes_on():
         with Talk() as talk:
             talk.write(sent)
             expect_all(talk, told, "the answers")
+
+
+def a_file_that_was_replaced_since_it_was_looked_at_is_refused():
+    """It is a FIFO then, which the test holds open: it could be opened, and a read of it would never end."""
+    with file_of(PRINTS) as path:
+        folder = os.path.dirname(path)
+        fifo = os.path.join(folder, "fifo")
+        os.mkfifo(fifo)
+        held = os.open(fifo, os.O_RDWR)
+        environment = dict(os.environ, LD_PRELOAD=preload(folder, "replace"), REPLACE_FILE=path, REPLACE_BY=fifo)
+        told = FIRST_ANSWER + refused("fileUnreadable", 21, "launch", 2, 2)
+        expect(run(FIRST + request(2, "launch", program=path), environment=environment), (told, b"", 0), "a launch")
+        os.close(held)
 
 
 def a_text_with_an_error_is_refused_with_its_line():
@@ -347,6 +361,7 @@ def checks():
         a_session_that_ends_with_the_start_of_its_program_is_the_same_however_it_is_cut,
         requests_that_wait_are_answered_before_the_program_moves,
         a_file_that_cannot_be_read_is_refused_and_the_session_goes_on,
+        a_file_that_was_replaced_since_it_was_looked_at_is_refused,
         a_text_with_an_error_is_refused_with_its_line,
         a_program_without_an_end_runs_until_the_end_of_the_input_is_met, the_end_of_the_input_is_met_while_a_program_runs,
         a_program_without_an_end_is_paused_at_once_and_goes_on,

@@ -2,6 +2,7 @@
 import json
 import os
 import re
+import resource
 import subprocess
 import tempfile
 
@@ -105,6 +106,17 @@ def before_a_message_is_whole_nothing_is_known():
     expect_watched("no byte", PRINTING, PRINTS, ["run unknown -"], cut=0)
     expect_watched("a byte before the first message's end", PRINTING, PRINTS, ["run unknown -"], cut=702)
     expect_watched("the first message", PRINTING, PRINTS, ["run unknown unknown"], cut=703)
+
+
+def a_program_that_was_launched_is_not_known_to_stand():
+    expect_watched("before its start", ["connect", *BEGINS, "turn", "turn " + FILE], PRINTS, ["run unknown stopped"])
+
+
+def each_frame_is_known():
+    """A function calls itself for ever: it and its 256 newest calls are shown, each but the first at its second word."""
+    lines = [*launched(BEGINS), "slice 1000", "hold", "slice 1", sends(4, "stackTrace", **THREAD), "turn"]
+    frames = ["frame 0 0x00010008 0x00010008", *("frame %d 0x0001000c 0x0001000c" % index for index in range(1, 257))]
+    expect_watched("257 frames", lines, b"_start: call f\nf: call f\n", ["run stopped stopped", *frames])
 
 
 def what_was_not_asked_for_is_not_known():
@@ -268,10 +280,33 @@ def the_first_wrong_line_is_said():
     with_script("", PRINTS, lambda run: expect(run(), (b"", b"rvdap: script: line 1\n", 1), "an empty script"))
 
 
+def watch_of(path):
+    """What comes of the script in a file. It has a GiB of memory at most: one that is read on and on would take all."""
+    limit = lambda: resource.setrlimit(resource.RLIMIT_AS, (1 << 30, 1 << 30))
+    ran = subprocess.run([PROGRAM, "watch", path], cwd=TOP, stdin=subprocess.DEVNULL, capture_output=True, preexec_fn=limit, timeout=60)
+    return ran.stdout, ran.stderr, ran.returncode
+
+
 def a_script_that_cannot_be_read_is_said():
-    for name in ("no-such-script", "."):
-        ran = subprocess.run([PROGRAM, "watch", name], cwd=TOP, capture_output=True, timeout=60)
-        expect((ran.stdout, ran.stderr, ran.returncode), (b"", b"rvdap: %s: cannot read\n" % name.encode(), 1), name)
+    with tempfile.TemporaryDirectory() as folder:
+        fifo, endless = (os.path.join(folder, name) for name in ("fifo", "endless"))
+        os.mkfifo(fifo)
+        with open(endless, "wb") as file:
+            file.truncate(1 << 34)
+        for path in ("no-such-script", ".", fifo, endless, "/dev/zero", "/dev/tty", "/dev/stdin"):
+            expect(watch_of(path), (b"", b"rvdap: %s: cannot read\n" % path.encode(), 1), path)
+
+
+def a_script_may_have_16_mib():
+    with tempfile.TemporaryDirectory() as folder:
+        path, longest = os.path.join(folder, "longest"), 1 << 24
+        # A piece of so many bytes is not taken, so nothing is told.
+        before, after = b"connect\nbytes ", b"\nwatch 1 all"
+        text = before + b"0" * (longest - len(before + after)) + after
+        for more, wanted in ((b"", (b"run unknown -\n", b"", 0)), (b"\n", (b"", b"rvdap: %s: cannot read\n" % path.encode(), 1))):
+            with open(path, "wb") as file:
+                file.write(text + more)
+            expect(watch_of(path), wanted, "%d bytes" % (longest + len(more)))
 
 
 def other_words_are_a_fault_of_usage():
@@ -319,9 +354,11 @@ def the_example_shows_what_the_document_says():
 
 def checks():
     found = (what_was_printed_is_told_while_the_program_runs, what_a_logpoint_says_is_told_while_the_program_runs,
-             before_a_message_is_whole_nothing_is_known, what_was_not_asked_for_is_not_known, each_line_of_the_table_of_facts,
+             before_a_message_is_whole_nothing_is_known, a_program_that_was_launched_is_not_known_to_stand, each_frame_is_known,
+             what_was_not_asked_for_is_not_known, each_line_of_the_table_of_facts,
              an_end_is_known_by_the_answer, each_connection_has_facts_of_its_own, a_refused_event_is_passed_over,
              bytes_that_were_sent_are_watched_too, a_piece_may_be_cut_anywhere, a_held_program_stops, a_file_that_cannot_be_read_refuses_a_launch,
-             a_slice_is_as_its_moves, the_first_wrong_line_is_said, a_script_that_cannot_be_read_is_said, other_words_are_a_fault_of_usage,
+             a_slice_is_as_its_moves, the_first_wrong_line_is_said, a_script_that_cannot_be_read_is_said,
+             a_script_may_have_16_mib, other_words_are_a_fault_of_usage,
              an_output_that_is_not_taken_is_said, it_ends_well_without_memory, the_example_shows_what_the_document_says)
     return [(check.__name__.replace("_", " "), check) for check in found]

@@ -1,7 +1,10 @@
 //! The words that the program is given.
-ghost use Rattle.std.specs.Prelude.{IfOk};
+ghost use Rattle.std.specs.Prelude.{◌≡◌, IfOk, MatchResult};
 ghost use Rattle.options.specs.Options.{IsConsistent};
 
+use crate::ending::{say, write_text};
+use crate::exit_reason::ExitReason;
+use blocking_io::Waiting;
 use clap::error::ErrorKind;
 use options::{Options, try_options};
 use std::rt::Env;
@@ -12,13 +15,13 @@ use std::{env, io};
 pub enum Unasked {
     /// Something was printed, and this is the status.
     Printed(u8),
-    /// No memory was left.
-    NoMemory,
+    /// It was not, or no memory was left.
+    Failed(ExitReason),
 }
 
-/// What the program is asked for. `--help` and `--version` are answered on standard output, with status 0; words that are not taken
-/// are a fault of usage, reported on standard error, with status 2.
-pub fn options_of<R: Env + AllocGlobal + Print + Eprint>(rt: &R) -> Result<Options, Unasked>
+/// What the program is asked for. `--help` and `--version` are answered on standard output, with status 0, unless that fails; words
+/// that are not taken are a fault of usage, reported on standard error, with status 2.
+pub fn options_of(rt: &HostRuntime) -> Result<Options, Unasked>
     ensures { IfOk result IsConsistent }
 {
     match words_of(rt) {
@@ -27,38 +30,49 @@ pub fn options_of<R: Env + AllocGlobal + Print + Eprint>(rt: &R) -> Result<Optio
     }
 }
 
-fn asked<R: AllocGlobal + Print + Eprint>(rt: &R, words: &[String]) -> Result<Options, Unasked>
+fn asked(rt: &HostRuntime, words: &[String]) -> Result<Options, Unasked>
     ensures { IfOk result IsConsistent }
 {
     match try_options(rt.alloc(), words) {
         Ok(options) => Ok(options),
-        Err(error) => Err(printed(rt, &error)),
+        Err(error) => Err(printed(rt, error)),
     }
 }
 
-// Prints what clap has to say. Where it can't be printed, the status still says it.
-fn printed<R: Print + Eprint>(rt: &R, error: &clap::Error) -> Unasked {
+// Prints what clap has to say: help and the version, or what is wrong with the words.
+fn printed(rt: &HostRuntime, error: clap::Error) -> Unasked {
     if error.kind() == ErrorKind::OutOfMemory {
-        return Unasked::NoMemory;
+        return Unasked::Failed(ExitReason::NoMemory);
     }
-    let _ = error.print(rt);
     if error.use_stderr() {
-        Unasked::Printed(2)
-    } else {
-        Unasked::Printed(0)
+        say(rt, error);
+        return Unasked::Printed(2);
+    }
+    let mut output = Waiting::new(rt.stdout());
+    shown(write_text(rt.alloc(), &mut output, error))
+}
+
+// What came of help or the version.
+fn shown(written: io::Result<()>) -> Unasked
+    ensures { MatchResult written (λ _. result ≡ Unasked.Printed 0)
+        (λ _. result ≡ Unasked.Failed ExitReason.ReadOrWriteFault) }
+{
+    match written {
+        Ok(()) => Unasked::Printed(0),
+        Err(_) => Unasked::Failed(ExitReason::ReadOrWriteFault),
     }
 }
 
 // The words after the program's name.
-fn words_of<R: Env + AllocGlobal>(rt: &R) -> io::Result<Vec<String>> {
+fn words_of(rt: &HostRuntime) -> io::Result<Vec<String>> {
     let words = env::args(rt)?.skip(1).collect(rt.alloc())?;
     Ok(words)
 }
 
-fn unreadable<R: Eprint>(rt: &R, error: &io::Error) -> Unasked {
+fn unreadable(rt: &HostRuntime, error: &io::Error) -> Unasked {
     if error.kind() == io::ErrorKind::OutOfMemory {
-        return Unasked::NoMemory;
+        return Unasked::Failed(ExitReason::NoMemory);
     }
-    let _ = eprintln!(rt; "rvdap: {error}");
+    say(rt, format_args!("rvdap: {error}\n"));
     Unasked::Printed(2)
 }

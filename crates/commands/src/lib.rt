@@ -14,7 +14,7 @@ mod text_file;
 pub use arguments::{Unasked, options_of};
 pub use asm::{list_file, list_labels};
 pub use checking::check_files;
-pub use ending::{exit_with, fail_at};
+pub use ending::{exit_with, fail_at, say};
 pub use exit_reason::ExitReason;
 pub use memory::MemorySize;
 pub use running::{Terms, run_file};

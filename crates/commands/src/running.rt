@@ -3,7 +3,7 @@
 ghost use Rattle.std.specs.Prelude.{◌≡◌, ◌≤◌, ◌^◌, option_map};
 ghost use Rattle.commands.specs.Runs as spec;
 
-use crate::ending::{exit_with, fail_at};
+use crate::ending::{exit_with, fail_at, say};
 use crate::exit_reason::ExitReason;
 use crate::memory::MemorySize;
 use crate::text_file::{NoText, text_in};
@@ -88,7 +88,8 @@ fn run_lent(rt: &HostRuntime, file: &str, loaded: &mut Loaded, terms: Terms) -> 
 {
     let executed = run_machine(rt, &mut loaded.runner, terms.limit);
     if terms.counts {
-        let _ = eprintln!(rt; "rvdap: retired instructions: {}", loaded.runner.retired());
+        let retired = loaded.runner.retired();
+        say(rt, format_args!("rvdap: retired instructions: {retired}\n"));
     }
     match executed {
         Ok(end) => tell_end(rt, file, loaded, end),
@@ -119,7 +120,7 @@ fn tell_end(
     if let Some(why) = reason_of(end) {
         let pc = place_of(end, loaded.runner.hart().pc);
         let line = stop_line(rt.alloc(), file, &loaded.lines, pc, why)?;
-        let _ = eprint!(rt; "{line}");
+        say(rt, line);
     }
     Ok(status_of(end))
 }
@@ -135,7 +136,7 @@ fn not_assembled(
         return Err(RunFault::NoMemory);
     }
     let lines = told(rt.alloc(), file, text, error)?;
-    let _ = eprint!(rt; "{lines}");
+    say(rt, lines);
     Ok(NOT_ASSEMBLED)
 }
 

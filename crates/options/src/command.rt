@@ -77,7 +77,7 @@ const AFTER_HELP_OF_WATCH: &str = "\
     \nknows by the bytes that it got, and what was so when they were written, or `-`.\
     \n\
     \n`rvdap: SCRIPT: line K`: line K is the first that is no such line. `cannot read`\
-    \nin place of that: SCRIPT is not there, or is not a file.";
+    \nin place of that: SCRIPT is not there, is not a file, or is too long.";
 
 // What help of `run` says after its options.
 const AFTER_HELP_OF_RUN: &str = "\

@@ -2,7 +2,7 @@
 
 use crate::disk::Disk;
 use crate::editors::{Editors, serve_accepted};
-use commands::ExitReason;
+use commands::{ExitReason, say};
 use connections::TcpDoor;
 use session::Session;
 use std::io;
@@ -20,7 +20,7 @@ pub(crate) fn listen(
         Ok(door) => door,
         Err(error) => return closed(&error),
     };
-    let _ = eprintln!(rt; "listening on {address}");
+    say(rt, format_args!("listening on {address}\n"));
     serve_accepted(rt.alloc(), session, &mut door, &mut Disk::new(rt), editors)
 }
 

@@ -32,13 +32,13 @@ use watch::{WatchFault, play_file};
 use watch_command::ScriptFault;
 
 /// Status 0 where the input ended or a `disconnect` succeeded, where a file was listed or a script was played, where no file that was checked
-/// has an error, and where help or the version was asked; 1 with one line on standard error where that failed, or where a file has an error; 2
-/// where the arguments are not taken. A program that is run says its status itself.
+/// has an error, and where help or the version was printed; 1 with one line on standard error where that failed, or where a file has an
+/// error; 2 where the arguments are not taken. A program that is run says its status itself.
 fn main(rt: HostRuntime) -> ExitCode {
     match options_of(&rt) {
         Ok(options) => run(&rt, &options),
         Err(Unasked::Printed(status)) => ExitCode::from(status),
-        Err(Unasked::NoMemory) => exit_with(&rt, ExitReason::NoMemory),
+        Err(Unasked::Failed(why)) => exit_with(&rt, why),
     }
 }
 
