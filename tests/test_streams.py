@@ -84,6 +84,20 @@ def a_poll_that_finds_no_memory_leaves_a_pause_heard():
                 expect(talk.answers(request(4, "pause", threadId=1), told), told, "a pause")
 
 
+def a_poll_that_fails_on_is_a_fault():
+    """Where it fails at a wait, and where it fails at a look while a program runs: nobody could be heard."""
+    with file_of(CIRCLES) as path, tempfile.TemporaryDirectory() as folder:
+        environment = dict(os.environ, LD_PRELOAD=preload(folder, "abort"), ABORT_POLLS="1000000")
+        for kind in KINDS:
+            with Streams(kind, environment=environment) as streams:
+                expect(streams.end()[:2], (1, FAULT), "the end of a wait over " + kind.__name__)
+        # The first is made with the wire, the next by the first look.
+        with Talk(environment=dict(environment, ABORT_POLLED="1")) as talk:
+            sent, told = started(path)
+            expect(talk.answers(sent, told), told, "the start")
+            expect((talk.process.wait(SECONDS), talk.process.stderr.read()), (1, FAULT), "the end of a look")
+
+
 def time_used(process):
     """The processor time of a process that runs, in seconds."""
     with open("/proc/%d/stat" % process) as file:
@@ -204,6 +218,7 @@ def checks():
         a_slow_reader_of_an_output_that_does_not_block_gets_each_answer,
         a_full_output_costs_no_processor_time,
         a_poll_that_finds_no_memory_leaves_a_pause_heard,
+        a_poll_that_fails_on_is_a_fault,
         a_process_that_was_stopped_while_it_waited_goes_on,
         the_end_of_an_input_that_does_not_block_is_its_end,
         an_editor_that_stops_listening_while_the_program_waits_is_a_fault,

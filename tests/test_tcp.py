@@ -185,6 +185,32 @@ def polls_that_find_no_memory_are_made_again():
                 editor.sends(request(4, "pause", **THREAD)).expects('"pause"', '"stopped"')
 
 
+def polls_that_fail_on_are_a_fault():
+    """At the door that of the program; at a look while a program runs that of the connection. For an editor a door polls three times at most."""
+    with file_of(CIRCLES) as path, tempfile.TemporaryDirectory() as folder:
+        environment = dict(os.environ, LD_PRELOAD=preload(folder, "abort"), ABORT_POLLS="1000000")
+        with Server(environment=environment) as server:
+            expect(server.end(), (1, b"", FAULT), "the end of a wait for an editor")
+        with Server(environment=dict(environment, ABORT_POLLED="3", ABORT_POLLS="3")) as server:
+            with server.editor() as editor:
+                editor.sends(launches(path)).expects(*STARTED)
+                expect(editor.is_ended(), True, "the connection is ended")
+            with server.editor() as editor:
+                editor.sends(attaches()).expects(*JOINED, '"continued"')
+
+
+def each_message_is_sent_at_once():
+    """None waits until the editor has acknowledged the one before: TCP_NODELAY is set where the program sends."""
+    with tempfile.TemporaryDirectory() as folder:
+        report = os.path.join(folder, "report")
+        with Server(environment=dict(os.environ, LD_PRELOAD=preload(folder, "nodelay"), NODELAY_REPORT=report)) as server:
+            for _ in range(2):
+                with server.editor() as editor:
+                    expect(editor.sends(SESSION).reads(len(ANSWERS)), ANSWERS, "the answers")
+        with open(report, encoding="ascii") as file:
+            expect(set(file.read().split()), {"1"}, "whether each send was of a socket that is set so")
+
+
 def two_at_once_are_served_in_the_order_in_which_they_came():
     with Server() as server:
         server.process.send_signal(signal.SIGSTOP)
@@ -403,6 +429,7 @@ def checks():
              a_given_program_that_is_not_right_is_said, a_peer_that_vanishes_leaves_the_program_running,
              peers_that_reset_before_they_are_accepted_are_passed_over, connections_that_break_before_they_are_accepted_are_passed_over,
              errors_of_the_network_before_an_accept_are_passed_over, polls_that_find_no_memory_are_made_again,
+             polls_that_fail_on_are_a_fault, each_message_is_sent_at_once,
              two_at_once_are_served_in_the_order_in_which_they_came, a_peer_that_closes_its_side_is_answered_first,
              one_byte_at_a_time, a_peer_that_never_reads_costs_nothing, many_connections_at_constant_memory,
              what_was_told_is_not_lost_where_more_was_sent, a_peer_that_sends_on_after_its_end_does_not_hold_the_door,

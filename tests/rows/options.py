@@ -101,6 +101,8 @@ ROWS = [
         names("--listen", "--program", "a.s")], PROFILE),
     Row("an end after the first connection stands only beside an address", refused("--once") + refused("--once", "--memory", "8") + refused("--once", "--program", "a.s")
         + [names("--once", "--once"), names("--listen", "--once")], PROFILE),
+    Row("of a program and an end without an address the program is told", [step for words in (("--once", "--program", "a.s"), ("--program", "a.s", "--once"))
+        for step in (names("'--program <FILE>'", *words), is_silent_on("'--once'", *words))], PROFILE),
     Row("the memory is looked at before what stands beside what", [names("'5'", "--once", "--memory", "5"), is_silent_on("--once'", "--once", "--memory", "5")]
         + refused("--once", "--memory", "5"), PROFILE),
     Row("no option stands beside a command", refused("--memory", "8", "asm", "a.s") + refused(*LISTEN, "asm", "a.s") + refused("--once", "asm", "a.s")

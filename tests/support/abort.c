@@ -1,6 +1,6 @@
 /* Breaks connections of the process that it is preloaded into, as where a peer is gone before it is accepted: the first
    ABORT_ACCEPTS calls of accept4 answer ABORT_ERROR, or ECONNABORTED where none is given, and the first ABORT_SETS calls that set
-   TCP_NODELAY fail. The first ABORT_POLLS calls of poll find no memory. */
+   TCP_NODELAY fail. After ABORT_POLLED calls of poll that go well, ABORT_POLLS find no memory. */
 #define _GNU_SOURCE
 #include <dlfcn.h>
 #include <errno.h>
@@ -10,7 +10,7 @@
 #include <stdlib.h>
 #include <sys/socket.h>
 
-static unsigned long accepts, error, polls, sets;
+static unsigned long accepts, error, polled, polls, sets;
 
 static unsigned long number(const char *name)
 {
@@ -22,6 +22,7 @@ __attribute__((constructor)) static void start(void)
 {
     accepts = number("ABORT_ACCEPTS");
     error = number("ABORT_ERROR");
+    polled = number("ABORT_POLLED");
     polls = number("ABORT_POLLS");
     sets = number("ABORT_SETS");
 }
@@ -51,5 +52,9 @@ int setsockopt(int fd, int level, int option, const void *value, socklen_t size)
 
 int poll(struct pollfd *asked, nfds_t count, int timeout)
 {
-    return is_broken(&polls, ENOMEM) ? -1 : REAL(poll)(asked, count, timeout);
+    if (polled > 0)
+        polled--;
+    else if (is_broken(&polls, ENOMEM))
+        return -1;
+    return REAL(poll)(asked, count, timeout);
 }
