@@ -1,4 +1,4 @@
-/* A plain interpreter of RV32I, beside which bench/hart/run times crates/bench_hart: each step fetches, decodes to a record
+/* A plain interpreter of RV32I, beside which bench/hart/run times crates/bench: each step fetches, decodes to a record
    with a tag for the mnemonic, and executes that. Words: the program, its argument. */
 #include "decode.h"
 

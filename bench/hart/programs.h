@@ -1,4 +1,4 @@
-/* Made of the sources beside it, by GNU as 2.40: see crates/bench_hart/src/programs.rt, which has the same words. */
+/* Made of the sources beside it, by GNU as 2.40: see crates/bench/src/programs.rt, which has the same words. */
 static const uint32_t tight[] = {
     0xfff50513, 0xfe051ee3, 0x05d00893, 0x00000073,
 };

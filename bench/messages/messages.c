@@ -1,4 +1,4 @@
-/* Writes a response with snprintf into one buffer, beside which bench/messages/run times crates/bench_messages. Words: the command, how
+/* Writes a response with snprintf into one buffer, beside which bench/messages/run times crates/bench. Words: the command, how
    many entries its body has, and how often it is written; the last text is printed. The texts need no escapes, and none are looked for. */
 #include <stdint.h>
 #include <stdio.h>

@@ -1,11 +1,11 @@
-/* A debugger's machine for RV32I, beside which bench/stepping/run times crates/bench_stepping, of the same design. A word is
+/* A debugger's machine for RV32I, beside which bench/stepping/run times crates/bench, of the same design. A word is
    decoded once, to a record that names its address, and forgotten where a store changes it; memory is a table of pages. In the
    loop the pc and the count of moves are kept apart; calls and returns are noted, of which 256 are kept; and where there are
    breakpoints, or the goal may be met, the new pc is looked up by a mark for each word of 256 KiB, and then closer, in a sorted list
    and by the goal. With RECORDED, what undoes a move is recorded in a ring of so many: the address of its instruction,
    the register that it writes, with its value, the bytes over which it stores, and what it does to the calls, in 24 bytes. Words: the
    program, the value of a0 at the start, and how it is run: `go COUNT`, `over` or `if CONDITION`, as in
-   crates/bench_stepping/src/way.rt; or `back COUNT`, where it is run back over all that is recorded, so often, and the least time is told. */
+   crates/bench/src/way.rt; or `back COUNT`, where it is run back over all that is recorded, so often, and the least time is told. */
 #include <time.h>
 #include "../hart/decode.h"
 

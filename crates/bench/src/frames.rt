@@ -1,13 +1,11 @@
 //! Feeds frames to an unframer in pieces, and reads them back: what `bench/run` times.
 //!
-//! Arguments: how many frames, the bytes of each body, the bytes of each piece.
-#![tactic(auto)]
+//! Words: how many frames, the bytes of each body, the bytes of each piece.
 
+use crate::End;
 use framing::{FrameError, Unframer, frame};
 use std::alloc::{AllocError, Global};
-use std::process::ExitCode;
-use std::rt::Env;
-use std::{cmp, env, io};
+use std::{cmp, io};
 
 const LIMIT: u32 = 1_048_576;
 
@@ -19,22 +17,21 @@ struct Load {
     piece: usize,
 }
 
-fn main(rt: HostRuntime) -> io::Result<ExitCode> {
-    let arguments: Vec<String> = env::args(&rt)?.collect(rt.alloc())?;
-    let Some(load) = load_of(arguments.as_slice()) else {
-        eprintln!(rt; "usage: bench_framing FRAMES BODY PIECE")?;
-        return Ok(ExitCode::from(2));
+/// Does what the words say.
+pub(crate) fn measure(rt: &HostRuntime, words: &[String]) -> io::Result<End> {
+    let Some(load) = load_of(words) else {
+        return Ok(End::Usage);
     };
     let stream = stream_of(rt.alloc(), load)?;
     match count_bodies(rt.alloc(), &stream, load.piece) {
         Ok(count) => println!(rt; "{count} bodies")?,
         Err(error) => println!(rt; "{error}")?,
     }
-    Ok(ExitCode::SUCCESS)
+    Ok(End::Done)
 }
 
-fn load_of(arguments: &[String]) -> Option<Load> {
-    let [_, frames, body, piece] = arguments else {
+fn load_of(words: &[String]) -> Option<Load> {
+    let [frames, body, piece] = words else {
         return None;
     };
     Some(Load {

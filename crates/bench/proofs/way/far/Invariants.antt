@@ -1,5 +1,5 @@
 use Rattle.std.proofs.Common.{◌≡◌, ◌≤◌, All, length}
-use Rattle.bench_stepping.proofs.way.far.Given as goal
+use Rattle.bench.proofs.way.far.Given as goal
 
 abbrev pub invariant-loop-id : goal.invariant-loop-id
 invariant-loop-id l = record {

@@ -3,12 +3,10 @@
 ghost use Rattle.std.specs.Bool.{OnTrue};
 ghost use Rattle.stepping.specs.Loading.{CanBeLoaded};
 
+use crate::SIZE;
 use image::Image;
 use std::alloc::{AllocError, Global};
 use stepping::{Goal, Outcome, Reason, RunEnd, Runner};
-
-/// How many bytes of memory there are.
-pub(crate) const SIZE: u32 = 0x0010_0000;
 
 /// How many ticks are made at most before the bench looks at the machine, as a debugger would for requests.
 const SLICE: u32 = 100_000;

@@ -1,19 +1,13 @@
 //! Runs a program on a hart, step by step: what `bench/hart/run` times.
 //!
-//! Arguments: the program (`tight`, `sort` or `fib`), and its argument.
-#![tactic(auto)]
+//! Words: the program (`tight`, `sort` or `fib`), and its argument.
 
-mod programs;
-
+use crate::programs::{FIB, SORT, TIGHT};
+use crate::{End, SIZE};
 use image::{FIRST_ADDRESS, Memory};
-use programs::{FIB, SORT, TIGHT};
 use rv32i::{Hart, Stepped};
 use std::alloc::AllocError;
-use std::process::ExitCode;
-use std::rt::Env;
-use std::{env, io};
-
-const SIZE: u32 = 0x0010_0000;
+use std::io;
 
 /// How a run ended: after so many instructions, with what the last step answered.
 #[derive(Clone, Copy)]
@@ -22,11 +16,10 @@ struct Ending {
     stepped: Stepped,
 }
 
-fn main(rt: HostRuntime) -> io::Result<ExitCode> {
-    let arguments: Vec<String> = env::args(&rt)?.collect(rt.alloc())?;
-    let Some((program, argument)) = load_of(arguments.as_slice()) else {
-        eprintln!(rt; "usage: bench_hart tight|sort|fib ARGUMENT")?;
-        return Ok(ExitCode::from(2));
+/// Does what the words say.
+pub(crate) fn measure(rt: &HostRuntime, words: &[String]) -> io::Result<End> {
+    let Some((program, argument)) = load_of(words) else {
+        return Ok(End::Usage);
     };
     let mut memory = Memory::new(rt.alloc(), FIRST_ADDRESS, SIZE)?;
     place(&mut memory, program)?;
@@ -36,11 +29,11 @@ fn main(rt: HostRuntime) -> io::Result<ExitCode> {
         Stepped::Exit(code) => println!(rt; "{retired} instructions, code {code}")?,
         _ => println!(rt; "{retired} instructions, and then a stop")?,
     }
-    Ok(ExitCode::SUCCESS)
+    Ok(End::Done)
 }
 
-fn load_of(arguments: &[String]) -> Option<(&'static [u32], u32)> {
-    let [_, program, argument] = arguments else {
+fn load_of(words: &[String]) -> Option<(&'static [u32], u32)> {
+    let [program, argument] = words else {
         return None;
     };
     let argument = argument.as_str().parse().ok()?;

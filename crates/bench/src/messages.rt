@@ -1,21 +1,19 @@
-//! Writes and reads the message on standard input: what `bench/messages/run` times.
+//! Writes and reads the message of a file: what `bench/messages/run` times.
 //!
-//! Arguments: what is done, and how often.
+//! Words: the file, what is done, and how often.
 //!
 //! - `write`: the message is read once and written so often; the last text is written.
 //! - `read`: the message is read so often.
 //! - `request`: the request is read so often.
 //! - `json`: the JSON value alone is read so often.
-#![tactic(auto)]
 
+use crate::End;
 use protocol::json::json_value;
 use protocol::{MessageError, read_request};
 use replies::{read_message, write_message};
 use std::alloc::Global;
-use std::io::{Read, Write};
-use std::process::ExitCode;
-use std::rt::Env;
-use std::{env, io};
+use std::io::Write;
+use std::{fs, io};
 
 /// What is done with the message.
 #[derive(Clone, Copy)]
@@ -26,27 +24,26 @@ enum Work {
     Json,
 }
 
-fn main(rt: HostRuntime) -> io::Result<ExitCode> {
-    let arguments: Vec<String> = env::args(&rt)?.collect(rt.alloc())?;
-    let Some((work, rounds)) = task_of(arguments.as_slice()) else {
-        eprintln!(rt; "usage: bench_messages write|read|request|json ROUNDS < MESSAGE")?;
-        return Ok(ExitCode::from(2));
+/// Does what the words say.
+pub(crate) fn measure(rt: &HostRuntime, words: &[String]) -> io::Result<End> {
+    let Some((file, work, rounds)) = task_of(words) else {
+        return Ok(End::Usage);
     };
-    let mut body = Vec::new(rt.alloc());
-    rt.stdin().read_to_end(&mut body)?;
+    let body = fs::read(rt, file)?;
     match work {
-        Work::Write => write(&rt, rounds, body.as_slice()),
-        Work::Read => report(&rt, read(rt.alloc(), rounds, body.as_slice())),
-        Work::Request => report(&rt, request(rt.alloc(), rounds, body.as_slice())),
-        Work::Json => report(&rt, json(rt.alloc(), rounds, body.as_slice())),
+        Work::Write => write(rt, rounds, body.as_slice()),
+        Work::Read => report(rt, read(rt.alloc(), rounds, body.as_slice())),
+        Work::Request => report(rt, request(rt.alloc(), rounds, body.as_slice())),
+        Work::Json => report(rt, json(rt.alloc(), rounds, body.as_slice())),
     }
 }
 
-fn task_of(arguments: &[String]) -> Option<(Work, u32)> {
-    let [_, work, rounds] = arguments else {
+fn task_of(words: &[String]) -> Option<(&str, Work, u32)> {
+    let [file, work, rounds] = words else {
         return None;
     };
-    Some((work_of(work.as_str())?, rounds.as_str().parse().ok()?))
+    let work = work_of(work.as_str())?;
+    Some((file.as_str(), work, rounds.as_str().parse().ok()?))
 }
 
 fn work_of(word: &str) -> Option<Work> {
@@ -60,23 +57,23 @@ fn work_of(word: &str) -> Option<Work> {
 }
 
 /// Writes the text, or says why the body is no message.
-fn write(rt: &HostRuntime, rounds: u32, body: &[u8]) -> io::Result<ExitCode> {
+fn write(rt: &HostRuntime, rounds: u32, body: &[u8]) -> io::Result<End> {
     match written(rt.alloc(), rounds, body) {
         Ok(text) => {
             rt.stdout().write_all(text.as_slice())?;
-            Ok(ExitCode::SUCCESS)
+            Ok(End::Done)
         }
         Err(error) => report(rt, Err(error)),
     }
 }
 
 /// Says how the reading of all rounds ended.
-fn report(rt: &HostRuntime, done: Result<(), MessageError>) -> io::Result<ExitCode> {
+fn report(rt: &HostRuntime, done: Result<(), MessageError>) -> io::Result<End> {
     match done {
         Ok(()) => println!(rt; "read")?,
         Err(error) => println!(rt; "{error}")?,
     }
-    Ok(ExitCode::SUCCESS)
+    Ok(End::Done)
 }
 
 fn written(alloc: Global, rounds: u32, body: &[u8]) -> Result<Vec<u8>, MessageError> {
