@@ -3,6 +3,7 @@ import base64
 import json
 
 from support.breaks import ADDRESS, CONDITION, FUNCTION, HIT, LONGEST_LOG, MOST, NO_CODE, UNKNOWN, at, is_not, is_set, named, on
+from support.machine import write
 from support.players import Row
 
 PLAYER = "test_answers"
@@ -319,7 +320,7 @@ NO_INSTRUCTIONS = (0, 0xffffffff, 0x02351513, 0x0000100f, 0x00351512)
 
 def memory(size=SIZE, data=b"", address=BASE):
     """A memory of so many bytes, with these from an address on and else 0."""
-    return [("program %d %d " % (BASE, size), "ok")] + ([("bytes %d %s" % (address, data.hex()), "ok")] if data else [])
+    return [("program %d %d " % (BASE, size), "ok")] + ([write(address, data)] if data else [])
 
 
 def words_of(words):

@@ -1,9 +1,12 @@
 """Breakpoints: which are hit, which stop, and which ids a check answers."""
+from rows.memory import write
+from rows.steps import go, sets
 from support.players import NO_MEMORY, Row, alike, tried
 
-PLAYER = "test_breakpoints"
-TAKES_NONE = {"Breaks::check": "check", "Breaks::look": "look", "Breaks::ids": "ids", "Breaks::logs": "logs", "Breaks::log_text": "text",
-              "Breaks::clear": "clear", "Breaks::reset_hits": "reset", "Breaks::has": "has", "Breaks::forget_ids": "forget"}
+PLAYER = "test_machine"
+TAKES_NONE = {"Breaks::check": "breaks check", "Breaks::look": "breaks look", "Breaks::ids": "breaks ids", "Breaks::logs": "breaks logs",
+              "Breaks::log_text": "breaks text", "Breaks::clear": "breaks clear", "Breaks::reset_hits": "breaks reset", "Breaks::has": "breaks has",
+              "Breaks::forget_ids": "breaks forget"}
 BASE = 0x10000
 # Addresses so far apart have one mark.
 APART = 4 * 65536
@@ -23,27 +26,15 @@ def a(number, address=BASE, hit=1, condition=None, log=None):
 
 
 def source(*breakpoints):
-    return " ".join(("source",) + breakpoints), "ok"
+    return " ".join(("breaks source",) + breakpoints), "ok"
 
 
 def instructions(*breakpoints):
-    return " ".join(("instructions",) + breakpoints), "ok"
+    return " ".join(("breaks instructions",) + breakpoints), "ok"
 
 
 def functions(*breakpoints):
-    return " ".join(("functions",) + breakpoints), "ok"
-
-
-def go(address):
-    return "go %d" % address, "ok"
-
-
-def sets(register, value):
-    return "set %d %d" % (register, value), "ok"
-
-
-def write(address, block):
-    return "write %d %s" % (address, block.hex()), "ok"
+    return " ".join(("breaks functions",) + breakpoints), "ok"
 
 
 def found(lines, of_instructions, of_functions):
@@ -54,39 +45,39 @@ def found(lines, of_instructions, of_functions):
 
 def check(lines=(), of_instructions=(), of_functions=()):
     """A check at which the breakpoints of lines, those of instructions and those of functions with these ids stop."""
-    return "check", found(lines, of_instructions, of_functions)
+    return "breaks check", found(lines, of_instructions, of_functions)
 
 
 def look(lines=(), of_instructions=(), of_functions=()):
     """A look, for a program that goes back, at which the breakpoints with these ids stand."""
-    return "look", found(lines, of_instructions, of_functions)
+    return "breaks look", found(lines, of_instructions, of_functions)
 
 
 def ids(*numbers):
-    return "ids", " ".join(["ids"] + [str(number) for number in numbers])
+    return "breaks ids", " ".join(["ids"] + [str(number) for number in numbers])
 
 
 def logs(*places):
     """The places of the logpoints that had something to say at the last check."""
-    return "logs", " ".join(["logs"] + [str(place) for place in places])
+    return "breaks logs", " ".join(["logs"] + [str(place) for place in places])
 
 
 def text(place, wanted="none"):
-    return "text %d" % place, wanted
+    return "breaks text %d" % place, wanted
 
 
 def has(address, wanted):
-    return "has %d" % address, str(wanted).lower()
+    return "breaks has %d" % address, str(wanted).lower()
 
 
 def done(name):
-    return name, "ok"
+    return "breaks " + name, "ok"
 
 
 def once(step):
     """A list that is not set again where it found no memory."""
     command, answer = step
-    return "once " + command, answer, NO_MEMORY
+    return command.replace("breaks", "breaks once", 1), answer, NO_MEMORY
 
 
 ROWS = [
@@ -223,15 +214,15 @@ ROWS = [
     ], PROFILE, refused=True),
     tried("a list of functions or of logpoints that found no memory leaves what was there, with its ids and its logs", PROFILE,
           alike(go(BASE), source(a(1, log="a"), a(2)), functions(a(3)), check([2], [], [3]), logs(0)),
-          [once(functions(a(6), a(7, BASE + 4))), ("ids", "ids", "ids 2 3"), ("logs", "logs", "logs 0"), (*check([2], [], [6]), check([2], [], [3])[1]),
+          [once(functions(a(6), a(7, BASE + 4))), ("breaks ids", "ids", "ids 2 3"), ("breaks logs", "logs", "logs 0"), (*check([2], [], [6]), check([2], [], [3])[1]),
            *alike(functions(a(6)), check([2], [], [6]), logs(0))],
-          [once(source(a(8, log="b"), a(9))), ("text 0", "b", "a"), ("logs", "logs", "logs 0"), (*check([9], [], [6]), check([2], [], [6])[1]),
+          [once(source(a(8, log="b"), a(9))), ("breaks text 0", "b", "a"), ("breaks logs", "logs", "logs 0"), (*check([9], [], [6]), check([2], [], [6])[1]),
            *alike(source(a(8, log="b"), a(9)), check([9], [], [6]), text(0, "b"))]),
     tried("a list that found no memory leaves the list that was there, with its hits and its ids", PROFILE,
           alike(go(BASE), source(a(1), a(2, hit=2)), instructions(a(3)), check([1], [3])),
-          [once(source(a(6), a(7, condition="a0 == 0"))), ("ids", "ids", "ids 1 3"), (*check([6, 7], [3]), check([1, 2], [3])[1]),
+          [once(source(a(6), a(7, condition="a0 == 0"))), ("breaks ids", "ids", "ids 1 3"), (*check([6, 7], [3]), check([1, 2], [3])[1]),
            *alike(source(a(6), a(7, condition="a0 == 0")), check([6, 7], [3]))],
-          [once(instructions(a(8), a(9, BASE + 4), a(10, hit=2))), ("ids", "ids", "ids 6 7 3"), (*check([6, 7], [8]), check([6, 7], [3])[1]),
+          [once(instructions(a(8), a(9, BASE + 4), a(10, hit=2))), ("breaks ids", "ids", "ids 6 7 3"), (*check([6, 7], [8]), check([6, 7], [3])[1]),
            *alike(instructions(a(8), a(9, BASE + 4), a(10, hit=2)), check([6, 7], [8]), has(BASE + 4, True), done("reset"), check([6, 7], [8]),
                   check([6, 7], [8, 10]), done("forget"), ids(), done("clear"), check(), has(BASE, False))]),
 ]

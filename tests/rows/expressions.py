@@ -1,13 +1,16 @@
 """Expressions: what their texts are read as, their values on a machine, and each error."""
 import os
 
+from rows import steps
 from rows.guide import GUIDE, code, from_the_guide, section, tables
+from rows.memory import write
+from rows.steps import go
 from support.expressions_in_c import BASE, MEMORY, PC, VALUES
-from support.machine import REGISTERS, go, sets, write
+from support.machine import REGISTERS
 from support.players import Row
 from support.program import TOP
 
-PLAYER = "test_expressions"
+PLAYER = "test_machine"
 # An expression is read, which may find no memory, and has its value, which does not take any.
 ALSO_MADE = {"Expr::value": "value"}
 
@@ -15,6 +18,9 @@ PROFILE = GUIDE % "Expressions"
 BY_HAND = "worked by hand from docs/MACHINE.md, \"Expressions\""
 C = "gcc 12.2, by tests/support/expressions_in_c.py"
 
+
+def sets(name, value):
+    return steps.sets(REGISTERS.index(name), value)
 
 
 def value(text, wanted):

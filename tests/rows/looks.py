@@ -2,7 +2,7 @@
 import base64
 
 from rows.answers import BASE, EXAMPLES, NO_REFERENCES, PATH, SIZE, bytes_at, looks, reads, words_of
-from support.machine import REGISTERS, go, sets
+from support.machine import REGISTERS, go, sets, write
 from support.players import Row
 
 PLAYER = "test_answers"
@@ -31,7 +31,7 @@ def loaded(lines, labels, words, path=PATH, size=SIZE, more=0):
         address += 4 * count
     steps += [("label %s %d" % it, "ok") for it in labels.items()]
     steps.append(("program %d %d %s" % (address + more, size, path.encode().hex()), "ok"))
-    return steps + [("bytes %d %s" % (BASE, words_of(words).hex()), "ok")]
+    return steps + [write(BASE, words_of(words))]
 
 
 def r_after(moves, **options):
@@ -193,7 +193,7 @@ VARIABLE_ROWS = [
         variables(2, filter="indexed", start=0, count=10), variables(3, filter="indexed"), variables(2, *registers(a0=7), count=2147483647),
     ], BY_HAND),
     Row("words of the stack", [
-        *p_after(0), *SHOWN, ("bytes %d 0102030405060708" % (END - 8), "ok"), sets("sp", END - 8), variables(3, ("sp+0", 0x04030201), ("sp+4", 0x08070605)),
+        *p_after(0), *SHOWN, write(END - 8, bytes(range(1, 9))), sets("sp", END - 8), variables(3, ("sp+0", 0x04030201), ("sp+4", 0x08070605)),
         variables(3, ("sp+4", 0x08070605), start=1), variables(3, ("sp+0", 0x04030201), count=1), variables(3, start=2),
         sets("sp", END - 7), variables(3, ("sp+0", 0x05040302)), sets("sp", END - 3), variables(3), sets("sp", END), variables(3),
         sets("sp", BASE - 4), variables(3), sets("sp", 0xfffffffc), variables(3), sets("sp", END - 256),

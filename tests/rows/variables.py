@@ -1,13 +1,16 @@
 """What an editor sees of a stopped machine: registers, words of the stack, values that it sets, and numbers of frames and scopes."""
+from rows.answers import memory
 from support.machine import BASE, REGISTERS, go, sets, write
 from support.players import NO_MEMORY, Row, alike, tried
 
-PLAYER = "test_variables"
+PLAYER = "test_answers"
 TAKES_NONE = {"Handles::new": "last", "Handles::find": "find", "Handles::end_stop": "end", "Handles::number": "number", "Handles::next": "next",
               "set_register": "register"}
-END = BASE + 65536
+SIZE = 65536
+END = BASE + SIZE
 GREATEST = 2147483647
-
+# A machine without a program, whose registers are 0.
+STOPPED = memory(SIZE) + [sets("sp", 0)]
 
 DAP = "DAP specification, \"Lifetime of Objects References\""
 ISA = "RISC-V Unprivileged ISA 20191213, table 25.1"
@@ -62,29 +65,34 @@ def following(wanted):
 END_STOP = "end", "ok"
 
 
+def row(name, steps, source, **options):
+    """On a machine that has just stopped."""
+    return Row(name, STOPPED + steps, source, **options)
+
+
 ROWS = [
-    Row("registers have their names, and pc is the last", [
+    row("registers have their names, and pc is the last", [
         registers(),
         *(sets(name, 0x11111111 + number) for number, name in enumerate(REGISTERS) if number),
         go(0x10004),
         registers(0x10004, **{name: 0x11111111 + number for number, name in enumerate(REGISTERS) if number}),
     ], ISA),
-    Row("words of the stack end with memory", [
+    row("words of the stack end with memory", [
         sets("sp", END - 4), write(END - 4, bytes((0x0c, 0, 1, 0))), stack(0x0001000C),
         sets("sp", END), stack(),
         sets("sp", END - 3), stack(),
         sets("sp", BASE - 4), stack(),
         sets("sp", 0xfffffffe), stack(),
     ], BY_HAND),
-    Row("64 words of the stack at most", [
+    row("64 words of the stack at most", [
         sets("sp", END - 256), write(END - 4, b"\1\2\3\4"), stack(*[0] * 63, 0x04030201),
         sets("sp", END - 260), stack(*[0] * 64),
         sets("sp", END - 252), stack(*[0] * 62, 0x04030201),
     ], BY_HAND, refused=True),
-    Row("words of the stack at no multiple of 4", [
+    row("words of the stack at no multiple of 4", [
         sets("sp", END - 7), write(END - 7, bytes((1, 2, 3, 4, 5, 6, 7))), stack(0x04030201),
     ], BY_HAND),
-    Row("values that an editor sets", [
+    row("values that an editor sets", [
         register("a0", "-1", 0xffffffff), registers(a0=0xffffffff),
         register("a0", "0", 0), registers(),
         register("t6", "4294967295", 0xffffffff),
@@ -98,7 +106,7 @@ ROWS = [
         *(register("t6", text, "BadValue") for text in ("", "-", "0x", "+1", "0X1", "-0x1", "--1", " 1", "1 ", "z", "1.0", "0b1")),
         registers(),
     ], BY_HAND),
-    Row("names that an editor sets", [
+    row("names that an editor sets", [
         register("zero", "1", "NotWritable"), register("pc", "65540", "NotWritable"), register("pc", "z", "NotWritable"),
         *(register(name, "1", "UnknownName") for name in ("q", "", "x1", "fp", "x0", "A0", "a0 ", "a00", "sp+0", "PC")),
         register("q", "z", "UnknownName"), register("a0", "z", "BadValue"),
@@ -106,23 +114,23 @@ ROWS = [
         *(register(name, str(number), number) for number, name in enumerate(REGISTERS) if number),
         registers(**{name: number for number, name in enumerate(REGISTERS)}),
     ], ISA),
-    Row("a target has one number in a stop", [
+    row("a target has one number in a stop", [
         following(1), number(0, "none"),
         issue([0], [1]), issue(["registers", "stack"], [2, 3]), issue([0, "stack", 0, "registers"], [1, 3, 1, 2]),
         number(0, 1), number("stack", 3), number(1, "none"), following(4),
         find(1, "Frame(0)"), find(2, "Registers"), find(3, "Stack"), find(4, "Unknown"), find(0, "Unknown"),
     ], DAP),
-    Row("a stop ends its numbers", [
+    row("a stop ends its numbers", [
         issue([0, "registers", "stack"], [1, 2, 3]), END_STOP,
         find(2, "Stale"), find(4, "Unknown"), number(0, "none"), following(4),
         issue([0], [4]), find(4, "Frame(0)"), find(1, "Stale"), find(99, "Unknown"), END_STOP, END_STOP,
         find(4, "Stale"), find(5, "Unknown"), issue(["stack", 0], [5, 6]), find(6, "Frame(0)"),
     ], DAP),
-    Row("numbers after many stops", [
+    row("numbers after many stops", [
         *(step for stop in range(1, 1001) for step in (issue([stop % 7], [stop]), END_STOP)),
         find(1, "Stale"), find(1000, "Stale"), find(1001, "Unknown"), find(0, "Unknown"), following(1001),
     ], DAP),
-    Row("the last number", [
+    row("the last number", [
         last(3), issue([0, 1], [1, 2]), issue(["registers", "stack"], "Exhausted"), number("registers", "none"), following(3),
         issue([], []), issue([0, 1], [1, 2]), issue(["stack", "stack", 1], [3, 3, 2]), following(4),
         issue(["registers"], "Exhausted"), issue([0], [1]), END_STOP, issue([0], "Exhausted"), issue([], []), find(3, "Stale"),
@@ -130,13 +138,13 @@ ROWS = [
         last(GREATEST), issue([0], [1]),
     ], BY_HAND),
     tried("no number is issued where there is no memory", DAP,
-          alike(last(5), register("a0", "17", 17), register("zero", "1", "NotWritable"), register("q", "1", "UnknownName")),
+          alike(*STOPPED, last(5), register("a0", "17", 17), register("zero", "1", "NotWritable"), register("q", "1", "UnknownName")),
           [issue_once([0, "registers"], [1, 2]), ("next", "3", "1"), ("find 2", "Registers", "Unknown"), ("number 0", "1", "none"),
            *alike(issue([0, "registers"], [1, 2]), following(3), find(2, "Registers"))],
           [issue_once([0, "stack"], [1, 3]), ("next", "4", "3"), ("find 3", "Stack", "Unknown"), *alike(number(0, 1), issue([0, "stack"], [1, 3]), following(4))],
           [(*issue(["stack"] * 40 + [1, 2], [3] * 40 + [4, 5]), *issue(["stack"] * 40 + [1, 2], [3] * 40 + [4, 5])[1:])],
           alike(END_STOP, find(3, "Stale"), issue([0], "Exhausted"), find(6, "Unknown"))),
-    Row("numbers of 1,000 frames", [
+    row("numbers of 1,000 frames", [
         issue(range(1000), range(1, 1001)), issue(range(999, -1, -1), range(1000, 0, -1)), find(1000, "Frame(999)"), following(1001),
     ], BY_HAND, refused=True),
 ]

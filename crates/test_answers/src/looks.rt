@@ -3,18 +3,14 @@
 ghost use Rattle.std.specs.Prelude.{◌≡◌, ◌<◌};
 ghost use Rattle.answers.specs.Looking.{looks_in};
 
+use crate::numbers::show_targets;
 use crate::program::{Program, request_in, show_answer};
 use answers::{Look, look, set_variable, write_memory};
 use image::MemFault;
 use protocol::{Command, Request, SetVariableArguments, WriteMemoryArguments};
 use std::alloc::Global;
 use stepping::RunEnd;
-use test_targets::{target_of, targets_of};
 use testing::{Fault, Line, bytes_of, called, parsed};
-use variables::{Handles, IssueError, Target};
-
-/// The greatest number that may be the last of frames and scopes.
-const GREATEST: u32 = 2_147_483_647;
 
 /// The most moves before a run, which is far below what a machine can make.
 const MOST_RETIRED: u64 = 1 << 40;
@@ -28,7 +24,7 @@ impl Program {
         line: &mut Line,
     ) -> Result<(), Fault> {
         match arguments {
-            ["bytes", address, bytes] => {
+            ["write", address, bytes] => {
                 self.write(parsed(address)?, &bytes_of(alloc, bytes)?)?;
                 line.word("ok")
             }
@@ -41,15 +37,9 @@ impl Program {
                 line.word("ok")
             }
             ["run", count] => self.run(parsed(count)?, line),
-            ["last", last] => self.last(alloc, parsed(last)?, line),
-            ["issue", targets @ ..] => self.issue(alloc, targets, line),
-            ["end"] => {
-                self.handles.end_stop();
-                line.word("ok")
-            }
             ["look", request] => self.show_look(alloc, &bytes_of(alloc, request)?, line),
             ["change", request] => self.change(alloc, &bytes_of(alloc, request)?, line),
-            _ => Err(Fault::NoCommand),
+            arguments => self.answer_variables(alloc, arguments, line),
         }
     }
 
@@ -88,29 +78,6 @@ impl Program {
             self.runner.run(count.saturating_sub(ran.went));
         }
         line.word("ok")
-    }
-
-    fn last(&mut self, alloc: Global, last: u32, line: &mut Line) -> Result<(), Fault> {
-        if last > GREATEST {
-            return Err(Fault::NoCommand);
-        }
-        self.handles = Handles::new(alloc, last);
-        line.word("ok")
-    }
-
-    fn issue(&mut self, alloc: Global, targets: &[&str], line: &mut Line) -> Result<(), Fault> {
-        let targets = targets_of(alloc, targets)?;
-        match self.handles.issue(&targets) {
-            Ok(numbers) => {
-                line.word("issued")?;
-                for number in numbers {
-                    line.value(number)?;
-                }
-                Ok(())
-            }
-            Err(IssueError::NoMemory) => Err(Fault::NoMemoryInCall),
-            Err(error) => line.name(error),
-        }
     }
 
     // What a request that looks into the machine answers.
@@ -190,19 +157,4 @@ fn is_look(command: &Command) -> bool
             | Command::Disassemble(_)
             | Command::ReadMemory(_)
     )
-}
-
-fn show_targets(targets: &[Target], line: &mut Line) -> Result<(), Fault> {
-    if targets.is_empty() {
-        return Ok(());
-    }
-    line.word("targets")?;
-    for target in targets {
-        match target {
-            Target::Frame(index) => line.value(*index)?,
-            Target::Registers => line.word("registers")?,
-            Target::Stack => line.word("stack")?,
-        }
-    }
-    Ok(())
 }

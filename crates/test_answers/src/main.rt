@@ -1,4 +1,4 @@
-//! Plays what requests about the machine answer.
+//! Plays what requests about the machine answer, and the variables and numbers that they are made of.
 //!
 //! - `row LINE ADDRESS WORDS`: a row of the next program's line table; the rows have to rise.
 //! - `label NAME ADDRESS`: a label of the next program.
@@ -7,10 +7,9 @@
 //! - `bases LINE COLUMN`: the numbers of the editor's first line and column, 0 or 1; 1 at the start.
 //! - `breaks NEXT REQUEST`: what a request, as bytes, answers where the next breakpoint has this number: the message of number 1, and
 //!   then what `lists` says of the list.
-//! - `bytes ADDRESS BYTES`: writes bytes to the program's memory.
+//! - `write ADDRESS BYTES`: writes bytes to the program's memory.
 //! - `set NUMBER VALUE`, `go ADDRESS`: sets a register, 1 to 31, and pc; `run COUNT`: makes so many moves at most.
-//! - `last NUMBER`: no number of a frame or scope is issued yet, and this is the last that may be; at the start it is 2,147,483,647.
-//! - `issue TARGET..`: the numbers of targets, each of which is `registers`, `stack` or the index of a frame; `end`: the stop ends.
+//! - what is asked of variables, and of the numbers of frames and scopes, `scopes` and `numbers` say.
 //! - `look REQUEST`: what a request that looks into the machine, as bytes, answers: the message of number 1, and then `targets` and the
 //!   targets, if there are some.
 //! - `change REQUEST`: what a request that changes the machine, as bytes, answers, and it is changed: the message of number 1, and of a
@@ -19,7 +18,9 @@
 
 mod lists;
 mod looks;
+mod numbers;
 mod program;
+mod scopes;
 
 use indexmap::IndexMap;
 use program::Program;

@@ -12,12 +12,11 @@ use replies::{Message, Response, ResponseBody, write_message};
 use std::alloc::Global;
 use std::str;
 use stepping::Runner;
-use test_image::rise;
-use testing::{Fault, Line, called};
+use testing::{Fault, Line, called, rise};
 use variables::Handles;
 
 /// The last number that a frame or a scope may have.
-const LAST: u32 = 2_147_483_647;
+pub(crate) const LAST: u32 = 2_147_483_647;
 
 /// A program and its machine, how the editor counts, and the numbers of frames and scopes.
 #[derive(Drop)]

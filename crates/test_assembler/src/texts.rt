@@ -2,13 +2,12 @@
 //!
 //! - `assemble SIZE BYTES`: assembles a text for a memory of so many bytes, and keeps its image.
 //! - `image entry`, `image bytes`: the image's; other arguments after `image` are asked of its lines, as
-//!   `play_image` says.
+//!   `testing::ask_lines` says.
 
 use assembler::{AsmError, AsmErrorKind, assemble};
 use image::Image;
 use std::alloc::Global;
-use test_image::ask_lines;
-use testing::{Fault, bytes_of, hexadecimal, parsed, shown};
+use testing::{Fault, ask_lines, bytes_of, hexadecimal, parsed, shown};
 
 /// What is reported where no memory is left.
 const NO_MEMORY: AsmError = AsmError {

@@ -10,8 +10,7 @@
 use image::{MemFault, Memory};
 use std::alloc::Global;
 use std::fmt::Display;
-use test_image::found;
-use testing::{Fault, bytes_of, called, hexadecimal, parsed, shown};
+use testing::{Fault, bytes_of, called, found, hexadecimal, once, parsed, shown};
 
 /// Memory of so many bytes.
 pub(crate) fn new_memory(alloc: Global, size: &str) -> Result<Memory, Fault> {
@@ -29,10 +28,7 @@ pub(crate) fn answer_memory(
     arguments: &[&str],
 ) -> Result<String, Fault> {
     match arguments {
-        ["once", rest @ ..] => match asked(alloc, memory, rest) {
-            Err(Fault::NoMemoryInCall) => shown(alloc, "NoMemory"),
-            answer => answer,
-        },
+        ["once", rest @ ..] => once(alloc, asked(alloc, memory, rest)),
         arguments => asked(alloc, memory, arguments),
     }
 }

@@ -6,8 +6,7 @@
 use rv32i::{reg_name, reg_of};
 use std::alloc::Global;
 use std::str;
-use test_image::found;
-use testing::{Fault, bytes_of, parsed, shown};
+use testing::{Fault, bytes_of, found, parsed, shown};
 
 /// What is answered of a register.
 pub(crate) fn answer_register(alloc: Global, arguments: &[&str]) -> Result<String, Fault> {

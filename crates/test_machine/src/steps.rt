@@ -9,21 +9,25 @@
 //!   no memory.
 //! - `pc`; `x NUMBER`: the value of a register; `registers`: the values of all.
 
+ghost use Rattle.std.specs.Prelude.{◌≡◌};
+
 use image::Memory;
 use rv32i::{Hart, Undo, decode, undo_at, undo_of};
 use std::alloc::Global;
-use testing::{Fault, called, parsed, shown};
+use testing::{Fault, called, once, parsed, shown};
 
 /// A hart, and what undoes one of its moves.
 #[derive(Clone, Copy)]
 pub(crate) struct Stepper {
-    hart: Hart,
+    pub(crate) hart: Hart,
     kept: Undo,
 }
 
 impl Stepper {
     /// A hart at an entry, with a stack pointer, whose next move changes pc alone.
-    pub(crate) fn new(entry: u32, sp: u32) -> Stepper {
+    pub(crate) fn new(entry: u32, sp: u32) -> Stepper
+        ensures { result.hart.pc ≡ entry }
+    {
         Stepper {
             hart: Hart::new(entry, sp),
             kept: Undo::of_pc(entry),
@@ -52,10 +56,7 @@ impl Stepper {
                 Ok(format!(in alloc; "{stepped:?}")?)
             }
             ["undo"] => self.undo(alloc, memory),
-            ["once", "undo"] => match self.undo(alloc, memory) {
-                Err(Fault::NoMemoryInCall) => shown(alloc, "NoMemory"),
-                answer => answer,
-            },
+            ["once", "undo"] => once(alloc, self.undo(alloc, memory)),
             ["stored"] => shown(alloc, self.kept.stored()),
             ["pc"] => shown(alloc, self.hart.pc),
             ["x", register] => value(alloc, &self.hart, register),

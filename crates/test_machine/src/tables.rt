@@ -1,14 +1,13 @@
 //! A line table, and an image.
 //!
 //! - `row LINE ADDRESS WORDS`, `label NAME ADDRESS`: what the next table is to have; the rows have to rise.
-//! - `new END`: the table of these; it is then asked as `play_image` says.
+//! - `new END`: the table of these; it is then asked as `testing::ask_lines` says.
 //! - `image ENTRY BYTES`: an image with the table; then `bytes`, and `parts`, the entry and the bytes that it gives back.
 use image::{Bytes, Image, LineTable};
 use indexmap::IndexMap;
 use std::alloc::{AllocError, Global};
 use std::mem;
-use test_image::{ask_lines, rise};
-use testing::{Fault, bytes_of, hexadecimal, parsed, shown};
+use testing::{Fault, ask_lines, bytes_of, hexadecimal, parsed, rise, shown};
 
 /// A table and an image, and what the next table is to have.
 #[derive(Drop)]

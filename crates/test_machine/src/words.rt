@@ -7,7 +7,7 @@
 
 use rv32i::{decode, destination, encode, push_digits, text_of, text_of_word};
 use std::alloc::Global;
-use testing::{Fault, called, parsed, shown};
+use testing::{Fault, called, none, parsed, shown};
 
 /// What is answered of a word.
 pub(crate) fn answer_word(alloc: Global, arguments: &[&str]) -> Result<String, Fault> {
@@ -31,27 +31,27 @@ pub(crate) fn answer_word(alloc: Global, arguments: &[&str]) -> Result<String, F
 fn decoded(alloc: Global, word: u32) -> Result<String, Fault> {
     match decode(word) {
         Some(instr) => Ok(format!(in alloc; "{instr:?}")?),
-        None => shown(alloc, "none"),
+        None => none(alloc),
     }
 }
 
 fn encoded(alloc: Global, word: u32) -> Result<String, Fault> {
     match decode(word) {
         Some(instr) => shown(alloc, encode(instr)),
-        None => shown(alloc, "none"),
+        None => none(alloc),
     }
 }
 
 fn written(alloc: Global, word: u32) -> Result<String, Fault> {
     match decode(word) {
         Some(instr) => shown(alloc, destination(&instr).number()),
-        None => shown(alloc, "none"),
+        None => none(alloc),
     }
 }
 
 fn text(alloc: Global, word: u32, address: u32) -> Result<String, Fault> {
     match decode(word) {
         Some(instr) => called(text_of(alloc, instr, address)),
-        None => shown(alloc, "none"),
+        None => none(alloc),
     }
 }

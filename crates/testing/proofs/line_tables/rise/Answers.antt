@@ -1,7 +1,7 @@
 use Rattle.std.proofs.Common.{◌≤◌, slice_index_or, refl, arith}
 use Rattle.image.specs.Lines.{Row, line_in, start_of, words_in}
-use Rattle.test_image.proofs.Rows.{rising-step}
-use Rattle.test_image.proofs.rising.rise.Goals as goal
+use Rattle.testing.proofs.Rows.{rising-step}
+use Rattle.testing.proofs.line_tables.rise.Goals as goal
 
 pub loop-row-preserved : goal.loop-row-preserved
 loop-row-preserved c =
