@@ -310,15 +310,6 @@ def rows_of_requests(name):
     return re.search(r"^\| Request .*\n\|.*\n((?:\|.*\n)+)", text_of(name), re.M)[1].splitlines()
 
 
-# Files that name a request for a reason of its own: a law or a proof of that request alone, what it does when it comes, or an example.
-OF_ONE_REQUEST = {
-    "answers/proofs/Frames.antt", "answers/proofs/Looks.antt", "answers/proofs/Settable.antt", "answers/proofs/Setting.antt",
-    "headline/specs/Known.antt", "history_laws/proofs/OneStep.antt", "history_laws/specs/ByRequests.antt", "protocol/specs/Laws.antt",
-    "protocol/specs/Reading.antt", "queues/specs/Arrivals.antt", "queues/src/pending.rt", "range_laws/specs/Requests.antt",
-    "replies/specs/Messages.antt", "session_laws/proofs/Runs.antt", "test_transport/src/polling.rt",
-}
-
-
 def files_that_name_requests():
     """The files of crates that name a command, or the body of its success, but for the rooms of that request."""
     commands = re.findall(r"^ +Command::(\w+)(?:\(_\))? => (\w+)::NAME,$", text_of("crates/protocol/src/command.rt"), re.M)
@@ -334,14 +325,20 @@ def files_that_name_requests():
     return found
 
 
-def what_a_request_needs_lists_each_file_that_names_one():
-    listed = set()
-    for item in re.split(r"^\d+\. ", section_of("docs/ARCHITECTURE.md", "To add a request"), flags=re.M)[1:]:
-        crates = [span for span in SPAN.findall(item) if span in all_crates()][:2 if item.startswith("Players") else 1]
-        listed.update(crate + "/" + span for crate in crates for span in SPAN.findall(item) if span.split("/")[0] in PARTS)
+def places(name):
+    """The files that tools/places prints, each with its lines: none where the file is the request's own."""
+    ran = subprocess.run([os.path.join(TOP, "tools", "places"), name], capture_output=True, text=True, timeout=60, check=True)
+    return {path: lines.split("\n    ")[1:] for path, lines in re.findall(r"^(\S+)((?:\n    .*)*)", ran.stdout, re.M)}
+
+
+def the_places_of_requests_are_found():
+    """Each file that names a request is one of those that tools/places prints for it, which the map leaves to that."""
+    own = places("disassemble")
+    expect((own["protocol/src/disassemble.rt"], own["session_laws/specs/Intents.antt"]), ([], ["intent_of (one.Disassemble arguments) = Other"]),
+           "tools/places disassemble")
     named = files_that_name_requests()
     expect(len(named) > 30, True, "files name requests")
-    expect(sorted(named - listed - OF_ONE_REQUEST), [], "ARCHITECTURE: files that name a request, and are not listed")
+    expect(sorted(named - set().union(*map(places, known_requests()))), [], "files that name a request, and are not printed")
 
 
 def known_requests():
@@ -395,7 +392,7 @@ def checks():
         what_callers_owe_is_listed,
         calls_that_may_lack_memory_are_listed,
         each_definition_of_the_ledger_is_in_its_file,
-        what_a_request_needs_lists_each_file_that_names_one,
+        the_places_of_requests_are_found,
         each_request_has_a_row,
         each_definition_of_a_request_is_in_its_file,
         each_row_that_is_named_is_there,
