@@ -37,7 +37,7 @@ use Rattle.headline.specs.Headline.{HoldsWhatWasSo, WereSo, known_within}
 use Rattle.headline.specs.News.{Sight, sight}
 use Rattle.message_laws.proofs.Readable.{messages_are_readable}
 use Rattle.message_laws.specs.Messages.{HasPath, IsPath}
-use Rattle.watch_events.specs.Replaying.{Begun, HoldsOf, IsMade, IsTold, IsWatched, queued_for, requests_of, Shows, Watches}
+use Rattle.watch_events.specs.Replaying.{Begun, CountsQueued, HoldsOf, IsMade, IsTold, IsWatched, Queues, queued_for, requests_of, Shows, Watches}
 use Rattle.watch_events.specs.Tracking.{Keeps, SameWatched, Tracked, Tracks, is_made, sight_in, untouched}
 use Rattle.watch_events.specs.declared.watching.WatchError.{WatchError}
 use Rattle.watch_events.specs.declared.watching.WatchError.TheVariants as watch
@@ -264,16 +264,21 @@ is_too_long c limits events connection count t h made long = record {
       (m.0, subst (λ (n : ℕ). n < count) m.1 long);
 }
 
-pub is_queued : (c : Config) (limits : Limits) (events : List Event) (connection count : ℕ) (t : Tracked)
-    → AllTracked c limits events connection count t → is_made t ≡ true
-    → Begun c limits (λ from. IsMade (After from events) connection × (length t.queued ≡ queued_for connection (After from events)))
-is_queued c limits events connection count t h made =
-    record {
-      right = h.0.right;
-      image = h.0.image;
-      so = made_of
-          (the_beginning c limits h.0.right h.0.image) events connection t h.0.so h.1 made;
-    }
+-- how many bytes were queued for it
+pub counts_queued : (c : Config) (limits : Limits) (events : List Event) (connection count : ℕ) (t : Tracked) (result : Result ℕ WatchError)
+    → AllTracked c limits events connection count t → CountsQueued t result → Queues c limits events connection result
+counts_queued c limits events connection count t (Ok n) h counts = record {
+  right = h.0.right;
+  image = h.0.image;
+  so =
+      let m = made_of (the_beginning c limits h.0.right h.0.image) events connection t h.0.so h.1 counts.0 in
+      (m.0, counts.1 ∙ m.1);
+}
+counts_queued c limits events connection count t (Err watch.NoSuchConnection) h counts =
+    not_made c limits events connection count t h counts
+counts_queued c limits events connection count t (Err watch.CutTooLong) h counts = absurd counts
+counts_queued c limits events connection count t (Err watch.NoMemory) h counts = absurd counts
+counts_queued c limits events connection count t (Err (watch.Config error)) h counts = absurd counts
 
 -- what is shown of the connection that was watched is what is to be watched of the events
 pub shows_watched : (c : Config) (limits : Limits) → PathFits c → (events : List Event) (connection count : ℕ) (t : Tracked) (result : Result Watched WatchError)

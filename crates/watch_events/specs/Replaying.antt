@@ -131,6 +131,14 @@ Mirrors t count (Err watch.CutTooLong) = (is_made t ≡ true) × (length t.queue
 Mirrors t count (Err watch.NoMemory) = ⊤
 Mirrors t count (Err (watch.Config error)) = ⊥
 
+-- how many bytes were queued for that connection
+abbrev pub CountsQueued : Tracked → Result ℕ WatchError → Type 0
+CountsQueued t (Ok count) = (is_made t ≡ true) × (count ≡ length t.queued)
+CountsQueued t (Err watch.NoSuchConnection) = is_made t ≡ false
+CountsQueued t (Err watch.CutTooLong) = ⊥
+CountsQueued t (Err watch.NoMemory) = ⊥
+CountsQueued t (Err (watch.Config error)) = ⊥
+
 -- what is shown of that connection
 abbrev pub Shows : Tracked → ℕ → Result Watched WatchError → Type 0
 Shows t count (Ok watched) = Mirrors t count (Ok watched.mirror) × (watched.snapshot ≡ t.snapshot)

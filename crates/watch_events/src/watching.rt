@@ -3,7 +3,7 @@ ghost use Rattle.std.specs.Prelude.{◌≡◌, IfOk, OnOk};
 ghost use Rattle.protocol.specs.Reading.{incoming_of};
 ghost use Rattle.message_laws.specs.Messages.{IsPath};
 ghost use Rattle.watch_events.specs.Replaying as spec;
-ghost use Rattle.watch_events.specs.Replaying.{IsTold, Mirrors, Queues, Runs, Shows, TellsAll, TellsBody, TellsOne, Watches};
+ghost use Rattle.watch_events.specs.Replaying.{CountsQueued, IsTold, Mirrors, Queues, Runs, Shows, TellsAll, TellsBody, TellsOne, Watches};
 
 use crate::bodies::bodies_of;
 use crate::track::Track;
@@ -105,6 +105,13 @@ pub fn queued(
     ensures { Queues config limits events.now connection result }
 {
     let track = replayed(alloc, config, limits, events, connection, 0)?;
+    queued_in(&track)
+}
+
+// How many bytes were queued for the connection that was watched.
+fn queued_in(track: &Track) -> Result<usize, WatchError>
+    ensures { CountsQueued track.now result }
+{
     if track.is_made() {
         Ok(track.queued().len())
     } else {
