@@ -4,7 +4,6 @@ import contextlib
 import os
 import subprocess
 import tempfile
-import threading
 import time
 from types import SimpleNamespace
 
@@ -14,9 +13,9 @@ from support.interruptions import is_told_whatever_is_interrupted
 from support.listening import Editor, free_port
 from support.preloading import preload
 from support.program import PROGRAM, SECONDS, expect, frame, run
+from support.streams import FAULT, Limited
 from support.texts import FIRST, FIRST_ANSWER
 
-FAULT = b"rvdap: read or write fault\n"
 ABSENT = "/no such file"
 UNREAD = b"rvdap: %s: cannot read\n" % ABSENT.encode()
 # Each of the ways to ask for what is printed on standard output.
@@ -61,7 +60,7 @@ def help_ends_well_without_memory():
 
 # ---- outputs that are full at first
 
-class Full:
+class Full(Limited):
     """The program over one output that is full at first, and does not block: of standard output and error the one of this name."""
 
     def __init__(self, name, words, environment=None):
@@ -71,23 +70,11 @@ class Full:
         with contextlib.suppress(BlockingIOError):
             while True:
                 self.filled += os.write(its, b"x" * 4096)
-        streams = {"stdin": subprocess.PIPE, "stdout": subprocess.PIPE, "stderr": subprocess.PIPE, name: its}
-        self.process = subprocess.Popen([PROGRAM, *words], env=environment, **streams)
+        super().__init__(words, environment, **{"stdin": subprocess.PIPE, "stdout": subprocess.PIPE, "stderr": subprocess.PIPE, name: its})
         os.close(its)
-        # A program that waits for what never comes ends so, and its test with it.
-        self.limit = threading.Timer(SECONDS, self.process.kill)
-        self.limit.start()
-
-    def __enter__(self):
-        return self
 
     def __exit__(self, *_):
-        self.limit.cancel()
-        self.process.kill()
-        self.process.wait()
-        for stream in (self.process.stdin, self.process.stdout, self.process.stderr):
-            if stream is not None:
-                stream.close()
+        super().__exit__()
         os.close(self.from_it)
 
     def waits(self):
@@ -106,12 +93,6 @@ class Full:
         expect(said[:self.filled], b"x" * self.filled, "what was there before")
         return said[self.filled:]
 
-    def end(self):
-        """The status, and how many seconds of processor time it took."""
-        _, status, used = os.wait4(self.process.pid, 0)
-        self.process.returncode = os.waitstatus_to_exitcode(status)
-        return self.process.returncode, used.ru_utime + used.ru_stime
-
 
 def help_waits_for_an_output_that_does_not_block():
     for words in ASKED:
@@ -119,7 +100,7 @@ def help_waits_for_an_output_that_does_not_block():
         with Full("stdout", words) as full:
             full.waits()
             expect(full.read(), whole, "what is written, %s" % (words,))
-            status, seconds = full.end()
+            status, seconds = full.status()
             expect((status, full.process.stderr.read()), (0, b""), "the end, %s" % (words,))
             expect(seconds < 0.3, True, "%.2f seconds of processor time is a wait" % seconds)
 
@@ -138,7 +119,7 @@ def each_line_waits_for_a_standard_error_that_does_not_block():
                 full.process.stdin.close()
                 full.waits()
                 expect(full.read(), line, "the line, %s" % (words,))
-                expect(full.end()[0], status, "the status, %s" % (words,))
+                expect(full.status()[0], status, "the status, %s" % (words,))
 
 
 def an_address_is_said_before_an_editor_is_served():
@@ -157,7 +138,7 @@ def a_wait_that_fails_is_a_fault():
     with tempfile.TemporaryDirectory() as folder:
         environment = dict(os.environ, LD_PRELOAD=preload(folder, "abort"), ABORT_POLLS="1000000")
         with Full("stdout", ("--help",), environment) as full:
-            expect((full.process.stderr.read(), full.end()[0]), (FAULT, 1), "the end")
+            expect((full.process.stderr.read(), full.status()[0]), (FAULT, 1), "the end")
 
 
 # ---- signals

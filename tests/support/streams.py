@@ -33,19 +33,13 @@ def one_terminal():
 KINDS = (pipes, one_socket, one_terminal)
 
 
-class Streams:
-    """The program over an input and an output that do not block, which a kind gives."""
+class Limited:
+    """The program, which is killed after a while: where it waits for what never comes, its test ends with it."""
 
-    def __init__(self, kind, words=(), environment=None):
-        its_input, its_output, self.to_it, self.from_it = kind()
-        for descriptor in (its_input, its_output):
-            os.set_blocking(descriptor, False)
-        self.process = subprocess.Popen([PROGRAM, *words], stdin=its_input, stdout=its_output, stderr=subprocess.PIPE, env=environment)
-        # A program that waits for what never comes ends so, and its test with it.
+    def __init__(self, words, environment, **streams):
+        self.process = subprocess.Popen([PROGRAM, *words], env=environment, **streams)
         self.limit = threading.Timer(SECONDS, self.process.kill)
         self.limit.start()
-        for descriptor in (its_input, its_output):
-            os.close(descriptor)
 
     def __enter__(self):
         return self
@@ -54,7 +48,30 @@ class Streams:
         self.limit.cancel()
         self.process.kill()
         self.process.wait()
-        self.process.stderr.close()
+        for stream in (self.process.stdin, self.process.stdout, self.process.stderr):
+            if stream is not None:
+                stream.close()
+
+    def status(self):
+        """The status, and how many seconds of processor time the program took."""
+        _, status, used = os.wait4(self.process.pid, 0)
+        self.process.returncode = os.waitstatus_to_exitcode(status)
+        return self.process.returncode, used.ru_utime + used.ru_stime
+
+
+class Streams(Limited):
+    """The program over an input and an output that do not block, which a kind gives."""
+
+    def __init__(self, kind, words=(), environment=None):
+        its_input, its_output, self.to_it, self.from_it = kind()
+        for descriptor in (its_input, its_output):
+            os.set_blocking(descriptor, False)
+        super().__init__(words, environment, stdin=its_input, stdout=its_output, stderr=subprocess.PIPE)
+        for descriptor in (its_input, its_output):
+            os.close(descriptor)
+
+    def __exit__(self, *_):
+        super().__exit__()
         for descriptor in (self.to_it, self.from_it):
             if descriptor is not None:
                 os.close(descriptor)
@@ -84,6 +101,5 @@ class Streams:
     def end(self):
         """The status, what is on standard error, and how many seconds of processor time the program took."""
         err = self.process.stderr.read()
-        _, status, used = os.wait4(self.process.pid, 0)
-        self.process.returncode = os.waitstatus_to_exitcode(status)
-        return self.process.returncode, err, used.ru_utime + used.ru_stime
+        status, seconds = self.status()
+        return status, err, seconds
