@@ -9,7 +9,7 @@ wants = @command -v $(1) > /dev/null || { echo "make: $(1) is absent: $(2)" >&2;
 # What gives the program: the proofs, or, where there is no rt, that it was built before.
 PROGRAM_BY = $(if $(shell command -v rt 2> /dev/null),build,built)
 
-.PHONY: run build test bench soak install dist clean built toolchain compiler python
+.PHONY: run build test check docs bench soak install dist clean built toolchain compiler python
 
 # Debugs an example: plays a session into the program as an editor would, and prints what each request gives.
 run: python $(PROGRAM_BY)
@@ -25,6 +25,15 @@ build: toolchain python
 test: toolchain compiler python
 	@test ! -d build/prove || flock -n build/prove.lock rm -rf build/prove
 	tests/run
+
+# Proves one crate over what is proved below it, or of it the functions whose path has a word: make check CRATE=framing ONLY=unframer
+check: toolchain
+	cd crates/$(CRATE) && rt check $(if $(ONLY),--only $(ONLY))
+
+# Makes the transcripts in the pages anew, and holds the pages against the code.
+docs: python $(PROGRAM_BY)
+	docs/transcript
+	tests/run --no-gate docs said wrap
 
 # Measures the program beside bench/floor.c in the same run.
 bench: compiler python build

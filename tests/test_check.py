@@ -1,5 +1,5 @@
-"""`rvdap check` and `rvdap labels`: the first error of each file with its line, and where labels are, as text and as JSON; what cannot be read,
-and output that fails."""
+"""`rvdap check` and `rvdap labels`: the errors of each file with their lines, their columns and words on them, and where labels are, as text and as
+JSON; what cannot be read, and output that fails."""
 import contextlib
 import glob
 import json
@@ -12,6 +12,7 @@ import threading
 from support.allocations import each_refusal
 from support.files import file_of
 from support.program import PROGRAM, SECONDS, TOP, expect
+from support.slips import NOT_ALIGNED, SLIPS, TEXTS, too_far, unmarked
 
 LONGEST = 1048576
 SORT, UNDEFINED = (os.path.join("examples", name) for name in ("sort.s", "undefined-label.s"))
@@ -25,22 +26,22 @@ EXPLANATIONS = {
     "Undefined": "no line defines this label",
     "TooLarge": "memory ends before this line",
 }
-# Texts with an error of each kind: the kind, its line, and the line itself, which is not told where the text is no UTF-8.
+# Texts with an error of each kind: the kind, its line and its column, words on it, and the line itself, which is not told where the text is no UTF-8.
 WRONG = (
-    ("NotUtf8", b"nop\n# \xff\nbogus\n", 2, None),
-    ("Syntax", b"nop\n\n  1 2\n", 3, "  1 2"),
-    ("UnknownInstruction", b"\tbogus a0 # what?\n", 1, "\tbogus a0 # what?"),
-    ("BadOperand", b"nop\r\nadd a0\r\nnop\r\n", 2, "add a0"),
-    ("OutOfRange", b"nop\n  addi a0, a0, 2048", 2, "  addi a0, a0, 2048"),
-    ("OutOfRange", b".byte 1\nnop\n", 2, "nop"),
-    ("OutOfRange", b"f: beq a0, a1, e\n.space 4096\ne: nop\n", 1, "f: beq a0, a1, e"),
-    ("TwiceDefined", b"f: nop\ng: nop\nf: nop # \xc3\xa9\n", 3, "f: nop # é"),
-    ("Undefined", b"_start: nop\n    j end\n", 2, "    j end"),
-    ("TooLarge", b".space 1048576\nnop\n", 2, "nop"),
+    ("NotUtf8", b"nop\n# \xff\nbogus\n", 2, 3, EXPLANATIONS["NotUtf8"], None),
+    ("Syntax", b"nop\n\n  1 2\n", 3, 3, EXPLANATIONS["Syntax"], "  1 2"),
+    ("UnknownInstruction", b"\tbogus a0 # what?\n", 1, 2, EXPLANATIONS["UnknownInstruction"], "\tbogus a0 # what?"),
+    ("BadOperand", b"nop\r\nadd a0\r\nnop\r\n", 2, 1, "add takes three registers: 1 operand stands here", "add a0"),
+    ("OutOfRange", b"nop\n  addi a0, a0, 2048", 2, 16, "2048 is not in -2048 to 2047", "  addi a0, a0, 2048"),
+    ("OutOfRange", b".byte 1\nnop\n", 2, 1, NOT_ALIGNED, "nop"),
+    ("OutOfRange", b"f: beq a0, a1, e\n.space 4096\ne: nop\n", 1, 4, too_far(4100, "after"), "f: beq a0, a1, e"),
+    ("TwiceDefined", b"f: nop\ng: nop\nf: nop # \xc3\xa9\n", 3, 1, "line 1 defines f before", "f: nop # é"),
+    ("Undefined", b"_start: nop\n    j end\n", 2, 7, "no line defines end", "    j end"),
+    ("TooLarge", b".space 1048576\nnop\n", 2, 1, EXPLANATIONS["TooLarge"], "nop"),
 )
 # The text of an error as it is told after the number of its line.
-FAULT = ": error: %s: %s\n"
-UNDEFINED_TOLD = "examples/undefined-label.s:4: error: Undefined: no line defines this label\n    call g\n"
+FAULT = ":%d: error: %s: %s\n"
+UNDEFINED_TOLD = "examples/undefined-label.s:4:10: error: Undefined: no line defines g\n    call g\n"
 
 
 def said(*words, stdout=subprocess.PIPE, environment=None, folder=TOP):
@@ -58,13 +59,18 @@ def labels(*words, **how):
     return said("labels", *words, **how)
 
 
-def told(path, kind, line, text):
+def told(path, kind, line, column, words, text):
     """What is told of an error in the file at a path."""
-    return "%s:%d" % (path, line) + FAULT % (kind, EXPLANATIONS[kind]) + ("" if text is None else text + "\n")
+    return "%s:%d" % (path, line) + FAULT % (column, kind, words) + ("" if text is None else text + "\n")
 
 
-def member_of(path, kind, line, text):
-    return {"explanation": EXPLANATIONS[kind], "file": path, "kind": kind, "line": line, "text": text}
+def member_of(path, kind, line, column, words, text):
+    return {"column": column, "explanation": words, "file": path, "kind": kind, "line": line, "text": text}
+
+
+def bogus(path, line, text="bogus"):
+    """What is told of a mnemonic that is none, and is like none."""
+    return told(path, "UnknownInstruction", line, 1, EXPLANATIONS["UnknownInstruction"], text)
 
 
 def compact(value):
@@ -89,18 +95,19 @@ def files(**texts):
 # ---- check
 
 def each_error_is_told_with_its_line():
-    for kind, text, line, shown in WRONG:
+    for kind, text, line, column, words, shown in WRONG:
         with file_of(text) as path:
-            expect(check(path), (told(path, kind, line, shown), "", 1), "the error %s of %r" % (kind, text))
+            expect(check(path), (told(path, kind, line, column, words, shown), "", 1), "the error %s of %r" % (kind, text))
     expect({kind for kind, *_ in WRONG}, set(EXPLANATIONS), "the kinds that are tried")
 
 
 def each_error_is_told_as_json():
-    for kind, text, line, shown in WRONG:
+    for kind, text, line, column, words, shown in WRONG:
         with file_of(text) as path:
             out, err, status = check("--json", path)
-            expect((err, status, json.loads(out)), ("", 1, member_of(path, kind, line, shown)), "the error %s of %r as JSON" % (kind, text))
-            expect(out, compact(member_of(path, kind, line, shown)), "its text")
+            member = member_of(path, kind, line, column, words, shown)
+            expect((err, status, json.loads(out)), ("", 1, member), "the error %s of %r as JSON" % (kind, text))
+            expect(out, compact(member), "its text")
             expect(check(path, "--json"), (out, "", 1), "the option after the file")
 
 
@@ -109,8 +116,9 @@ def what_json_escapes_is_escaped():
     with file_of("nop\n" + line + "\n") as path:
         out = check("--json", path)[0]
         expect(json.loads(out)["text"], line, "the line, read again")
-        expect(out, compact(member_of(path, "UnknownInstruction", 2, line)), "the line, as it is written")
-        expect(check(path)[0], told(path, "UnknownInstruction", 2, line), "the line as text")
+        member = member_of(path, "UnknownInstruction", 2, 1, EXPLANATIONS["UnknownInstruction"], line)
+        expect(out, compact(member), "the line, as it is written")
+        expect(check(path)[0], bogus(path, 2, line), "the line as text")
 
 
 def a_text_without_an_error_has_nothing_to_tell():
@@ -123,12 +131,93 @@ def a_text_without_an_error_has_nothing_to_tell():
 
 def an_error_of_an_earlier_pass_is_told_first():
     with file_of("nop\nj x\nnop\nbogus\n") as path:
-        expect(check(path)[0], told(path, "UnknownInstruction", 4, "bogus"), "the error that is told")
+        expect(check(path)[0], bogus(path, 4), "the error that is told")
+
+
+# ---- slips
+
+def each_slip_is_named():
+    """All slips are errors of lines that cannot be read, so one text has many. Among the first hundred errors of a text names are guessed."""
+    for first in range(0, len(SLIPS), 100):
+        slips = [(*unmarked(line), kind, words) for line, kind, words in SLIPS[first:first + 100]]
+        with file_of("\n".join(line for line, *_ in slips)) as path:
+            out, err, status = check(path)
+            given = out.splitlines()
+            for number, (line, column, kind, words) in enumerate(slips, 1):
+                wanted = told(path, kind, number, column, words, line)
+                expect(given[2 * number - 2:2 * number], wanted.splitlines(), "what is told of %r" % line)
+            expect((len(given), err, status), (2 * len(slips), "", 1), "as many errors as slips")
+            objects = [json.loads(it) for it in check("--json", path)[0].splitlines()]
+            expect(objects, [member_of(path, kind, number, column, words, line)
+                             for number, (line, column, kind, words) in enumerate(slips, 1)], "the same as JSON")
+
+
+def names_are_guessed_in_the_first_hundred_errors():
+    with file_of("ecal\n" * 101) as path:
+        words = [line.partition("UnknownInstruction: ")[2] for line in check(path)[0].splitlines()[::2]]
+        expect(words, ["ecal: ecall?"] * 100 + [EXPLANATIONS["UnknownInstruction"]], "the words on 101 errors")
+    for count, words in ((1000, "no line defines l1x: l1?"), (1001, "no line defines l1x")):
+        with file_of("".join("l%d:\n" % number for number in range(count)) + "j l1x\n") as path:
+            expect(check(path)[0], told(path, "Undefined", count + 1, 3, words, "j l1x"), "a name beside %d labels" % count)
+
+
+def each_slip_is_the_error_that_the_assembler_reports():
+    for line, kind, _ in SLIPS:
+        with file_of(unmarked(line)[0]) as path:
+            expect(said("asm", path), ("", "rvdap: %s: line 1: %s\n" % (path, kind), 1), "asm of %r" % line)
+
+
+def errors_of_one_pass_are_told_together():
+    for text, errors in TEXTS:
+        lines = [unmarked(line) for line in text]
+        places = [(number, column, line) for number, (line, column) in enumerate(lines, 1) if column]
+        expect(len(places), len(errors), "an error for each place that is marked in %r" % (text,))
+        with file_of("\n".join(line for line, _ in lines)) as path:
+            wanted = "".join(told(path, kind, number, column, words, line) for (number, column, line), (kind, words) in zip(places, errors))
+            expect(check(path), (wanted, "", 1), "the errors of %r" % (text,))
+
+
+def source_of(*path):
+    with open(os.path.join(TOP, "crates", *path), encoding="utf-8") as file:
+        return file.read()
+
+
+def each_mnemonic_is_told_with_what_it_takes():
+    """What is said of a mnemonic rests on a table of its own, which has the names that are read, each once."""
+    names = sorted(re.findall(r'"([a-z.]+)" => Some\(', source_of("statements", "src", "mnemonics.rt")))
+    tables = re.findall(r"&str; \d+\] = \[(.*?)\];", source_of("diagnostics", "src", "forms.rt"), re.S)
+    expect(sorted(re.findall(r'"(.*?)"', " ".join(tables))), names, "the names of both tables")
+    with file_of("\n".join("%s %%, %%, %%, %%" % name for name in names)) as path:
+        lines = check(path)[0].splitlines()[::2]
+    for name, line in zip(names, lines):
+        words = line.partition(": BadOperand: ")[2]
+        expect(words.startswith("%s takes " % name) or name in (".word", ".half", ".byte") and words.startswith("operand 1: "), True, line)
+    expect(len(lines), len(names), "as many errors as names")
+
+
+def many_errors_are_told():
+    count = 20000
+    with file_of("bogus\n" * count) as path:
+        out, err, status = check(path)
+        expect((out.count("\n"), err, status), (2 * count, "", 1), "as many errors as lines")
+    with file_of("".join("l%d: j m%d\n" % (number, number) for number in range(count))) as path:
+        out, err, status = check(path)
+        expect((out.count(": error: Undefined: no line defines m"), err, status), (count, "", 1), "as many labels that no line defines")
+    with file_of("beq a0, a1, e\n" * count + ".space 4096\ne: nop\n") as path:
+        out, err, status = check(path)
+        expect((out.count(": error: OutOfRange: the target is "), err, status), (count, "", 1), "as many targets that are too far")
+    with file_of(".byte 1\n" + "f: nop\n" * count) as path:
+        out, err, status = check(path)
+        expect((out.count(": error: OutOfRange: "), out.count(": error: TwiceDefined: line 2 defines f before"), err, status), (1, count - 1, "", 1),
+               "as many labels that are defined again, and one address")
+
+
+# ---- files
 
 
 def files_are_told_of_in_their_order():
     with files(a=b"bogus\n", b=b"nop\n", c=b"nop\nj x\n") as folder:
-        first, second = told("a.s", "UnknownInstruction", 1, "bogus"), told("c.s", "Undefined", 2, "j x")
+        first, second = bogus("a.s", 1), told("c.s", "Undefined", 2, 3, "no line defines x", "j x")
         for names, out, status in (("a b c", first + second, 1), ("c b a", second + first, 1), ("b a", first, 1), ("a b", first, 1), ("b", "", 0), ("b b b", "", 0),
                                    ("a a", first * 2, 1), ("a b a c b", first * 2 + second, 1)):
             expect(check(*(name + ".s" for name in names.split()), folder=folder), (out, "", status), "the files %s" % names)
@@ -140,7 +229,7 @@ def what_cannot_be_read_leaves_the_others_checked():
     long = b"#" * (LONGEST + 1)
     with files(a=b"bogus\n", b=b"nop\n", long=long, longest=long[1:]) as folder:
         os.mkdir(os.path.join(folder, "folder.s"))
-        fault, line = told("a.s", "UnknownInstruction", 1, "bogus"), "rvdap: %s: cannot read\n"
+        fault, line = bogus("a.s", 1), "rvdap: %s: cannot read\n"
         for name in ("absent.s", "folder.s", "long.s", ""):
             for names, out in (((name,), ""), ((name, "a.s"), fault), (("a.s", name), fault), ((name, "b.s"), ""), (("b.s", name, "a.s", "b.s"), fault)):
                 expect(check(*names, folder=folder), (out, line % name, 1), "the files %r" % (names,))
@@ -154,7 +243,7 @@ def a_file_may_have_any_name():
     for name in ("a b.s", "naïve.s", "-", "--json", "a:1: error: b.s", "run"):
         with tempfile.TemporaryDirectory() as folder:
             write(os.path.join(folder, name), b"bogus\n")
-            expect(check("--", name, folder=folder), (told(name, "UnknownInstruction", 1, "bogus"), "", 1), "a file %r" % name)
+            expect(check("--", name, folder=folder), (bogus(name, 1), "", 1), "a file %r" % name)
             expect(json.loads(check("--json", "--", name, folder=folder)[0])["file"], name, "a file %r in JSON" % name)
 
 
@@ -162,7 +251,7 @@ def many_files_are_checked():
     texts = {"f%d" % number: b"nop\n" * number + (b"bogus" if number % 3 == 0 else b"nop") for number in range(300)}
     with files(**texts) as folder:
         out, err, status = check(*(name + ".s" for name in texts), folder=folder)
-    wanted = [told("f%d.s" % number, "UnknownInstruction", number + 1, "bogus") for number in range(0, 300, 3)]
+    wanted = [bogus("f%d.s" % number, number + 1) for number in range(0, 300, 3)]
     expect((out, err, status), ("".join(wanted), "", 1), "300 files")
 
 
@@ -262,7 +351,7 @@ def many_labels_are_told():
 
 
 def a_text_with_an_error_has_no_labels():
-    for kind, text, line, _ in WRONG:
+    for kind, text, line, *_ in WRONG:
         with file_of(text) as path:
             for words in ((path,), ("--json", path)):
                 expect(labels(*words), ("", "rvdap: %s: line %d: %s\n" % (path, line, kind), 1), "labels of %r" % text)
@@ -277,7 +366,7 @@ def labels_of_what_cannot_be_read():
 # ---- both
 
 def a_fifo_is_read():
-    for command, text, wanted in (("check", b"nop\nbogus\n", told("fifo", "UnknownInstruction", 2, "bogus")), ("labels", b"f: nop\n", "00010000 code 1  f\n")):
+    for command, text, wanted in (("check", b"nop\nbogus\n", bogus("fifo", 2)), ("labels", b"f: nop\n", "00010000 code 1  f\n")):
         with tempfile.TemporaryDirectory() as folder:
             path = os.path.join(folder, "fifo")
             os.mkfifo(path)
@@ -302,9 +391,14 @@ def output_that_fails_is_a_fault():
         expect(check(SORT, stdout=full), (None, "", 0), "a full disk, and no error")
 
 
+# Texts that are told with words of many forms.
+SOME_SLIPS = b"ecal\n.asciz \"x\"\nli a0, 'a'\nlw a0, n\nsub a0, a0, 1\naddi a0, a0, 5000\n1: nop\nli a0,, 1\nADDI a0, a0, 1\n"
+SOME_LABELS = b"end: j ned\nla a0, ra\nx: .word end, y\n"
+
+
 def without_memory_it_ends_with_a_line():
-    with files(a=b"nop\nj x\n", b=b"nop\n", labelled=b"f: nop\nd: .word 1\ne:\n") as folder:
-        for words in (("check", "a.s"), ("check", "--json", "a.s"), ("check", "a.s", "b.s", "a.s"), ("check", "b.s"), ("labels", "labelled.s"),
+    with files(a=b"nop\nj x\n", b=b"nop\n", slips=SOME_SLIPS, labels=SOME_LABELS, labelled=b"f: nop\nd: .word 1\ne:\n") as folder:
+        for words in (("check", "a.s"), ("check", "--json", "a.s"), ("check", "a.s", "b.s", "a.s"), ("check", "b.s"), ("check", "slips.s"), ("check", "labels.s"), ("labels", "labelled.s"),
                       ("labels", "--json", "labelled.s")):
             whole = said(*words, folder=folder)
             given = each_refusal(lambda environment: said(*words, folder=folder, environment=environment))
@@ -348,6 +442,12 @@ def checks():
         what_json_escapes_is_escaped,
         a_text_without_an_error_has_nothing_to_tell,
         an_error_of_an_earlier_pass_is_told_first,
+        each_slip_is_named,
+        names_are_guessed_in_the_first_hundred_errors,
+        each_slip_is_the_error_that_the_assembler_reports,
+        errors_of_one_pass_are_told_together,
+        each_mnemonic_is_told_with_what_it_takes,
+        many_errors_are_told,
         files_are_told_of_in_their_order,
         what_cannot_be_read_leaves_the_others_checked,
         a_file_may_have_any_name,

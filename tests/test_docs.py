@@ -4,6 +4,7 @@ import os
 import re
 import subprocess
 
+from support import ample
 from support.players import tables
 from support.program import TOP, expect
 
@@ -136,16 +137,14 @@ def the_map_has_the_crates_in_their_order():
     expect(found, [(title, list(crates)) for title, crates in groups_of_crates()], "ARCHITECTURE: the crates")
 
 
-def the_ledger_has_the_crates_in_their_order():
-    """Its index, where players and benches have one line, and its sections, where they share the last one."""
-    ledger = text_of("docs/DEFINITIONS.md")
-    lines = re.findall(r"^\| ([a-z ,]+) \| (\[.*) \|$", ledger.partition("\n## ")[0], re.M)
-    index = [(title, re.findall(r"\[`(\w+)`\]", cell)) for title, cell in lines]
-    groups = [(title, list(crates)) for title, crates in groups_of_crates()]
-    expect(index, groups[:7] + [("tests, benches", [])], "DEFINITIONS: the index")
-    shared = SPAN.findall(section_of("docs/DEFINITIONS.md", "Players and benches").partition("\n\n")[0])
-    sections_in_order = re.findall(r"^## `(\w+)`$", ledger, re.M) + [span for span in dict.fromkeys(shared) if span in all_crates()]
-    expect(sections_in_order, all_crates(), "DEFINITIONS: the sections, and the crates of the last one")
+def by_crate():
+    """The rows of the table of crates in DEFINITIONS, each with the crates that it names."""
+    rows = re.findall(r"^\| (`.*?`) \| (.*) \|$", section_of("docs/DEFINITIONS.md", "By crate"), re.M)
+    return [(SPAN.findall(names), text) for names, text in rows]
+
+
+def the_table_of_crates_has_each_once():
+    expect(sorted(name for names, _ in by_crate() for name in names), sorted(all_crates()), "DEFINITIONS: the crates")
 
 
 def the_picture_has_each_crate_above_those_it_stands_on():
@@ -185,55 +184,8 @@ def each_rule_of_the_map_has_names_that_differ():
     expect(crates, sorted(crates, key=all_crates().index), "ARCHITECTURE: the rules are in the order of the crates")
 
 
-def sections():
-    """The ledger's section of each crate that has one."""
-    parts = re.split(r"^## (.*)\n", text_of("docs/DEFINITIONS.md"), flags=re.M)
-    return {title.strip("`"): text for title, text in zip(parts[1::2], parts[2::2]) if title.startswith("`")}
-
-
 def sources(crate):
     return sorted(glob.glob(os.path.join(TOP, "crates", crate, "src", "**", "*.rt"), recursive=True))
-
-
-def public_functions(crate):
-    """The name of each public function of a crate, with the names of its clauses."""
-    for path in sources(crate):
-        for head in re.findall(r"^ *pub (?:const )?fn .*?(?=^ *\{)", text_of(path), re.M | re.S):
-            yield re.search(r"fn (\w+)", head)[1], re.findall(r"^ *ensures\*? (\w+) \{", head, re.M)
-
-
-def entries(text, functions):
-    """The entries of a section's tables, each as the names of its functions and clauses. A row whose first cell begins with a function, and
-    whose second is not empty, begins an entry; any other goes on with the one above it."""
-    made = []
-    for row in text.splitlines():
-        cells = row.split("|")[1:-1]
-        if not cells:
-            continue
-        first = [span.split("::")[-1] for span in SPAN.findall(cells[0])]
-        if first and first[0] in functions and cells[1].strip():
-            made.append(set())
-        if made:
-            made[-1].update(first, SPAN.findall(cells[1]))
-    return made
-
-
-def each_clause_stands_in_the_ledger():
-    for crate, text in sections().items():
-        functions = list(public_functions(crate))
-        names = {span.split("::")[-1] for span in SPAN.findall(text)}
-        found = entries(text, [function for function, _ in functions])
-        for function, clauses in functions:
-            expect(function in names, True, "DEFINITIONS: the function %s of %s" % (function, crate))
-            absent = [clause for clause in clauses if not any({function, clause} <= entry for entry in found)]
-            expect(absent, [], "DEFINITIONS: clauses of %s of %s" % (function, crate))
-
-
-def each_law_stands_in_the_ledger():
-    for path in glob.glob(os.path.join(TOP, "crates", "*", "src", "laws.rt")):
-        crate = path.split(os.sep)[-3]
-        for law in re.findall(r"^pub fn (\w+)", text_of(path), re.M):
-            expect("`%s`" % law in sections()[crate], True, "DEFINITIONS: the law %s of %s" % (law, crate))
 
 
 def heads(crate):
@@ -248,23 +200,18 @@ def heads(crate):
                 yield (owner if inner else "") + name, signature, clauses
 
 
-def that_are_owed():
-    """The functions of the ledger that require something, each with its crate. A name goes on with the type of the one before it."""
-    crate, table = None, section_of("docs/DEFINITIONS.md", "What callers owe")
-    for crates, functions in re.findall(r"^\| (`\w+`)? ?\| (`.*?`) \|", table, re.M):
-        crate, owner = crates.strip("`") or crate, ""
-        for span in SPAN.findall(functions):
-            before, _, name = span.rpartition("::")
-            owner = before + "::" if before[:1].isupper() else owner
-            yield crate, owner + name
-
-
-def what_callers_owe_is_listed():
-    owed = list(that_are_owed())
-    required = [(crate, name) for crate in all_crates() for name, _, clauses in heads(crate) if any(clause.startswith("requires") for clause in clauses)]
-    expect(len(required) > 40, True, "functions require something")
-    expect(sorted(owed), sorted(required), "DEFINITIONS: what callers owe")
-    expect([crate for crate, _ in owed], sorted([crate for crate, _ in owed], key=all_crates().index), "DEFINITIONS: what callers owe, in the order of the crates")
+def each_clause_stands_in_the_ledger():
+    """Each function and each clause of it, and with each definition what it says."""
+    for crate in all_crates():
+        printed = subprocess.run([os.path.join(TOP, "tools", "ledger"), crate], capture_output=True, text=True, timeout=60, check=True).stdout
+        rows = re.findall(r"^\| (?:`(?:\w+::)?(\w+)`)? \| ([\w –]*) \| (?:`(.*)`)? \| (.*) \|$", printed, re.M)
+        expect(len(rows), len(printed.splitlines()) - 5, "the ledger of %s: its rows" % crate)
+        found = {(function, clause) for function, clause, _, _ in rows}
+        for function, _, clauses in heads(crate):
+            named = re.findall(r"^ensures\*? (\w+) \{", "\n".join(clauses), re.M)
+            absent = [clause for clause in named if (function.split("::")[-1], clause) not in found]
+            expect(absent, [], "the ledger: clauses of %s of %s" % (function, crate))
+        expect([definition for _, _, definition, says in rows if definition and not says.strip()], [], "the ledger of %s: definitions without a comment" % crate)
 
 
 # Calls of which a clause says that they never answer that there is no memory, though their types could.
@@ -277,9 +224,9 @@ def calls_that_may_lack_memory_are_listed():
     enums = [found for crate in crates for path in sources(crate) for found in re.findall(r"^pub enum (\w+)[^{]*\{(.*?)^\}", text_of(path), re.M | re.S)]
     errors = {name for name, variants in enums if re.search(r"^ *NoMemory\b", variants, re.M)} | {"AllocError", "AsmError"}
     may_lack = {name for crate in crates for name, signature, _ in heads(crate) if errors & set(re.findall(r"\w+", signature.rpartition("->")[2]))}
-    listed = {span.split("::")[-1] for span in SPAN.findall(section_of("docs/DEFINITIONS.md", "Only tested"))}
+    listed = {name.split(" ")[0].split("::")[-1] for names in [*ample.ROWS, *ample.WITHIN] for name in names.split(", ")}
     expect(len(may_lack) > 80, True, "calls may lack memory")
-    expect(sorted(name for name in may_lack - NEVER_LACK if name.split("::")[-1] not in listed), [], "DEFINITIONS: calls that may lack memory")
+    expect(sorted(name for name in may_lack - NEVER_LACK if name.split("::")[-1] not in listed), [], "tests/support/ample.py: calls that may lack memory")
 
 
 def is_defined(crate, file, name):
@@ -292,17 +239,10 @@ def expect_defined(crate, file, name):
     expect(is_defined(crate, file, name), True, "DEFINITIONS: %s.%s of %s" % (file, name, crate))
 
 
-def each_definition_of_the_ledger_is_in_its_file():
-    for crate, text in sections().items():
-        for file, name, other in re.findall(r"`([A-Z]\w+)\.(\w+)`(?: of `(\w+)`)?", text):
-            expect_defined(other or crate, file, name)
-        for made in re.findall(r"^Made of: (.*?)(?:\.\s|\.?\Z)", text, re.M | re.S):
-            file = None
-            for span in SPAN.findall(re.sub(r"\([^)]*\)", "", made)):
-                if "." in span:
-                    file = span.split(".")[0]
-                elif file:
-                    expect_defined(crate, file, span)
+def each_definition_of_the_table_of_crates_is_in_its_file():
+    for crates, text in by_crate():
+        for file, name in re.findall(r"`([A-Z]\w+)\.(\w+)`", text):
+            expect(any(is_defined(crate, file, name) for crate in crates), True, "DEFINITIONS: %s.%s" % (file, name))
 
 
 def rows_of_requests(name):
@@ -363,12 +303,24 @@ def each_definition_of_a_request_is_in_its_file():
 
 
 def each_row_that_is_named_is_there():
-    only_tested = text_of("docs/DEFINITIONS.md").partition("## Only tested\n")[2].partition("\n## ")[0]
     rows = {(table, row.name) for table, module in tables() for row in module.ROWS}
-    named = [(table, name) for table, names in re.findall(r'(\w+): ((?:"[^"]+"(?:, )?)+)', only_tested)
+    named = [(table, name) for table, names in re.findall(r'(\w+): ((?:"[^"]+"(?:, )?)+)', "; ".join(ample.ROWS.values()))
              for name in re.findall(r'"([^"]+)"', names)]
     expect(len(named) > 10, True, "rows are named")
-    expect(sorted(set(named) - rows), [], "the rows of the ledger that no table has")
+    expect(sorted(set(named) - rows), [], "tests/support/ample.py: the rows that no table has")
+
+
+# What says the version of the program, beside the code that prints it.
+SAYS_VERSION = ("CHANGELOG.md", "docs/INSTALL.md", "docs/PROTOCOL.md", "editors/vscode/README.md", "editors/vscode/package.json", "packaging/rvdap.1",
+                "tests/mutants/options/has_no_version.edit", "tests/rows/options.py")
+
+
+def each_version_is_that_of_the_program():
+    version = re.search(r'\.version\("(.*)"\)', text_of("crates/options/src/command.rt"))[1]
+    for path in SAYS_VERSION:
+        said = re.findall(r'(?:\brvdap[ _-]|^## \[)(\d+\.\d+\.\d+)', text_of(path), re.M)
+        said += re.findall(r'"version": "(.*)"', text_of(path)) if path.endswith(".json") else []
+        expect(set(said), {version}, "%s: the version" % path)
 
 
 def the_transcripts_are_what_their_commands_print():
@@ -384,17 +336,16 @@ def checks():
         paths_that_are_named_are_there,
         crates_txt_has_each_crate,
         the_map_has_the_crates_in_their_order,
-        the_ledger_has_the_crates_in_their_order,
+        the_table_of_crates_has_each_once,
         the_picture_has_each_crate_above_those_it_stands_on,
         each_rule_of_the_map_has_names_that_differ,
         each_clause_stands_in_the_ledger,
-        each_law_stands_in_the_ledger,
-        what_callers_owe_is_listed,
         calls_that_may_lack_memory_are_listed,
-        each_definition_of_the_ledger_is_in_its_file,
+        each_definition_of_the_table_of_crates_is_in_its_file,
         the_places_of_requests_are_found,
         each_request_has_a_row,
         each_definition_of_a_request_is_in_its_file,
         each_row_that_is_named_is_there,
+        each_version_is_that_of_the_program,
         the_transcripts_are_what_their_commands_print,
     )]

@@ -72,12 +72,12 @@ def both_files_for_emacs_go_back_by_two_requests():
 
 # ---- Vim
 
-ITEMS = {"%f": r"(?P<file>.+?)", "%l": r"(?P<line>\d+)", "%m": r"(?P<text>.+)", "%.%#": r".*"}
+ITEMS = {"%f": r"(?P<file>.+?)", "%l": r"(?P<line>\d+)", "%c": r"(?P<column>\d+)", "%m": r"(?P<text>.+)", "%.%#": r".*"}
 
 
 def of_vim(entry):
     """An entry of errorformat without its prefix, as a regular expression of Python."""
-    parts = re.split(r"(%f|%l|%m|%\.%#)", entry)
+    parts = re.split(r"(%f|%l|%c|%m|%\.%#)", entry)
     return "".join(ITEMS.get(part, re.escape(part)) for part in parts)
 
 
@@ -168,7 +168,7 @@ def found_by_vim(words, folder):
                          "-c", shows, "-c", "qall!", path]
         subprocess.run(words, env=environment(), stdin=subprocess.DEVNULL, capture_output=True, timeout=SECONDS)
         with open(kept, encoding="utf-8") as file:
-            expect(json.load(file), [[path, 2, "Undefined: no line defines this label"]], "the quickfix list of %s" % words[0])
+            expect(json.load(file), [[path, 2, "Undefined: no line defines end"]], "the quickfix list of %s" % words[0])
 
 
 def can_make(editor):

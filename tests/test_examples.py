@@ -117,7 +117,8 @@ def run_of(text):
 
 def stop_of(text):
     """Why a run of a text stops; nothing where it ends by itself."""
-    return run_of(text).stderr.strip().rpartition(": ")[2].partition(" at 0x")[0]
+    said = run_of(text).stderr
+    return said.splitlines()[0].split(": ")[1].partition(" at 0x")[0] if said else ""
 
 
 def printed_by(text):

@@ -99,7 +99,9 @@ def an_output_that_nobody_reads_is_a_fault_and_no_signal():
 
 def a_limit_of_file_size_ends_it_by_a_signal():
     """As the system has it, unless the signal is ignored: then the write fails."""
-    limit = lambda: resource.setrlimit(resource.RLIMIT_FSIZE, (0, 0))
+    def limit():
+        resource.setrlimit(resource.RLIMIT_FSIZE, (0, 0))
+
     with file_of(b"nop\n" * 100) as path:
         for words in (("asm", path), ("--help",), ()):
             for restored, wanted in ((True, (b"", -signal.SIGXFSZ)), (False, (FAULT, 1))):

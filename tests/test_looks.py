@@ -1,9 +1,10 @@
 """The built program, as an editor meets it that looks into a program: frames, variables, memory, and what it changes there."""
+import json
 import os
 import subprocess
-import tempfile
 import threading
 
+from support import schema
 from support.allocations import ends_well_without_memory
 from support.breaks import at, is_set
 from support.debugging import ENDED, INITIALIZED, NOT_STOPPED, exits, stopped
@@ -13,9 +14,6 @@ from support.looks import (BAD_EXPRESSION, BASE, END, NO_MACHINE, NOT_WRITABLE, 
                            instruction, no_instruction, registers, stack)
 from support.program import PROGRAM, SECONDS, TOP, Talk, expect
 from support.programs import CIRCLES, COUNTS, RECURS
-
-# A program that holds a transcript against the protocol's published schema, where there is one at hand.
-VALIDATOR = os.environ.get("DAP_VALIDATE")
 
 ENTRY, STEP, PAUSE = stopped("entry"), stopped("step"), stopped("pause")
 DEEPENS = b"t: call t\n"
@@ -186,14 +184,11 @@ def a_session_that_looks_ends_well_without_memory():
 
 def each_message_is_valid_by_the_published_schema():
     for session, text in ((recursion, RECURS), (counted_from_0, RECURS), (written_over, COUNTS), (deepened, DEEPENS)):
-        with file_of(text) as path, Talk() as talk, tempfile.NamedTemporaryFile() as into, tempfile.NamedTemporaryFile() as out:
-            for sent, told in session(path):
-                into.write(sent)
-                out.write(talk.answers(sent, told))
-            into.flush()
-            out.flush()
-            checked = subprocess.run([VALIDATOR, "--strict", "--raw", out.name, "--sent", into.name], capture_output=True, text=True, timeout=300)
-            expect(checked.returncode, 0, "the schema's checker: %s" % (checked.stdout + checked.stderr))
+        with file_of(text) as path, Talk() as talk:
+            parts = [(sent, talk.answers(sent, told)) for sent, told in session(path)]
+        requests = [("editor", json.loads(body)) for sent, _ in parts for body in bodies_of(sent)]
+        answers = [("adapter", json.loads(body)) for _, told in parts for body in bodies_of(told)]
+        expect(list(schema.faults_in(requests + answers)), [], "what is wrong by the schema")
 
 
 def the_example_of_sorting_is_told_as_it_runs():
@@ -236,8 +231,8 @@ def requests_of(path):
 
 def checks():
     """Each check with its name."""
-    by_the_schema = (each_message_is_valid_by_the_published_schema,) if VALIDATOR else ()
-    return [(check.__name__.replace("_", " "), check) for check in by_the_schema + (
+    return [(check.__name__.replace("_", " "), check) for check in (
+        each_message_is_valid_by_the_published_schema,
         frames_and_variables_are_shown_over_steps,
         looks_are_the_same_however_their_requests_are_cut,
         lines_and_columns_are_counted_as_the_editor_counts_them,

@@ -19,7 +19,7 @@ import test_prove
 from support.program import PROGRAM, SECONDS, TOP, expect
 
 EPOCH = 1700000000
-COMMANDS = ("run", "check", "labels", "asm", "watch")
+COMMANDS = ("run", "check", "labels", "convert", "asm", "watch", "replay")
 COMPLETIONS = {"bash": "rvdap.bash", "zsh": "_rvdap", "fish": "rvdap.fish"}
 # What `make run` and the packages need of the repository.
 PARTS = ("Makefile", "README.md", "CHANGELOG.md", "docs", "editors", "examples", "packaging", "tools")
@@ -330,8 +330,14 @@ def words_of_help(*words):
     """The options and commands that --help lists, or those of a command."""
     said = said_by(PROGRAM, *words, "--help")
     commands = re.findall(r"^  (\w+)  ", said.partition("Commands:\n")[2].partition("\n\n")[0], re.M)
-    options = re.findall(r"(?<![\w-])--?\w+", said.partition("Options:\n")[2].partition("\n\n")[0])
+    options = re.findall(r"(?<![\w-])--?\w[\w-]*", said.partition("Options:\n")[2].partition("\n\n")[0])
     return {*commands, *options}
+
+
+def usage_of(*words):
+    """The ways that --help lists, or that of a command, a line for each."""
+    usage = said_by(PROGRAM, *words, "--help").partition("Usage: ")[2].partition("\n\n")[0]
+    return re.sub(r"\n +\[", " [", usage).splitlines()
 
 
 def words_of_commands():
@@ -350,23 +356,22 @@ def titles_of(section):
 
 
 def the_manual_page_has_the_words_of_help():
-    options = {word for title in titles_of("OPTIONS") for word in re.findall(r"--?\w+", title)}
+    options = {word for title in titles_of("OPTIONS") for word in re.findall(r"--?\w[\w-]*", title)}
     commands = {title.split()[0] for title in titles_of("COMMANDS")}
     expect(options | {it for it in commands if it[0] != "-"}, words_of_help(), "options and commands")
     expect({it for it in commands if it[0] == "-"}, words_of_commands() - words_of_help(), "options of commands alone")
-    used = set(re.findall(r"(?<![\w-])--\w+", manual_page()))
+    used = set(re.findall(r"(?<![\w-])--\w[\w-]*", manual_page()))
     expect(used - words_of_help() - words_of_commands(), set(), "options that are named anywhere")
     errors = set(re.findall(r"^  ([A-Z]\w+)  ", said_by(PROGRAM, "asm", "--help").partition("Errors")[2], re.M))
     expect(set(titles_of("ERRORS")), errors, "errors of the assembler")
     events = said_by(PROGRAM, "watch", "--help").partition("the last says what is watched:\n")[2].partition("\n\n")[0]
     expect({title.split()[0] for title in titles_of("SCRIPTS")}, set(re.findall(r"^  (\w+)", events, re.M)), "events of a script")
     expect(re.search(r'^\.TH RVDAP 1 \S+ "(.*?)"', manual_page())[1], "rvdap " + version(), "the version")
-    usage = said_by(PROGRAM, "--help").partition("Usage: ")[2].partition("\n\n")[0]
     synopsis = re.search(r"^\.SH SYNOPSIS\n(.*?)^\.SH", manual_page(), re.M | re.S)[1]
     ways = [word or "[" + option for word, option in re.findall(r"^\.B rvdap(?: (\S+))?\n(?:\.RB \[ (\S+))?", synopsis, re.M)]
-    expect(ways, [line.split()[1] for line in usage.splitlines()], "the ways to use it")
+    expect(ways, [line.split()[1] for line in usage_of()], "the ways to use it")
     for command in COMMANDS:
-        usage = said_by(PROGRAM, command, "--help").partition("Usage: ")[2].partition("\n")[0]
+        [usage] = usage_of(command)
         [way] = re.findall(r"^\.B rvdap %s\n(.*?)(?=^\.br|\Z)" % command, synopsis, re.M | re.S)
         way = re.sub(r"^\.\w+ ", "", way, flags=re.M)
         expect(re.findall(r"[\w.-]*\w", way), re.findall(r"[\w.-]*\w", usage.removeprefix("rvdap %s " % command)), "the way to use " + command)
@@ -397,12 +402,12 @@ def completed_by_bash(*words):
 def bash_completes_the_words_of_help():
     expect(completed_by_bash(""), words_of_help(), "the first word")
     expect(completed_by_bash("--l"), {"--listen"}, "a word that has begun")
-    expect(completed_by_bash("--listen", "127.0.0.1:1", ""), {"--memory", "--listen", "--program", "--once"}, "after an option")
+    expect(completed_by_bash("--listen", "127.0.0.1:1", ""), {"--memory", "--listen", "--program", "--once", "--verbose", "--record"}, "after an option")
     for command in COMMANDS:
         expect(completed_by_bash(command, "-"), words_of_help(command), "options after " + command)
         expect(completed_by_bash(command), {command}, "the command " + command)
-    for words, files in {"asm": "a.s c", "--program": "a.s c", "watch": "a.s b.txt c", "asm a.s": "", "run": "a.s c", "run --count": "a.s c", "run a.s": "",
-                         "run --limit 7": "a.s c", "run --memory 8 a.s": "", "labels --json": "a.s c", "labels a.s": "", "check": "a.s c", "check a.s": "a.s c",
+    for words, files in {"asm": "a.s c", "--program": "a.s c", "watch": "a.s b.txt c", "asm a.s": "", "run": "a.s c", "run --count": "a.s c", "run a.s": "a.s c",
+                         "run --limit 7": "a.s c", "run --trace 7 a.s": "a.s c", "labels --json": "a.s c", "labels a.s": "", "check": "a.s c", "check a.s": "a.s c",
                          "check --json a.s b.s": "a.s c"}.items():
         expect(completed_by_bash(*words.split(), ""), set(files.split()), "files after " + words)
     expect(completed_by_bash("run", "a.s", "--m"), {"--memory"}, "an option after a file")
@@ -418,12 +423,12 @@ def zsh_and_fish_have_the_words_of_help():
     for command, lines in re.findall(r"^  (\w+)\) (.*?);;", rest, re.M | re.S):
         expect(options_for_zsh(lines), words_of_help(command), "zsh, after " + command)
     expect(re.findall(r"^  (\w+)\) ", rest, re.M), list(COMMANDS), "commands that zsh completes after")
-    found = {"--" + word for word in re.findall(r" -l (\w+)", fish)} | {"-" + word for word in re.findall(r" -s (\w)", fish)}
+    found = {"--" + word for word in re.findall(r" -l ([\w-]+)", fish)} | {"-" + word for word in re.findall(r" -s (\w)", fish)}
     expect(found | set(re.findall(r" -a (\w+) ", fish)), words_of_help() | words_of_commands(), "fish")
 
 
 def options_for_zsh(lines):
-    return {*re.findall(r"^ +'(--\w+)\[", lines, re.M), *(word for pair in re.findall(r"\{(-\w),(--\w+)\}", lines) for word in pair)}
+    return {*re.findall(r"^ +'(--[\w-]+)\[", lines, re.M), *(word for pair in re.findall(r"\{(-\w),(--\w+)\}", lines) for word in pair)}
 
 
 def fish_completes_the_words_of_help():

@@ -12,6 +12,7 @@ from support.program import expect
 from support.programs import CALLS, COUNTS, RECURS
 from support.refusals import applied, are_served_again, is_driven_again, is_given_again
 
+
 def launched_by_applying():
     script = two_pieces()
     script.steps = applied(script.steps)

@@ -112,7 +112,7 @@ def each_line_waits_for_a_standard_error_that_does_not_block():
         for words, data, line, status in (
                 ((), frame("{}"), b"rvdap: bad message\n", 1), (("--fly",), b"", usage, 2), ((b"\xff",), b"", b"rvdap: invalid data\n", 2),
                 (("asm", ABSENT), b"", UNREAD, 1), (("check", ABSENT), b"", UNREAD, 1), (("watch", ABSENT), b"", UNREAD, 1),
-                (("run", "--count", stops), b"", b"rvdap: retired instructions: 2\n%s:2: ebreak at 0x00010004\n" % stops.encode(), 122),
+                (("run", "--count", stops), b"", b"rvdap: retired instructions: 2\n%s:2: ebreak at 0x00010004\nebreak\n" % stops.encode(), 122),
                 (("run", wrong), b"", error, 125), (("--listen", "bogus"), b"", FAULT, 1)):
             with Full("stderr", words) as full:
                 full.process.stdin.write(data)

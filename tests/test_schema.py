@@ -1,16 +1,16 @@
-"""Every response and event that the adapter can write, held against the protocol's published schema, where there is one at hand."""
+"""Every response and event that the adapter can write, held against the protocol's published schema."""
 import json
 import os
 import subprocess
-import tempfile
 
 from rows.messages import PLAYER, REFUSALS
 from rows.requests import NAMES as REQUESTS
+from support import schema
 from support.players import play, tables
-from support.program import expect
+from support.program import TOP, expect
 
-# A program that holds a transcript against the protocol's published schema.
-VALIDATOR = os.environ.get("DAP_VALIDATE")
+# The published schema, where it is at hand.
+PUBLISHED = os.environ.get("DAP_SCHEMA")
 
 EVENTS = ("initialized", "stopped", "continued", "output", "exited", "terminated")
 
@@ -54,20 +54,48 @@ def every_message_is_valid_by_the_published_schema():
     expect(sorted(successes), sorted(REQUESTS), "the requests with a success")
     expect(sorted(refusals), sorted(name for _, name, _ in REFUSALS), "the refusals")
     expect(sorted(events), sorted(EVENTS), "the events")
-    with tempfile.NamedTemporaryFile() as stream:
-        for text in texts:
-            stream.write(b"Content-Length: %d\r\n\r\n%s" % (len(text), text))
-        stream.flush()
-        checked = subprocess.run([VALIDATOR, "--strict", "--raw", stream.name], capture_output=True, text=True, timeout=300)
-    expect(checked.returncode, 0, "the schema's checker: %s" % (checked.stdout + checked.stderr))
-    # The names of refusals are the adapter's own: the schema names two, and leaves others open.
-    notes = [line for line in checked.stdout.splitlines() if "note" in line and "note ErrorResponse: message: " not in line]
-    expect(notes, [], "what the checker notes")
+    expect([fault for text in texts for fault in schema.faults_of(json.loads(text))], [], "what is wrong by the schema")
+
+
+# A message by its type and the rest of it, and what is wrong with it.
+WRONG = (
+    ("request", {"command": "initialize", "arguments": {}}, ["InitializeRequest.arguments: adapterID is absent"]),
+    ("request", {"command": "launch", "arguments": {"program": "a.s", "stopOnEntry": True}}, []),
+    ("event", {"event": "stopped", "body": {"reason": "entry", "threadId": True}}, ["StoppedEvent.body.threadId: no integer"]),
+    ("event", {"event": "stopped", "body": {"threadId": 1}}, ["StoppedEvent.body: reason is absent"]),
+    ("event", {"event": "stopped", "body": {"reason": "bored"}}, ["StoppedEvent.body.reason: 'bored' is no value that the schema names"]),
+    ("response", {"request_seq": 1, "success": True, "command": "threads", "body": {"threads": [{"id": 1, "name": "hart 0", "harts": 1}]}},
+     ["ThreadsResponse.body.threads[]: the schema names no harts"]),
+)
+
+
+def a_message_that_is_wrong_by_the_schema_is_found():
+    for kind, rest, faults in WRONG:
+        expect(schema.faults_of({"seq": 1, "type": kind, **rest}), faults, "%s %s" % (kind, rest))
+
+
+def a_conversation_that_is_wrong_is_found():
+    asked = {"seq": 1, "type": "request", "command": "threads"}
+    answer = {"seq": 1, "type": "response", "request_seq": 1, "success": True, "command": "threads", "body": {"threads": []}}
+    for conversation, faults in (
+            ([("editor", asked), ("adapter", answer)], []),
+            ([("editor", asked), ("adapter", {**answer, "seq": 2})], ["adapter: seq 2 after 0"]),
+            ([("adapter", answer)], ["threads: request_seq 1 answers no request of it"]),
+            ([("editor", asked), ("adapter", answer), ("adapter", {**answer, "seq": 2})], ["threads: request_seq 1 answers no request of it"])):
+        expect(list(schema.faults_in(conversation)), faults, str(conversation))
+
+
+def the_table_is_that_of_the_published_schema():
+    """The schema that DAP_SCHEMA names is made into a table again."""
+    with open(schema.TABLE, encoding="utf-8") as file:
+        table = file.read()
+    made = subprocess.run([os.path.join(TOP, "tools", "schema"), "--print", PUBLISHED], capture_output=True, text=True, timeout=60)
+    expect((made.stdout == table, made.stderr, made.returncode), (True, "", 0), "what tools/schema prints is the table")
 
 
 def checks():
     """Each check with its name."""
-    if not VALIDATOR:
-        print("no schema's checker is named by DAP_VALIDATE, so the messages are not held against the schema", flush=True)
-        return []
-    return [(check.__name__.replace("_", " "), check) for check in (every_message_is_valid_by_the_published_schema,)]
+    published = (the_table_is_that_of_the_published_schema,) if PUBLISHED else ()
+    return [(check.__name__.replace("_", " "), check) for check in (
+        every_message_is_valid_by_the_published_schema, a_message_that_is_wrong_by_the_schema_is_found,
+        a_conversation_that_is_wrong_is_found, *published)]

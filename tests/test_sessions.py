@@ -1,4 +1,5 @@
 """The built program, as an editor meets it over pipes."""
+import json
 import os
 import random
 import subprocess
@@ -6,15 +7,13 @@ import tempfile
 import threading
 import time
 
+from support import schema
 from support.program import PROGRAM, TOP, Talk, expect, frame, run
 from support.texts import (ANSWERS, CANCELLED, CAPABILITIES, DISCONNECTED, FIRST, FIRST_ANSWER, INITIALIZE, REFUSED, SESSION, THREADS,
                            refused, request)
 
 # The body of a success of `continue`, as a member.
 CONTINUED = '"body":{"allThreadsContinued":true},'
-
-# A program that holds a transcript against the protocol's published schema, where there is one at hand.
-VALIDATOR = os.environ.get("DAP_VALIDATE")
 
 
 def expect_run(data, out, err=b"", status=0, **how):
@@ -102,11 +101,11 @@ def the_example_of_steps_debugs_a_program():
 
 def the_examples_are_valid_by_the_published_schema():
     for name in ("first.session", "late-cancel.session", "steps.session", "sorting.session"):
-        with tempfile.NamedTemporaryFile() as transcript:
-            subprocess.run([os.path.join(TOP, "examples", "play"), os.path.join(TOP, "examples", name), PROGRAM],
-                           stdout=transcript, check=True, timeout=20, cwd=TOP)
-            checked = subprocess.run([VALIDATOR, "--strict", transcript.name], capture_output=True, text=True, timeout=60)
-            expect(checked.returncode, 0, "the schema's checker on %s: %s" % (name, checked.stdout + checked.stderr))
+        played = subprocess.run([os.path.join(TOP, "examples", "play"), os.path.join(TOP, "examples", name), PROGRAM],
+                                capture_output=True, check=True, timeout=20, cwd=TOP)
+        messages = map(json.loads, played.stdout.decode().splitlines())
+        conversation = [("editor" if message["type"] == "request" else "adapter", message) for message in messages]
+        expect(list(schema.faults_in(conversation)), [], "what is wrong by the schema in %s" % name)
 
 
 def an_empty_input_is_answered_with_nothing():
@@ -356,10 +355,10 @@ def help_and_version_are_printed():
 
 def help_says_what_to_do_without_a_command():
     out = run(b"", words=["--help"])[0]
-    for words in (b"Usage: rvdap [--memory <KIB>]", b"rvdap --listen <ADDR> [--program <FILE>] [--once]", b"rvdap asm <FILE>", b"rvdap watch <SCRIPT>",
-                  b"rvdap run [--memory <KIB>] [--limit <N>] [--count] <FILE>", b"rvdap check [--json] <FILE>..", b"rvdap labels [--json] <FILE>",
-                  b"  --memory <KIB>    Memory of a program", b"  --listen <ADDR> ", b"  --program <FILE> ", b"  --once ", b"  asm     Assembles FILE", b"  watch   Plays SCRIPT",
-                  b"  run     Runs the program", b"  check   Tells the first error", b"  labels  Tells the labels",
+    for words in (b"Usage: rvdap [--memory <KIB>]", b"rvdap --listen <ADDR> [--program <FILE>] [--once]", b"rvdap asm <FILE>", b"rvdap watch <SCRIPT> [<C> [<N>]]", b"rvdap replay [--from <N>] [--to <N>] [--facts] <SCRIPT>",
+                  b"rvdap run [--memory <KIB>] [--limit <N>] [--output-limit <BYTES>]", b"[--count] [--registers] [--trace <N>] <FILE>..", b"rvdap check [--json] <FILE>..", b"rvdap labels [--json] <FILE>",
+                  b"  --memory <KIB>     Memory of a program", b"  --listen <ADDR> ", b"  --program <FILE> ", b"  --once ", b"  asm      Assembles FILE", b"  watch    Plays SCRIPT",
+                  b"  run      Runs the program", b"  check    Tells the errors", b"  labels   Tells the labels", b"  convert  Writes the program",
                   b"Without a command", b"Debug Adapter Protocol (DAP)", b"docs/PROTOCOL.md", b"Status: 0", b"--version"):
         expect(words in out, True, "help has %r" % words)
     expect(b"standard input and output" in b" ".join(out.split()), True, "help says where it speaks")
@@ -376,8 +375,8 @@ def any_other_word_is_a_fault_of_usage():
 
 def checks():
     """Each check with its name."""
-    by_the_schema = (the_examples_are_valid_by_the_published_schema,) if VALIDATOR else ()
-    return [(check.__name__.replace("_", " "), check) for check in by_the_schema + (
+    return [(check.__name__.replace("_", " "), check) for check in (
+        the_examples_are_valid_by_the_published_schema,
         the_texts_have_the_lengths_of_the_protocol_profile,
         the_first_session_whole,
         the_first_session_cut_after_every_byte,

@@ -112,7 +112,7 @@ def an_error_has_its_line_in_the_format_and_in_check():
         answer = editor.ask("launch", program=path)
         expect((answer["message"], answer["body"]["error"]["format"]), ("assemblyFailed", "line 2: Undefined"), "the refusal")
         ran = subprocess.run([PROGRAM, "check", path], capture_output=True, timeout=60)
-        expect((ran.stdout.decode(), ran.returncode), ("%s:2: error: Undefined: no line defines this label\ncall g\n" % path, 1), "rvdap check")
+        expect((ran.stdout.decode(), ran.returncode), ("%s:2:6: error: Undefined: no line defines g\ncall g\n" % path, 1), "rvdap check")
     with_editor(b"nop\ncall g\n", act)
 
 
@@ -176,6 +176,16 @@ def traps_stop_it_again_and_again():
     with_editor(b"lw a0, 8(zero)\n", act)
 
 
+def a_run_in_a_terminal_says_what_was_wrong():
+    for text, said in ((b"nop\n", "ran past the last line"), (b"auipc t0, 0\nsw zero, 8(t0)\nnop\n", "the program wrote over this instruction"),
+                       (b"f: ret\nmain: call f\n", "instruction access fault"), (b"f: ret\nmain: call f\n", "no _start: it began at"),
+                       (b"li a7, 1\ne: ecall\nj e\n", "output limit")):
+        with file_of(text) as path:
+            ran = subprocess.run([PROGRAM, "run", "--output-limit", "1000", path], stdin=subprocess.DEVNULL, capture_output=True, timeout=60)
+        expect(said in ran.stderr.decode(), True, "a run of %r: %r" % (text, ran.stderr))
+    expect(stop_of(b"f: ret\nmain: call f\n")["text"], "instruction access fault", "the same in an editor")
+
+
 def what_is_not_recorded_is_not_taken_back():
     def act(editor, path):
         editor.launch(path, stopOnEntry=True)
@@ -206,6 +216,11 @@ def a_loop_is_found_by_pause():
 
 def what_is_typed_is_no_request():
     expect(run(b"help\r\n\r\n"), (b"", b"rvdap: bad message\n", 1), "a word in a terminal")
+
+
+def a_file_without_a_command_is_no_command():
+    out, err, status = run(b"", words=["sort.s"])
+    expect((out, err.splitlines()[0], status), (b"", b"error: unrecognized subcommand 'sort.s'", 2), "a file alone")
 
 
 def a_port_that_is_taken_is_a_fault():
@@ -252,9 +267,11 @@ def checks():
         a_file_that_cannot_be_read_is_refused,
         one_that_ended_shows_nothing,
         traps_stop_it_again_and_again,
+        a_run_in_a_terminal_says_what_was_wrong,
         what_is_not_recorded_is_not_taken_back,
         a_loop_is_found_by_pause,
         what_is_typed_is_no_request,
+        a_file_without_a_command_is_no_command,
         a_port_that_is_taken_is_a_fault,
         attach_without_a_program_is_refused,
         attach_to_a_program_that_ended_is_refused,

@@ -143,8 +143,8 @@ def the_problem_matcher_finds_the_line():
         ran = subprocess.run(words, capture_output=True, text=True, check=False)
         pattern = matcher["pattern"]
         found = [re.search(pattern["regexp"], line) for line in (ran.stdout + ran.stderr).splitlines()]
-        expect((ran.returncode, [[it[pattern[word]] for word in ("file", "line", "message")] for it in found if it]),
-               (1, [[path, "4", "Undefined: no line defines this label"]]), "what is matched")
+        expect((ran.returncode, [[it[pattern[word]] for word in ("file", "line", "column", "message")] for it in found if it]),
+               (1, [[path, "4", "10", "Undefined: no line defines g"]]), "what is matched")
     ran = subprocess.run([PROGRAM, "check", "/nowhere.s"], capture_output=True, text=True, check=False)
     expect((ran.stderr, re.search(pattern["regexp"], ran.stderr)), ("rvdap: /nowhere.s: cannot read\n", None), "a file that cannot be read has no line")
 

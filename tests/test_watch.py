@@ -282,7 +282,9 @@ def the_first_wrong_line_is_said():
 
 def watch_of(path):
     """What comes of the script in a file. It has a GiB of memory at most: one that is read on and on would take all."""
-    limit = lambda: resource.setrlimit(resource.RLIMIT_AS, (1 << 30, 1 << 30))
+    def limit():
+        resource.setrlimit(resource.RLIMIT_AS, (1 << 30, 1 << 30))
+
     ran = subprocess.run([PROGRAM, "watch", path], cwd=TOP, stdin=subprocess.DEVNULL, capture_output=True, preexec_fn=limit, timeout=60)
     return ran.stdout, ran.stderr, ran.returncode
 

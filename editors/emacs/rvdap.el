@@ -92,5 +92,16 @@
 (put 'rvdap-step-back 'repeat-map 'dape-global-map)
 (put 'rvdap-reverse-continue 'repeat-map 'dape-global-map)
 
+;; `back' and `reverse' in the window *dape-repl*, beside its `next' and `continue'.
+(add-to-list 'dape-repl-commands '("back" . rvdap-step-back))
+(add-to-list 'dape-repl-commands '("reverse" . rvdap-reverse-continue))
+
+;; dape 0.24.1 calls its own `dape-kill' with one argument too few where `terminate' is refused, as after the end of a program: it shows an
+;; error, and the session stays open.
+(define-advice dape-kill (:around (kill conn &rest more) rvdap-after-the-end)
+  (if (functionp conn)
+      (funcall kill (dape--live-connection 'parent t) conn 'with-disconnect)
+    (apply kill conn more)))
+
 ;; Addresses of frames and disassembly are shown beside the source.
 (setq dape-buffer-window-arrangement 'right)

@@ -4,19 +4,23 @@ _rvdap() {
     ((COMP_CWORD > 1)) && command=${COMP_WORDS[1]}
     case $before in
         --program) _rvdap_programs; return ;;
+        --record) mapfile -t COMPREPLY < <(compgen -d -- "$word"); return ;;
+        --from | --to) mapfile -t COMPREPLY < <(compgen -W '1' -- "$word"); return ;;
         --listen) mapfile -t COMPREPLY < <(compgen -W '127.0.0.1:4711' -- "$word"); return ;;
         --memory) mapfile -t COMPREPLY < <(compgen -W '4 64 1024 4096 16384' -- "$word"); return ;;
-        --limit) mapfile -t COMPREPLY < <(compgen -W '1000000' -- "$word"); return ;;
+        --limit | --output-limit) mapfile -t COMPREPLY < <(compgen -W '1000000' -- "$word"); return ;;
+        --trace) mapfile -t COMPREPLY < <(compgen -W '20' -- "$word"); return ;;
     esac
     case $command in
-        run) words="--memory --limit --count --help -h" ;;
+        run) words="--memory --limit --output-limit --count --registers --trace --help -h" ;;
         check | labels) words="--json --help -h" ;;
-        asm | watch) words="--help -h" ;;
-        "") words="run check labels asm watch --memory --listen --program --once --help -h --version -V" ;;
-        *) words="--memory --listen --program --once" ;;
+        replay) words="--from --to --facts --help -h" ;;
+        convert | asm | watch) words="--help -h" ;;
+        "") words="run check labels convert asm watch replay --memory --listen --program --once --verbose --record --help -h --version -V" ;;
+        *) words="--memory --listen --program --once --verbose --record" ;;
     esac
     case $command in
-        run | check | labels | asm | watch) [[ $word != -* ]] && { _rvdap_file "$command"; return; } ;;
+        run | check | labels | convert | asm | watch | replay) [[ $word != -* ]] && { _rvdap_file "$command"; return; } ;;
     esac
     mapfile -t COMPREPLY < <(compgen -W "$words" -- "$word")
 }
@@ -25,12 +29,12 @@ _rvdap_file() {
     local place
     for ((place = 2; place < COMP_CWORD; place++)); do
         case ${COMP_WORDS[place]} in
-            --memory | --limit) ((place++)) ;;
+            --memory | --limit | --output-limit | --trace | --from | --to) ((place++)) ;;
             -*) ;;
-            *) [[ $1 == check ]] || return ;;
+            *) [[ $1 == check || $1 == run ]] || return ;;
         esac
     done
-    if [[ $1 == watch ]]; then
+    if [[ $1 == watch || $1 == replay ]]; then
         mapfile -t COMPREPLY < <(compgen -f -- "$word")
     else
         _rvdap_programs

@@ -19,8 +19,8 @@ def runs(which):
     (start, words), before, last = RETIRED[which]
     printed, ends = outputs(programs()[which][0])
     yield from (*memory(*words), hart(start, SP))
-    for count, number in zip(before, printed, strict=True):
-        yield from (*[steps("Retired")] * count, steps("Printed(%d)" % number))
+    for count, value in zip(before, printed, strict=True):
+        yield from (*[steps("Retired")] * count, steps("Printed(%d)" % value))
     yield from (*[steps("Retired")] * last, steps("Exit(%d)" % ends))
 
 

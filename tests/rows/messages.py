@@ -371,6 +371,7 @@ RESPONSES = [
     ], PROFILE, refused=True),
 ]
 
+
 def filled(head, tail, filling="y"):
     """A body of the greatest length."""
     room = LIMIT - len(head) - len(tail)

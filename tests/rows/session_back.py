@@ -3,7 +3,7 @@ from rows.session_breaks import at_instructions, at_lines, back
 from rows.session_functions import at_functions, f
 from rows.session_runs import EBREAK, ENTRY, GREATEST, GREATEST_RETIRED, LIMIT, PAUSE, STEP, limited, without_memory
 from support.breaks import at, is_set, named, on
-from support.debugging import BAD_ARGUMENTS, NO_HISTORY, PATH, WAS_CANCELLED, exits, launched, logged, printed, stopped
+from support.debugging import BAD_ARGUMENTS, NO_HISTORY, WAS_CANCELLED, exits, logged, printed, stopped
 from support.looks import BAD_VALUE, BASE, END, NOT_WRITABLE, OUTSIDE_MEMORY, STALE, frame_at, loaded, looking, registers
 from support.players import Row
 from support.programs import CALLS, CIRCLES, COUNTS, PRINTS, WRITES_ITSELF

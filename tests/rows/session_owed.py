@@ -4,7 +4,7 @@ what a logpoint says, and of an exit.
 Each is a session in which that slice is not made again where it finds no memory, as found says; all else is the same.
 """
 from rows.session_breaks import at_lines, back
-from rows.session_functions import at_functions, f
+from rows.session_functions import f
 from rows.session_runs import EBREAK, EXITS, PAUSE, without_memory
 from support.breaks import at, is_set, named, on
 from support.debugging import ENDED, INITIALIZED, TERMINATED, WRONG_PHASE, exits, logged, printed, stopped, success_text

@@ -111,7 +111,7 @@ def prints_then_stops():
 
 def full(most):
     """A program that prints for ever, in slices of so many moves, with nothing taken until more than 65,536 bytes wait; and once more."""
-    script, made, moved = debugging(PRINTS_ON), 0, 0
+    script, made = debugging(PRINTS_ON), 0
     for number in (0, 1):
         begun = made
         while len(script.waiting) <= 65536:

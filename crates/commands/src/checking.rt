@@ -1,4 +1,4 @@
-//! `rvdap check FILE..`: the first error of each text of assembly, on standard output.
+//! `rvdap check FILE..`: the errors of each text of assembly, on standard output.
 
 ghost use Rattle.std.specs.Prelude.{◌≡◌};
 
@@ -16,7 +16,7 @@ use std::process::ExitCode;
 enum Checked {
     // It assembles.
     Right,
-    // It does not, and its error was written.
+    // It does not, and its errors were written.
     Wrong,
     // It can't be read, or is too long.
     Unreadable,
@@ -40,7 +40,7 @@ impl From<AllocError> for CheckFault {
     }
 }
 
-/// Checks the texts in files for a memory of 1 MiB, the first and the others, and writes the first error of each that has one to standard
+/// Checks the texts in files for a memory of 1 MiB, the first and the others, and writes the errors of each that has any to standard
 /// output, as JSON where that is asked for. Where standard output fails or memory runs out, no further one is checked. The status is 0 where
 /// no file has an error, and else 1; a file that can't be read has a line on standard error.
 pub fn check_files(rt: &HostRuntime, first: &str, others: &[Text], as_json: bool) -> ExitCode {
@@ -75,7 +75,7 @@ fn is_right(rt: &HostRuntime, file: &str, as_json: bool) -> Result<bool, ExitRea
     }
 }
 
-// The text in a file is checked, and its first error written, if it has one.
+// The text in a file is checked, and its errors are written, if it has any.
 fn check_file(rt: &HostRuntime, file: &str, as_json: bool) -> Result<Checked, CheckFault> {
     let text = match text_in(rt, file) {
         Ok(text) => text,

@@ -1,12 +1,12 @@
 -- The line of a text that has a number.
-use Rattle.std.proofs.Common.{◌≡◌, ℕ, zero, suc, ◌-◌, ◌<◌, ◌≤◌, Bool, true, false, List, length, get_or, Option, Some, None, refl, sym, ap, subst, ◌∙◌, arith}
+use Rattle.std.proofs.Common.{◌≡◌, ℕ, zero, suc, ◌-◌, ◌<◌, ◌≤◌, true, false, List, length, get_or, Option, Some, None, refl, sym, ap, ◌∙◌, arith}
 use Rattle.std.specs.Prelude.{slice_get}
 use Rattle.std.specs.Str.{IsUtf8, is_utf8}
 use Rattle.std.specs.Str.Lines.{lines}
 use Rattle.std.proofs.lemmas.Bool.{false_from_ne_true}
 use Rattle.std.proofs.lemmas.Option.{slice_get-get_or, slice_get_past}
 use Rattle.std.proofs.lemmas.Str.{IsUtf8-from_is_utf8, is_utf8-from_IsUtf8}
-use Rattle.diagnostics.specs.Diagnoses.{line_in}
+use Rattle.diagnostics.specs.Errors.{line_in, numbered}
 
 pub here : (all : List (List ℕ)) (passed count yielded : ℕ) (line : List ℕ) → passed ≡ count → passed ≡ yielded
     → (yielded < length all) × (line ≡ get_or all yielded line) → Some line ≡ slice_get all count
@@ -18,7 +18,8 @@ pub nowhere : (all : List (List ℕ)) (passed count yielded : ℕ) → passed �
     → None ≡ slice_get all count
 nowhere all passed count yielded e few is = sym (slice_get_past all count (omega (arith, e, few, is)))
 
-pub of_text : (text : List ℕ) (number : ℕ) (found : Option (List ℕ)) → IsUtf8 text → 0 < number → found ≡ slice_get (lines text) (number - 1)
+pub of_text : (text : List ℕ) (number : ℕ) (found : Option (List ℕ)) → IsUtf8 text → 0 < number
+    → found ≡ slice_get (lines text) (number - 1)
     → found ≡ line_in text number
 of_text text zero found u some e = absurd (omega (arith, some))
 of_text text (suc n) found u some e =
@@ -30,3 +31,7 @@ pub of_no_text : (text : List ℕ) (number : ℕ) → (IsUtf8 text → ⊥) → 
 of_no_text text zero u = refl
 of_no_text text (suc n) u =
     let valid : is_utf8 text ≡ false = false_from_ne_true (is_utf8 text) (λ e. u (IsUtf8-from_is_utf8 text e)) in rw valid refl
+
+pub numbered_at : (texts : List (List ℕ)) (number : ℕ) → (number ≡ 0 → ⊥) → numbered texts number ≡ slice_get texts (number - 1)
+numbered_at texts zero some = absurd (some refl)
+numbered_at texts (suc n) some = let less : n ≡ suc n - 1 = omega arith in ap (slice_get texts) less

@@ -1,46 +1,94 @@
-//! The first error of a text, told.
+//! The errors of a text, told as compilers tell them.
 
-ghost use Rattle.std.specs.Prelude.{◌≡◌, ◌++◌, IfOk, OnOk, option_map, slice_get, string_bytes};
-ghost use Rattle.std.specs.Str.Lines.{lines};
+ghost use Rattle.std.specs.Prelude.{◌≡◌, ◌++◌, List, IfOk, OnOk, option_map, string_bytes};
+ghost use Rattle.std.specs.List.{flat_map};
 ghost use Rattle.diagnostics.specs.Diagnoses as spec;
+ghost use Rattle.diagnostics.specs.Diagnoses.{AreFindings, Finding, HasColumn};
+ghost use Rattle.diagnostics.specs.Errors.{line_in};
+ghost use Rattle.diagnostics.specs.Findings.{finding_of, findings_of};
 
-use crate::explaining::{explanation, name};
-use assembler::{AsmError, AsmErrorKind, assemble};
+use crate::errors::{Told, errors_in, told_of};
+use crate::explaining::name;
+use assembler::AsmError;
 use std::alloc::{AllocError, Global};
-use std::str;
 
-/// How many bytes the memory has that a text is assembled for.
-pub(crate) const MEMORY_SIZE: u32 = 1_048_576;
-
-/// What is told of the first error of a text, if it has one, for a memory of 1 MiB: `FILE:LINE: error: KIND: EXPLANATION`, and
-/// then the line itself, each with a line feed. The number of the line is left out where the text is too long, and the line itself where the
-/// text is no UTF-8 or is too long. `file` is how the file is called. `Err`: no memory was left.
+/// What is told of the errors of a text, if it has any, for a memory of 1 MiB: of each `FILE:LINE:COLUMN: error: KIND: WORDS`, and then the
+/// line itself, each with a line feed. The first is the one that the assembler reports. Both numbers are left out where the text is too
+/// long, and the line itself where the text is no UTF-8 or is too long. `file` is how the file is called. `Err`: no memory was left.
 pub fn diagnose(alloc: Global, file: &str, text: &[u8]) -> Result<Option<String>, AllocError>
-    ensures { IfOk result (λ lines. option_map string_bytes lines
-        ≡ spec.diagnosis file.now text.now) }
+    ensures { IfOk result (λ lines. (list : List Finding) × AreFindings text.now list
+        × (option_map string_bytes lines ≡ spec.diagnosis file.now list)) }
 {
-    match assemble(alloc, text, MEMORY_SIZE) {
-        Ok(_) => Ok(None),
-        Err(error) => match error.kind {
-            AsmErrorKind::NoMemory => Err(AllocError),
-            _ => Ok(Some(told(alloc, file, text, error)?)),
-        },
-    }
+    let list = errors_in(alloc, text)?;
+    let lines = lines_of(alloc, file, list.as_slice())?;
+    Ok(lines)
 }
 
-/// What is told of an error of a text, as above. `Err`: no memory was left.
-pub fn told(alloc: Global, file: &str, text: &[u8], error: AsmError) -> Result<String, AllocError>
-    ensures { IfOk result (λ lines. string_bytes lines ≡ spec.told file.now text.now error) }
+// What is told of errors, if there are any.
+fn lines_of(alloc: Global, file: &str, list: &[Told]) -> Result<Option<String>, AllocError>
+    ensures { IfOk result (λ lines. option_map string_bytes lines
+        ≡ spec.diagnosis file.now (findings_of list.now)) }
 {
-    let mut lines = String::from_str(alloc, file)?;
-    push_number(alloc, &mut lines, error.line)?;
-    lines.push_str(": error: ")?;
-    lines.push_str(name(error.kind))?;
-    lines.push_str(": ")?;
-    lines.push_str(explanation(error.kind))?;
-    lines.push('\n')?;
-    push_line(&mut lines, line_at(text, error.line))?;
+    if list.is_empty() {
+        return Ok(None);
+    }
+    let lines = all_lines(alloc, file, list)?;
+    Ok(Some(lines))
+}
+
+fn all_lines(alloc: Global, file: &str, list: &[Told]) -> Result<String, AllocError>
+    ensures { IfOk result (λ lines. string_bytes lines
+        ≡ flat_map (spec.told file.now) (findings_of list.now)) }
+{
+    let mut lines = String::new(alloc);
+    for told in list {
+        push_told(alloc, &mut lines, file, told)?;
+    }
     Ok(lines)
+}
+
+/// What is told of one error of a text, as above. `Err`: no memory was left.
+pub fn told(alloc: Global, file: &str, text: &[u8], error: AsmError) -> Result<String, AllocError>
+    ensures { IfOk result (λ lines. (finding : Finding) × (finding.error ≡ error)
+        × (finding.line ≡ line_in text.now error.line)
+        × HasColumn finding × (string_bytes lines ≡ spec.told file.now finding)) }
+{
+    let told = told_of(alloc, text, error)?;
+    let mut lines = String::new(alloc);
+    push_told(alloc, &mut lines, file, &told)?;
+    Ok(lines)
+}
+
+// What is told of an error.
+fn push_told(alloc: Global, lines: &mut String, file: &str, told: &Told) -> Result<(), AllocError>
+    ensures { OnOk result (string_bytes lines.new ≡ string_bytes lines.old
+        ++ spec.told file.now (finding_of told.now)) }
+{
+    push_place(alloc, lines, file, told)?;
+    push_words(lines, told)?;
+    push_line(lines, told.text)
+}
+
+// What is wrong.
+fn push_words(lines: &mut String, told: &Told) -> Result<(), AllocError>
+    ensures { OnOk result (string_bytes lines.new ≡ string_bytes lines.old
+        ++ spec.said (finding_of told.now)) }
+{
+    lines.push_str(": error: ")?;
+    lines.push_str(name(told.error.kind))?;
+    lines.push_str(": ")?;
+    lines.push_str(told.fault.words.as_str())?;
+    lines.push('\n')
+}
+
+// The file, the line and the column.
+fn push_place(alloc: Global, lines: &mut String, file: &str, told: &Told) -> Result<(), AllocError>
+    ensures { OnOk result (string_bytes lines.new ≡ string_bytes lines.old
+        ++ spec.place file.now (finding_of told.now)) }
+{
+    lines.push_str(file)?;
+    push_number(alloc, lines, told.error.line)?;
+    push_number(alloc, lines, told.fault.column)
 }
 
 // A line, if there is one.
@@ -57,41 +105,14 @@ fn push_line(lines: &mut String, line: Option<&str>) -> Result<(), AllocError>
     }
 }
 
-// A line's number, where it has one.
-fn push_number(alloc: Global, lines: &mut String, line: u32) -> Result<(), AllocError>
-    ensures { OnOk result (string_bytes lines.new ≡ string_bytes lines.old ++ spec.number_of line) }
+// The number of a line or a column, where it has one.
+fn push_number(alloc: Global, lines: &mut String, number: u32) -> Result<(), AllocError>
+    ensures { OnOk result (string_bytes lines.new ≡ string_bytes lines.old ++ spec.number_of number) }
 {
-    if line == 0 {
+    if number == 0 {
         return Ok(());
     }
-    let number = line.to_string(alloc)?;
+    let number = number.to_string(alloc)?;
     lines.push(':')?;
     lines.push_str(number.as_str())
-}
-
-/// The line of this number, counted from 1, if the text is UTF-8 and has it.
-pub(crate) fn line_at(text: &[u8], line: u32) -> Option<&str>
-    ensures { option_map (λ found. found.now) result ≡ spec.line_in text.now line }
-{
-    if line == 0 {
-        return None;
-    }
-    match str::from_utf8(text) {
-        Ok(text) => line_after(text, line - 1),
-        Err(_) => None,
-    }
-}
-
-// The line after so many.
-fn line_after(text: &str, count: u32) -> Option<&str>
-    ensures { option_map (λ found. found.now) result ≡ slice_get (lines text.now) count }
-{
-    let mut passed = 0;
-    for line in text.lines() {
-        if passed == count {
-            return Some(line);
-        }
-        passed += 1;
-    }
-    None
 }

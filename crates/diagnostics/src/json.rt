@@ -1,63 +1,83 @@
-//! The first error of a text, as JSON.
+//! The errors of a text, as JSON.
 
-ghost use Rattle.std.specs.Prelude.{◌≡◌, IfOk, codes, option_map, string_bytes};
+ghost use Rattle.std.specs.Prelude.{◌≡◌, ◌++◌, List, IfOk, OnOk, codes, option_map, string_bytes};
+ghost use Rattle.std.specs.List.{flat_map};
 ghost use Rattle.serde_json.specs.View.{view};
+ghost use Rattle.diagnostics.specs.Diagnoses.{AreFindings, Finding};
+ghost use Rattle.diagnostics.specs.Findings.{finding_of, findings_of};
 ghost use Rattle.diagnostics.specs.Json as spec;
 
-use crate::diagnosing::{MEMORY_SIZE, line_at};
-use crate::explaining::{explanation, name};
-use assembler::{AsmError, AsmErrorKind, assemble};
+use crate::errors::{Told, errors_in};
+use crate::explaining::name;
 use serde_json::{Value, json};
 use std::alloc::{AllocError, Global};
 
-/// What `diagnose` tells, as one line of JSON: an object with `explanation`, `file`, `kind`, `line` (0 where the text is too long) and `text`,
-/// which is the line itself, or `null` where `diagnose` leaves it out. `Err`: no memory was left.
+/// What `diagnose` tells, as lines of JSON: of each error an object with `column`, `explanation` (the words), `file`, `kind`, `line` (0 as
+/// `column` where the text is too long) and `text`, which is the line itself, or `null` where `diagnose` leaves it out. `Err`: no memory was
+/// left.
 pub fn diagnose_json(alloc: Global, file: &str, text: &[u8]) -> Result<Option<String>, AllocError>
-    ensures { IfOk result (λ line. option_map string_bytes line
-        ≡ spec.diagnosis_json file.now text.now) }
+    ensures { IfOk result (λ lines. (list : List Finding) × AreFindings text.now list
+        × (option_map string_bytes lines ≡ spec.diagnosis_json file.now list)) }
 {
-    match assemble(alloc, text, MEMORY_SIZE) {
-        Ok(_) => Ok(None),
-        Err(error) => match error.kind {
-            AsmErrorKind::NoMemory => Err(AllocError),
-            _ => Ok(Some(told_json(alloc, file, text, error)?)),
-        },
+    let list = errors_in(alloc, text)?;
+    let lines = lines_of(alloc, file, list.as_slice())?;
+    Ok(lines)
+}
+
+// What is told of errors, if there are any.
+fn lines_of(alloc: Global, file: &str, list: &[Told]) -> Result<Option<String>, AllocError>
+    ensures { IfOk result (λ lines. option_map string_bytes lines
+        ≡ spec.diagnosis_json file.now (findings_of list.now)) }
+{
+    if list.is_empty() {
+        return Ok(None);
     }
+    let lines = all_lines(alloc, file, list)?;
+    Ok(Some(lines))
+}
+
+fn all_lines(alloc: Global, file: &str, list: &[Told]) -> Result<String, AllocError>
+    ensures { IfOk result (λ lines. string_bytes lines
+        ≡ flat_map (spec.told_json file.now) (findings_of list.now)) }
+{
+    let mut lines = String::new(alloc);
+    for told in list {
+        push_told(alloc, &mut lines, file, told)?;
+    }
+    Ok(lines)
 }
 
 // What is told of an error, as a line.
-fn told_json(alloc: Global, file: &str, text: &[u8], error: AsmError) -> Result<String, AllocError>
-    ensures { IfOk result (λ line. string_bytes line ≡ spec.told_json file.now text.now error) }
+fn push_told(alloc: Global, lines: &mut String, file: &str, told: &Told) -> Result<(), AllocError>
+    ensures { OnOk result (string_bytes lines.new ≡ string_bytes lines.old
+        ++ spec.told_json file.now (finding_of told.now)) }
 {
-    let value = told_value(alloc, file, error, line_at(text, error.line))?;
-    let mut line = value.to_string(alloc)?;
-    line.push('\n')?;
-    Ok(line)
+    let value = told_value(alloc, file, told)?;
+    let line = value.to_string(alloc)?;
+    lines.push_str(line.as_str())?;
+    lines.push('\n')
 }
 
-// What is told of an error, where this is its line.
-fn told_value(
-    alloc: Global,
-    file: &str,
-    error: AsmError,
-    line: Option<&str>,
-) -> Result<Value, AllocError>
-    ensures { IfOk result (λ value. view value
-        ≡ spec.told_data file.now error (option_map (λ l. l.now) line.entry)) }
+// What is told of an error, as a value.
+fn told_value(alloc: Global, file: &str, told: &Told) -> Result<Value, AllocError>
+    ensures { IfOk result (λ value. view value ≡ spec.told_data file.now (finding_of told.now)) }
 {
-    match line {
+    let words = told.fault.words.as_str();
+    match told.text {
         Some(text) => json!(in alloc; {
-            "explanation": explanation(error.kind),
+            "column": told.fault.column,
+            "explanation": words,
             "file": file,
-            "kind": name(error.kind),
-            "line": error.line,
+            "kind": name(told.error.kind),
+            "line": told.error.line,
             "text": text
         }),
         None => json!(in alloc; {
-            "explanation": explanation(error.kind),
+            "column": told.fault.column,
+            "explanation": words,
             "file": file,
-            "kind": name(error.kind),
-            "line": error.line,
+            "kind": name(told.error.kind),
+            "line": told.error.line,
             "text": null
         }),
     }

@@ -1,5 +1,5 @@
 -- Ticks, and further ticks after them.
-use Rattle.std.proofs.Common.{◌≡◌, ℕ, zero, suc, ◌+◌, ◌<◌, ◌≤◌, inl, inr, ℤ, ◌-◌, List, [], ◌∷◌, ◌++◌, Option, Some, None, Result, Ok, Err, ◌^◌, refl, sym, ap, subst, ◌∙◌, arith, append_assoc}
+use Rattle.std.proofs.Common.{◌≡◌, ℕ, zero, suc, ◌+◌, ◌<◌, ◌≤◌, inl, inr, ℤ, ◌-◌, List, [], ◌++◌, Option, Some, None, Result, Ok, Err, ◌^◌, refl, sym, ap, subst, ◌∙◌, arith, append_assoc}
 use Rattle.std.specs.Prelude.{OnErr}
 use Rattle.std.proofs.lemmas.List.{append-nil}
 use Rattle.stepping.proofs.Going.{tick_retires}
@@ -12,9 +12,9 @@ use Rattle.stepping.specs.declared.tick.Ran.{Ran}
 use Rattle.stepping.specs.declared.tick.RunEnd.TheVariants as run_end
 use Rattle.stepping.specs.declared.tick.Tick.{Tick}
 use Rattle.execution.specs.Executions.{Ends, EndsBefore, Goes, Made, Meets, line_of}
-use Rattle.execution.specs.Slices.{BreaksOff, Comes, IsSlice, end_by}
+use Rattle.execution.specs.Slices.{BreaksOff, Comes, IsSlice, PartComes, end_by}
 use Rattle.execution.specs.declared.end.ExecutionEnd.{ExecutionEnd}
-use Rattle.execution.specs.declared.end.ExecutionEnd.TheVariants.{Ended, Stopped, Limit}
+use Rattle.execution.specs.declared.end.ExecutionEnd.TheVariants.{Ended, Stopped, Limit, OutputLimit}
 
 pub goes_join : (n m : ℕ) (start middle after : Debugged) (lines more : List ℕ) → Goes n start lines middle → Goes m middle more after
     → Goes (n + m) start (lines ++ more) after
@@ -47,12 +47,33 @@ ends_join n m most (Ended code) start middle after lines more few g (ticks, belo
 ends_join n m most (Stopped reason) start middle after lines more few g (ticks, below, h) =
     (n + ticks, omega (arith, few, below), meets_join (outcome.Stopped reason) n ticks start middle after lines more g h)
 ends_join n m most Limit start middle after lines more few g h = h
+ends_join n m most OutputLimit start middle after lines more few g h = h
 
-pub ends_within : (limit : ℕ) (end : ExecutionEnd) (start after : Debugged) (lines : List ℕ) → EndsBefore limit end start lines after
-    → Ends limit end start lines after
-ends_within limit (Ended code) start after lines h = h
-ends_within limit (Stopped reason) start after lines h = h
-ends_within limit Limit start after lines h = absurd h
+pub made_join : (n m most : ℕ) (start middle after : Debugged) (lines more : List ℕ) → n + m ≤ most → Goes n start lines middle
+    → Made m middle more after → Made most start (lines ++ more) after
+made_join n m most start middle after lines more few g (inl (ticks, within, h)) =
+    inl (n + ticks, omega (arith, few, within), goes_join n ticks start middle after lines more g h)
+made_join n m most start middle after lines more few g (inr (end, h)) =
+    inr (end, ends_join n m most end start middle after lines more few g h)
+
+pub ends_within : (n m limit made : ℕ) (end : ExecutionEnd) (start middle after : Debugged) (lines more : List ℕ) → n + m ≤ limit
+    → Goes n start lines middle → PartComes m made (Some end) middle more after → Ends limit end start (lines ++ more) after
+ends_within n m limit made (Ended code) start middle after lines more few g h =
+    ends_join n m limit (Ended code) start middle after lines more few g h
+ends_within n m limit made (Stopped reason) start middle after lines more few g h =
+    ends_join n m limit (Stopped reason) start middle after lines more few g h
+ends_within n m limit made Limit start middle after lines more few g h = absurd h
+ends_within n m limit made OutputLimit start middle after lines more few g h =
+    made_join n m limit start middle after lines more few g h
+
+-- what a slice comes to whose lines are all written
+pub part_comes : (most made : ℕ) (end : Option ExecutionEnd) (start after : Debugged) (lines : List ℕ) → Comes most made end start lines after
+    → PartComes most made end start lines after
+part_comes most made None start after lines h = h
+part_comes most made (Some (Ended code)) start after lines h = h
+part_comes most made (Some (Stopped reason)) start after lines h = h
+part_comes most made (Some Limit) start after lines h = h
+part_comes most made (Some OutputLimit) start after lines h = absurd h
 
 -- ---- how many instructions retire
 
@@ -213,6 +234,13 @@ pub whole_slice : (most n : ℕ) (start after : Debugged) (text text' : List ℕ
     → IsSlice most n None start after text text'
 whole_slice most n start after text text' some few s =
     record { lines = s.lines; comes = (some, few, s.goes); text_is = s.text_is }
+
+-- where its lines are enough
+pub slice_so_far : (most n made : ℕ) (start middle after : Debugged) (text text' text'' : List ℕ) → Keeps most n start middle text text'
+    → IsSlice (most - n) made None middle after text' text'' → IsSlice most (n + made) None start after text text''
+slice_so_far most n made start middle after text text' text'' k h =
+    whole_slice most (n + made) start after text text'' (omega (arith, h.comes.0)) (omega (arith, k.few, h.comes.1))
+    (goes_on most n made start middle after text text' text'' k.so_far h)
 
 pub breaks_in_slice : (most n : ℕ) (start middle after : Debugged) (text text' text'' : List ℕ) → n ≤ most
     → SoFar n start middle text text' → BreaksOff (most - n) middle after text' text'' → BreaksOff most start after text text''

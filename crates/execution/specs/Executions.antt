@@ -7,6 +7,8 @@
 -- It ends with the first tick that ends the program or stops the machine. In a program that was just loaded, without
 -- breakpoints and without a goal, that is the first instruction that traps, the first call that ends the program, or
 -- the first EBREAK, and each instruction before it has retired.
+--
+-- Where the lines are more bytes than are allowed, it ends too, and as many of them are written as are allowed, the first ones.
 use Rattle.std.specs.Prelude.{◌≡◌, ℕ, ℤ, zero, suc, ◌+◌, ◌<◌, ◌≤◌, ◌⊎◌, List, [], ◌++◌, length, take, codes, Option, Some, None, Ok}
 use Rattle.std.specs.Fmt.{signed_decimal}
 use Rattle.std.specs.Io.KnownBytes.{Appends}
@@ -14,8 +16,9 @@ use Rattle.stepping.specs.Ticks.{Debugged, IsTick}
 use Rattle.stepping.specs.declared.tick.Outcome.{Outcome}
 use Rattle.stepping.specs.declared.tick.Outcome.TheVariants as outcome
 use Rattle.execution.specs.declared.end.ExecutionEnd.{ExecutionEnd}
-use Rattle.execution.specs.declared.end.ExecutionEnd.TheVariants.{Ended, Stopped, Limit}
+use Rattle.execution.specs.declared.end.ExecutionEnd.TheVariants.{Ended, Stopped, Limit, OutputLimit}
 use Rattle.execution.specs.declared.end.ExecutionFault.{ExecutionFault}
+use Rattle.execution.specs.declared.executing.Limits.{Limits}
 use Rattle.execution.specs.declared.end.ExecutionFault.TheVariants.{Write, NoMemory}
 
 -- the line of a number that was printed, if one was
@@ -48,23 +51,39 @@ abbrev pub EndsBefore : ℕ → ExecutionEnd → Debugged → List ℕ → Debug
 EndsBefore most (Ended code) start lines after = (ticks : ℕ) × (ticks < most) × Meets (outcome.Ended code) ticks start lines after
 EndsBefore most (Stopped reason) start lines after = (ticks : ℕ) × (ticks < most) × Meets (outcome.Stopped reason) ticks start lines after
 EndsBefore most Limit start lines after = ⊥
-
--- How an execution ends for which so many ticks are allowed.
-abbrev pub Ends : ℕ → ExecutionEnd → Debugged → List ℕ → Debugged → Type 0
-Ends limit (Ended code) start lines after = EndsBefore limit (Ended code) start lines after
-Ends limit (Stopped reason) start lines after = EndsBefore limit (Stopped reason) start lines after
-Ends limit Limit start lines after = Goes limit start lines after
-
--- An execution ended so, and its lines were written.
-pub record Executes (limit : ℕ) (end : ExecutionEnd) (start after : Debugged) (before now : Option (List ℕ)) : Type 0 where
-  pub lines : List ℕ
-  pub ends : Ends limit end start lines after
-  pub written : Appends before now lines
+EndsBefore most OutputLimit start lines after = ⊥
 
 -- some ticks of an execution for which so many are allowed: so many that went on, or up to its end
 abbrev pub Made : ℕ → Debugged → List ℕ → Debugged → Type 0
 Made limit start lines after = ((ticks : ℕ) × (ticks ≤ limit) × Goes ticks start lines after)
     ⊎ ((end : ExecutionEnd) × EndsBefore limit end start lines after)
+
+-- How an execution ends for which so many ticks are allowed: where too much was printed, after some of them.
+abbrev pub Ends : ℕ → ExecutionEnd → Debugged → List ℕ → Debugged → Type 0
+Ends limit (Ended code) start lines after = EndsBefore limit (Ended code) start lines after
+Ends limit (Stopped reason) start lines after = EndsBefore limit (Stopped reason) start lines after
+Ends limit Limit start lines after = Goes limit start lines after
+Ends limit OutputLimit start lines after = Made limit start lines after
+
+-- all lines were written, which are no more bytes than are allowed; or they are more, and the first were written
+abbrev pub AllWritten : ℕ → List ℕ → Option (List ℕ) → Option (List ℕ) → Type 0
+AllWritten bytes lines before now = (length lines ≤ bytes) × Appends before now lines
+
+abbrev pub FirstWritten : ℕ → List ℕ → Option (List ℕ) → Option (List ℕ) → Type 0
+FirstWritten bytes lines before now = (bytes < length lines) × Appends before now (take bytes lines)
+
+-- what was written of the lines of an execution that ended so, for which so many bytes are allowed
+abbrev pub IsWritten : ℕ → ExecutionEnd → List ℕ → Option (List ℕ) → Option (List ℕ) → Type 0
+IsWritten bytes (Ended code) lines before now = AllWritten bytes lines before now
+IsWritten bytes (Stopped reason) lines before now = AllWritten bytes lines before now
+IsWritten bytes Limit lines before now = AllWritten bytes lines before now
+IsWritten bytes OutputLimit lines before now = FirstWritten bytes lines before now
+
+-- An execution ended so, and its lines were written.
+pub record Executes (limits : Limits) (end : ExecutionEnd) (start after : Debugged) (before now : Option (List ℕ)) : Type 0 where
+  pub lines : List ℕ
+  pub ends : Ends limits.instructions end start lines after
+  pub written : IsWritten limits.bytes end lines before now
 
 -- Some of its ticks were made, and of their lines the first bytes were written, and not all.
 pub record IsUnwritten (limit : ℕ) (start after : Debugged) (before now : Option (List ℕ)) : Type 0 where

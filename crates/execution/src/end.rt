@@ -11,6 +11,8 @@ pub enum ExecutionEnd {
     Stopped(Reason),
     /// As many instructions as were allowed went.
     Limit,
+    /// More was printed than was allowed.
+    OutputLimit,
 }
 
 /// Why an execution was given up.

@@ -1,11 +1,13 @@
 //! A machine that goes on to its end.
 
-ghost use Rattle.std.specs.Prelude.{◌≡◌, ◌+◌, ◌^◌, ◌≤◌, IfErr, IfOk};
+ghost use Rattle.std.specs.Prelude.{◌≡◌, ◌+◌, ◌^◌, ◌<◌, ◌≤◌, IfErr, IfOk, Some, length, take};
+ghost use Rattle.std.specs.Io.KnownBytes.{Appends};
+ghost use Rattle.blocking_io.specs.Writing.{IsPartWritten};
 ghost use Rattle.execution.specs.Executions.{Executes, IsGivenUp};
 ghost use Rattle.execution.specs.Slices.{GivesUp, Writes};
 
 use crate::end::{ExecutionEnd, ExecutionFault};
-use crate::slices::{Slice, run_slice};
+use crate::slices::run_slice;
 use blocking_io::write_whole;
 use std::alloc::Global;
 use std::io::Write;
@@ -14,8 +16,18 @@ use stepping::Runner;
 /// After so many instructions, and at the end, what was printed meanwhile is written.
 const SLICE: u64 = 100_000;
 
-/// Lets a machine go on until it ends or stops, for `limit` instructions at most, and writes the numbers that it prints, each in decimal
-/// on a line. They are written after each 100,000 instructions, and at the end. No more than 2^62 instructions will have retired.
+/// How much a program may do.
+#[derive(Clone, Copy, Debug, PartialEq, Eq)]
+pub struct Limits {
+    /// How many instructions may run.
+    pub instructions: u64,
+    /// How many bytes may be printed.
+    pub bytes: u64,
+}
+
+/// Lets a machine go on until it ends or stops, for so many instructions at most, and writes the numbers that it prints, each in decimal
+/// on a line. They are written after each 100,000 instructions, and at the end. Where they are more bytes than are allowed, it ends after the
+/// instruction that printed too much, and as many bytes as are allowed are written. No more than 2^62 instructions will have retired.
 ///
 /// - `Write`: the writer failed. It has all that was printed before the last 100,000 instructions or fewer, and of what these printed the
 ///   first bytes, not all.
@@ -23,51 +35,94 @@ const SLICE: u64 = 100_000;
 pub fn execute<W: Write>(
     alloc: Global,
     runner: &mut Runner,
-    limit: u64,
+    limits: Limits,
     writer: &mut W,
 ) -> Result<ExecutionEnd, ExecutionFault>
-    requires { runner.old.retired + limit ≤ 2 ^ 62 }
-    ensures ok { IfOk result (λ end. Executes limit end runner.old runner.new
+    requires { runner.old.retired + limits.instructions ≤ 2 ^ 62 }
+    ensures ok { IfOk result (λ end. Executes limits end runner.old runner.new
         (W.contents writer.old) (W.contents writer.new)) }
-    ensures err { IfErr result (λ fault. IsGivenUp limit fault runner.old runner.new
+    ensures err { IfErr result (λ fault. IsGivenUp limits.instructions fault runner.old runner.new
         (W.contents writer.old) (W.contents writer.new)) }
 {
-    let mut left = limit;
+    let mut left = limits.instructions;
+    let mut room = limits.bytes;
     while left > 0 {
         let most = left.min(SLICE) as u32;
-        let slice = match write_slice(alloc, runner, most, writer) {
-            Ok(slice) => slice,
+        let part = match write_slice(alloc, runner, most, room, writer) {
+            Ok(part) => part,
             Err(fault) => return Err(fault),
         };
-        match slice.end {
+        match part.end {
             Some(end) => return Ok(end),
-            None => left -= u64::from(slice.made),
+            None => {
+                left -= u64::from(part.made);
+                room -= part.bytes;
+            }
         }
     }
     Ok(ExecutionEnd::Limit)
 }
 
-// A slice of so many instructions at most, and what it printed, written.
+// What came of some instructions in a row, of which the lines were written.
+#[derive(Clone, Copy)]
+struct Part {
+    /// How many went.
+    made: u32,
+    /// How the execution ended; `None`: it goes on.
+    end: Option<ExecutionEnd>,
+    /// How many bytes were written.
+    bytes: u64,
+}
+
+// A slice of so many instructions at most, and what it printed, written, of which so many bytes may be.
 fn write_slice<W: Write>(
     alloc: Global,
     runner: &mut Runner,
     most: u32,
+    room: u64,
     writer: &mut W,
-) -> Result<Slice, ExecutionFault>
+) -> Result<Part, ExecutionFault>
     requires some { 1 ≤ most }
     requires few { runner.old.retired + most ≤ 2 ^ 62 }
-    ensures ok { IfOk result (λ slice. Writes most slice.made slice.end runner.old runner.new
+    ensures ok { IfOk result (λ part. Writes most room part runner.old runner.new
         (W.contents writer.old) (W.contents writer.new)) }
     ensures err { IfErr result (λ fault. GivesUp most fault runner.old runner.new
         (W.contents writer.old) (W.contents writer.new)) }
 {
     let mut lines = String::new(alloc);
-    let answer = run_slice(runner, most, &mut lines);
+    let answer = run_slice(runner, most, room, &mut lines);
+    if lines.len() as u64 > room {
+        return write_first(writer, lines.as_bytes(), room);
+    }
     if write_whole(writer, lines.as_bytes()).is_err() {
         return Err(ExecutionFault::Write);
     }
     match answer {
-        Ok(slice) => Ok(slice),
+        Ok(slice) => Ok(Part {
+            made: slice.made,
+            end: slice.end,
+            bytes: lines.len() as u64,
+        }),
         Err(_) => Err(ExecutionFault::NoMemory),
     }
+}
+
+// The first bytes of lines, of which there are more.
+fn write_first<W: Write>(writer: &mut W, lines: &[u8], room: u64) -> Result<Part, ExecutionFault>
+    requires { room < length lines.now }
+    ensures end { IfOk result (λ part. part.end ≡ Some ExecutionEnd.OutputLimit) }
+    ensures ok { IfOk result (λ part. Appends
+        (W.contents writer.old) (W.contents writer.new) (take room lines.now)) }
+    ensures fault { IfErr result (λ fault. fault ≡ ExecutionFault.Write) }
+    ensures err { IfErr result (λ fault. IsPartWritten
+        (W.contents writer.old) (W.contents writer.new) lines.now) }
+{
+    if write_whole(writer, &lines[..room as usize]).is_err() {
+        return Err(ExecutionFault::Write);
+    }
+    Ok(Part {
+        made: 0,
+        end: Some(ExecutionEnd::OutputLimit),
+        bytes: room,
+    })
 }

@@ -7,7 +7,7 @@ ghost use Rattle.execution.specs.Loading.{IsLoadedFrom};
 ghost use Rattle.stepping.specs.Loading.{CanBeLoaded, IsLoaded, no_breakpoints};
 
 use assembler::{AsmError, AsmErrorKind, assemble};
-use image::{Image, LineTable};
+use image::{Bytes, Image, LineTable};
 use std::alloc::Global;
 use stepping::Runner;
 
@@ -18,6 +18,10 @@ pub struct Loaded {
     pub runner: Runner,
     /// Which line the code at an address came from, and where the labels are.
     pub lines: LineTable,
+    /// The bytes of memory from 0x00010000 on, as they were before an instruction retired.
+    pub bytes: Bytes,
+    /// Where the program starts.
+    pub entry: u32,
 }
 
 /// Assembles a text for `size` bytes of memory, a multiple of 4,096 from 4,096 to 16,777,216, and loads it into a machine that has as
@@ -40,13 +44,17 @@ pub fn load(alloc: Global, text: &[u8], size: u32) -> Result<Loaded, AsmError>
 fn start(alloc: Global, image: Image, size: u32) -> Result<Loaded, AsmError>
     requires { CanBeLoaded image size }
     ensures ok { IfOk result (λ loaded. IsLoaded image size no_breakpoints loaded.runner
-        × (loaded.lines ≡ image.lines)) }
+        × (loaded.lines ≡ image.lines)
+        × (loaded.bytes ≡ image.bytes)
+        × (loaded.entry ≡ image.entry)) }
     ensures err { IfErr result (λ error. error ≡ no_memory) }
 {
     match Runner::new(alloc, &image, size) {
         Ok(runner) => Ok(Loaded {
             runner,
             lines: image.lines,
+            bytes: image.bytes,
+            entry: image.entry,
         }),
         Err(_) => Err(AsmError {
             line: 0,

@@ -19,11 +19,12 @@ pub(crate) struct Slice {
     pub end: Option<ExecutionEnd>,
 }
 
-/// So many instructions, or fewer where the execution ends before. Their lines are put after those that are there. `Err`: no memory was
-/// left for one more, as for a page of the machine's memory; the lines of those that were made are there.
+/// So many instructions, or fewer where the execution ends before, or where the lines are more than so many bytes. They are put after those
+/// that are there. `Err`: no memory was left for one more, as for a page of the machine's memory; the lines of those that were made are there.
 pub(crate) fn run_slice(
     runner: &mut Runner,
     most: u32,
+    room: u64,
     lines: &mut String,
 ) -> Result<Slice, AllocError>
     requires some { 1 ≤ most }
@@ -44,6 +45,9 @@ pub(crate) fn run_slice(
                 });
             }
             None => made += part.made,
+        }
+        if lines.len() as u64 > room {
+            return Ok(Slice { made, end: None });
         }
     }
     Ok(Slice { made, end: None })

@@ -7,11 +7,12 @@ use Rattle.numerals.specs.Numerals.{numeral}
 use Rattle.numerals.specs.declared.NumeralError.{NumeralError}
 use Rattle.options.specs.CommandLine.{command_line}
 use Rattle.options.specs.Memory.{IsOffered, default_memory, is_offered, kib_for, offered}
-use Rattle.options.specs.Limits.{limit_for}
-use Rattle.options.specs.Options.{IsConsistent, asked, asked_of, checking, commanded, executing, has_option, is_command, is_set, labelling, running, serving, unless_refused, with_file}
+use Rattle.options.specs.Options.{IsConsistent, asked, asked_of, checking, commanded, executing, has_option, is_command, is_play, is_set, labelling, play_of, playing, run_of, running, serving, unless_refused, with_file}
 use Rattle.options.specs.declared.asked.Mode.{Mode}
-use Rattle.options.specs.declared.asked.Mode.TheVariants.{Serve, Asm, Watch, Run, Check, Labels}
+use Rattle.options.specs.declared.asked.Mode.TheVariants.{Asm, Watch, Replay, Convert}
 use Rattle.options.specs.declared.asked.Options.{Options}
+use Rattle.options.specs.declared.asked.PlayOptions.{PlayOptions}
+use Rattle.options.specs.declared.asked.RunOptions.{RunOptions}
 use Rattle.options.proofs.Asking.{is_offered-true}
 
 is_default : IsOffered default_memory
@@ -36,33 +37,37 @@ same made options e h =
     let is : made ≡ options = cc e in
     subst IsConsistent is h
 
-served : (listen program : Option Text) (once : Bool) (memory : Option ℕ) → ((kib : ℕ) → memory ≡ Some kib → IsOffered kib)
-    → (options : Options) → serving listen program once memory ≡ Ok options → IsConsistent options
-served listen program once None fits options e = absurd (cc e)
-served None (Some program) once (Some kib) fits options e = absurd (cc e)
-served None None true (Some kib) fits options e = absurd (cc e)
-served None None false (Some kib) fits options e = same _ options e (record {
+served : (listen program : Option Text) (once verbose : Bool) (recording : Option Text) (memory : Option ℕ) → ((kib : ℕ) → memory ≡ Some kib → IsOffered kib)
+    → (options : Options) → serving listen program once verbose recording memory ≡ Ok options → IsConsistent options
+served listen program once verbose recording None fits options e = absurd (cc e)
+served None (Some program) once verbose recording (Some kib) fits options e = absurd (cc e)
+served None None true verbose recording (Some kib) fits options e = absurd (cc e)
+served None None false verbose recording (Some kib) fits options e = same _ options e (record {
   memory = fits kib refl;
   program = λ none. refl;
   once = λ none. refl;
   file = refl;
   others = λ is. refl;
   address = λ command. absurd (cc command);
+  verbose = λ command. absurd (cc command);
+  recording = λ command. absurd (cc command);
   default = λ none. absurd (cc none);
-  limit = λ is. refl;
-  count = λ is. refl;
+  run = λ is. refl;
+  play = λ is. refl;
   json = λ is. refl;
 })
-served (Some listen) program once (Some kib) fits options e = same _ options e (record {
+served (Some listen) program once verbose recording (Some kib) fits options e = same _ options e (record {
   memory = fits kib refl;
   program = λ none. absurd (cc none);
   once = λ none. absurd (cc none);
   file = refl;
   others = λ is. refl;
   address = λ command. absurd (cc command);
+  verbose = λ command. absurd (cc command);
+  recording = λ command. absurd (cc command);
   default = λ none. absurd (cc none);
-  limit = λ is. refl;
-  count = λ is. refl;
+  run = λ is. refl;
+  play = λ is. refl;
   json = λ is. refl;
 })
 
@@ -75,9 +80,11 @@ of_file mode file command = record {
   file = sym command;
   others = λ is. refl;
   address = λ is. refl;
+  verbose = λ is. refl;
+  recording = λ is. refl;
   default = λ is. refl;
-  limit = λ is. refl;
-  count = λ is. refl;
+  run = λ is. refl;
+  play = λ is. refl;
   json = λ is. refl;
 }
 
@@ -86,21 +93,43 @@ run : (mode : Mode) (file : Option Text) → is_command mode ≡ true → (optio
 run mode None command options e = absurd (cc e)
 run mode (Some file) command options e = same _ options e (of_file mode file command)
 
-execute : (memory : Option ℕ) (limit : Option (Option ℕ)) (count : Bool) (file : Option Text) → ((kib : ℕ) → memory ≡ Some kib → IsOffered kib)
-    → (options : Options) → executing memory limit count file ≡ Ok options → IsConsistent options
-execute None limit count file fits options e = absurd (cc e)
-execute (Some memory) None count file fits options e = absurd (cc e)
-execute (Some memory) (Some limit) count None fits options e = absurd (cc e)
-execute (Some memory) (Some limit) count (Some file) fits options e = same _ options e (record {
+execute : (memory : Option ℕ) (run : Option RunOptions) (files : Option (List Text)) → ((kib : ℕ) → memory ≡ Some kib → IsOffered kib)
+    → (options : Options) → executing memory run files ≡ Ok options → IsConsistent options
+execute None run files fits options e = absurd (cc e)
+execute (Some memory) None files fits options e = absurd (cc e)
+execute (Some memory) (Some run) None fits options e = absurd (cc e)
+execute (Some memory) (Some run) (Some []) fits options e = absurd (cc e)
+execute (Some memory) (Some run) (Some (file ∷ others)) fits options e = same _ options e (record {
   memory = fits memory refl;
   program = λ none. refl;
   once = λ none. refl;
   file = refl;
+  others = λ none. absurd (cc none);
+  address = λ is. refl;
+  verbose = λ is. refl;
+  recording = λ is. refl;
+  default = λ none. absurd (cc none);
+  run = λ none. absurd (cc none);
+  play = λ is. refl;
+  json = λ is. refl;
+})
+
+plays : (mode : Mode) (play : Option PlayOptions) (script : Option Text) → is_command mode ≡ true → is_play mode ≡ true → (options : Options)
+    → playing mode play script ≡ Ok options → IsConsistent options
+plays mode None script command played options e = absurd (cc e)
+plays mode (Some play) None command played options e = absurd (cc e)
+plays mode (Some play) (Some script) command played options e = same _ options e (record {
+  memory = is_default;
+  program = λ none. refl;
+  once = λ none. refl;
+  file = sym command;
   others = λ is. refl;
   address = λ is. refl;
-  default = λ none. absurd (cc none);
-  limit = λ none. absurd (cc none);
-  count = λ none. absurd (cc none);
+  verbose = λ is. refl;
+  recording = λ is. refl;
+  default = λ is. refl;
+  run = λ is. refl;
+  play = λ none. absurd (cc (none, played));
   json = λ is. refl;
 })
 
@@ -114,9 +143,11 @@ check json (Some (file ∷ others)) options e = same _ options e (record {
   file = refl;
   others = λ none. absurd (cc none);
   address = λ is. refl;
+  verbose = λ is. refl;
+  recording = λ is. refl;
   default = λ is. refl;
-  limit = λ is. refl;
-  count = λ is. refl;
+  run = λ is. refl;
+  play = λ is. refl;
   json = λ none. absurd (cc none);
 })
 
@@ -129,38 +160,44 @@ label json (Some file) options e = same _ options e (record {
   file = refl;
   others = λ is. refl;
   address = λ is. refl;
+  verbose = λ is. refl;
+  recording = λ is. refl;
   default = λ is. refl;
-  limit = λ is. refl;
-  count = λ is. refl;
+  run = λ is. refl;
+  play = λ is. refl;
   json = λ none. absurd (cc none);
 })
 
-by_name : (is_asm is_run is_check is_labels : Bool) (rows : List Row) (options : Options)
+by_name : (is_asm is_run is_check is_labels is_convert is_replay : Bool) (rows : List Row) (options : Options)
     → cond is_asm (running Asm (first_of (codes "FILE") rows))
-    (cond is_run (executing (kib_for (first_of (codes "memory") rows)) (limit_for (first_of (codes "limit") rows))
-    (is_set (codes "count") rows) (first_of (codes "FILE") rows))
+    (cond is_run (executing (kib_for (first_of (codes "memory") rows)) (run_of rows) (all_of (codes "FILE") rows))
     (cond is_check (checking (is_set (codes "json") rows) (all_of (codes "FILE") rows))
     (cond is_labels (labelling (is_set (codes "json") rows) (first_of (codes "FILE") rows))
-    (running Watch (first_of (codes "SCRIPT") rows))))) ≡ Ok options → IsConsistent options
-by_name true is_run is_check is_labels rows options e = run Asm (first_of (codes "FILE") rows) refl options e
-by_name false true is_check is_labels rows options e = execute (kib_for (first_of (codes "memory") rows))
-    (limit_for (first_of (codes "limit") rows)) (is_set (codes "count") rows) (first_of (codes "FILE") rows)
-    (kib_for-some (first_of (codes "memory") rows)) options e
-by_name false false true is_labels rows options e = check (is_set (codes "json") rows) (all_of (codes "FILE") rows) options e
-by_name false false false true rows options e = label (is_set (codes "json") rows) (first_of (codes "FILE") rows) options e
-by_name false false false false rows options e = run Watch (first_of (codes "SCRIPT") rows) refl options e
+    (cond is_convert (running Convert (first_of (codes "FILE") rows))
+    (cond is_replay (playing Replay (play_of rows) (first_of (codes "SCRIPT") rows))
+    (playing Watch (play_of rows) (first_of (codes "SCRIPT") rows))))))) ≡ Ok options → IsConsistent options
+by_name true is_run is_check is_labels is_convert is_replay rows options e = run Asm (first_of (codes "FILE") rows) refl options e
+by_name false true is_check is_labels is_convert is_replay rows options e = execute (kib_for (first_of (codes "memory") rows)) (run_of rows)
+    (all_of (codes "FILE") rows) (kib_for-some (first_of (codes "memory") rows)) options e
+by_name false false true is_labels is_convert is_replay rows options e = check (is_set (codes "json") rows) (all_of (codes "FILE") rows) options e
+by_name false false false true is_convert is_replay rows options e = label (is_set (codes "json") rows) (first_of (codes "FILE") rows) options e
+by_name false false false false true is_replay rows options e = run Convert (first_of (codes "FILE") rows) refl options e
+by_name false false false false false true rows options e =
+    plays Replay (play_of rows) (first_of (codes "SCRIPT") rows) refl refl options e
+by_name false false false false false false rows options e =
+    plays Watch (play_of rows) (first_of (codes "SCRIPT") rows) refl refl options e
 
 by_command : (beside : Bool) (name : Text) (rows : List Row) (options : Options) (refusal : Kinds)
     → cond beside (Err refusal) (commanded name rows) ≡ Ok options → IsConsistent options
 by_command true name rows options refusal e = absurd (cc e)
 by_command false name rows options refusal e =
-    by_name (bytes_eq name (codes "asm")) (bytes_eq name (codes "run")) (bytes_eq name (codes "check")) (bytes_eq name (codes "labels")) rows
-    options e
+    by_name (bytes_eq name (codes "asm")) (bytes_eq name (codes "run")) (bytes_eq name (codes "check")) (bytes_eq name (codes "labels"))
+    (bytes_eq name (codes "convert")) (bytes_eq name (codes "replay")) rows options e
 
 found : (rows : List Row) (command : Option (Text × List Row)) (options : Options) → asked_of rows command ≡ Ok options
     → IsConsistent options
 found rows None options e = served (first_of (codes "listen") rows) (first_of (codes "program") rows) (is_set (codes "once") rows)
-    (kib_for (first_of (codes "memory") rows)) (kib_for-some (first_of (codes "memory") rows)) options e
+    (is_set (codes "verbose") rows) (first_of (codes "record") rows) (kib_for (first_of (codes "memory") rows)) (kib_for-some (first_of (codes "memory") rows)) options e
 found rows (Some command) options e = by_command (has_option rows) command.0 command.1 options _ e
 
 taken : (kinds : Kinds) (rows : List Row) (command : Option (Text × List Row)) (options : Options)

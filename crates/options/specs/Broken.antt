@@ -10,7 +10,7 @@ use Rattle.options.specs.declared.fault.Fault.TheVariants as fault
 -- the kind of error of a rule that is broken
 abbrev pub kind_of_fault : Fault → ErrorKind
 kind_of_fault (fault.Memory text) = kind.ValueValidation
-kind_of_fault (fault.Limit text) = kind.ValueValidation
+kind_of_fault (fault.Number option text) = kind.ValueValidation
 kind_of_fault (fault.WithoutListen option) = kind.MissingRequiredArgument
 kind_of_fault fault.BesideCommand = kind.ArgumentConflict
 kind_of_fault fault.WithoutFile = kind.MissingRequiredArgument

@@ -1,12 +1,13 @@
 -- The command line as clap is told of it: what clap's definitions take for a command.
 --
---   rvdap [--memory KIB]
---   rvdap --listen ADDR [--program FILE] [--once] [--memory KIB]
+--   rvdap [--memory KIB] [--verbose]
+--   rvdap --listen ADDR [--program FILE] [--once] [--memory KIB] [--verbose]
 --   rvdap asm FILE
 --   rvdap watch SCRIPT
---   rvdap run [--memory KIB] [--limit N] [--count] FILE
+--   rvdap run [--memory KIB] [--limit N] [--output-limit BYTES] [--count] [--registers] [--trace N] FILE..
 --   rvdap check [--json] FILE..
 --   rvdap labels [--json] FILE
+--   rvdap convert FILE
 --
 -- clap gets the words after the program's name. It takes each option at most once, a value after a blank or after `=`,
 -- and adds `--help` and `--version`. That options stand beside one another as above is said in `Options`.
@@ -31,6 +32,10 @@ file id = record (new_rule id) { required = true }
 abbrev pub files : Text → Rule
 files id = record (new_rule id) { required = true; range = Some (record { start_inclusive = 1; end_inclusive = usize_max }) }
 
+-- a word after the file, which may be there
+abbrev pub word : Text → Rule
+word id = new_rule id
+
 -- a command with a file
 abbrev pub with_file : Text → Text → App
 with_file name id = with_rule (new_app name) (file id)
@@ -43,14 +48,22 @@ plain = record (new_app (codes "rvdap")) {
 
 -- its options
 abbrev pub with_options : App
-with_options = with_rule (with_rule (with_rule (with_rule plain (option (codes "memory"))) (option (codes "listen"))) (option (codes "program"))) (flag (codes "once"))
+with_options = with_rule (with_rule (with_rule (with_rule (with_rule plain (option (codes "memory"))) (option (codes "listen"))) (option (codes "program"))) (flag (codes "once")))
+    (flag (codes "verbose"))
+
+abbrev pub with_all_options : App
+with_all_options = with_rule with_options (option (codes "record"))
 
 -- the commands
 abbrev pub run_of_a_machine : App
-run_of_a_machine = with_rule (with_rule (new_app (codes "run")) (option (codes "memory"))) (option (codes "limit"))
+run_of_a_machine = with_rule (with_rule (with_rule (new_app (codes "run")) (option (codes "memory"))) (option (codes "limit")))
+    (option (codes "output-limit"))
+
+abbrev pub run_that_tells : App
+run_that_tells = with_rule (with_rule (with_rule run_of_a_machine (flag (codes "count"))) (flag (codes "registers"))) (option (codes "trace"))
 
 abbrev pub run : App
-run = with_rule (with_rule run_of_a_machine (flag (codes "count"))) (file (codes "FILE"))
+run = with_rule run_that_tells (files (codes "FILE"))
 
 abbrev pub check : App
 check = with_rule (with_rule (new_app (codes "check")) (flag (codes "json"))) (files (codes "FILE"))
@@ -58,10 +71,20 @@ check = with_rule (with_rule (new_app (codes "check")) (flag (codes "json"))) (f
 abbrev pub labels : App
 labels = with_rule (with_rule (new_app (codes "labels")) (flag (codes "json"))) (file (codes "FILE"))
 
+abbrev pub watch : App
+watch = with_rule (with_rule (with_file (codes "watch") (codes "SCRIPT")) (word (codes "C"))) (word (codes "N"))
+
+abbrev pub replay_of_a_part : App
+replay_of_a_part = with_rule (with_rule (with_rule (new_app (codes "replay")) (option (codes "from"))) (option (codes "to"))) (flag (codes "facts"))
+
+abbrev pub replay : App
+replay = with_rule replay_of_a_part (file (codes "SCRIPT"))
+
 -- the whole
 unfoldable pub command_line : App
-command_line = with_subcommand (with_subcommand (with_subcommand (with_subcommand (with_subcommand with_options
-    (with_file (codes "asm") (codes "FILE")).top) (with_file (codes "watch") (codes "SCRIPT")).top) run.top) check.top) labels.top
+command_line = with_subcommand (with_subcommand (with_subcommand (with_subcommand (with_subcommand (with_subcommand (with_subcommand
+    with_all_options (with_file (codes "asm") (codes "FILE")).top) watch.top) run.top) check.top) labels.top)
+    (with_file (codes "convert") (codes "FILE")).top) replay.top
 
 -- clap's definitions say exactly what it makes of words
 pub is_exact : is_simple_and_free command_line ≡ true

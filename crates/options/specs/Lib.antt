@@ -4,7 +4,7 @@
 pub mod CommandLine
 -- how much memory is asked for
 pub mod Memory
--- how many instructions may run
+-- how many instructions may run, and how much may be printed
 pub mod Limits
 -- what words ask for, and which are refused
 pub mod Options

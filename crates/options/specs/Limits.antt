@@ -1,7 +1,8 @@
--- How many instructions may run: what may stand after `--limit`, and what is meant by it.
+-- How many instructions may run, how many bytes may be printed, and how many of the last instructions are told: what may stand after
+-- `--limit`, `--output-limit` and `--trace`, and what is meant by it.
 --
 -- It is a number in decimal digits: one or more of them and nothing else; leading zeros change nothing. It is from 0 to
--- 4,294,967,295. Where none is asked for there is no limit.
+-- 4,294,967,295. Where none is asked for there is no limit, and no instruction is told.
 use Rattle.std.specs.Prelude.{◌≡◌, ℕ, List, Option, Some, None, Result, Ok, Err, codes, refl}
 use Rattle.numerals.specs.Numerals.{numeral}
 use Rattle.numerals.specs.declared.NumeralError.{NumeralError}

@@ -13,12 +13,68 @@ pub enum Mode {
     Asm,
     /// Play a script, and print what is watched.
     Watch,
+    /// Play a script, and print the conversation.
+    Replay,
     /// Run the program in a file.
     Run,
-    /// Tell the first error of each of some files.
+    /// Tell the errors of each of some files.
     Check,
     /// Tell the labels of a file.
     Labels,
+    /// Convert a file of another assembler.
+    Convert,
+}
+
+/// How a program is run, and what is told of its run.
+#[derive(Clone, Copy, Debug, PartialEq, Eq)]
+pub struct RunOptions {
+    /// How many instructions may run; `None`: as many as it likes.
+    pub limit: Option<u32>,
+    /// How many bytes may be printed; `None`: as many as it likes.
+    pub output_limit: Option<u32>,
+    /// How many of the last instructions are told; `None`: none.
+    pub trace: Option<u32>,
+    /// Whether it is said how many instructions retired.
+    pub count: bool,
+    /// Whether the registers are told at the end.
+    pub registers: bool,
+}
+
+impl RunOptions {
+    /// How a program is run where nothing is said of it: without limits, and nothing else is told.
+    pub(crate) const PLAIN: RunOptions = RunOptions {
+        limit: None,
+        output_limit: None,
+        trace: None,
+        count: false,
+        registers: false,
+    };
+}
+
+/// What is watched of a script, and what is told of its conversation.
+#[derive(Clone, Copy, Debug, PartialEq, Eq)]
+pub struct PlayOptions {
+    /// The connection that is watched; `None`: the last line of the script says it.
+    pub connection: Option<u32>,
+    /// How many bytes for it are watched; `None`: all.
+    pub bytes: Option<u32>,
+    /// The first event that is told; `None`: that of the first line.
+    pub from: Option<u32>,
+    /// The last event that is told; `None`: that of the last line.
+    pub to: Option<u32>,
+    /// Whether it is told after each message what an editor knows then.
+    pub facts: bool,
+}
+
+impl PlayOptions {
+    /// How a script is played where nothing is said of it: whole, and nothing else is told.
+    pub(crate) const PLAIN: PlayOptions = PlayOptions {
+        connection: None,
+        bytes: None,
+        from: None,
+        to: None,
+        facts: false,
+    };
 }
 
 /// What a command line asks for.
@@ -36,12 +92,16 @@ pub struct Options {
     pub program: Option<Text>,
     /// Whether the program ends after the first connection.
     pub once: bool,
+    /// Whether it is told on standard error what goes wrong on a connection.
+    pub verbose: bool,
+    /// The folder in which the session is recorded, if it is.
+    pub recording: Option<Text>,
     /// The memory of a machine, in KiB: a multiple of 4, from 4 to 16,384.
     pub memory: u32,
-    /// How many instructions of a program may run; `None`: as many as it likes.
-    pub limit: Option<u32>,
-    /// Whether it is said how many instructions of a program retired.
-    pub count: bool,
+    /// How a program is run.
+    pub run: RunOptions,
+    /// How a script is played.
+    pub play: PlayOptions,
     /// Whether errors and labels are told as JSON.
     pub json: bool,
 }

@@ -79,6 +79,21 @@ const AFTER_HELP_OF_WATCH: &str = "\
     \n`rvdap: SCRIPT: line K`: line K is the first that is no such line. `cannot read`\
     \nin place of that: SCRIPT is not there, is not a file, or is too long.";
 
+// What help of `replay` says after its options.
+const AFTER_HELP_OF_REPLAY: &str = "\
+    Example:\
+    \n  $ rvdap --record session < requests > answers\
+    \n  $ rvdap replay session/session.watch\
+    \n  1 connection 1\
+    \n  2 -> {\"seq\":1,\"type\":\"request\",\"command\":\"initialize\",..\
+    \n  ..\
+    \n\
+    \nEach line begins with the number of an event, which is that of its line in\
+    \nSCRIPT: `->` is a request that came with it, `<-` a message that was queued.\
+    \n\
+    \nSCRIPT is as `rvdap watch --help` says; its last line may be absent, as where\
+    \nrvdap was killed. `rvdap: SCRIPT: line K`: line K is the first that is wrong.";
+
 // What help of `run` says after its options.
 const AFTER_HELP_OF_RUN: &str = "\
     Example:\
@@ -88,10 +103,12 @@ const AFTER_HELP_OF_RUN: &str = "\
     \n  ..\
     \n\
     \nA number that the program prints is a line on standard output. Lines are written\
-    \nafter each 100,000 instructions, and at the end.\
+    \nafter each 100,000 instructions, and at the end. Several FILEs are one program,\
+    \nof which each begins on a line of its own.\
     \n\
-    \nStatus: the program's exit code, modulo 256. Where it does not end by itself, a\
-    \nline on standard error begins with FILE, and the status is\
+    \nStatus: the program's exit code, modulo 256. Where it does not end by itself,\
+    \nlines on standard error begin with FILE and say what was wrong; the status is\
+    \n  121  where it printed more than BYTES bytes\
     \n  122  at an ebreak\
     \n  123  where an instruction trapped\
     \n  124  where N instructions ran\
@@ -103,7 +120,7 @@ const AFTER_HELP_OF_RUN: &str = "\
 const AFTER_HELP_OF_CHECK: &str = "\
     Example:\
     \n  $ rvdap check examples/*.s\
-    \n  examples/undefined-label.s:4: error: Undefined: no line defines this label\
+    \n  examples/undefined-label.s:4:10: error: Undefined: no line defines g\
     \n      call g\
     \n\
     \n`rvdap asm --help` says what the errors are. The memory is 1 MiB.\
@@ -120,6 +137,18 @@ const AFTER_HELP_OF_LABELS: &str = "\
     \nEach line is a label, in the order of the text: its address, what stands there,\
     \nand its name. What stands there is code with its line, data, or the end of all.";
 
+// What help of `convert` says after its options.
+const AFTER_HELP_OF_CONVERT: &str = "\
+    FILE is a program as RARS, Venus or GNU as have it. It is written to standard\
+    \noutput line by line: a line that can stand stays as it is, and one that cannot is\
+    \nrewritten, with its old text as a comment after it. A FILE that assembles stays\
+    \nas it is, byte for byte.\
+    \n\
+    \nWhat cannot be said here, as `mul`, is told on standard error with its line and\
+    \nwhat to do instead; so is what is done otherwise, as a note.\
+    \n\
+    \nStatus: 0, or 1 where something cannot be said, or FILE cannot be read.";
+
 /// The command line as clap is told of it.
 pub(crate) fn command<'a>(alloc: Global) -> Result<Command<'a>, AllocError>
     ensures { IfOk result (λ c. app_of c ≡ spec.command_line) }
@@ -129,11 +158,15 @@ pub(crate) fn command<'a>(alloc: Global) -> Result<Command<'a>, AllocError>
         .arg(listen(alloc))?
         .arg(program(alloc))?
         .arg(once(alloc))?
+        .arg(verbose(alloc))?
+        .arg(record(alloc))?
         .subcommand(asm(alloc)?)?
         .subcommand(watch(alloc)?)?
         .subcommand(run(alloc)?)?
         .subcommand(check(alloc)?)?
-        .subcommand(labels(alloc)?)
+        .subcommand(labels(alloc)?)?
+        .subcommand(convert(alloc)?)?
+        .subcommand(replay(alloc)?)
 }
 
 // The command, before it is told of options.
@@ -145,13 +178,17 @@ fn plain<'a>(alloc: Global) -> Command<'a>
         .version("0.1.0")
         .about("A debug adapter for assembly programs on one simulated RISC-V hart")
         .override_usage(
-            "rvdap [--memory <KIB>]\n       \
-             rvdap --listen <ADDR> [--program <FILE>] [--once] [--memory <KIB>]\n       \
-             rvdap run [--memory <KIB>] [--limit <N>] [--count] <FILE>\n       \
+            "rvdap [--memory <KIB>] [--verbose] [--record <FOLDER>]\n       \
+             rvdap --listen <ADDR> [--program <FILE>] [--once] [--memory <KIB>]\n                 \
+             [--verbose] [--record <FOLDER>]\n       \
+             rvdap run [--memory <KIB>] [--limit <N>] [--output-limit <BYTES>]\n                 \
+             [--count] [--registers] [--trace <N>] <FILE>..\n       \
              rvdap check [--json] <FILE>..\n       \
              rvdap labels [--json] <FILE>\n       \
+             rvdap convert <FILE>\n       \
              rvdap asm <FILE>\n       \
-             rvdap watch <SCRIPT>",
+             rvdap watch <SCRIPT> [<C> [<N>]]\n       \
+             rvdap replay [--from <N>] [--to <N>] [--facts] <SCRIPT>",
         )
         .after_help(AFTER_HELP)
         .no_binary_name(true)
@@ -166,7 +203,7 @@ fn memory<'a>(alloc: Global) -> Arg<'a>
         .long("memory")
         .value_name("KIB")
         .help(
-            "Memory of a program, in KiB: a multiple of 4 from 4 to\n16384; 1024 if it is not given",
+            "Memory of a program, in KiB: a multiple of 4\nfrom 4 to 16384; 1024 if it is not given",
         )
 }
 
@@ -204,6 +241,30 @@ fn once<'a>(alloc: Global) -> Arg<'a>
         .help("With --listen: end after the first connection")
 }
 
+fn verbose<'a>(alloc: Global) -> Arg<'a>
+    ensures rule { rule_of result ≡ spec.flag (codes "verbose") }
+    ensures local { result.global ≡ false }
+{
+    Arg::new(alloc, "verbose")
+        .long("verbose")
+        .action(ArgAction::SetTrue)
+        .help(
+            "Say on standard error what closed a connection, why a\nrequest was refused, and where editors connect",
+        )
+}
+
+fn record<'a>(alloc: Global) -> Arg<'a>
+    ensures rule { rule_of result ≡ spec.option (codes "record") }
+    ensures local { result.global ≡ false }
+{
+    Arg::new(alloc, "record")
+        .long("record")
+        .value_name("FOLDER")
+        .help(
+            "Record the session in FOLDER, which is made, or is\nempty: for watch and replay, and a report",
+        )
+}
+
 fn asm<'a>(alloc: Global) -> Result<Command<'a>, AllocError>
     ensures { IfOk result (λ c. (app_of c ≡ spec.with_file (codes "asm") (codes "FILE"))
         × ((fields_of c).has_globals ≡ false)) }
@@ -220,28 +281,105 @@ fn asm<'a>(alloc: Global) -> Result<Command<'a>, AllocError>
 }
 
 fn watch<'a>(alloc: Global) -> Result<Command<'a>, AllocError>
-    ensures { IfOk result (λ c. (app_of c ≡ spec.with_file (codes "watch") (codes "SCRIPT"))
-        × ((fields_of c).has_globals ≡ false)) }
+    ensures { IfOk result (λ c. (app_of c ≡ spec.watch) × ((fields_of c).has_globals ≡ false)) }
 {
     Command::new(alloc, "watch")
         .about("Plays SCRIPT and prints what an editor knows then")
-        .override_usage("rvdap watch <SCRIPT>")
+        .override_usage("rvdap watch <SCRIPT> [<C> [<N>]]")
         .after_help(AFTER_HELP_OF_WATCH)
         .arg(file(
             alloc,
             "SCRIPT",
             "Events of a session, line by line, and what is watched",
+        ))?
+        .arg(word(
+            alloc,
+            "C",
+            "The connection that is watched, whatever SCRIPT says",
+        ))?
+        .arg(word(
+            alloc,
+            "N",
+            "How many bytes for it are watched; all if not given",
         ))
+}
+
+fn replay<'a>(alloc: Global) -> Result<Command<'a>, AllocError>
+    ensures { IfOk result (λ c. (app_of c ≡ spec.replay) × ((fields_of c).has_globals ≡ false)) }
+{
+    replay_of_a_part(alloc)?.arg(file(alloc, "SCRIPT", "A recording, or another script of `watch`"))
+}
+
+// `replay`, told of its options.
+fn replay_of_a_part<'a>(alloc: Global) -> Result<Command<'a>, AllocError>
+    ensures { IfOk result (λ c. (app_of c ≡ spec.replay_of_a_part)
+        × ((fields_of c).has_globals ≡ false)) }
+{
+    Command::new(alloc, "replay")
+        .about("Plays SCRIPT and prints the conversation")
+        .override_usage("rvdap replay [--from <N>] [--to <N>] [--facts] <SCRIPT>")
+        .after_help(AFTER_HELP_OF_REPLAY)
+        .arg(from(alloc))?
+        .arg(to(alloc))?
+        .arg(facts(alloc))
+}
+
+fn from<'a>(alloc: Global) -> Arg<'a>
+    ensures rule { rule_of result ≡ spec.option (codes "from") }
+    ensures local { result.global ≡ false }
+{
+    Arg::new(alloc, "from")
+        .long("from")
+        .value_name("N")
+        .help("Tell what comes from event N on")
+}
+
+fn to<'a>(alloc: Global) -> Arg<'a>
+    ensures rule { rule_of result ≡ spec.option (codes "to") }
+    ensures local { result.global ≡ false }
+{
+    Arg::new(alloc, "to")
+        .long("to")
+        .value_name("N")
+        .help("Tell what comes up to event N")
+}
+
+fn facts<'a>(alloc: Global) -> Arg<'a>
+    ensures rule { rule_of result ≡ spec.flag (codes "facts") }
+    ensures local { result.global ≡ false }
+{
+    Arg::new(alloc, "facts")
+        .long("facts")
+        .action(ArgAction::SetTrue)
+        .help("Tell after each message what an editor knows then")
+}
+
+// A word after the file of a command, which may be there.
+fn word<'a>(alloc: Global, id: &'a str, help: &'a str) -> Arg<'a>
+    ensures rule { rule_of result ≡ spec.word id.entry.now }
+    ensures local { result.global ≡ false }
+{
+    Arg::new(alloc, id).help(help)
 }
 
 fn run<'a>(alloc: Global) -> Result<Command<'a>, AllocError>
     ensures { IfOk result (λ c. (app_of c ≡ spec.run) × ((fields_of c).has_globals ≡ false)) }
 {
-    run_of_a_machine(alloc)?.arg(count(alloc))?.arg(file(
+    run_that_tells(alloc)?.arg(files(
         alloc,
-        "FILE",
-        "A text of assembly, of at most 1,048,576 bytes",
+        "Texts of assembly, one after the other, of at most\n1,048,576 bytes together",
     ))
+}
+
+// `run`, told of all of its options.
+fn run_that_tells<'a>(alloc: Global) -> Result<Command<'a>, AllocError>
+    ensures { IfOk result (λ c. (app_of c ≡ spec.run_that_tells)
+        × ((fields_of c).has_globals ≡ false)) }
+{
+    run_of_a_machine(alloc)?
+        .arg(count(alloc))?
+        .arg(registers(alloc))?
+        .arg(trace(alloc))
 }
 
 // `run`, told of the options that are about the machine.
@@ -251,10 +389,14 @@ fn run_of_a_machine<'a>(alloc: Global) -> Result<Command<'a>, AllocError>
 {
     Command::new(alloc, "run")
         .about("Runs the program in FILE")
-        .override_usage("rvdap run [--memory <KIB>] [--limit <N>] [--count] <FILE>")
+        .override_usage(
+            "rvdap run [--memory <KIB>] [--limit <N>] [--output-limit <BYTES>]\n          \
+             [--count] [--registers] [--trace <N>] <FILE>..",
+        )
         .after_help(AFTER_HELP_OF_RUN)
         .arg(memory(alloc))?
-        .arg(limit(alloc))
+        .arg(limit(alloc))?
+        .arg(output_limit(alloc))
 }
 
 fn limit<'a>(alloc: Global) -> Arg<'a>
@@ -267,6 +409,37 @@ fn limit<'a>(alloc: Global) -> Arg<'a>
         .help("Run at most N instructions, up to 4294967295")
 }
 
+fn output_limit<'a>(alloc: Global) -> Arg<'a>
+    ensures rule { rule_of result ≡ spec.option (codes "output-limit") }
+    ensures local { result.global ≡ false }
+{
+    Arg::new(alloc, "output-limit")
+        .long("output-limit")
+        .value_name("BYTES")
+        .help(
+            "Write at most so many bytes of what is printed,\nup to 4294967295, and end where there is more",
+        )
+}
+
+fn registers<'a>(alloc: Global) -> Arg<'a>
+    ensures rule { rule_of result ≡ spec.flag (codes "registers") }
+    ensures local { result.global ≡ false }
+{
+    Arg::new(alloc, "registers")
+        .long("registers")
+        .action(ArgAction::SetTrue)
+        .help("Tell pc and the registers at the end, on\nstandard error")
+}
+
+fn trace<'a>(alloc: Global) -> Arg<'a>
+    ensures rule { rule_of result ≡ spec.option (codes "trace") }
+    ensures local { result.global ≡ false }
+{
+    Arg::new(alloc, "trace").long("trace").value_name("N").help(
+        "Tell the last N instructions that retired, at\nmost 65536, and what each did, on standard error",
+    )
+}
+
 fn count<'a>(alloc: Global) -> Arg<'a>
     ensures rule { rule_of result ≡ spec.flag (codes "count") }
     ensures local { result.global ≡ false }
@@ -274,18 +447,18 @@ fn count<'a>(alloc: Global) -> Arg<'a>
     Arg::new(alloc, "count")
         .long("count")
         .action(ArgAction::SetTrue)
-        .help("Say on standard error how many instructions retired")
+        .help("Say on standard error how many instructions\nretired")
 }
 
 fn check<'a>(alloc: Global) -> Result<Command<'a>, AllocError>
     ensures { IfOk result (λ c. (app_of c ≡ spec.check) × ((fields_of c).has_globals ≡ false)) }
 {
     Command::new(alloc, "check")
-        .about("Tells the first error of each FILE that has one")
+        .about("Tells the errors of each FILE, and what to write instead")
         .override_usage("rvdap check [--json] <FILE>..")
         .after_help(AFTER_HELP_OF_CHECK)
         .arg(json(alloc))?
-        .arg(files(alloc))
+        .arg(files(alloc, "Texts of assembly, each of at most 1,048,576 bytes"))
 }
 
 fn labels<'a>(alloc: Global) -> Result<Command<'a>, AllocError>
@@ -296,6 +469,21 @@ fn labels<'a>(alloc: Global) -> Result<Command<'a>, AllocError>
         .override_usage("rvdap labels [--json] <FILE>")
         .after_help(AFTER_HELP_OF_LABELS)
         .arg(json(alloc))?
+        .arg(file(
+            alloc,
+            "FILE",
+            "A text of assembly, of at most 1,048,576 bytes",
+        ))
+}
+
+fn convert<'a>(alloc: Global) -> Result<Command<'a>, AllocError>
+    ensures { IfOk result (λ c. (app_of c ≡ spec.with_file (codes "convert") (codes "FILE"))
+        × ((fields_of c).has_globals ≡ false)) }
+{
+    Command::new(alloc, "convert")
+        .about("Writes the program in FILE as this assembler takes it")
+        .override_usage("rvdap convert <FILE>")
+        .after_help(AFTER_HELP_OF_CONVERT)
         .arg(file(
             alloc,
             "FILE",
@@ -314,14 +502,14 @@ fn json<'a>(alloc: Global) -> Arg<'a>
 }
 
 // The files of a command, of which there has to be one.
-fn files<'a>(alloc: Global) -> Arg<'a>
+fn files<'a>(alloc: Global, help: &'a str) -> Arg<'a>
     ensures rule { rule_of result ≡ spec.files (codes "FILE") }
     ensures local { result.global ≡ false }
 {
     Arg::new(alloc, "FILE")
         .required(true)
         .num_args(1..)
-        .help("Texts of assembly, each of at most 1,048,576 bytes")
+        .help(help)
 }
 
 // The file of a command, which has to be there.

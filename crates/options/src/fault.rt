@@ -11,8 +11,8 @@ use std::alloc::{AllocError, Global};
 pub(crate) enum Fault<'a> {
     /// This value of `--memory` asks for no memory that a machine can have.
     Memory(&'a str),
-    /// This value of `--limit` is no number of instructions.
-    Limit(&'a str),
+    /// This option, with what it takes, has this value, which is no number.
+    Number(&'static str, &'a str),
     /// This option stands without `--listen`.
     WithoutListen(&'static str),
     /// An option stands beside a command.
@@ -54,9 +54,9 @@ fn told(alloc: Global, command: &mut Command, fault: Fault) -> Result<Error, All
             )?;
             command.error(ErrorKind::ValueValidation, message.as_str())
         }
-        Fault::Limit(text) => {
+        Fault::Number(option, text) => {
             let message = format!(in alloc;
-                "invalid value '{text}' for '--limit <N>': not a number from 0 to 4294967295"
+                "invalid value '{text}' for '{option}': not a number from 0 to 4294967295"
             )?;
             command.error(ErrorKind::ValueValidation, message.as_str())
         }

@@ -11,7 +11,7 @@ mod reading;
 mod rules;
 mod usage;
 
-pub use asked::{Mode, Options, Text, Texts};
+pub use asked::{Mode, Options, PlayOptions, RunOptions, Text, Texts};
 pub use memory::DEFAULT_MEMORY;
 pub use reading::{options, try_options};
 pub use usage::Usage;

@@ -1,4 +1,4 @@
-//! How many instructions may run, as the command line says.
+//! How many instructions may run, and how much may be printed, as the command line says.
 ghost use Rattle.std.specs.Prelude.{◌≡◌, MatchResult, Some, None};
 ghost use Rattle.std.specs.Option.{option_map};
 ghost use Rattle.options.specs.Limits.{limit_for};

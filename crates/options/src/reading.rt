@@ -13,10 +13,12 @@ use std::alloc::Global;
 
 /// What the words after the program's name ask for:
 ///
-/// - `[--memory KIB]`: editors are served over standard streams,
-/// - `--listen ADDR [--program FILE] [--once] [--memory KIB]`: or over TCP,
+/// - `[--memory KIB] [--verbose] [--record FOLDER]`: editors are served over standard streams,
+/// - `--listen ADDR [--program FILE] [--once] [--memory KIB] [--verbose] [--record FOLDER]`: or over TCP,
 /// - `asm FILE`: a file is listed,
-/// - `watch SCRIPT`: a script is played.
+/// - `convert FILE`: a file of another assembler is converted,
+/// - `watch SCRIPT [C [N]]`: a script is played, and what is watched is printed,
+/// - `replay [--from N] [--to N] [--facts] SCRIPT`: the same, and its conversation is printed.
 ///
 /// `Words`: they are none of these, or ask for help or the version. `NoMemory`: no memory was left.
 pub fn options(alloc: Global, words: &[String]) -> Result<Options, Usage>

@@ -1,18 +1,18 @@
 //! What clap's matches ask for, by the rules on what stands beside what.
-ghost use Rattle.std.specs.Prelude.{◌≡◌, IfOk, Some, None, codes, map};
+ghost use Rattle.std.specs.Prelude.{◌≡◌, IfErr, IfOk, Some, None, codes, map};
 ghost use Rattle.std.specs.Option.{option_map};
-ghost use Rattle.clap.specs.Words.{first_of, found_of, rows_of, subcommand_rows_of};
+ghost use Rattle.clap.specs.Words.{all_of, first_of, found_of, rows_of, subcommand_rows_of};
 ghost use Rattle.options.specs.Options as spec;
-ghost use Rattle.options.specs.Broken.{Finds};
-ghost use Rattle.options.specs.Limits.{limit_for};
+ghost use Rattle.options.specs.Broken.{Finds, kind_of_fault};
 ghost use Rattle.options.specs.Memory.{kib_for};
 
-use crate::asked::{Mode, Options, Text, Texts};
+use crate::asked::{Mode, Options, PlayOptions, RunOptions, Text, Texts};
 use crate::fault::Fault;
 use crate::given::{all_given, given, is_set};
 use crate::limit::limit_for;
 use crate::memory::{DEFAULT_MEMORY, memory_for};
 use clap::ArgMatches;
+use clap::error::ErrorKind;
 use std::alloc::{AllocError, Global};
 
 /// What matches ask for.
@@ -35,6 +35,8 @@ fn has_option(matches: &ArgMatches<'_>) -> bool
         || given(matches, "listen").is_some()
         || given(matches, "program").is_some()
         || is_set(matches, "once")
+        || is_set(matches, "verbose")
+        || given(matches, "record").is_some()
 }
 
 // What the command of a name asks for.
@@ -49,8 +51,12 @@ fn commanded<'a>(alloc: Global, name: &str, matches: &ArgMatches<'a>) -> Result<
         checking(alloc, is_set(matches, "json"), all_given(matches, "FILE"))
     } else if name == "labels" {
         labelling(alloc, is_set(matches, "json"), given(matches, "FILE"))
+    } else if name == "convert" {
+        running(alloc, Mode::Convert, given(matches, "FILE"))
+    } else if name == "replay" {
+        played(alloc, Mode::Replay, matches)
     } else {
-        running(alloc, Mode::Watch, given(matches, "SCRIPT"))
+        played(alloc, Mode::Watch, matches)
     }
 }
 
@@ -65,9 +71,11 @@ fn with_file(alloc: Global, mode: Mode, file: &str) -> Result<Options, AllocErro
         listen: None,
         program: None,
         once: false,
+        verbose: false,
+        recording: None,
         memory: DEFAULT_MEMORY,
-        limit: None,
-        count: false,
+        run: RunOptions::PLAIN,
+        play: PlayOptions::PLAIN,
         json: false,
     })
 }
@@ -85,44 +93,120 @@ fn running<'a>(alloc: Global, mode: Mode, file: Option<&str>) -> Result<Options,
 fn executed<'a>(alloc: Global, matches: &ArgMatches<'a>) -> Result<Options, Fault<'a>>
     ensures { Finds result (spec.executing
         (kib_for (first_of (codes "memory") (rows_of (found_of matches.now))))
-        (limit_for (first_of (codes "limit") (rows_of (found_of matches.now))))
-        (spec.is_set (codes "count") (rows_of (found_of matches.now)))
-        (first_of (codes "FILE") (rows_of (found_of matches.now)))) }
+        (spec.run_of (rows_of (found_of matches.now)))
+        (all_of (codes "FILE") (rows_of (found_of matches.now)))) }
 {
     let memory = match memory_for(given(matches, "memory")) {
         Ok(memory) => memory,
         Err(text) => return Err(Fault::Memory(text)),
     };
-    match limit_for(given(matches, "limit")) {
-        Ok(limit) => executing(
-            alloc,
-            memory,
+    match run_of(matches) {
+        Ok(run) => executing(alloc, memory, run, all_given(matches, "FILE")),
+        Err(fault) => Err(fault),
+    }
+}
+
+// How a program is run.
+fn run_of<'a>(matches: &ArgMatches<'a>) -> Result<RunOptions, Fault<'a>>
+    ensures ok { IfOk result (λ run. spec.run_of (rows_of (found_of matches.now)) ≡ Some run) }
+    ensures err { IfErr result (λ fault. spec.run_of (rows_of (found_of matches.now)) ≡ None) }
+    ensures bad { IfErr result (λ fault. kind_of_fault fault ≡ ErrorKind.ValueValidation) }
+{
+    let limit = match limit_for(given(matches, "limit")) {
+        Ok(limit) => limit,
+        Err(text) => return Err(Fault::Number("--limit <N>", text)),
+    };
+    let output_limit = match limit_for(given(matches, "output-limit")) {
+        Ok(limit) => limit,
+        Err(text) => return Err(Fault::Number("--output-limit <BYTES>", text)),
+    };
+    match limit_for(given(matches, "trace")) {
+        Ok(trace) => Ok(RunOptions {
             limit,
-            is_set(matches, "count"),
-            given(matches, "FILE"),
-        ),
-        Err(text) => Err(Fault::Limit(text)),
+            output_limit,
+            trace,
+            count: is_set(matches, "count"),
+            registers: is_set(matches, "registers"),
+        }),
+        Err(text) => Err(Fault::Number("--trace <N>", text)),
     }
 }
 
 fn executing<'a>(
     alloc: Global,
     memory: u32,
-    limit: Option<u32>,
-    count: bool,
-    file: Option<&str>,
+    run: RunOptions,
+    files: Option<&[&str]>,
 ) -> Result<Options, Fault<'a>>
-    ensures { Finds result (spec.executing (Some memory) (Some limit) count
-        (option_map (λ t. t.now) file.entry)) }
+    ensures { Finds result (spec.executing (Some memory) (Some run)
+        (option_map (λ s. map (λ t. t.now) s.now) files.entry)) }
 {
-    let Some(file) = file else {
+    match files {
+        Some([file, more @ ..]) => Ok(Options {
+            memory,
+            run,
+            others: Texts::of(alloc, more)?,
+            ..with_file(alloc, Mode::Run, file)?
+        }),
+        _ => Err(Fault::WithoutFile),
+    }
+}
+
+// A script is played.
+fn played<'a>(alloc: Global, mode: Mode, matches: &ArgMatches<'a>) -> Result<Options, Fault<'a>>
+    ensures { Finds result (spec.playing mode (spec.play_of (rows_of (found_of matches.now)))
+        (first_of (codes "SCRIPT") (rows_of (found_of matches.now)))) }
+{
+    match play_of(matches) {
+        Ok(play) => playing(alloc, mode, play, given(matches, "SCRIPT")),
+        Err(fault) => Err(fault),
+    }
+}
+
+// How a script is played.
+fn play_of<'a>(matches: &ArgMatches<'a>) -> Result<PlayOptions, Fault<'a>>
+    ensures ok { IfOk result (λ play. spec.play_of (rows_of (found_of matches.now)) ≡ Some play) }
+    ensures err { IfErr result (λ fault. spec.play_of (rows_of (found_of matches.now)) ≡ None) }
+    ensures bad { IfErr result (λ fault. kind_of_fault fault ≡ ErrorKind.ValueValidation) }
+{
+    let connection = match limit_for(given(matches, "C")) {
+        Ok(connection) => connection,
+        Err(text) => return Err(Fault::Number("<C>", text)),
+    };
+    let bytes = match limit_for(given(matches, "N")) {
+        Ok(bytes) => bytes,
+        Err(text) => return Err(Fault::Number("<N>", text)),
+    };
+    let from = match limit_for(given(matches, "from")) {
+        Ok(from) => from,
+        Err(text) => return Err(Fault::Number("--from <N>", text)),
+    };
+    match limit_for(given(matches, "to")) {
+        Ok(to) => Ok(PlayOptions {
+            connection,
+            bytes,
+            from,
+            to,
+            facts: is_set(matches, "facts"),
+        }),
+        Err(text) => Err(Fault::Number("--to <N>", text)),
+    }
+}
+
+fn playing<'a>(
+    alloc: Global,
+    mode: Mode,
+    play: PlayOptions,
+    script: Option<&str>,
+) -> Result<Options, Fault<'a>>
+    ensures { Finds result (spec.playing mode (Some play) (option_map (λ t. t.now) script.entry)) }
+{
+    let Some(script) = script else {
         return Err(Fault::WithoutFile);
     };
     Ok(Options {
-        memory,
-        limit,
-        count,
-        ..with_file(alloc, Mode::Run, file)?
+        play,
+        ..with_file(alloc, mode, script)?
     })
 }
 
@@ -161,8 +245,10 @@ fn served<'a>(alloc: Global, matches: &ArgMatches<'a>) -> Result<Options, Fault<
     let listen = given(matches, "listen");
     let program = given(matches, "program");
     let once = is_set(matches, "once");
+    let verbose = is_set(matches, "verbose");
+    let recording = given(matches, "record");
     match memory_for(given(matches, "memory")) {
-        Ok(memory) => serving(alloc, listen, program, once, memory),
+        Ok(memory) => serving(alloc, listen, program, once, verbose, recording, memory),
         Err(text) => Err(Fault::Memory(text)),
     }
 }
@@ -172,10 +258,13 @@ fn serving<'a>(
     listen: Option<&str>,
     program: Option<&str>,
     once: bool,
+    verbose: bool,
+    recording: Option<&str>,
     memory: u32,
 ) -> Result<Options, Fault<'a>>
     ensures { Finds result (spec.serving (option_map (λ t. t.now) listen.entry)
-        (option_map (λ t. t.now) program.entry) once (Some memory)) }
+        (option_map (λ t. t.now) program.entry) once verbose
+        (option_map (λ t. t.now) recording.entry) (Some memory)) }
 {
     if listen.is_none() && program.is_some() {
         return Err(Fault::WithoutListen("--program <FILE>"));
@@ -190,9 +279,11 @@ fn serving<'a>(
         listen: copied(alloc, listen)?,
         program: copied(alloc, program)?,
         once,
+        verbose,
+        recording: copied(alloc, recording)?,
         memory,
-        limit: None,
-        count: false,
+        run: RunOptions::PLAIN,
+        play: PlayOptions::PLAIN,
         json: false,
     })
 }

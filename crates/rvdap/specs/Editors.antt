@@ -4,9 +4,10 @@ use Rattle.session.specs.declared.event.Event.TheVariants.{Connect}
 use Rattle.session.specs.Kept.{Kept, Stands}
 use Rattle.session.specs.Sessions.{Session, Effect}
 use Rattle.transport.specs.declared.end.DriveEnd.{DriveEnd}
-use Rattle.transport.specs.Drives.{Driven}
-use Rattle.transport.specs.Files.{KnownReads}
-use Rattle.transport.specs.Serving.{Served}
+use Rattle.transport.specs.Drives.{DrivenTold}
+use Rattle.transport.specs.Files.{Records}
+use Rattle.transport.specs.Serving.{ServedTold}
+use Rattle.transport.specs.Told.{Known, KnownEvents, known}
 use Rattle.wires.specs.Doors.{Doorway, IsEmpty, Opened}
 use Rattle.wires.specs.Wires.{Line, one_more}
 use Rattle.commands.specs.declared.exit_reason.ExitReason.{ExitReason}
@@ -25,10 +26,13 @@ editors_of (Some address) false = Some All
 abbrev pub turns_granted : ℕ
 turns_granted = 18446744073709551615
 
--- An editor is connected, and driven over its wire; the program ends as that does, and by what closed the connection.
-pub record IsServed (before after : KnownReads) (old new : Line) (s : Session) (kept : Kept) (ending : ExitReason) : Type 0 where
+-- An editor is connected, and driven over its wire; the program ends as that does, and by what closed the connection. The recorder is told
+-- that it connects, and then what happens over the wire.
+pub record IsServed (before after : Known) (old new : Line) (s : Session) (kept : Kept) (ending : ExitReason) : Type 0 where
   pub end : DriveEnd
-  pub driven : Driven before after old new turns_granted (Effect s Connect) kept end
+  pub told : KnownEvents
+  pub connects : Records before.told told (Connect ∷ [])
+  pub driven : DrivenTold (known before.reads told) after old new turns_granted (Effect s Connect) kept end
   pub is_ending : ending ≡ exit_reason_of end kept.now.fault
 
 -- ---- the first connection that is accepted, and no other
@@ -54,24 +58,24 @@ failed_at _ count = count
 
 -- what is done by how waiting ended, where the door has these wires left to accept: an editor is served if its wire was accepted, and
 -- else no file is read
-abbrev pub IsFirst : KnownReads → KnownReads → First → Option (List Line) → Session → Kept → ExitReason → Type 0
+abbrev pub IsFirst : Known → Known → First → Option (List Line) → Session → Kept → ExitReason → Type 0
 IsFirst before after DoorClosed wires s kept ending = IsEmpty wires × Stands kept s × (ending ≡ Success) × (after ≡ before)
 IsFirst before after DoorFailed wires s kept ending = Stands kept s × (ending ≡ ReadOrWriteFault) × (after ≡ before)
 IsFirst before after (Connection old new) wires s kept ending = IsServed before after old new s kept ending
 
-pub record ServesFirst (before after : KnownReads) (old new : Doorway) (s : Session) (kept : Kept) (ending : ExitReason) : Type 0 where
+pub record ServesFirst (before after : Known) (old new : Doorway) (s : Session) (kept : Kept) (ending : ExitReason) : Type 0 where
   pub first : First
   pub opened : Opened old new (lines_of first) (failed_at first old.faults) old.idle
   pub is_first : IsFirst before after first new.wires s kept ending
 
 -- ---- all connections that are accepted
 
-pub record ServesAll (before after : KnownReads) (old new : Doorway) (s : Session) (kept : Kept) (ending : ExitReason) : Type 0 where
+pub record ServesAll (before after : Known) (old new : Doorway) (s : Session) (kept : Kept) (ending : ExitReason) : Type 0 where
   pub end : DriveEnd
-  pub served : Served before after old new turns_granted s kept end
+  pub served : ServedTold before after old new turns_granted s kept end
   pub is_ending : ending ≡ exit_reason_of end None
 
 -- the first one or all, as is asked for
-abbrev pub Serves : Editors → KnownReads → KnownReads → Doorway → Doorway → Session → Kept → ExitReason → Type 0
+abbrev pub Serves : Editors → Known → Known → Doorway → Doorway → Session → Kept → ExitReason → Type 0
 Serves One before after old new s kept ending = ServesFirst before after old new s kept ending
 Serves All before after old new s kept ending = ServesAll before after old new s kept ending

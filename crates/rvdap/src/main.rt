@@ -1,12 +1,16 @@
 //! `rvdap`, a debug adapter: editors that speak the Debug Adapter Protocol are served over standard streams or over TCP. By
-//! `rvdap run FILE` a program runs without an editor, by `rvdap check FILE..` its errors are told, by `rvdap labels FILE` and `rvdap asm FILE`
-//! what is in it, and `rvdap watch SCRIPT` shows what an editor knows by a script.
+//! `rvdap run FILE..` a program runs without an editor, by `rvdap check FILE..` its errors are told, by `rvdap labels FILE` and `rvdap asm FILE`
+//! what is in it, `rvdap watch SCRIPT` shows what an editor knows by a script, and `rvdap replay SCRIPT` its conversation, as of a session that
+//! was recorded.
 #![tactic(auto)]
 
 mod disk;
 mod editors;
 mod exit_reason;
 mod listening;
+mod played;
+mod recorded_files;
+mod recordings;
 mod serving;
 mod watch;
 
@@ -15,21 +19,22 @@ ghost use Rattle.std.specs.Str.{IsUtf8};
 ghost use Rattle.options.specs.Memory.{IsOffered};
 
 use commands::{
-    ExitReason, MemorySize, Terms, Unasked, check_files, exit_with, fail_at, list_file,
-    list_labels, options_of, run_file,
+    ExitReason, MemorySize, Terms, Unasked, VerboseWire, check_files, convert_file, exit_with,
+    fail_at, list_file, list_labels, options_of, run_files, say,
 };
 use connections::StreamWire;
 use disk::Disk;
 use editors::editors_of;
-use listening::listen;
+use listening::{listen, listen_verbosely};
 use options::{Mode, Options};
 use protocol::Text;
+use recordings::Recording;
 use serving::{NoSession, new_session, serve_one};
-use session::{Bytes, Session};
+use session::{BODY_LIMIT, Bytes, Session};
+use std::io;
 use std::process::ExitCode;
-use transport::{FileFault, Files};
-use watch::{WatchFault, play_file};
-use watch_command::ScriptFault;
+use transport::{FileFault, Files, Recorder, Unrecorded};
+use watch::{replay_file, watch_file};
 
 /// Status 0 where the input ended or a `disconnect` succeeded, where a file was listed or a script was played, where no file that was checked
 /// has an error, and where help or the version was printed; 1 with one line on standard error where that failed, or where a file has an
@@ -47,9 +52,16 @@ fn run(rt: &HostRuntime, options: &Options) -> ExitCode
 {
     match (options.mode, &options.file) {
         (Mode::Asm, Some(file)) => list_file(rt, file.as_str()),
+        (Mode::Convert, Some(file)) => convert_file(rt, file.as_str()),
         (Mode::Labels, Some(file)) => list_labels(rt, file.as_str(), options.json),
-        (Mode::Watch, Some(script)) => show(rt, script.as_str()),
-        (Mode::Run, Some(file)) => run_file(rt, file.as_str(), terms_of(options)),
+        (Mode::Watch, Some(script)) => watch_file(rt, script.as_str(), options.play),
+        (Mode::Replay, Some(script)) => replay_file(rt, script.as_str(), options.play),
+        (Mode::Run, Some(file)) => run_files(
+            rt,
+            file.as_str(),
+            options.others.as_slice(),
+            terms_of(options),
+        ),
         (Mode::Check, Some(file)) => check_files(
             rt,
             file.as_str(),
@@ -66,8 +78,7 @@ fn terms_of(options: &Options) -> Terms
 {
     Terms {
         memory: MemorySize::of(options.memory),
-        limit: options.limit,
-        counts: options.count,
+        run: options.run,
     }
 }
 
@@ -108,33 +119,77 @@ fn serve_with(
 ) -> ExitCode
     requires { IsOffered options.now.memory }
 {
+    let mut recording = None;
+    if let Some(folder) = &options.recording {
+        match Recording::begin(rt, folder.as_str(), options, program.as_ref()) {
+            Ok(begun) => recording = Some(begun),
+            Err(error) => return unrecorded(rt, folder.as_str(), &error),
+        }
+    }
     match new_session(rt.alloc(), MemorySize::of(options.memory), program) {
-        Ok(mut session) => exit_with(rt, serve_editors(rt, options, &mut session)),
+        Ok(mut session) => exit_with(rt, serve_recorded(rt, options, &mut session, recording)),
         Err(NoSession::Assembly(error)) => fail_at(rt, file, error),
         Err(NoSession::NoMemory) => exit_with(rt, ExitReason::NoMemory),
     }
 }
 
-fn serve_editors(rt: &HostRuntime, options: &Options, session: &mut Session) -> ExitReason {
+// There is no folder to record in.
+fn unrecorded(rt: &HostRuntime, folder: &str, error: &io::Error) -> ExitCode {
+    say(rt, format_args!("rvdap: {folder}: {error}\n"));
+    ExitCode::from(2)
+}
+
+fn serve_recorded(
+    rt: &HostRuntime,
+    options: &Options,
+    session: &mut Session,
+    recording: Option<Recording<'_>>,
+) -> ExitReason {
+    let Some(mut recording) = recording else {
+        return serve_editors(rt, options, session, &mut Unrecorded);
+    };
+    let reason = serve_editors(rt, options, session, &mut recording);
+    recording.end();
+    reason
+}
+
+fn serve_editors<R: Recorder>(
+    rt: &HostRuntime,
+    options: &Options,
+    session: &mut Session,
+    recorder: &mut R,
+) -> ExitReason {
     match (editors_of(options), &options.listen) {
-        (Some(editors), Some(address)) => listen(rt, session, address.as_str(), editors),
-        _ => serve_streams(rt, session),
-    }
-}
-
-fn serve_streams(rt: &HostRuntime, session: &mut Session) -> ExitReason {
-    let mut wire = StreamWire::new(rt.stdin(), rt.stdout());
-    serve_one(rt.alloc(), session, &mut wire, &mut Disk::new(rt))
-}
-
-fn show(rt: &HostRuntime, script: &str) -> ExitCode {
-    match play_file(rt, script) {
-        Ok(()) => ExitCode::SUCCESS,
-        Err(WatchFault::Unreadable) => fail_at(rt, script, "cannot read"),
-        Err(WatchFault::Unplayed(ScriptFault::Write)) => {
-            exit_with(rt, ExitReason::ReadOrWriteFault)
+        (Some(editors), Some(address)) if options.verbose => {
+            listen_verbosely(rt, session, recorder, address.as_str(), editors)
         }
-        Err(WatchFault::Unplayed(ScriptFault::NoMemory)) => exit_with(rt, ExitReason::NoMemory),
-        Err(WatchFault::Unplayed(fault)) => fail_at(rt, script, fault),
+        (Some(editors), Some(address)) => listen(rt, session, recorder, address.as_str(), editors),
+        _ if options.verbose => serve_streams_verbosely(rt, session, recorder),
+        _ => serve_streams(rt, session, recorder),
     }
+}
+
+fn serve_streams<R: Recorder>(
+    rt: &HostRuntime,
+    session: &mut Session,
+    recorder: &mut R,
+) -> ExitReason {
+    let mut wire = StreamWire::new(rt.stdin(), rt.stdout());
+    serve_one(rt.alloc(), session, &mut wire, &mut Disk::new(rt), recorder)
+}
+
+fn serve_streams_verbosely<R: Recorder>(
+    rt: &HostRuntime,
+    session: &mut Session,
+    recorder: &mut R,
+) -> ExitReason {
+    let wire = StreamWire::new(rt.stdin(), rt.stdout());
+    let mut heard = VerboseWire::new(rt, wire, BODY_LIMIT);
+    serve_one(
+        rt.alloc(),
+        session,
+        &mut heard,
+        &mut Disk::new(rt),
+        recorder,
+    )
 }

@@ -2,6 +2,7 @@
 ghost use Rattle.session.specs.Kept.{OfEach};
 ghost use Rattle.rvdap.specs.Beginnings.{Makes};
 ghost use Rattle.rvdap.specs.Editors.{IsServed};
+ghost use Rattle.transport.specs.Told.{known};
 
 use crate::exit_reason::exit_reason_of;
 use assembler::AsmError;
@@ -9,7 +10,7 @@ use commands::{ExitReason, MemorySize};
 use protocol::Text;
 use session::{Bytes, Config, ConfigError, Limits, Session};
 use std::alloc::Global;
-use transport::{Files, drive};
+use transport::{EventRef, Files, Recorder, drive_told};
 use wires::Wire;
 
 /// How many turns the program grants: no one will live to see them used up.
@@ -44,18 +45,21 @@ pub(crate) fn new_session(
     }
 }
 
-/// Serves an editor that comes over a wire, and gives how the program ends then.
-pub(crate) fn serve_one<W: Wire, F: Files>(
+/// Serves an editor that comes over a wire, tells a recorder what happens, and gives how the program ends then.
+pub(crate) fn serve_one<W: Wire, F: Files, R: Recorder>(
     alloc: Global,
     session: &mut Session,
     wire: &mut W,
     files: &mut F,
+    recorder: &mut R,
 ) -> ExitReason
     ensures { OfEach session.old
-        (λ s. IsServed (F.past files.old) (F.past files.new) (W.line wire.old)
+        (λ s. IsServed (known (F.past files.old) (R.told recorder.old))
+        (known (F.past files.new) (R.told recorder.new)) (W.line wire.old)
         (W.line wire.new) s session.new result) }
 {
     let _ = session.connect();
-    let end = drive(alloc, session, wire, files, TURNS);
+    recorder.tell(EventRef::Connect);
+    let end = drive_told(alloc, session, wire, files, recorder, TURNS);
     exit_reason_of(end, session.link_fault())
 }

@@ -9,13 +9,13 @@ use Rattle.scripts.specs.Lines.{step_of, watch_of}
 use Rattle.scripts.specs.Scripts.{last, line_then, read}
 use Rattle.scripts.specs.Steps.{first_line, line_before, rest_after, rest_of_lines}
 
-abbrev feed : ℕ → Bool
+abbrev pub feed : ℕ → Bool
 feed b = b == 10
 
 -- ---- parts between line feeds
 
 -- where the first line feed is, the first part ends
-parts_at : (text : List ℕ) (at : ℕ) → position feed text ≡ Some at
+pub parts_at : (text : List ℕ) (at : ℕ) → position feed text ≡ Some at
     → slice_split feed text ≡ take at text ∷ slice_split feed (drop (at + 1) text)
 parts_at text at h =
     let P : Bool → Type 0 = λ t. nat_lt (position_or_len feed text) (length text) ≡ t
@@ -41,7 +41,7 @@ one_part (b ∷ text) h =
           slice_split-cons_no feed b text t ∙ ap (onto_first b) (one_part text (omega arith))
     ] in go refl
 
-parts_none : (text : List ℕ) → position feed text ≡ None → slice_split feed text ≡ text ∷ []
+pub parts_none : (text : List ℕ) → position feed text ≡ None → slice_split feed text ≡ text ∷ []
 parts_none text h =
     let P : Bool → Type 0 = λ t. nat_lt (position_or_len feed text) (length text) ≡ t → slice_split feed text ≡ text ∷ [] in
     let go : P (nat_lt (position_or_len feed text) (length text)) = elim (nat_lt (position_or_len feed text) (length text)) as P [
@@ -50,7 +50,7 @@ parts_none text h =
     ] in go refl
 
 -- there is a part
-some_part : (text : List ℕ) → (first : List ℕ) × (more : List (List ℕ)) × (slice_split feed text ≡ first ∷ more)
+pub some_part : (text : List ℕ) → (first : List ℕ) × (more : List (List ℕ)) × (slice_split feed text ≡ first ∷ more)
 some_part [] = ([], [], refl)
 some_part (b ∷ text) =
     let rest = some_part text in
@@ -69,7 +69,7 @@ begun b first [] = let t : (length (b ∷ first) == 0) ≡ false = grind (arith,
 begun b first (part ∷ more) = (strip_carriage_return (b ∷ first), lines_of_parts (part ∷ more), refl)
 
 -- bytes have a line
-some_line : (text : List ℕ) → 0 < length text → (first : List ℕ) × (more : List (List ℕ)) × (lines text ≡ first ∷ more)
+pub some_line : (text : List ℕ) → 0 < length text → (first : List ℕ) × (more : List (List ℕ)) × (lines text ≡ first ∷ more)
 some_line [] h = absurd (omega arith)
 some_line (b ∷ text) h =
     let rest = some_part text in
@@ -101,7 +101,7 @@ last_by number text (Some at) h e =
 pub last_line : (number : ℕ) (text : List ℕ) → rest_of_lines text ≡ [] → read number (lines text) ≡ last number (watch_of (first_line text))
 last_line number text h = last_by number text (position feed text) refl h
 
-read_more : (number : ℕ) (line : List ℕ) (rest : List (List ℕ)) (next : List ℕ) (more : List (List ℕ)) → rest ≡ next ∷ more
+pub read_more : (number : ℕ) (line : List ℕ) (rest : List (List ℕ)) (next : List ℕ) (more : List (List ℕ)) → rest ≡ next ∷ more
     → read number (line ∷ rest) ≡ line_then number (step_of line) (read (number + 1) rest)
 read_more number line rest next more e = rw e refl
 

@@ -20,7 +20,7 @@ last number (Some watch) = Ok ([], watch)
 last number None = Err number
 
 -- an event before others
-abbrev pub before : Step → Result (List Step × Watch) ℕ → Result (List Step × Watch) ℕ
+abbrev pub before : {A : Type 0} → Step → Result (List Step × A) ℕ → Result (List Step × A) ℕ
 before step (Ok rest) = Ok (step ∷ rest.0, rest.1)
 before step (Err number) = Err number
 

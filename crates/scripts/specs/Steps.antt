@@ -5,7 +5,6 @@ use Rattle.std.specs.Str.Lines.{strip_carriage_return}
 use Rattle.scripts.specs.declared.fault.ScriptFault.{ScriptFault}
 use Rattle.scripts.specs.declared.fault.ScriptFault.TheVariants.{Line, Write, NoMemory}
 use Rattle.scripts.specs.declared.step.Step.{Step}
-use Rattle.scripts.specs.declared.watch.Watch.{Watch}
 
 -- the first line of a text without its end, by where the first line feed is: the whole text where there is none
 abbrev pub line_before : List ℕ → Option ℕ → List ℕ
@@ -24,7 +23,7 @@ abbrev pub rest_of_lines : List ℕ → List ℕ
 rest_of_lines text = rest_after text (position (λ b. b == 10) text)
 
 -- events that were read, before what is read after them
-abbrev pub following : List Step → Result (List Step × Watch) ℕ → Result (List Step × Watch) ℕ
+abbrev pub following : {A : Type 0} → List Step → Result (List Step × A) ℕ → Result (List Step × A) ℕ
 following steps (Ok rest) = Ok (steps ++ rest.0, rest.1)
 following steps (Err number) = Err number
 

@@ -1,5 +1,5 @@
 //! The first line of a text, and what follows a word.
-ghost use Rattle.std.specs.Prelude.{◌≡◌, ◌==◌, option_copied, length};
+ghost use Rattle.std.specs.Prelude.{◌≡◌, ◌==◌, ◌<◌, ◌+◌, option_copied, length, take, drop};
 ghost use Rattle.std.specs.List.{position};
 ghost use Rattle.std.specs.Str.Lines.{strip_carriage_return};
 ghost use Rattle.scripts.specs.Lines.{after};
@@ -11,13 +11,22 @@ pub(crate) fn first_line(text: &[u8]) -> (&[u8], &[u8])
     ensures rest { result.1.now ≡ rest_of_lines text.now }
 {
     match end_of_line(text) {
-        Some(end) => (without_return(&text[..end]), &text[end + 1..]),
+        Some(end) => divided(text, end),
         None => (text, b""),
     }
 }
 
-// Where the first line feed is.
-fn end_of_line(text: &[u8]) -> Option<usize>
+/// A line without its end, and what comes after it, by where its line feed is.
+pub(crate) fn divided(text: &[u8], end: usize) -> (&[u8], &[u8])
+    requires { end < length text.now }
+    ensures line { result.0.now ≡ strip_carriage_return (take end text.now) }
+    ensures rest { result.1.now ≡ drop (end + 1) text.now }
+{
+    (without_return(&text[..end]), &text[end + 1..])
+}
+
+/// Where the first line feed is.
+pub(crate) fn end_of_line(text: &[u8]) -> Option<usize>
     ensures { result ≡ position (λ b. b == 10) text.now }
 {
     text.iter().position(|b| *b == b'\n')

@@ -1,5 +1,5 @@
 //! A script.
-ghost use Rattle.std.specs.Prelude.{◌≡◌, IfErr, OnOk};
+ghost use Rattle.std.specs.Prelude.{◌≡◌, IfErr, OnErr, OnOk};
 ghost use Rattle.scripts.specs.Lines as spec;
 ghost use Rattle.scripts.specs.Scripts.{Reads, last, script_of};
 ghost use Rattle.scripts.specs.Steps.{Adds, Refuses, following};
@@ -52,8 +52,8 @@ fn ended(steps: Vec<Step>, number: u64, line: &[u8]) -> Result<Script, ScriptFau
     }
 }
 
-// A line more.
-fn add_step(
+/// A line more.
+pub(crate) fn add_step(
     alloc: Global,
     steps: &mut Vec<Step>,
     number: u64,
@@ -61,6 +61,7 @@ fn add_step(
 ) -> Result<(), ScriptFault>
     ensures ok { OnOk result (Adds steps.old.items (spec.step_of line.now) steps.new.items) }
     ensures err { IfErr result (λ fault. Refuses fault number (spec.step_of line.now)) }
+    ensures kept { OnErr result (steps.new.items ≡ steps.old.items) }
 {
     match step_of(alloc, line)? {
         Some(step) => {

@@ -113,18 +113,30 @@ fn told(alloc: Global, options: &Options) -> Result<String, Fault> {
         Mode::Serve => "serve",
         Mode::Asm => "asm",
         Mode::Watch => "watch",
+        Mode::Replay => "replay",
         Mode::Run => "run",
         Mode::Check => "check",
         Mode::Labels => "labels",
+        Mode::Convert => "convert",
     })?;
     add_text(&mut line, options.file.as_ref())?;
     add_text(&mut line, options.listen.as_ref())?;
     add_text(&mut line, options.program.as_ref())?;
     line.value(options.once)?;
+    line.value(options.verbose)?;
     line.value(options.memory)?;
-    line.optional(options.limit)?;
-    line.value(options.count)?;
+    line.optional(options.run.limit)?;
+    line.optional(options.run.output_limit)?;
+    line.optional(options.run.trace)?;
+    line.value(options.run.count)?;
+    line.value(options.run.registers)?;
     line.value(options.json)?;
+    add_text(&mut line, options.recording.as_ref())?;
+    line.optional(options.play.connection)?;
+    line.optional(options.play.bytes)?;
+    line.optional(options.play.from)?;
+    line.optional(options.play.to)?;
+    line.value(options.play.facts)?;
     add_others(&mut line, options.others.as_slice())?;
     Ok(line.into_string())
 }

@@ -9,9 +9,10 @@ use Rattle.transport.specs.declared.end.DriveEnd.{DriveEnd}
 use Rattle.transport.specs.declared.end.DriveEnd.TheVariants.{Closed, Fault, Turns, NoMemory as OutOfMemory}
 use Rattle.session.specs.declared.event.Applied.TheVariants as applied
 use Rattle.session.specs.declared.event.SliceEnd.TheVariants as ending
-use Rattle.session.specs.declared.event.Event.TheVariants.{Recv, Turn, Slice, Sent, DropConnection}
+use Rattle.session.specs.declared.event.Event.{Event}
+use Rattle.session.specs.declared.event.Event.TheVariants.{Hold, Recv, Turn, Slice, Sent, DropConnection}
 use Rattle.session.specs.declared.event.EventError.{EventError}
-use Rattle.session.specs.declared.event.EventError.TheVariants.{NoMemory}
+use Rattle.session.specs.declared.event.EventError.TheVariants.{NotConnected, AlreadyConnected, Busy, SentTooMuch, PieceTooLong, Closing, NoMemory, Spent}
 use Rattle.session.specs.declared.event.Sliced.{Sliced}
 use Rattle.session.specs.declared.event.Turned.{Turned}
 use Rattle.session.specs.Effects.{BreaksOff, sliced}
@@ -23,9 +24,10 @@ use Rattle.session.specs.Slices.{is_runnable}
 use Rattle.wires.specs.Wires.{Line, Moved, one_more}
 use Rattle.transport.specs.Files.{KnownReads, Records}
 use Rattle.transport.specs.Rounds.{IsGiven, read_for, wanted, Took, Due, Send, Leave, Answer, Run, Receive, due, due_in, Round, Did, Ran, IsTaken, after_round, after_rounds, received_in, received, sent_in, sent, reads_in, reads, since_round, since_rounds, counted, held_after, moves_granted, moves_made}
-use Rattle.transport.specs.Drives.{MayCome, MayFail, is_held, IsRound, AreRounds, idle_looked, idle_after, idle_after_rounds, waits_at, waits_after_rounds, Cause, AllSaid, InputEnded, CallFailed, NoRoom, NoAnswer, PieceLost, TimeCut, TurnsMade, failed_by, unused_by, idle_by, waits_by, AreUnused, IsCause, Driven, turns_of, HasBegun, DroveFor, Passed, GoesOn, Stops, Went, Driving}
+use Rattle.transport.specs.Told.{Known, KnownEvents, known, events_in, events_of, told_by, told_of_piece, holds}
+use Rattle.transport.specs.Drives.{MayCome, MayFail, is_held, IsRound, AreRounds, idle_looked, idle_after, idle_after_rounds, waits_at, waits_after_rounds, Cause, AllSaid, InputEnded, CallFailed, NoRoom, NoAnswer, PieceLost, TimeCut, TurnsMade, failed_by, unused_by, events_by, idle_by, waits_by, AreUnused, IsCause, Driven, DrivenTold, turns_of, HasBegun, DroveFor, Passed, GoesOn, Stops, Went, Driving}
 use Rattle.transport.proofs.FileReads.{Records-nil, Records-trans, records_as, unused}
-use Rattle.transport.proofs.RoundLemmas.{happened, due_there, wanted_there, Goes, goes_with, breaks_off, after_rounds-append, received-append, sent-append, reads-append, since_rounds-append}
+use Rattle.transport.proofs.RoundLemmas.{happened, due_there, wanted_there, Goes, goes_with, breaks_off, after_rounds-append, received-append, sent-append, reads-append, events-append, since_rounds-append}
 use Rattle.transport.proofs.Taking.{send_test, takes_sent, takes_turn, takes_received, takes_running}
 
 -- ---- what moved over a wire
@@ -64,11 +66,11 @@ bytes_wait k d =
     grind (arith, nat_tests)
 
 -- bytes were sent
-pub sends_over : {X : Type 0} (past : KnownReads) (since : ℕ) (old new : Line) (k kept : Kept) (n : ℕ) (r : Result X EventError) (waiting : List ℕ)
+pub sends_over : {X : Type 0} (past : KnownReads) (t u : KnownEvents) (since : ℕ) (old new : Line) (k kept : Kept) (n : ℕ) (r : Result X EventError) (waiting : List ℕ)
     → waiting ≡ k.waiting → due (see_kept k) ≡ Send → Happens k (Sent n) (answered (λ _. applied.Sent) r) kept → (r ≡ Err NoMemory → ⊥)
-    → n ≤ length waiting → (0 < length waiting → 1 ≤ n) → Moved old new [] (take n waiting) old.faults old.idle → (s : Session) → Stands k s
-    → GoesOn past past since since old new s kept
-sends_over past since old new k kept n r waiting w d h ok most some m s st =
+    → n ≤ length waiting → (0 < length waiting → 1 ≤ n) → Moved old new [] (take n waiting) old.faults old.idle
+    → Records t u (Sent n ∷ []) → (s : Session) → Stands k s → GoesOn (known past t) (known past u) since since old new s kept
+sends_over past t u since old new k kept n r waiting w d h ok most some m told s st =
     let few : n ≤ length s.waiting = subst (λ (l : List ℕ). n ≤ length l) (w ∙ ap (λ (x : Kept). x.waiting) st) most in
     let wait : 0 < length waiting = subst (λ (l : List ℕ). 0 < length l) (sym w) (bytes_wait k d) in record {
       round = Did (Sent n);
@@ -76,31 +78,47 @@ sends_over past since old new k kept n r waiting w d h ok most some m s st =
       counts = refl;
       moved = subst (λ (l : List ℕ). Moved old new [] (take n l) old.faults old.idle) (w ∙ ap (λ (x : Kept). x.waiting) st) m;
       files = Records-nil past;
+      told = told;
       stands = happened (λ _. applied.Sent) k (Sent n) r kept s (λ x. refl) h ok st;
     }
 
 -- the wire failed, after it took some bytes
-pub sends_fail : (past : KnownReads) (old new : Line) (k kept : Kept) (waiting : List ℕ) → waiting ≡ k.waiting → due (see_kept k) ≡ Send
+pub sends_fail : (past : KnownReads) (t u : KnownEvents) (old new : Line) (k kept : Kept) (waiting : List ℕ) → waiting ≡ k.waiting → due (see_kept k) ≡ Send
     → (n : ℕ) × Moved old new [] (take n waiting) (one_more old.faults) old.idle
-    → ((s : Session) → Stands k s → Stands kept (Effect s DropConnection)) → (s : Session) → Stands k s → Stops past past Fault old new s kept
-sends_fail past old new k kept waiting w d m dropped s st =
+    → ((s : Session) → Stands k s → Stands kept (Effect s DropConnection)) → Records t u (DropConnection ∷ []) → (s : Session) → Stands k s
+    → Stops (known past t) (known past u) Fault old new s kept
+sends_fail past t u old new k kept waiting w d m dropped told s st =
     let part : List ℕ = take m.0 waiting in
     let prefix : IsPrefixOf part s.waiting = subst (IsPrefixOf part) (w ∙ ap (λ (x : Kept). x.waiting) st)
     (drop m.0 waiting, sym (take-append-drop m.0 waiting)) in record {
       cause = CallFailed part;
       moved = m.1;
       files = Records-nil past;
+      told = told;
       is_end = refl;
       is_cause = λ turns made. subst (λ (x : Due). MayFail old.polls x s.waiting part) (sym (due_there k s Send st d)) prefix;
       leaves = dropped s st;
     }
 
+-- an event that found memory is told
+all_told : {X : Type 0} (e : Event) (r : Result X EventError) → (r ≡ Err NoMemory → ⊥) → told_by e r ≡ e ∷ []
+all_told e (Ok x) ok = refl
+all_told e (Err NoMemory) ok = absurd (ok refl)
+all_told e (Err NotConnected) ok = refl
+all_told e (Err AlreadyConnected) ok = refl
+all_told e (Err Busy) ok = refl
+all_told e (Err SentTooMuch) ok = refl
+all_told e (Err PieceTooLong) ok = refl
+all_told e (Err Closing) ok = refl
+all_told e (Err Spent) ok = refl
+
 -- a request was answered
-pub answers_over : (before after : KnownReads) (since : ℕ) (line : Line) (k kept : Kept) (file : Option (List ℕ)) (r : Result Turned EventError)
+pub answers_over : (before after : KnownReads) (t u : KnownEvents) (since : ℕ) (line : Line) (k kept : Kept) (file : Option (List ℕ)) (r : Result Turned EventError)
     → due (see_kept k) ≡ Answer → IsGiven (wanted_on k.now k.now.link) file
     → Records before after (read_for (wanted_on k.now k.now.link) file) → Happens k (Turn file) (answered applied.Turn r) kept
-    → (r ≡ Err NoMemory → ⊥) → (s : Session) → Stands k s → GoesOn before after since since line line s kept
-answers_over before after since line k kept file r d given made h ok s st =
+    → (r ≡ Err NoMemory → ⊥) → Records t u (told_by (Turn file) r) → (s : Session) → Stands k s
+    → GoesOn (known before t) (known after u) since since line line s kept
+answers_over before after t u since line k kept file r d given made h ok told s st =
     let wants : wanted_on k.now k.now.link ≡ wanted s = wanted_there k s st in record {
       round = Did (Turn file);
       is_round = (
@@ -110,30 +128,33 @@ answers_over before after since line k kept file r d given made h ok s st =
       counts = refl;
       moved = still line;
       files = subst (λ (w : Option (List ℕ)). Records before after (read_for w file)) wants made;
+      told = records_as t u (told_by (Turn file) r) (Turn file ∷ []) (all_told (Turn file) r ok) told;
       stands = happened applied.Turn k (Turn file) r kept s (λ x. refl) h ok st;
     }
 
 -- no memory was left to read what an answer wants
-pub reads_none : (before after : KnownReads) (line : Line) (k : Kept) → due (see_kept k) ≡ Answer → Records before after []
-    → (s : Session) → Stands k s → Stops before after OutOfMemory line line s k
-reads_none before after line k d none s st = record {
+pub reads_none : (before after : KnownReads) (t : KnownEvents) (line : Line) (k : Kept) → due (see_kept k) ≡ Answer → Records before after []
+    → (s : Session) → Stands k s → Stops (known before t) (known after t) OutOfMemory line line s k
+reads_none before after t line k d none s st = record {
   cause = NoAnswer [];
   moved = still line;
   files = none;
+  told = Records-nil t;
   is_end = refl;
   is_cause = λ turns made. (due_there k s Answer st d, tt);
   leaves = st;
 }
 
 -- no memory was left to answer, with this file
-pub answers_none : (before after : KnownReads) (line : Line) (k : Kept) (file : Option (List ℕ)) → due (see_kept k) ≡ Answer
+pub answers_none : (before after : KnownReads) (t u : KnownEvents) (line : Line) (k : Kept) (file : Option (List ℕ)) → due (see_kept k) ≡ Answer
     → IsGiven (wanted_on k.now k.now.link) file → Records before after (read_for (wanted_on k.now k.now.link) file)
-    → (s : Session) → Stands k s → Stops before after OutOfMemory line line s k
-answers_none before after line k file d given made s st =
+    → Records t u [] → (s : Session) → Stands k s → Stops (known before t) (known after u) OutOfMemory line line s k
+answers_none before after t u line k file d given made told s st =
     let wants : wanted_on k.now k.now.link ≡ wanted s = wanted_there k s st in record {
       cause = NoAnswer (read_for (wanted_on k.now k.now.link) file);
       moved = still line;
       files = made;
+      told = told;
       is_end = refl;
       is_cause = λ turns made. (
         due_there k s Answer st d,
@@ -151,12 +172,14 @@ leave_is_due k waiting w none done =
     let test : ltb 0 (length k.waiting) ≡ false = grind (arith, nat_tests) in
     rw (test, done) refl
 
-pub all_said : (past : KnownReads) (line : Line) (k kept : Kept) → due (see_kept k) ≡ Leave
-    → ((s : Session) → Stands k s → Stands kept (Effect s DropConnection)) → (s : Session) → Stands k s → Stops past past Closed line line s kept
-all_said past line k kept d dropped s st = record {
+pub all_said : (past : KnownReads) (t u : KnownEvents) (line : Line) (k kept : Kept) → due (see_kept k) ≡ Leave
+    → ((s : Session) → Stands k s → Stands kept (Effect s DropConnection)) → Records t u (DropConnection ∷ []) → (s : Session) → Stands k s
+    → Stops (known past t) (known past u) Closed line line s kept
+all_said past t u line k kept d dropped told s st = record {
   cause = AllSaid;
   moved = still line;
   files = Records-nil past;
+  told = told;
   is_end = refl;
   is_cause = λ turns made. due_there k s Leave st d;
   leaves = dropped s st;
@@ -172,10 +195,11 @@ passed_in : (polls : Bool) (old new : Line) → Passed polls old new → Moved o
 passed_in polls old new p = subst (λ (b : Bool). Moved old new [] [] old.faults (idle_looked b old.idle)) (sym p.0) p.1
 
 runs_for : (n : ℕ) → n ≡ moves_granted
-    → (past : KnownReads) (since : ℕ) (polls : Bool) (old new : Line) (k mid kept : Kept) (moved next : ℕ) (s : Session)
+    → (past : KnownReads) (t u : KnownEvents) (since : ℕ) (polls : Bool) (old new : Line) (k mid kept : Kept) (moved next : ℕ) (s : Session)
     → Passed polls old new → Goes k mid n moved s → Stands k s → due (see_kept k) ≡ Run → next ≡ counted (since + moved)
-    → OfEach mid (λ t. Stands kept (held_after (is_held polls (since + moved)) t)) → GoesOn past past since next old new s kept
-runs_for n e past since polls old new k mid kept moved next s p g st d c holds =
+    → OfEach mid (λ t. Stands kept (held_after (is_held polls (since + moved)) t))
+    → Records t u (Slice n ∷ holds (is_held polls (since + moved))) → GoesOn (known past t) (known past u) since next old new s kept
+runs_for n e past t u since polls old new k mid kept moved next s p g st d c held told =
     let made : moves_made s ≡ moved = subst (λ m. (sliced histories m s).moved ≡ moved) e g.made in
     let stands : Stands mid (Effect s (Slice moves_granted)) = subst (λ m. Stands mid (Effect s (Slice m))) e g.stands in record {
       round = Ran (is_held polls (since + moved));
@@ -184,28 +208,31 @@ runs_for n e past since polls old new k mid kept moved next s p g st d c holds =
       counts = ap (λ m. counted (since + m)) made ∙ sym c;
       moved = passed_in polls old new p;
       files = Records-nil past;
-      stands = holds (Effect s (Slice moves_granted)) stands;
+      told = subst (λ m. Records t u (Slice m ∷ holds (is_held polls (since + moved)))) e told;
+      stands = held (Effect s (Slice moves_granted)) stands;
     }
 
 -- the program made moves, and is held, or not
-pub runs_over : (n : ℕ) (past : KnownReads) (since : ℕ) (polls : Bool) (old new : Line) (k mid kept : Kept) (r : Sliced) (next : ℕ)
+pub runs_over : (n : ℕ) (past : KnownReads) (t u : KnownEvents) (since : ℕ) (polls : Bool) (old new : Line) (k mid kept : Kept) (r : Sliced) (next : ℕ)
     → n ≡ moves_granted → Passed polls old new → due (see_kept k) ≡ Run → Happens k (Slice n) (Ok (applied.Slice r)) mid
     → (r.ending ≡ ending.NoMemory → ⊥)
-    → next ≡ counted (since + r.moved) → OfEach mid (λ t. Stands kept (held_after (is_held polls (since + r.moved)) t)) → (s : Session)
-    → Stands k s → GoesOn past past since next old new s kept
-runs_over n past since polls old new k mid kept r next e p d h ok c holds s st =
-    runs_for n e past since polls old new k mid kept r.moved next s p (goes_with k mid n r.moved r.ending s ok h st) st d c holds
+    → next ≡ counted (since + r.moved) → OfEach mid (λ t. Stands kept (held_after (is_held polls (since + r.moved)) t))
+    → Records t u (Slice n ∷ holds (is_held polls (since + r.moved))) → (s : Session) → Stands k s
+    → GoesOn (known past t) (known past u) since next old new s kept
+runs_over n past t u since polls old new k mid kept r next e p d h ok c held told s st =
+    runs_for n e past t u since polls old new k mid kept r.moved next s p (goes_with k mid n r.moved r.ending s ok h st) st d c held told
 
 -- no memory was left to tell what it did
-pub time_is_cut : (n : ℕ) (past : KnownReads) (polls : Bool) (old new : Line) (k mid : Kept) (r : Sliced) → n ≡ moves_granted → Passed polls old new
+pub time_is_cut : (n : ℕ) (past : KnownReads) (t : KnownEvents) (polls : Bool) (old new : Line) (k mid : Kept) (r : Sliced) → n ≡ moves_granted → Passed polls old new
     → due (see_kept k) ≡ Run → Happens k (Slice n) (Ok (applied.Slice r)) mid → r.ending ≡ ending.NoMemory → (s : Session) → Stands k s
-    → Stops past past OutOfMemory old new s mid
-time_is_cut n past polls old new k mid r e p d h out s st =
+    → Stops (known past t) (known past t) OutOfMemory old new s mid
+time_is_cut n past t polls old new k mid r e p d h out s st =
     let broke : BreaksOff histories moves_granted r.moved s (λ t. Stands mid t) = subst
     (λ m. BreaksOff histories m r.moved s (λ t. Stands mid t)) e (breaks_off k mid n r.moved r.ending s out h st) in record {
       cause = TimeCut;
       moved = passed_in polls old new p;
       files = Records-nil past;
+      told = Records-nil t;
       is_end = refl;
       is_cause = λ turns made. due_there k s Run st d;
       leaves = (r.moved, broke);
@@ -226,47 +253,51 @@ takes_piece polls s piece Run e may few = takes_running (histories.see s) piece 
 takes_piece polls s piece Receive e may few = takes_received (histories.see s) piece e few
 
 -- a piece came, and was taken; or no memory was left for it
-piece_came : (past : KnownReads) (since : ℕ) (old new : Line) (k kept : Kept) (d : Due) (piece : List ℕ) (result : Result ℕ DriveEnd)
+piece_came : (past : KnownReads) (t u : KnownEvents) (since : ℕ) (old new : Line) (k kept : Kept) (d : Due) (piece : List ℕ) (result : Result ℕ DriveEnd)
     → due (see_kept k) ≡ d → MayCome old.polls d → 1 ≤ length piece → length piece ≤ 65536 → Moved old new piece [] old.faults old.idle
-    → ((s : Session) → Stands k s → Took result piece s kept) → IfOk result (λ n. n ≡ 0) → (s : Session) → Stands k s
-    → Went past past since result old new s kept
-piece_came past since old new k kept d piece (Ok next) e may some few m took none s st = record {
+    → ((s : Session) → Stands k s → Took result piece s kept) → IfOk result (λ n. n ≡ 0) → Records t u (told_of_piece piece result)
+    → (s : Session) → Stands k s → Went (known past t) (known past u) since result old new s kept
+piece_came past t u since old new k kept d piece (Ok next) e may some few m took none told s st = record {
   round = Did (Recv piece);
   is_round = ((may_come_there old.polls k s d st e may, some), takes_piece old.polls s piece d (due_there k s d st e) may few);
   counts = sym none;
   moved = m;
   files = Records-nil past;
+  told = told;
   stands = took s st;
 }
-piece_came past since old new k kept d piece (Err end) e may some few m took none s st = record {
+piece_came past t u since old new k kept d piece (Err end) e may some few m took none told s st = record {
   cause = PieceLost piece;
   moved = m;
   files = Records-nil past;
+  told = told;
   is_end = sym (took s st).0;
   is_cause = λ turns made. (may_come_there old.polls k s d st e may, some);
   leaves = (took s st).1;
 }
 
 -- what a look or a wait gave, of what there is room for
-pub bytes_came : (past : KnownReads) (since : ℕ) (old new : Line) (k kept : Kept) (d : Due) (room : List ℕ) (n : ℕ) (result : Result ℕ DriveEnd)
+pub bytes_came : (past : KnownReads) (t u : KnownEvents) (since : ℕ) (old new : Line) (k kept : Kept) (d : Due) (room : List ℕ) (n : ℕ) (result : Result ℕ DriveEnd)
     → due (see_kept k) ≡ d → MayCome old.polls d → 1 ≤ n → n ≤ length room → length room ≤ 65536
     → Moved old new (take n room) [] old.faults old.idle
-    → ((s : Session) → Stands k s → Took result (take n room) s kept) → IfOk result (λ n. n ≡ 0) → (s : Session) → Stands k s
-    → Went past past since result old new s kept
-bytes_came past since old new k kept d room n result e may some few most m took none =
+    → ((s : Session) → Stands k s → Took result (take n room) s kept) → IfOk result (λ n. n ≡ 0)
+    → Records t u (told_of_piece (take n room) result) → (s : Session) → Stands k s
+    → Went (known past t) (known past u) since result old new s kept
+bytes_came past t u since old new k kept d room n result e may some few most m took none told =
     let long : length (take n room) ≡ n = length-take-le n room few in
-    piece_came past since old new k kept d (take n room) result e may (subst (λ (l : ℕ). 1 ≤ l) (sym long) some)
-    (subst (λ (l : ℕ). l ≤ 65536) (sym long) (omega arith)) m took none
+    piece_came past t u since old new k kept d (take n room) result e may (subst (λ (l : ℕ). 1 ≤ l) (sym long) some)
+    (subst (λ (l : ℕ). l ≤ 65536) (sym long) (omega arith)) m took none told
 
 -- no more will come
-pub input_ended : (past : KnownReads) (old new : Line) (k kept : Kept) (d : Due) → due (see_kept k) ≡ d → MayCome old.polls d
+pub input_ended : (past : KnownReads) (t u : KnownEvents) (old new : Line) (k kept : Kept) (d : Due) → due (see_kept k) ≡ d → MayCome old.polls d
     → Moved old new [] [] old.faults old.idle → IsAtEnd new.remaining → ((s : Session) → Stands k s → Stands kept (Effect s DropConnection))
-    → (s : Session) → Stands k s
-    → Stops past past Closed old new s kept
-input_ended past old new k kept d e may m at_end dropped s st = record {
+    → Records t u (DropConnection ∷ []) → (s : Session) → Stands k s
+    → Stops (known past t) (known past u) Closed old new s kept
+input_ended past t u old new k kept d e may m at_end dropped told s st = record {
   cause = InputEnded;
   moved = m;
   files = Records-nil past;
+  told = told;
   is_end = refl;
   is_cause = λ turns made. (may_come_there old.polls k s d st e may, at_end);
   leaves = dropped s st;
@@ -280,14 +311,15 @@ may_fail polls Run waiting may = (may, refl)
 may_fail polls Receive waiting may = refl
 
 -- a look or a wait failed
-pub comes_fail : (past : KnownReads) (old new : Line) (k kept : Kept) (d : Due) → due (see_kept k) ≡ d → MayCome old.polls d
+pub comes_fail : (past : KnownReads) (t u : KnownEvents) (old new : Line) (k kept : Kept) (d : Due) → due (see_kept k) ≡ d → MayCome old.polls d
     → Moved old new [] [] (one_more old.faults) old.idle → ((s : Session) → Stands k s → Stands kept (Effect s DropConnection))
-    → (s : Session) → Stands k s
-    → Stops past past Fault old new s kept
-comes_fail past old new k kept d e may m dropped s st = record {
+    → Records t u (DropConnection ∷ []) → (s : Session) → Stands k s
+    → Stops (known past t) (known past u) Fault old new s kept
+comes_fail past t u old new k kept d e may m dropped told s st = record {
   cause = CallFailed [];
   moved = m;
   files = Records-nil past;
+  told = told;
   is_end = refl;
   is_cause = λ turns made. may_fail old.polls (due_in s) s.waiting (may_come_there old.polls k s d st e may);
   leaves = dropped s st;
@@ -313,7 +345,7 @@ are_rounds-append polls since s (x ∷ xs) ys a b =
 
 -- ---- the loop
 
-pub begins_driving : (past : KnownReads) (line : Line) (k : Kept) (s : Session) → Stands k s → Driving past past line line 0 0 s k
+pub begins_driving : (past : Known) (line : Line) (k : Kept) (s : Session) → Stands k s → Driving past past line line 0 0 s k
 begins_driving past line k s st = record {
   rounds = [];
   are_rounds = tt;
@@ -321,7 +353,8 @@ begins_driving past line k s st = record {
   counts = refl;
   moved = still line;
   waits = refl;
-  files = Records-nil past;
+  files = Records-nil past.reads;
+  told = Records-nil past.told;
   stands = st;
 }
 
@@ -333,6 +366,9 @@ sent_then s xs x = sym (sent-append s xs (x ∷ []) ∙ ap (λ l. sent s xs ++ l
 
 reads_then : (s : Session) (xs : List Round) (x : Round) → reads s xs ++ reads_in (after_rounds s xs) x ≡ reads s (xs ++ x ∷ [])
 reads_then s xs x = sym (reads-append s xs (x ∷ []) ∙ ap (λ l. reads s xs ++ l) (append-nil (reads_in (after_rounds s xs) x)))
+
+events_then : (xs : List Round) (x : Round) → events_of xs ++ events_in x ≡ events_of (xs ++ x ∷ [])
+events_then xs x = sym (events-append xs (x ∷ []) ∙ ap (λ l. events_of xs ++ l) (append-nil (events_in x)))
 
 idle_then : (a b : Line) (xs : List Round) (x : Round) → b.polls ≡ a.polls → b.idle ≡ idle_after_rounds a.polls a.idle xs
     → idle_after b.polls b.idle x ≡ idle_after_rounds a.polls a.idle (xs ++ x ∷ [])
@@ -348,7 +384,7 @@ waits_then a b c s k rounds st before now =
     let t = after_rounds s rounds in
     now ∙ ap (λ (d : Due). waits_at d b.waits) (sym (due_there k t (due (see_kept k)) st refl)) ∙ ap (waits_at (due_in t)) before
 
-goes_on_driving : (f g h : KnownReads) (a b c : Line) (made since next : ℕ) (s : Session) (k new : Kept) (v : Driving f g a b made since s k)
+goes_on_driving : (f g h : Known) (a b c : Line) (made since next : ℕ) (s : Session) (k new : Kept) (v : Driving f g a b made since s k)
     → c.waits ≡ waits_at (due_in (after_rounds s v.rounds)) (waits_after_rounds a.waits s v.rounds)
     → GoesOn g h since next b c (after_rounds s v.rounds) new → Driving f h a c (made + 1) next s new
 goes_on_driving f g h a b c made since next s k new v waits w =
@@ -365,13 +401,18 @@ goes_on_driving f g h a b c made since next s k new v waits w =
           (idle_then a b v.rounds w.round v.moved.polls v.moved.idle) (moved-trans a b c _ _ _ _ _ _ _ _ v.moved w.moved);
       waits = waits ∙ sym (waits_after_rounds-append a.waits s v.rounds (w.round ∷ []));
       files =
-          records_as f h (reads s v.rounds ++ reads_in t w.round) (reads s (v.rounds ++ w.round ∷ [])) (reads_then s v.rounds w.round)
-          (Records-trans f g h (reads s v.rounds) (reads_in t w.round) v.files w.files);
+          records_as f.reads h.reads (reads s v.rounds ++ reads_in t w.round) (reads s (v.rounds ++ w.round ∷ []))
+          (reads_then s v.rounds w.round)
+          (Records-trans f.reads g.reads h.reads (reads s v.rounds) (reads_in t w.round) v.files w.files);
+      told =
+          records_as f.told h.told (events_of v.rounds ++ events_in w.round) (events_of (v.rounds ++ w.round ∷ []))
+          (events_then v.rounds w.round)
+          (Records-trans f.told g.told h.told (events_of v.rounds) (events_in w.round) v.told w.told);
       stands = subst (Stands new) (sym (after_rounds-append s v.rounds (w.round ∷ []))) w.stands;
     }
 
 -- where a turn answered how many moves there are
-pub goes_on_with : (f g h : KnownReads) (a b c : Line) (made since : ℕ) (s : Session) (k new : Kept) (result : Result ℕ DriveEnd) (next : ℕ)
+pub goes_on_with : (f g h : Known) (a b c : Line) (made since : ℕ) (s : Session) (k new : Kept) (result : Result ℕ DriveEnd) (next : ℕ)
     → result ≡ Ok next → ((t : Session) → Stands k t → Went g h since result b c t new)
     → c.waits ≡ waits_at (due (see_kept k)) b.waits → Driving f g a b made since s k
     → Driving f h a c (made + 1) next s new
@@ -397,7 +438,7 @@ in_its_turn polls TurnsMade left s n d waits h = absurd (one_is_none (h 0 1)) wh
   one_is_none : (let n : ℕ = 1 in n) ≡ 0 → ⊥
   one_is_none e = omega arith
 
-ends_after : (f g h : KnownReads) (a b c : Line) (made since turns taken : ℕ) (s : Session) (k new : Kept) (end : DriveEnd) → made < turns
+ends_after : (f g h : Known) (a b c : Line) (made since turns taken : ℕ) (s : Session) (k new : Kept) (end : DriveEnd) → made < turns
     → taken ≡ made + 1 → (v : Driving f g a b made since s k)
     → c.waits ≡ waits_at (due_in (after_rounds s v.rounds)) (waits_after_rounds a.waits s v.rounds)
     → Stops g h end b c (after_rounds s v.rounds) new → DroveFor f h a c turns taken s new end
@@ -418,14 +459,15 @@ ends_after f g h a b c made since turns taken s k new end few more v waits w =
         is_cause =
             subst (λ (p : Bool). IsCause p w.cause c.remaining turns (length v.rounds) t) v.moved.polls (w.is_cause turns (length v.rounds));
       };
-      files = Records-trans f g h (reads s v.rounds) (unused_by w.cause) v.files w.files;
+      files = Records-trans f.reads g.reads h.reads (reads s v.rounds) (unused_by w.cause) v.files w.files;
+      told = Records-trans f.told g.told h.told (events_of v.rounds) (events_by w.cause) v.told w.told;
       is_end = w.is_end;
       leaves = w.leaves;
       began = turn.0;
       counts = counts;
     }
 
-pub ends_driving : (f g h : KnownReads) (a b c : Line) (made since turns taken : ℕ) (s : Session) (k new : Kept) (end : DriveEnd)
+pub ends_driving : (f g h : Known) (a b c : Line) (made since turns taken : ℕ) (s : Session) (k new : Kept) (end : DriveEnd)
     → made < turns → taken ≡ made + 1 → OfEach k (λ t. Stops g h end b c t new)
     → c.waits ≡ waits_at (due (see_kept k)) b.waits → Driving f g a b made since s k
     → DroveFor f h a c turns taken s new end
@@ -434,7 +476,7 @@ ends_driving f g h a b c made since turns taken s k new end few more stops waits
     (stops (after_rounds s v.rounds) v.stands)
 
 -- all turns were made
-pub stops_driving : (f g : KnownReads) (a b : Line) (made since turns taken : ℕ) (s : Session) (k : Kept) → made ≡ turns → taken ≡ turns
+pub stops_driving : (f g : Known) (a b : Line) (made since turns taken : ℕ) (s : Session) (k : Kept) → made ≡ turns → taken ≡ turns
     → Driving f g a b made since s k → DroveFor f g a b turns taken s k Turns
 stops_driving f g a b made since turns taken s k all same v = record {
   rounds = v.rounds;
@@ -446,7 +488,8 @@ stops_driving f g a b made since turns taken s k all same v = record {
     waits = v.waits;
     is_cause = v.count ∙ all;
   };
-  files = records_as f g (reads s v.rounds) (reads s v.rounds ++ []) (sym (append-nil (reads s v.rounds))) v.files;
+  files = records_as f.reads g.reads (reads s v.rounds) (reads s v.rounds ++ []) (sym (append-nil (reads s v.rounds))) v.files;
+  told = records_as f.told g.told (events_of v.rounds) (events_of v.rounds ++ []) (sym (append-nil (events_of v.rounds))) v.told;
   is_end = refl;
   leaves = v.stands;
   began = tt;
@@ -454,19 +497,20 @@ stops_driving f g a b made since turns taken s k all same v = record {
 }
 
 -- where there was room
-pub driven_in : (f g : KnownReads) (a b : Line) (turns taken : ℕ) (s : Session) (k : Kept) (end : DriveEnd)
-    → DroveFor f g a b turns taken s k end → Driven f g a b turns s k end
+pub driven_in : (f g : Known) (a b : Line) (turns taken : ℕ) (s : Session) (k : Kept) (end : DriveEnd)
+    → DroveFor f g a b turns taken s k end → DrivenTold f g a b turns s k end
 driven_in f g a b turns taken s k end v =
-    record { rounds = v.rounds; cause = v.cause; drove = v.drove; files = v.files; is_end = v.is_end; leaves = v.leaves }
+    record { rounds = v.rounds; cause = v.cause; drove = v.drove; files = v.files; told = v.told; is_end = v.is_end; leaves = v.leaves }
 
 -- without room for a piece no round is made
-pub no_room_to_drive : (past : KnownReads) (line : Line) (turns : ℕ) (s : Session) (k : Kept) → Stands k s
-    → Driven past past line line turns s k OutOfMemory
+pub no_room_to_drive : (past : Known) (line : Line) (turns : ℕ) (s : Session) (k : Kept) → Stands k s
+    → DrivenTold past past line line turns s k OutOfMemory
 no_room_to_drive past line turns s k st = record {
   rounds = [];
   cause = NoRoom;
   drove = record { are_rounds = tt; few = omega arith; moved = still line; waits = refl; is_cause = refl };
-  files = Records-nil past;
+  files = Records-nil past.reads;
+  told = Records-nil past.told;
   is_end = refl;
   leaves = st;
 }

@@ -1,22 +1,22 @@
 -- The reads that files answered, one after the other.
 use Rattle.std.proofs.Common.{◌≡◌, ℕ, List, [], ◌++◌, Option, Some, None, refl, sym, ap, ◌∙◌, subst, append-nil, append_assoc}
-use Rattle.transport.specs.Files.{FileRead, KnownReads, Records}
+use Rattle.transport.specs.Files.{Records}
 use Rattle.transport.specs.Rounds.{IsGiven, read_for}
 use Rattle.transport.specs.Drives.{AreUnused}
 
--- no file was read
-pub Records-nil : (a : KnownReads) → Records a a []
+-- nothing more is known
+pub Records-nil : {X : Type 0} (a : Option (List X)) → Records a a []
 Records-nil None = tt
 Records-nil (Some past) = sym (append-nil past)
 
--- first these reads, and then those
-pub Records-trans : (a b c : KnownReads) (xs ys : List FileRead) → Records a b xs → Records b c ys → Records a c (xs ++ ys)
+-- first these, and then those
+pub Records-trans : {X : Type 0} (a b c : Option (List X)) (xs ys : List X) → Records a b xs → Records b c ys → Records a c (xs ++ ys)
 Records-trans None b c xs ys p q = tt
 Records-trans (Some x) None c xs ys p q = absurd p
 Records-trans (Some x) (Some y) None xs ys p q = absurd q
 Records-trans (Some x) (Some y) (Some z) xs ys p q = q ∙ ap (λ l. l ++ ys) p ∙ append_assoc x xs ys
 
-pub records_as : (a b : KnownReads) (xs ys : List FileRead) → xs ≡ ys → Records a b xs → Records a b ys
+pub records_as : {X : Type 0} (a b : Option (List X)) (xs ys : List X) → xs ≡ ys → Records a b xs → Records a b ys
 records_as a b xs ys e r = subst (Records a b) e r
 
 -- a read whose file no answer was given is one of what the answer wants

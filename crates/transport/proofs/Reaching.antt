@@ -1,14 +1,23 @@
 -- What driving and serving lead to.
-use Rattle.std.proofs.Common.{◌≡◌, List, [], ◌∷◌, ◌++◌, true, false, refl, sym, ap, ◌∙◌, subst}
+use Rattle.std.proofs.Common.{◌≡◌, ℕ, ◌+◌, List, [], ◌∷◌, ◌++◌, true, false, inl, inr, refl, sym, ap, ◌∙◌, subst}
+use Rattle.std.specs.Prelude.{◌⊎◌}
 use Rattle.session.proofs.Reaching.{led_append}
 use Rattle.session.specs.Kept.{Kept, Stands}
 use Rattle.session.specs.Reached.{Happened, Whole, Cut, leaves, led_to}
-use Rattle.session.specs.Sessions.{Session, Effect}
+use Rattle.session.specs.Effects.{after_all}
+use Rattle.session.specs.Sessions.{Session, Effect, histories}
+use Rattle.session_laws.proofs.Joined.{slices_join}
+use Rattle.session.specs.declared.event.Event.{Event}
 use Rattle.session.specs.declared.event.Event.TheVariants.{Connect, Slice, Hold, DropConnection}
-use Rattle.transport.specs.Drives.{Cause, AllSaid, InputEnded, CallFailed, NoRoom, NoAnswer, PieceLost, TimeCut, TurnsMade, Leaves}
-use Rattle.transport.specs.Reaching.{DrivingLeads, IsLedTo, ServingLeads}
+use Rattle.transport.specs.declared.end.DriveEnd.{DriveEnd}
+use Rattle.transport.specs.declared.end.DriveEnd.TheVariants.{NoMemory}
+use Rattle.transport.specs.Told.{events_of}
+use Rattle.transport.specs.Drives.{Cause, AllSaid, InputEnded, CallFailed, NoRoom, NoAnswer, PieceLost, TimeCut, TurnsMade, Leaves, end_of, events_by}
+use Rattle.transport.specs.Reaching.{AreJoined, DrivingLeads, DrivingTells, IsLedTo, JoinedLeadToTheSame, ServingLeads, ServingTells}
 use Rattle.transport.specs.Rounds.{Round, Did, Ran, RunsOut, after_round, after_rounds, moves_granted}
-use Rattle.transport.specs.Serving.{Iteration, Unattended, Connection, LeavesBy, LeavesCut, Why, UnattendedCut, ConnectionCut, after_iteration, after_iterations}
+use Rattle.transport.specs.Serving.{Iteration, Unattended, Connection, AreIterations, HasLeft, IsWhy, LeavesBy, LeavesCut, Why, DoorClosed, Refused, DoorFailed, AllMade, NoRoomYet, UnattendedCut, ConnectionCut, after_iteration, after_iterations, end_by, events_at, events_for, events_of_all, turns_in}
+use Rattle.wires.specs.Wires.{Line}
+use Rattle.std.specs.Prelude.{◌-◌, Option}
 
 -- something leads from one session to another
 Led : Session → Session → Type 0
@@ -96,3 +105,111 @@ why_led other s t kept led h = stands_led s t kept led h
 pub serving_leads : ServingLeads
 serving_leads before after old new turns s kept end d =
     why_led d.why s (after_iterations s d.iterations) kept (iterations_led s d.iterations) d.leaves
+
+-- ---- what is told
+
+after-append : (xs ys : List Event) (s : Session) → after_all histories (xs ++ ys) s ≡ after_all histories ys (after_all histories xs s)
+after-append [] ys s = refl
+after-append (x ∷ xs) ys s = after-append xs ys (Effect s x)
+
+rounds_told : (s : Session) (rounds : List Round) → after_all histories (events_of rounds) s ≡ after_rounds s rounds
+rounds_told s [] = refl
+rounds_told s (Did e ∷ rounds) = rounds_told (Effect s e) rounds
+rounds_told s (Ran true ∷ rounds) = rounds_told (Effect (Effect s (Slice moves_granted)) Hold) rounds
+rounds_told s (Ran false ∷ rounds) = rounds_told (Effect s (Slice moves_granted)) rounds
+
+rounds_then : (s : Session) (rounds : List Round) (events : List Event)
+    → after_all histories (events_of rounds ++ events) s ≡ after_all histories events (after_rounds s rounds)
+rounds_then s rounds events = after-append (events_of rounds) events s ∙ ap (after_all histories events) (rounds_told s rounds)
+
+end_told : (cause : Cause) (t : Session) (kept : Kept) → Leaves cause t kept
+    → (end_of cause ≡ NoMemory) ⊎ Stands kept (after_all histories (events_by cause) t)
+end_told AllSaid t kept l = inr l
+end_told InputEnded t kept l = inr l
+end_told (CallFailed part) t kept l = inr l
+end_told NoRoom t kept l = inl refl
+end_told (NoAnswer unused) t kept l = inl refl
+end_told (PieceLost piece) t kept l = inl refl
+end_told TimeCut t kept l = inl refl
+end_told TurnsMade t kept l = inr l
+
+either : (cause end : DriveEnd) (kept : Kept) (t u : Session) → cause ≡ end → u ≡ t → (cause ≡ NoMemory) ⊎ Stands kept t
+    → (end ≡ NoMemory) ⊎ Stands kept u
+either cause end kept t u is same (inl none) = inl (sym is ∙ none)
+either cause end kept t u is same (inr stands) = inr (subst (Stands kept) (sym same) stands)
+
+pub driving_tells : DrivingTells
+driving_tells before after old new turns s kept end d = (
+  events_of d.rounds ++ events_by d.cause,
+  d.told,
+  either (end_of d.cause) end kept _ _ d.is_end (rounds_then s d.rounds (events_by d.cause))
+      (end_told d.cause (after_rounds s d.rounds) kept d.leaves),
+)
+
+connection_told : (s : Session) (rounds : List Round) (cause : Cause) → HasLeft cause
+    → after_all histories (events_for rounds cause) s ≡ Effect (after_rounds (Effect s Connect) rounds) DropConnection
+connection_told s rounds AllSaid left = rounds_then (Effect s Connect) rounds (DropConnection ∷ [])
+connection_told s rounds InputEnded left = rounds_then (Effect s Connect) rounds (DropConnection ∷ [])
+connection_told s rounds (CallFailed part) left = rounds_then (Effect s Connect) rounds (DropConnection ∷ [])
+connection_told s rounds NoRoom left = absurd left
+connection_told s rounds (NoAnswer unused) left = absurd left
+connection_told s rounds (PieceLost piece) left = absurd left
+connection_told s rounds TimeCut left = absurd left
+connection_told s rounds TurnsMade left = absurd left
+
+iterations_told : (turns : ℕ) (s : Session) (iterations : List Iteration) → AreIterations turns s iterations
+    → after_all histories (events_of_all iterations) s ≡ after_iterations s iterations
+iterations_told turns s [] are = refl
+iterations_told turns s (Unattended ∷ iterations) are =
+    iterations_told (turns - 1) (Effect s (Slice moves_granted)) iterations are.1
+iterations_told turns s (Connection old new rounds cause ∷ iterations) are =
+    let x = Connection old new rounds cause in
+    after-append (events_for rounds cause) (events_of_all iterations) s
+    ∙ ap (after_all histories (events_of_all iterations)) (connection_told s rounds cause are.0.1)
+    ∙ iterations_told (turns - turns_in x) (after_iteration s x) iterations are.1
+
+cut_told : (rounds : List Round) (t : Session)
+    → after_all histories (events_for rounds TurnsMade ++ DropConnection ∷ []) t ≡ Effect (after_rounds (Effect t Connect) rounds) DropConnection
+cut_told rounds t =
+    after-append (events_for rounds TurnsMade) (DropConnection ∷ []) t
+    ∙ ap (λ u. Effect u DropConnection) (rounds_then (Effect t Connect) rounds [])
+
+why_told : (why : Why) (wires : Option (List Line)) (left taken : ℕ) (t : Session) (kept : Kept) → IsWhy why wires left taken t → LeavesBy why t kept
+    → (end_by why ≡ NoMemory) ⊎ Stands kept (after_all histories (events_at why) t)
+why_told DoorClosed wires left taken t kept is l = inr l
+why_told (Refused line) wires left taken t kept is l = inr l
+why_told DoorFailed wires left taken t kept is l = inr l
+why_told AllMade wires left taken t kept is l = inr l
+why_told NoRoomYet wires left taken t kept is l = inl refl
+why_told UnattendedCut wires left taken t kept is l = inl refl
+why_told (ConnectionCut old new rounds AllSaid) wires left taken t kept is l = absurd is.1
+why_told (ConnectionCut old new rounds InputEnded) wires left taken t kept is l = absurd is.1
+why_told (ConnectionCut old new rounds (CallFailed part)) wires left taken t kept is l = absurd is.1
+why_told (ConnectionCut old new rounds NoRoom) wires left taken t kept is l = absurd is.1
+why_told (ConnectionCut old new rounds (NoAnswer unused)) wires left taken t kept is l = inl refl
+why_told (ConnectionCut old new rounds (PieceLost piece)) wires left taken t kept is l = inl refl
+why_told (ConnectionCut old new rounds TimeCut) wires left taken t kept is l = inl refl
+why_told (ConnectionCut old new rounds TurnsMade) wires left taken t kept is l = inr (subst (Stands kept) (sym (cut_told rounds t)) l)
+
+pub serving_tells : ServingTells
+serving_tells before after old new turns s kept end d = (
+  events_of_all d.iterations ++ events_at d.why,
+  d.told,
+  either (end_by d.why) end kept _ _ d.is_end
+      (after-append (events_of_all d.iterations) (events_at d.why) s
+      ∙ ap (after_all histories (events_at d.why)) (iterations_told turns s d.iterations d.are_iterations))
+      (why_told d.why _ _ _ (after_iterations s d.iterations) kept d.is_why d.leaves),
+)
+
+-- ---- slices that are joined
+
+pub joined_lead_to_the_same : JoinedLeadToTheSame
+joined_lead_to_the_same [] joined is s = ap (λ (l : List Event). after_all histories l s) is
+joined_lead_to_the_same (e ∷ events) [] is s = absurd is
+joined_lead_to_the_same (e ∷ events) (j ∷ joined) (inl (same, more)) s =
+    ap (λ (x : Event). after_all histories joined (Effect s x)) same ∙ joined_lead_to_the_same events joined more (Effect s e)
+joined_lead_to_the_same (e ∷ events) (j ∷ joined) (inr (a, b, first, whole, more)) s =
+    ap (λ (x : Event). after_all histories joined (Effect s x)) whole
+    ∙ ap (after_all histories joined) (sym (slices_join s a b).0)
+    ∙ joined_lead_to_the_same events (Slice b ∷ joined) more (Effect s (Slice a))
+    ∙ ap (λ (x : Event). after_all histories events (Effect s x)) (sym first)

@@ -17,6 +17,8 @@ use Rattle.session.specs.Effects.{BreaksOff, EndsWell, ran_out, slice_answer, sl
 use Rattle.session.specs.Kept.{Kept, Stands, Happens, answered, see_kept}
 use Rattle.session.specs.Outcomes.{wanted_on}
 use Rattle.session.specs.Sessions.{Session, Effect, Answer as answer_of, histories}
+use Rattle.transport.specs.Files.{Records}
+use Rattle.transport.specs.Told.{KnownEvents, events_in, events_of, told_by}
 use Rattle.transport.specs.Rounds.{Took, Due, due, due_in, Round, after_round, after_rounds, received_in, received, sent_in, sent, reads_in, reads, since_round, since_rounds, counted, moves_granted, wanted}
 
 -- where an event that is no slice is done, this is left
@@ -124,6 +126,11 @@ pub drops : (k old new : Kept) (piece : List ℕ) (result : Result ℕ DriveEnd)
 drops k old new piece result e same dropped s st =
     subst (λ (r : Result ℕ DriveEnd). Took r piece s new) (sym e) (refl, dropped s (subst (λ k. Stands k s) (sym same) st))
 
+-- nothing is told of an event that found no memory
+pub none_told : {X : Type 0} (e : Event) (t u : KnownEvents) (r : Result X EventError) (error : EventError) → r ≡ Err error → error ≡ NoMemory
+    → Records t u (told_by e r) → Records t u []
+none_told e t u r error is missing told = subst (λ (r : Result _ EventError). Records t u (told_by e r)) (is ∙ ap Err missing) told
+
 -- ---- rounds after rounds
 
 pub after_rounds-append : (s : Session) (xs ys : List Round) → after_rounds s (xs ++ ys) ≡ after_rounds (after_rounds s xs) ys
@@ -146,6 +153,11 @@ reads-append s [] ys = refl
 reads-append s (x ∷ xs) ys =
     ap (λ l. reads_in s x ++ l) (reads-append (after_round s x) xs ys) ∙ sym
     (append_assoc (reads_in s x) (reads (after_round s x) xs) (reads (after_rounds (after_round s x) xs) ys))
+
+pub events-append : (xs ys : List Round) → events_of (xs ++ ys) ≡ events_of xs ++ events_of ys
+events-append [] ys = refl
+events-append (x ∷ xs) ys =
+    ap (λ l. events_in x ++ l) (events-append xs ys) ∙ sym (append_assoc (events_in x) (events_of xs) (events_of ys))
 
 pub since_rounds-append : (since : ℕ) (s : Session) (xs ys : List Round)
     → since_rounds since s (xs ++ ys) ≡ since_rounds (since_rounds since s xs) (after_rounds s xs) ys

@@ -17,10 +17,11 @@ use Rattle.session.specs.Sessions.{Session, Effect, Answer as answer_of, histori
 use Rattle.session.specs.Slices.{is_runnable}
 use Rattle.wires.specs.Doors.{Doorway, IsEmpty, Loses, Opened}
 use Rattle.wires.specs.Wires.{Line, one_more}
-use Rattle.transport.specs.Files.{KnownReads}
+use Rattle.transport.specs.Files.{KnownReads, Records}
 use Rattle.transport.specs.Rounds.{moves_granted, after_rounds}
-use Rattle.transport.specs.Drives.{Cause, AllSaid, InputEnded, CallFailed, NoRoom, NoAnswer, PieceLost, TimeCut, TurnsMade, end_of, Leaves, HasBegun, IsLeaving, DroveFor}
-use Rattle.transport.specs.Serving.{Iteration, Unattended, Connection, HasLeft, IsCut, IsIteration, turns_in, after_iteration, lines_in, reads_within, idle_in, AreIterations, turns_taken, after_iterations, lines_of, reads_of, reads_at, idle_after_iterations, waits_while, waits_after_iterations, waits_until, DoorClosed, Refused, DoorFailed, AllMade, NoRoomYet, UnattendedCut, ConnectionCut, Why, failed_at, idle_at, IsWhy, LeavesCut, Served, Iterated, Ended, IteratedOrEnded, ServedSoFar}
+use Rattle.transport.specs.Drives.{Cause, AllSaid, InputEnded, CallFailed, NoRoom, NoAnswer, PieceLost, TimeCut, TurnsMade, end_of, events_by, Leaves, HasBegun, IsLeaving, DroveFor}
+use Rattle.transport.specs.Told.{Known, KnownEvents, known, events_of}
+use Rattle.transport.specs.Serving.{Iteration, Unattended, Connection, HasLeft, IsCut, IsIteration, turns_in, after_iteration, lines_in, reads_within, idle_in, AreIterations, turns_taken, after_iterations, lines_of, reads_of, reads_at, events_within, events_of_all, events_at, idle_after_iterations, waits_while, waits_after_iterations, waits_until, DoorClosed, Refused, DoorFailed, AllMade, NoRoomYet, UnattendedCut, ConnectionCut, Why, failed_at, idle_at, IsWhy, LeavesCut, ServedTold, Iterated, Ended, IteratedOrEnded, ServedSoFar}
 use Rattle.transport.proofs.FileReads.{Records-nil, Records-trans, records_as}
 use Rattle.transport.proofs.RoundLemmas.{Goes, goes_with, breaks_off}
 
@@ -59,29 +60,32 @@ runnable_there : (k : Kept) (s : Session) → Stands k s → is_runnable k.now �
 runnable_there k s st e = sym (runs_there k s st) ∙ e
 
 -- a slice in which the program made moves
-pub stays_unattended : (past : KnownReads) (left : ℕ) (old new : Doorway) (k mid : Kept) (n : ℕ) (r : Sliced) → n ≡ moves_granted
+pub stays_unattended : (past : KnownReads) (t u : KnownEvents) (left : ℕ) (old new : Doorway) (k mid : Kept) (n : ℕ) (r : Sliced) → n ≡ moves_granted
     → is_runnable k.now ≡ true → Happens k (Slice n) (Ok (applied.Slice r)) mid → (r.ending ≡ ending.NoMemory → ⊥)
-    → Opened old new [] old.faults (one_more old.idle) → (s : Session) → Stands k s → Iterated past past left 1 old new s mid
-stays_unattended past left old new k mid n r e runs h ok m s st =
+    → Opened old new [] old.faults (one_more old.idle) → Records t u (Slice n ∷ []) → (s : Session) → Stands k s
+    → Iterated (known past t) (known past u) left 1 old new s mid
+stays_unattended past t u left old new k mid n r e runs h ok m told s st =
     let g : Goes k mid n r.moved s = goes_with k mid n r.moved r.ending s ok h st in record {
       iteration = Unattended;
       is_iteration = runnable_there k s st runs;
       counts = refl;
       opened = m;
       files = Records-nil past;
+      told = subst (λ m. Records t u (Slice m ∷ [])) e told;
       stands = same_moves k mid n e s g.stands;
     }
 
 -- a slice in which no memory was left to tell what the program did
-pub unattended_is_cut : (past : KnownReads) (left : ℕ) (old new : Doorway) (k mid : Kept) (n : ℕ) (r : Sliced) → n ≡ moves_granted
+pub unattended_is_cut : (past : KnownReads) (t : KnownEvents) (left : ℕ) (old new : Doorway) (k mid : Kept) (n : ℕ) (r : Sliced) → n ≡ moves_granted
     → is_runnable k.now ≡ true → Happens k (Slice n) (Ok (applied.Slice r)) mid → r.ending ≡ ending.NoMemory
-    → Opened old new [] old.faults (one_more old.idle) → (s : Session) → Stands k s → Ended past past left OutOfMemory old new s mid
-unattended_is_cut past left old new k mid n r e runs h out m s st =
+    → Opened old new [] old.faults (one_more old.idle) → (s : Session) → Stands k s → Ended (known past t) (known past t) left OutOfMemory old new s mid
+unattended_is_cut past t left old new k mid n r e runs h out m s st =
     let broke : BreaksOff histories moves_granted r.moved s (λ t. Stands mid t) = subst
     (λ m. BreaksOff histories m r.moved s (λ t. Stands mid t)) e (breaks_off k mid n r.moved r.ending s out h st) in record {
       why = UnattendedCut;
       opened = m;
       files = Records-nil past;
+      told = Records-nil t;
       is_end = refl;
       is_why = λ taken. runnable_there k s st runs;
       leaves = (r.moved, broke);
@@ -90,16 +94,16 @@ unattended_is_cut past left old new k mid n r e runs h out m s st =
 -- ---- the door
 
 -- the door accepts no further connection
-pub door_closes : (past : KnownReads) (left : ℕ) (old new : Doorway) (k : Kept) → Opened old new [] old.faults old.idle → IsEmpty new.wires
+pub door_closes : (past : Known) (left : ℕ) (old new : Doorway) (k : Kept) → Opened old new [] old.faults old.idle → IsEmpty new.wires
     → (s : Session) → Stands k s → Ended past past left Closed old new s k
 door_closes past left old new k m e s st =
-    record { why = DoorClosed; opened = m; files = Records-nil past; is_end = refl; is_why = λ taken. e; leaves = st }
+    record { why = DoorClosed; opened = m; files = Records-nil past.reads; told = Records-nil past.told; is_end = refl; is_why = λ taken. e; leaves = st }
 
 -- a call of the door fails
-pub door_fails : (past : KnownReads) (left : ℕ) (old new : Doorway) (k : Kept) → Opened old new [] (one_more old.faults) old.idle
+pub door_fails : (past : Known) (left : ℕ) (old new : Doorway) (k : Kept) → Opened old new [] (one_more old.faults) old.idle
     → (s : Session) → Stands k s → Ended past past left Fault old new s k
 door_fails past left old new k m s st =
-    record { why = DoorFailed; opened = m; files = Records-nil past; is_end = refl; is_why = λ taken. tt; leaves = st }
+    record { why = DoorFailed; opened = m; files = Records-nil past.reads; told = Records-nil past.told; is_end = refl; is_why = λ taken. tt; leaves = st }
 
 -- ---- a connection that was accepted
 
@@ -127,7 +131,7 @@ refuses k mid PieceTooLong n h s st = rw (h.to_each s st).0 refl
 refuses k mid Closing n h s st = rw (h.to_each s st).0 refl
 refuses k mid Spent n h s st = rw (h.to_each s st).0 refl
 
-pub is_refused : (past : KnownReads) (left : ℕ) (old new : Doorway) (line : Line) (k mid kept : Kept) (r : Result ℕ EventError) (error : EventError)
+pub is_refused : (past : Known) (left : ℕ) (old new : Doorway) (line : Line) (k mid kept : Kept) (r : Result ℕ EventError) (error : EventError)
     → r ≡ Err error → (r ≡ Err NoMemory → ⊥) → Happens k Connect (answered applied.Connect r) mid → kept ≡ k
     → Opened old new (line ∷ []) old.faults old.idle → (s : Session) → Stands k s → Ended past past left Closed old new s kept
 is_refused past left old new line k mid kept r error e n h same m s st =
@@ -135,7 +139,8 @@ is_refused past left old new line k mid kept r error e n h same m s st =
     (λ (r : Result ℕ EventError). Happens k Connect (answered applied.Connect r) mid) e h in record {
       why = Refused line;
       opened = m;
-      files = Records-nil past;
+      files = Records-nil past.reads;
+      told = Records-nil past.told;
       is_end = refl;
       is_why = λ taken. refuses k mid error (λ (z : error ≡ NoMemory). n (e ∙ ap Err z)) there s st;
       leaves = subst (λ k. Stands k s) (sym same) st;
@@ -213,11 +218,12 @@ stays Turns a b h = h
 stays OutOfMemory a b h = h
 
 -- the connection ended, and serving continues
-pub is_connection : (f g : KnownReads) (left : ℕ) (old new : Doorway) (a b : Line) (k mid kept : Kept) (r : Result ℕ EventError) (n : ℕ) (end : DriveEnd) (taken : ℕ)
+pub is_connection : (f g : Known) (t : KnownEvents) (left : ℕ) (old new : Doorway) (a b : Line) (k mid kept : Kept) (r : Result ℕ EventError) (n : ℕ) (end : DriveEnd) (taken : ℕ)
     → r ≡ Ok n → Happens k Connect (answered applied.Connect r) mid
-    → OfEach mid (λ t. DroveFor f g a b (left - 1) taken t kept end) → IsLeaving end → Opened old new (a ∷ []) old.faults old.idle
-    → (s : Session) → Stands k s → Iterated f g left (taken + 1) old new s kept
-is_connection f g left old new a b k mid kept r n end taken e h drove gone m s st =
+    → OfEach mid (λ t. DroveFor f g a b (left - 1) taken t kept end) → IsLeaving end → Records t f.told (Connect ∷ [])
+    → Opened old new (a ∷ []) old.faults old.idle → (s : Session) → Stands k s
+    → Iterated (known f.reads t) g left (taken + 1) old new s kept
+is_connection f g t left old new a b k mid kept r n end taken e h drove gone told m s st =
     let c = connects k mid r n e h s st in
     let v : DroveFor f g a b (left - 1) taken (Effect s Connect) kept end = drove (Effect s Connect) c.stands in
     let has : HasLeft v.cause = leaves_by v.cause end v.is_end gone in record {
@@ -226,22 +232,27 @@ is_connection f g left old new a b k mid kept r n end taken e h drove gone m s s
       counts = ap (λ n. n + 1) v.counts;
       opened = m;
       files = v.files;
+      told = Records-trans t f.told g.told (Connect ∷ []) (events_of v.rounds ++ events_by v.cause) told v.told;
       stands = has_left v.cause (after_rounds (Effect s Connect) v.rounds) kept has v.leaves;
     }
 
 -- turns or memory end the connection, and serving with it
-pub is_cut : (f g : KnownReads) (left : ℕ) (old new : Doorway) (a b : Line) (k mid driven kept : Kept) (r : Result ℕ EventError) (n : ℕ) (end : DriveEnd) (taken : ℕ)
+pub is_cut : (f g : Known) (t u : KnownEvents) (left : ℕ) (old new : Doorway) (a b : Line) (k mid driven kept : Kept) (r : Result ℕ EventError) (n : ℕ) (end : DriveEnd) (taken : ℕ)
     → r ≡ Ok n → Happens k Connect (answered applied.Connect r) mid
     → OfEach mid (λ t. DroveFor f g a b (left - 1) taken t driven end) → (IsLeaving end → ⊥)
-    → OfEach driven (λ u. Stands kept (Effect u DropConnection)) → Opened old new (a ∷ []) old.faults old.idle → (s : Session) → Stands k s
-    → Ended f g left end old new s kept
-is_cut f g left old new a b k mid driven kept r n end taken e h drove stays dropped m s st =
+    → OfEach driven (λ u. Stands kept (Effect u DropConnection)) → Records t f.told (Connect ∷ []) → Records g.told u (DropConnection ∷ [])
+    → Opened old new (a ∷ []) old.faults old.idle → (s : Session) → Stands k s
+    → Ended (known f.reads t) (known g.reads u) left end old new s kept
+is_cut f g t u left old new a b k mid driven kept r n end taken e h drove stays dropped told gone m s st =
     let c = connects k mid r n e h s st in
     let v : DroveFor f g a b (left - 1) taken (Effect s Connect) driven end = drove (Effect s Connect) c.stands in
     let cut : IsCut v.cause = cut_by v.cause end v.is_end v.began stays in record {
       why = ConnectionCut a b v.rounds v.cause;
       opened = m;
       files = v.files;
+      told =
+          Records-trans t g.told u (Connect ∷ (events_of v.rounds ++ events_by v.cause)) (DropConnection ∷ [])
+          (Records-trans t f.told g.told (Connect ∷ []) (events_of v.rounds ++ events_by v.cause) told v.told) gone;
       is_end = v.is_end;
       is_why = λ taken. (record { connects = c.is_taken; drove = v.drove }, cut);
       leaves = cuts v.cause (after_rounds (Effect s Connect) v.rounds) driven kept cut v.leaves dropped;
@@ -286,6 +297,12 @@ reads_of-append s (x ∷ xs) ys =
     ap (λ l. reads_within s x ++ l) (reads_of-append (after_iteration s x) xs ys) ∙ sym
     (append_assoc (reads_within s x) (reads_of (after_iteration s x) xs) (reads_of (after_iterations (after_iteration s x) xs) ys))
 
+events_of_all-append : (xs ys : List Iteration) → events_of_all (xs ++ ys) ≡ events_of_all xs ++ events_of_all ys
+events_of_all-append [] ys = refl
+events_of_all-append (x ∷ xs) ys =
+    ap (λ l. events_within x ++ l) (events_of_all-append xs ys) ∙ sym
+    (append_assoc (events_within x) (events_of_all xs) (events_of_all ys))
+
 idle_after_iterations-append : (count : ℕ) (xs ys : List Iteration)
     → idle_after_iterations count (xs ++ ys) ≡ idle_after_iterations (idle_after_iterations count xs) ys
 idle_after_iterations-append count [] ys = refl
@@ -299,7 +316,7 @@ waits_after_iterations-append count s (x ∷ xs) ys =
 
 -- ---- the loop
 
-pub begins_serving : (past : KnownReads) (door : Doorway) (turns : ℕ) (k : Kept) (s : Session) → Stands k s
+pub begins_serving : (past : Known) (door : Doorway) (turns : ℕ) (k : Kept) (s : Session) → Stands k s
     → ServedSoFar past past door door turns 0 s k
 begins_serving past door turns k s st = record {
   iterations = [];
@@ -307,7 +324,8 @@ begins_serving past door turns k s st = record {
   count = refl;
   opened = opened-refl door;
   waits = refl;
-  files = Records-nil past;
+  files = Records-nil past.reads;
+  told = Records-nil past.told;
   stands = st;
 }
 
@@ -318,6 +336,10 @@ reads_then : (s : Session) (xs : List Iteration) (x : Iteration)
     → reads_of s xs ++ reads_within (after_iterations s xs) x ≡ reads_of s (xs ++ x ∷ [])
 reads_then s xs x =
     sym (reads_of-append s xs (x ∷ []) ∙ ap (λ l. reads_of s xs ++ l) (append-nil (reads_within (after_iterations s xs) x)))
+
+events_then : (xs : List Iteration) (x : Iteration) → events_of_all xs ++ events_within x ≡ events_of_all (xs ++ x ∷ [])
+events_then xs x =
+    sym (events_of_all-append xs (x ∷ []) ∙ ap (λ l. events_of_all xs ++ l) (append-nil (events_within x)))
 
 idle_then : (a b : Doorway) (xs : List Iteration) (x : Iteration) → b.idle ≡ idle_after_iterations a.idle xs
     → idle_in b.idle x ≡ idle_after_iterations a.idle (xs ++ x ∷ [])
@@ -331,7 +353,7 @@ waits_then a b c s k xs st before now =
     let t = after_iterations s xs in
     now ∙ ap (λ (r : Bool). waits_while r b.waits) (runs_there k t st) ∙ ap (waits_while (is_runnable t.now)) before
 
-continues_serving : (f g h : KnownReads) (a b c : Doorway) (turns taken count : ℕ) (s : Session) (k new : Kept) (v : ServedSoFar f g a b turns taken s k)
+continues_serving : (f g h : Known) (a b c : Doorway) (turns taken count : ℕ) (s : Session) (k new : Kept) (v : ServedSoFar f g a b turns taken s k)
     → c.waits ≡ waits_while (is_runnable (after_iterations s v.iterations).now) (waits_after_iterations a.waits s v.iterations)
     → Iterated g h (turns - taken) count b c (after_iterations s v.iterations) new → ServedSoFar f h a c turns (taken + count) s new
 continues_serving f g h a b c turns taken count s k new v waits w =
@@ -347,14 +369,19 @@ continues_serving f g h a b c turns taken count s k new v waits w =
           (idle_then a b v.iterations w.iteration v.opened.idle) (opened-trans a b c _ _ _ _ _ _ v.opened w.opened);
       waits = waits ∙ sym (waits_after_iterations-append a.waits s v.iterations (w.iteration ∷ []));
       files =
-          records_as f h (reads_of s v.iterations ++ reads_within (after_iterations s v.iterations) w.iteration)
+          records_as f.reads h.reads (reads_of s v.iterations ++ reads_within (after_iterations s v.iterations) w.iteration)
           (reads_of s (v.iterations ++ w.iteration ∷ [])) (reads_then s v.iterations w.iteration)
-          (Records-trans f g h (reads_of s v.iterations) (reads_within (after_iterations s v.iterations) w.iteration) v.files w.files);
+          (Records-trans f.reads g.reads h.reads (reads_of s v.iterations) (reads_within (after_iterations s v.iterations) w.iteration)
+          v.files w.files);
+      told =
+          records_as f.told h.told (events_of_all v.iterations ++ events_within w.iteration) (events_of_all (v.iterations ++ w.iteration ∷ []))
+          (events_then v.iterations w.iteration)
+          (Records-trans f.told g.told h.told (events_of_all v.iterations) (events_within w.iteration) v.told w.told);
       stands = subst (Stands new) (sym (after_iterations-append s v.iterations (w.iteration ∷ []))) w.stands;
     }
 
 -- after one more pass of the loop serving continues
-pub serving_continues : (f g h : KnownReads) (a b c : Doorway) (turns taken : ℕ) (s : Session) (k new : Kept) (result : Result ℕ DriveEnd) (count : ℕ)
+pub serving_continues : (f g h : Known) (a b c : Doorway) (turns taken : ℕ) (s : Session) (k new : Kept) (result : Result ℕ DriveEnd) (count : ℕ)
     → result ≡ Ok count → OfEach k (λ t. IteratedOrEnded g h (turns - taken) result b c t new)
     → c.waits ≡ waits_while (is_runnable k.now) b.waits → ServedSoFar f g a b turns taken s k
     → ServedSoFar f h a c turns (taken + count) s new
@@ -374,10 +401,10 @@ by_a_call NoRoomYet wires left s runs waits some h = let none : (let n : ℕ = 1
 by_a_call UnattendedCut wires left s runs waits some h = refl
 by_a_call (ConnectionCut old new rounds cause) wires left s runs waits some h = refl
 
-ends_after : (f g h : KnownReads) (a b c : Doorway) (turns taken : ℕ) (s : Session) (k new : Kept) (end : DriveEnd) → taken < turns
+ends_after : (f g h : Known) (a b c : Doorway) (turns taken : ℕ) (s : Session) (k new : Kept) (end : DriveEnd) → taken < turns
     → (v : ServedSoFar f g a b turns taken s k)
     → c.waits ≡ waits_while (is_runnable (after_iterations s v.iterations).now) (waits_after_iterations a.waits s v.iterations)
-    → Ended g h (turns - taken) end b c (after_iterations s v.iterations) new → Served f h a c turns s new end
+    → Ended g h (turns - taken) end b c (after_iterations s v.iterations) new → ServedTold f h a c turns s new end
 ends_after f g h a b c turns taken s k new end few v waits w = record {
   iterations = v.iterations;
   why = w.why;
@@ -387,7 +414,9 @@ ends_after f g h a b c turns taken s k new end few v waits w = record {
       opened_as a c _ _ _ _ _ _ refl (ap (failed_at w.why) v.opened.faults) (ap (idle_at w.why) v.opened.idle)
       (opened-trans a b c _ _ _ _ _ _ v.opened w.opened);
   waits = waits ∙ sym (by_a_call w.why c.wires (turns - taken) (after_iterations s v.iterations) _ _ (omega arith) w.is_why);
-  files = Records-trans f g h (reads_of s v.iterations) (reads_at (after_iterations s v.iterations) w.why) v.files w.files;
+  files =
+      Records-trans f.reads g.reads h.reads (reads_of s v.iterations) (reads_at (after_iterations s v.iterations) w.why) v.files w.files;
+  told = Records-trans f.told g.told h.told (events_of_all v.iterations) (events_at w.why) v.told w.told;
   is_end = w.is_end;
   is_why =
       subst (λ (n : ℕ). IsWhy w.why c.wires (turns - n) (turns_taken v.iterations) (after_iterations s v.iterations)) (sym v.count)
@@ -395,16 +424,16 @@ ends_after f g h a b c turns taken s k new end few v waits w = record {
   leaves = w.leaves;
 }
 
-pub serving_ends : (f g h : KnownReads) (a b c : Doorway) (turns taken : ℕ) (s : Session) (k new : Kept) (end : DriveEnd) → taken < turns
+pub serving_ends : (f g h : Known) (a b c : Doorway) (turns taken : ℕ) (s : Session) (k new : Kept) (end : DriveEnd) → taken < turns
     → OfEach k (λ t. Ended g h (turns - taken) end b c t new)
-    → c.waits ≡ waits_while (is_runnable k.now) b.waits → ServedSoFar f g a b turns taken s k → Served f h a c turns s new end
+    → c.waits ≡ waits_while (is_runnable k.now) b.waits → ServedSoFar f g a b turns taken s k → ServedTold f h a c turns s new end
 serving_ends f g h a b c turns taken s k new end few ends waits v =
     ends_after f g h a b c turns taken s k new end few v (waits_then a b c s k v.iterations v.stands v.waits waits)
     (ends (after_iterations s v.iterations) v.stands)
 
 -- all turns were taken
-pub all_taken : (f g : KnownReads) (a b : Doorway) (turns taken : ℕ) (s : Session) (k : Kept) → taken ≡ turns
-    → ServedSoFar f g a b turns taken s k → Served f g a b turns s k Turns
+pub all_taken : (f g : Known) (a b : Doorway) (turns taken : ℕ) (s : Session) (k : Kept) → taken ≡ turns
+    → ServedSoFar f g a b turns taken s k → ServedTold f g a b turns s k Turns
 all_taken f g a b turns taken s k all v =
     let made : turns_taken v.iterations ≡ turns = v.count ∙ all in record {
       iterations = v.iterations;
@@ -413,15 +442,18 @@ all_taken f g a b turns taken s k all v =
       few = omega arith;
       opened = opened_as a b _ _ _ _ _ _ (sym (append-nil (lines_of v.iterations))) refl refl v.opened;
       waits = v.waits;
-      files = records_as f g (reads_of s v.iterations) (reads_of s v.iterations ++ []) (sym (append-nil (reads_of s v.iterations))) v.files;
+      files =
+          records_as f.reads g.reads (reads_of s v.iterations) (reads_of s v.iterations ++ []) (sym (append-nil (reads_of s v.iterations)))
+          v.files;
+      told = records_as f.told g.told (events_of_all v.iterations) (events_of_all v.iterations ++ []) (sym (append-nil (events_of_all v.iterations))) v.told;
       is_end = refl;
       is_why = omega arith;
       leaves = v.stands;
     }
 
 -- without memory for a piece the door is not called
-pub no_room_to_serve : (past : KnownReads) (door : Doorway) (turns : ℕ) (s : Session) (k : Kept) → Stands k s
-    → Served past past door door turns s k OutOfMemory
+pub no_room_to_serve : (past : Known) (door : Doorway) (turns : ℕ) (s : Session) (k : Kept) → Stands k s
+    → ServedTold past past door door turns s k OutOfMemory
 no_room_to_serve past door turns s k st =
     record {
       iterations = [];
@@ -430,7 +462,8 @@ no_room_to_serve past door turns s k st =
       few = omega arith;
       opened = opened-refl door;
       waits = refl;
-      files = Records-nil past;
+      files = Records-nil past.reads;
+      told = Records-nil past.told;
       is_end = refl;
       is_why = refl;
       leaves = st;

@@ -16,11 +16,11 @@ pub record FileRead : Type 0 where
 abbrev pub KnownReads : Type 0
 KnownReads = Option (List FileRead)
 
--- known reads grow by these
-abbrev pub Records : KnownReads → KnownReads → List FileRead → Type 0
-Records None new reads = ⊤
-Records (Some past) None reads = ⊥
-Records (Some past) (Some now) reads = now ≡ past ++ reads
+-- what is known, reads or else, grows by these
+abbrev pub Records : {X : Type 0} → Option (List X) → Option (List X) → List X → Type 0
+Records None new more = ⊤
+Records (Some past) None more = ⊥
+Records (Some past) (Some now) more = now ≡ past ++ more
 
 -- the read of a path, by what it answered
 abbrev pub read_of : List ℕ → Result (List ℕ) FileFault → List FileRead

@@ -4,6 +4,8 @@
 pub mod Files
 -- what is due in each round, and what the rounds do to a session
 pub mod Rounds
+-- what a recorder is told of them
+pub mod Told
 -- the rounds over a wire, and how driving ends; at the end of the file one pass of the loop, which private clauses cite alone
 pub mod Drives
 -- editors that are served one after the other, each over a wire that a door accepts

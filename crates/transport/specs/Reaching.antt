@@ -3,25 +3,60 @@
 -- A round is an event, or two; an iteration is a connection, its rounds and its end, or a slice. Where no memory was left in a slice, that
 -- slice was cut. So what a session stands for after it was driven or served is led to from what it stood for before, by what
 -- happened (`Reached` of `session`): all that holds of whatever is reached holds of what this loop makes of a session.
-use Rattle.std.specs.Prelude.{ℕ, List}
+--
+-- What a recorder was told leads there too, unless no memory was left; and slices that follow each other may be told as one of all their moves. So
+-- what is recorded, played again, queues the same bytes on each connection.
+use Rattle.std.specs.Prelude.{◌≡◌, ◌⊎◌, ℕ, ◌+◌, List, [], ◌∷◌}
+use Rattle.session.specs.declared.event.Event.{Event}
+use Rattle.session.specs.declared.event.Event.TheVariants.{Slice}
+use Rattle.session.specs.Effects.{after_all}
 use Rattle.session.specs.Kept.{Kept, Stands}
 use Rattle.session.specs.Reached.{Happened, led_to}
-use Rattle.session.specs.Sessions.{Session}
+use Rattle.session.specs.Sessions.{Session, histories}
 use Rattle.wires.specs.Doors.{Doorway}
 use Rattle.wires.specs.Wires.{Line}
-use Rattle.transport.specs.Drives.{Driven}
-use Rattle.transport.specs.Files.{KnownReads}
-use Rattle.transport.specs.Serving.{Served}
+use Rattle.transport.specs.Drives.{DrivenTold}
+use Rattle.transport.specs.Serving.{ServedTold}
+use Rattle.transport.specs.Told.{Known}
+use Rattle.transport.specs.Files.{Records}
 use Rattle.transport.specs.declared.end.DriveEnd.{DriveEnd}
+use Rattle.transport.specs.declared.end.DriveEnd.TheVariants.{NoMemory}
 
 -- it stands for what something leads to from there
 abbrev pub IsLedTo : Session → Kept → Type 0
 IsLedTo s new = (happened : List Happened) × Stands new (led_to happened s)
 
 abbrev pub DrivingLeads : Type 0
-DrivingLeads = (before after : KnownReads) (old new : Line) (turns : ℕ) (s : Session) (kept : Kept) (end : DriveEnd)
-    → Driven before after old new turns s kept end → IsLedTo s kept
+DrivingLeads = (before after : Known) (old new : Line) (turns : ℕ) (s : Session) (kept : Kept) (end : DriveEnd)
+    → DrivenTold before after old new turns s kept end → IsLedTo s kept
 
 abbrev pub ServingLeads : Type 0
-ServingLeads = (before after : KnownReads) (old new : Doorway) (turns : ℕ) (s : Session) (kept : Kept) (end : DriveEnd)
-    → Served before after old new turns s kept end → IsLedTo s kept
+ServingLeads = (before after : Known) (old new : Doorway) (turns : ℕ) (s : Session) (kept : Kept) (end : DriveEnd)
+    → ServedTold before after old new turns s kept end → IsLedTo s kept
+
+-- ---- what is told
+
+-- the events that were told lead from a session to what is stood for then, unless no memory was left
+abbrev pub TellsWhatHappened : Known → Known → Session → Kept → DriveEnd → Type 0
+TellsWhatHappened before after s kept end = (events : List Event) × Records before.told after.told events
+    × ((end ≡ NoMemory) ⊎ Stands kept (after_all histories events s))
+
+abbrev pub DrivingTells : Type 0
+DrivingTells = (before after : Known) (old new : Line) (turns : ℕ) (s : Session) (kept : Kept) (end : DriveEnd)
+    → DrivenTold before after old new turns s kept end → TellsWhatHappened before after s kept end
+
+abbrev pub ServingTells : Type 0
+ServingTells = (before after : Known) (old new : Doorway) (turns : ℕ) (s : Session) (kept : Kept) (end : DriveEnd)
+    → ServedTold before after old new turns s kept end → TellsWhatHappened before after s kept end
+
+-- events, where slices that follow each other may be one of all their moves
+abbrev pub AreJoined : List Event → List Event → Type 0
+AreJoined [] joined = joined ≡ []
+AreJoined (e ∷ events) [] = ⊥
+AreJoined (e ∷ events) (j ∷ joined) = ((j ≡ e) × AreJoined events joined)
+    ⊎ ((a : ℕ) × (b : ℕ) × (e ≡ Slice a) × (j ≡ Slice (a + b)) × AreJoined events (Slice b ∷ joined))
+
+-- they lead to the same
+abbrev pub JoinedLeadToTheSame : Type 0
+JoinedLeadToTheSame = (events joined : List Event) → AreJoined events joined
+    → (s : Session) → after_all histories joined s ≡ after_all histories events s

@@ -9,6 +9,7 @@
 -- A turn is one of these: a connection that is accepted, a slice of an unattended program, a round of a connection, and
 -- the end of a connection. Where turns or memory end serving while an editor is connected, its connection ends too.
 use Rattle.std.specs.Prelude.{◌≡◌, ℕ, ◌+◌, ◌-◌, ◌≤◌, Bool, true, false, List, [], ◌∷◌, ◌++◌, length, Option, Result, Ok, Err, IsOk, IsErr}
+use Rattle.session.specs.declared.event.Event.{Event}
 use Rattle.session.specs.declared.event.Event.TheVariants.{Connect, Slice, DropConnection}
 use Rattle.session.specs.Effects.{BreaksOff}
 use Rattle.session.specs.Kept.{Kept, Stands}
@@ -21,7 +22,8 @@ use Rattle.transport.specs.declared.end.DriveEnd.TheVariants.{Closed, Fault, Tur
 use Rattle.transport.specs.Files.{FileRead, KnownReads, Records}
 use Rattle.transport.specs.Rounds.{moves_granted, Round, after_rounds, reads, RunsOut}
 use Rattle.transport.specs.Drives.{Cause, AllSaid, InputEnded, CallFailed, NoAnswer, PieceLost, TimeCut, TurnsMade}
-use Rattle.transport.specs.Drives.{end_of, turns_of, unused_by, Drove}
+use Rattle.transport.specs.Drives.{end_of, turns_of, unused_by, events_by, Drove}
+use Rattle.transport.specs.Told.{Known, untold, events_of}
 
 -- ---- one iteration
 
@@ -84,6 +86,15 @@ abbrev pub reads_within : Session → Iteration → List FileRead
 reads_within s Unattended = []
 reads_within s (Connection old new rounds cause) = reads_for s rounds cause
 
+-- the events of a connection
+abbrev pub events_for : List Round → Cause → List Event
+events_for rounds cause = Connect ∷ (events_of rounds ++ events_by cause)
+
+-- the events of an iteration
+abbrev pub events_within : Iteration → List Event
+events_within Unattended = Slice moves_granted ∷ []
+events_within (Connection old new rounds cause) = events_for rounds cause
+
 -- how many polls of the door accepted no wire, after that many did before
 abbrev pub idle_in : ℕ → Iteration → ℕ
 idle_in count Unattended = one_more count
@@ -122,6 +133,11 @@ lines_of (x ∷ iterations) = lines_in x ++ lines_of iterations
 abbrev pub reads_of : Session → List Iteration → List FileRead
 reads_of s [] = []
 reads_of s (x ∷ iterations) = reads_within s x ++ reads_of (after_iteration s x) iterations
+
+-- the events of iterations
+abbrev pub events_of_all : List Iteration → List Event
+events_of_all [] = []
+events_of_all (x ∷ iterations) = events_within x ++ events_of_all iterations
 
 -- how many polls of the door accepted no wire, after that many did before
 abbrev pub idle_after_iterations : ℕ → List Iteration → ℕ
@@ -175,6 +191,11 @@ abbrev pub reads_at : Session → Why → List FileRead
 reads_at s (ConnectionCut old new rounds cause) = reads_for s rounds cause
 reads_at s _ = []
 
+-- the events after the last iteration: a connection that is cut ends
+abbrev pub events_at : Why → List Event
+events_at (ConnectionCut old new rounds cause) = events_for rounds cause ++ DropConnection ∷ []
+events_at _ = []
+
 -- how many calls of the door failed, after that many did before
 abbrev pub failed_at : Why → ℕ → ℕ
 failed_at DoorFailed count = one_more count
@@ -217,8 +238,8 @@ LeavesBy _ s new = Stands new s
 -- There are iterations, one after the other, and after them serving ends. The accepted wires are those that the door gave.
 -- The door counts one failed call where serving ends as a fault, else none, and one poll that accepted no wire for each slice
 -- of an unattended program. It counts one wait for each call where no program ran, and else none. The reads that the files answered are
--- those for the connections, one after the other.
-pub record Served (before after : KnownReads) (old new : Doorway) (turns : ℕ) (s : Session) (kept : Kept) (end : DriveEnd)
+-- those for the connections, one after the other. The recorder was told the events of the iterations, and those after the last.
+pub record ServedTold (before after : Known) (old new : Doorway) (turns : ℕ) (s : Session) (kept : Kept) (end : DriveEnd)
     : Type 0 where
   pub iterations : List Iteration
   pub why : Why
@@ -227,46 +248,54 @@ pub record Served (before after : KnownReads) (old new : Doorway) (turns : ℕ) 
   pub opened : Opened old new (lines_of iterations ++ lines_by why) (failed_at why old.faults)
       (idle_at why (idle_after_iterations old.idle iterations))
   pub waits : new.waits ≡ waits_until why (is_runnable (after_iterations s iterations).now) (waits_after_iterations old.waits s iterations)
-  pub files : Records before after (reads_of s iterations ++ reads_at (after_iterations s iterations) why)
+  pub files : Records before.reads after.reads (reads_of s iterations ++ reads_at (after_iterations s iterations) why)
+  pub told : Records before.told after.told (events_of_all iterations ++ events_at why)
   pub is_end : end_by why ≡ end
   pub is_why : IsWhy why new.wires (turns - turns_taken iterations) (turns_taken iterations)
       (after_iterations s iterations)
   pub leaves : LeavesBy why (after_iterations s iterations) kept
 
+-- the same, where nobody is told
+abbrev pub Served : KnownReads → KnownReads → Doorway → Doorway → ℕ → Session → Kept → DriveEnd → Type 0
+Served before after = ServedTold (untold before) (untold after)
+
 -- ---- one pass of the loop, for private clauses alone
 
 -- One iteration took that many turns, where that many were left.
-pub record Iterated (before after : KnownReads) (left count : ℕ) (old new : Doorway) (s : Session) (kept : Kept)
+pub record Iterated (before after : Known) (left count : ℕ) (old new : Doorway) (s : Session) (kept : Kept)
     : Type 0 where
   pub iteration : Iteration
   pub is_iteration : IsIteration left s iteration
   pub counts : turns_in iteration ≡ count
   pub opened : Opened old new (lines_in iteration) old.faults (idle_in old.idle iteration)
-  pub files : Records before after (reads_within s iteration)
+  pub files : Records before.reads after.reads (reads_within s iteration)
+  pub told : Records before.told after.told (events_within iteration)
   pub stands : Stands kept (after_iteration s iteration)
 
 -- Serving ends, however many turns were taken.
-pub record Ended (before after : KnownReads) (left : ℕ) (end : DriveEnd) (old new : Doorway) (s : Session) (kept : Kept)
+pub record Ended (before after : Known) (left : ℕ) (end : DriveEnd) (old new : Doorway) (s : Session) (kept : Kept)
     : Type 0 where
   pub why : Why
   pub opened : Opened old new (lines_by why) (failed_at why old.faults) (idle_at why old.idle)
-  pub files : Records before after (reads_at s why)
+  pub files : Records before.reads after.reads (reads_at s why)
+  pub told : Records before.told after.told (events_at why)
   pub is_end : end_by why ≡ end
   pub is_why : (taken : ℕ) → IsWhy why new.wires left taken s
   pub leaves : LeavesBy why s kept
 
 -- what one pass of the loop does, by its result
-abbrev pub IteratedOrEnded : KnownReads → KnownReads → ℕ → Result ℕ DriveEnd → Doorway → Doorway → Session → Kept → Type 0
+abbrev pub IteratedOrEnded : Known → Known → ℕ → Result ℕ DriveEnd → Doorway → Doorway → Session → Kept → Type 0
 IteratedOrEnded before after left (Ok count) old new s kept = Iterated before after left count old new s kept
 IteratedOrEnded before after left (Err end) old new s kept = Ended before after left end old new s kept
 
 -- Since a session was this one it has been served for that many turns, and serving has not ended.
-pub record ServedSoFar (before after : KnownReads) (old new : Doorway) (turns taken : ℕ) (s : Session) (kept : Kept)
+pub record ServedSoFar (before after : Known) (old new : Doorway) (turns taken : ℕ) (s : Session) (kept : Kept)
     : Type 0 where
   pub iterations : List Iteration
   pub are_iterations : AreIterations turns s iterations
   pub count : turns_taken iterations ≡ taken
   pub opened : Opened old new (lines_of iterations) old.faults (idle_after_iterations old.idle iterations)
   pub waits : new.waits ≡ waits_after_iterations old.waits s iterations
-  pub files : Records before after (reads_of s iterations)
+  pub files : Records before.reads after.reads (reads_of s iterations)
+  pub told : Records before.told after.told (events_of_all iterations)
   pub stands : Stands kept (after_iterations s iterations)

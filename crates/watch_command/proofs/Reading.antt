@@ -39,7 +39,8 @@ one_more (x ∷ steps) reads events s file event is h =
       h.1 ++ read_for (path_in s) file,
       h.2 ++ event ∷ [],
       (
-        ap (λ (l : List FileRead). l ++ read_for (path_in s) file) h.3.0 ∙ append_assoc (read_for (path_in x) h.0) h.1 (read_for (path_in s) file),
+        ap (λ (l : List FileRead). l ++ read_for (path_in s) file) h.3.0
+            ∙ append_assoc (read_for (path_in x) h.0) h.1 (read_for (path_in s) file),
         (ap (λ (l : List Event). l ++ event ∷ []) h.3.1.0, rest),
       ),
     )

@@ -2,3 +2,7 @@
 
 -- why it is not
 pub mod Playing
+-- a line of what was said
+pub mod Shown
+-- what was said
+pub mod Conversing

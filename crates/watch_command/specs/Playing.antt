@@ -7,7 +7,10 @@
 -- Of a script whose lines are wrong the first of these is said. Else its last line is said, the one that says what is
 -- watched, where there is nothing to watch: no connection has that number, or it got fewer bytes. Nothing was written in
 -- both cases.
-use Rattle.std.specs.Prelude.{◌≡◌, ◌⊎◌, ℕ, ◌+◌, List, [], ◌∷◌, ◌++◌, length, Option, Some, None, Result, Ok, Err}
+--
+-- The lines may have been read before, and the session may be another, with a program or another size of memory.
+use Rattle.std.specs.Prelude.{◌≡◌, ◌⊎◌, ℕ, ◌+◌, ◌≤◌, List, [], ◌∷◌, ◌++◌, length, Option, Some, None, IfSome, Result, Ok, Err}
+use Rattle.std.specs.Str.{IsUtf8}
 use Rattle.scripts.specs.Scripts.{script_of}
 use Rattle.scripts.specs.declared.fault.ScriptFault.{ScriptFault}
 use Rattle.scripts.specs.declared.fault.ScriptFault.TheVariants.{Line, Write, NoMemory}
@@ -26,6 +29,8 @@ use Rattle.watch_events.specs.Replaying.{Queues, Watches}
 use Rattle.watch_events.specs.declared.watching.WatchError.{WatchError}
 use Rattle.watch_events.specs.declared.watching.WatchError.TheVariants as watch
 use Rattle.watch_events.specs.declared.watching.Watched.{Watched}
+use Rattle.watch_command.specs.declared.watching.WatchFault.{WatchFault}
+use Rattle.watch_command.specs.declared.watching.WatchFault.TheVariants as fault
 
 -- ---- the events of a script
 
@@ -57,42 +62,66 @@ AreEvents (s ∷ steps) reads events = (file : Option (List ℕ)) × (others : L
 abbrev pub config : Config
 config = record { memory_size = 1048576; program = None }
 
+-- the path of a program, if one is given, is a text, and short enough to be told
+abbrev pub HasShortPath : Config → Type 0
+HasShortPath c = IfSome c.program (λ program. IsUtf8 program.0 × (length program.0 ≤ 1048576))
+
 -- how many bytes of the connection are watched
-abbrev pub IsCut : Cut → List Event → ℕ → ℕ → Type 0
-IsCut (At count) events connection n = n ≡ count
-IsCut All events connection n = Queues config greatest_limits events connection (Ok n)
+abbrev pub IsCut : Config → Cut → List Event → ℕ → ℕ → Type 0
+IsCut c (At count) events connection n = n ≡ count
+IsCut c All events connection n = Queues c greatest_limits events connection (Ok n)
 
 -- what `watch` answers for so many bytes; or why it is not known how many all are
-abbrev pub WatchAnswers : List Event → Watch → Result Watched WatchError → Type 0
-WatchAnswers events w (Ok watched) = (n : ℕ) × (IsCut w.cut events w.connection n
-    × Watches config greatest_limits events w.connection n (Ok watched))
-WatchAnswers events w (Err error) = ((n : ℕ) × (IsCut w.cut events w.connection n
-    × Watches config greatest_limits events w.connection n (Err error)))
-    ⊎ ((w.cut ≡ All) × Queues config greatest_limits events w.connection (Err error))
+abbrev pub WatchAnswers : Config → List Event → Watch → Result Watched WatchError → Type 0
+WatchAnswers c events w (Ok watched) = (n : ℕ) × (IsCut c w.cut events w.connection n
+    × Watches c greatest_limits events w.connection n (Ok watched))
+WatchAnswers c events w (Err error) = ((n : ℕ) × (IsCut c w.cut events w.connection n
+    × Watches c greatest_limits events w.connection n (Err error)))
+    ⊎ ((w.cut ≡ All) × Queues c greatest_limits events w.connection (Err error))
 
 -- ---- what is answered
+
+-- Steps were played: the files that they name were read, and this is so of their events.
+pub record Done (steps : List Step) (before after : KnownReads) (IsSo : List Event → Type 0) : Type 0 where
+  pub reads : List FileRead
+  pub files : Records before after reads
+  pub events : List Event
+  pub are : AreEvents steps reads events
+  pub so : IsSo events
 
 -- A script that can be read was played: this is so of its steps, of what it watches, and of its events.
 pub record Played (text : List ℕ) (before after : KnownReads) (IsSo : List Step → Watch → List Event → Type 0) : Type 0 where
   pub steps : List Step
   pub watch : Watch
   pub script : script_of text ≡ Ok (steps, watch)
-  pub reads : List FileRead
-  pub files : Records before after reads
-  pub events : List Event
-  pub are : AreEvents steps reads events
-  pub so : IsSo steps watch events
+  pub done : Done steps before after (IsSo steps watch)
 
 -- there is something to watch
+abbrev pub HasWatched : Config → Watch → List Event → Type 0
+HasWatched c w events = (watched : Watched) × WatchAnswers c events w (Ok watched)
+
+-- there is, by a script
 abbrev pub IsSomething : List Step → Watch → List Event → Type 0
-IsSomething steps w events = (watched : Watched) × WatchAnswers events w (Ok watched)
+IsSomething steps w events = HasWatched config w events
 
 -- there is not, and this is the number of the last line
 abbrev pub WatchesNone : ℕ → List Step → Watch → List Event → Type 0
 WatchesNone number steps w events = (number ≡ length steps + 1)
-    × (WatchAnswers events w (Err watch.NoSuchConnection) ⊎ WatchAnswers events w (Err watch.CutTooLong))
+    × (WatchAnswers config events w (Err watch.NoSuchConnection) ⊎ WatchAnswers config events w (Err watch.CutTooLong))
 
--- why it is not played; the reads of the files, and the bytes that the writer has, where they are known, before and after
+-- why steps are not watched; the reads of the files, and the bytes that the writer has, where they are known, before and after
+abbrev pub StepsFail : WatchFault → Config → List Step → Watch → (files files' : KnownReads)
+    → (before after : Option (List ℕ)) → Type 0
+StepsFail (fault.Unwatched (watch.Config error)) c steps w files files' before after =
+    (after ≡ before) × Done steps files files' (λ events. WatchAnswers c events w (Err (watch.Config error)))
+StepsFail (fault.Unwatched watch.NoSuchConnection) c steps w files files' before after =
+    (after ≡ before) × Done steps files files' (λ events. WatchAnswers c events w (Err watch.NoSuchConnection))
+StepsFail (fault.Unwatched watch.CutTooLong) c steps w files files' before after =
+    (after ≡ before) × Done steps files files' (λ events. WatchAnswers c events w (Err watch.CutTooLong))
+StepsFail (fault.Unwatched watch.NoMemory) c steps w files files' before after = after ≡ before
+StepsFail fault.Write c steps w files files' before after = Done steps files files' (HasWatched c w)
+
+-- why a script is not played
 abbrev pub Fails : ScriptFault → List ℕ → (files files' : KnownReads) → (before after : Option (List ℕ)) → Type 0
 Fails (Line number) text files files' before after =
     (after ≡ before) × ((script_of text ≡ Err number) ⊎ Played text files files' (WatchesNone number))
@@ -110,9 +139,13 @@ abbrev pub HasEvents : List Step → KnownReads → KnownReads → List Event �
 HasEvents steps before after events =
     (reads : List FileRead) × (Records before after reads × AreEvents steps reads events)
 
--- what is said where nothing is watched, by the number of the last line
-abbrev pub fault_of : ℕ → WatchError → ScriptFault
-fault_of last (watch.Config error) = NoMemory
-fault_of last watch.NoSuchConnection = Line last
-fault_of last watch.CutTooLong = Line last
-fault_of last watch.NoMemory = NoMemory
+-- what is said of a script whose steps are not watched, by the number of its last line
+abbrev pub unwatched : ℕ → WatchError → ScriptFault
+unwatched last (watch.Config error) = NoMemory
+unwatched last watch.NoSuchConnection = Line last
+unwatched last watch.CutTooLong = Line last
+unwatched last watch.NoMemory = NoMemory
+
+abbrev pub fault_of : ℕ → WatchFault → ScriptFault
+fault_of last (fault.Unwatched error) = unwatched last error
+fault_of last fault.Write = Write

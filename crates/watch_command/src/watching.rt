@@ -1,19 +1,43 @@
 //! A script is played.
 ghost use Rattle.std.specs.Prelude.{◌≡◌, IfErr, OnOk};
 ghost use Rattle.watch_command.specs.Playing as spec;
-ghost use Rattle.watch_command.specs.Playing.{Fails, IsSomething, WatchAnswers, Played};
+ghost use Rattle.watch_command.specs.Playing.{Done, Fails, HasShortPath, HasWatched, IsSomething, Played, StepsFail, WatchAnswers};
 
+use crate::configs::copy_of;
 use crate::events::{events_of, within};
 use crate::lines::lines_of;
-use scripts::{Cut, Script, ScriptFault, Watch, read_script};
+use scripts::{Cut, Script, ScriptFault, Step, Watch, read_script};
 use session::{Config, Event, Limits};
-use std::alloc::Global;
+use std::alloc::{AllocError, Global};
 use std::io::Write;
+use thiserror::Error;
 use transport::Files;
 use watch_events::{WatchError, Watched, queued, watch};
 
 /// How many bytes the memory has of a program in a script.
 const MEMORY_SIZE: u32 = 1_048_576;
+
+/// Why steps were not watched.
+#[derive(Clone, Copy, Debug, PartialEq, Eq, Error)]
+pub enum WatchFault {
+    /// There is nothing to watch, or no memory was left.
+    #[error("{0}")]
+    Unwatched(WatchError),
+    /// What was seen could not be written.
+    #[error("write fault")]
+    Write,
+}
+
+impl From<AllocError> for WatchFault {
+    ghost use Rattle.watch_command.specs.declared.watching.WatchFault.TheVariants.{Unwatched};
+    ghost use Rattle.watch_events.specs.declared.watching.WatchError.TheVariants.{NoMemory};
+
+    ghost from_gives = { λ _ fault. fault ≡ Unwatched NoMemory };
+
+    fn from(_: AllocError) -> WatchFault {
+        WatchFault::Unwatched(WatchError::NoMemory)
+    }
+}
 
 /// Plays a script: does its events in a session with 1 MiB of memory, no program and the greatest limits, and writes what an editor
 /// knows by what its last line watches, a line for each fact, beside what there was to see. A file that cannot be read is given as none.
@@ -35,34 +59,63 @@ pub fn watch_script<F: Files, W: Write>(
 {
     let Script { steps, watch } = read_script(alloc, script)?;
     let last = steps.len() as u64 + 1;
-    let events = events_of(alloc, steps, files)?;
-    let watched = match watched_by(alloc, &events, watch) {
-        Ok(watched) => watched,
-        Err(error) => return Err(fault_of(error, last)),
-    };
-    let lines = lines_of(alloc, &watched, MEMORY_SIZE)?;
-    match writer.write_all(lines.as_bytes()) {
+    match watch_steps(alloc, config(), steps, watch, files, writer) {
         Ok(()) => Ok(()),
-        Err(_) => Err(ScriptFault::Write),
+        Err(fault) => Err(fault_of(fault, last)),
     }
 }
 
-fn watched_by(alloc: Global, events: &[Event], asked: Watch) -> Result<Watched, WatchError>
-    ensures { WatchAnswers events.now asked result }
+/// Plays the steps of a script that was read, in a session of this and with the greatest limits, and writes what an editor knows by what
+/// is watched, as `watch_script` does. The path of a program that is given has at most 1,048,576 bytes.
+///
+/// - `Unwatched`: what `watch_events::watch` answers, or no memory was left. Nothing was written.
+/// - `Write`: the writer failed, or took nothing.
+pub fn watch_steps<F: Files, W: Write>(
+    alloc: Global,
+    config: Config,
+    steps: Vec<Step>,
+    watch: Watch,
+    files: &mut F,
+    writer: &mut W,
+) -> Result<(), WatchFault>
+    requires { HasShortPath config }
+    ensures ok { OnOk result
+        (Done steps.items (F.past files.old) (F.past files.new) (HasWatched config watch)) }
+    ensures err { IfErr result (λ fault. StepsFail fault config steps.items watch
+        (F.past files.old) (F.past files.new) (W.contents writer.old) (W.contents writer.new)) }
+{
+    let size = config.memory_size;
+    let copy = copy_of(alloc, &config)?;
+    let events = events_of(alloc, steps, files)?;
+    let watched = match watched_by(alloc, config, copy, &events, watch) {
+        Ok(watched) => watched,
+        Err(error) => return Err(WatchFault::Unwatched(error)),
+    };
+    let lines = lines_of(alloc, &watched, size)?;
+    match writer.write_all(lines.as_bytes()) {
+        Ok(()) => Ok(()),
+        Err(_) => Err(WatchFault::Write),
+    }
+}
+
+// What `watch` answers, in a session of this; the copy is for the number of all bytes.
+fn watched_by(
+    alloc: Global,
+    config: Config,
+    copy: Config,
+    events: &[Event],
+    asked: Watch,
+) -> Result<Watched, WatchError>
+    requires path { HasShortPath config }
+    requires same { copy ≡ config }
+    ensures { WatchAnswers config events.now asked result }
 {
     let Watch { connection, cut } = asked;
     let count = match cut {
         Cut::At(count) => within(count),
-        Cut::All => queued(alloc, config(), Limits::greatest(), events, connection)?,
+        Cut::All => queued(alloc, copy, Limits::greatest(), events, connection)?,
     };
-    watch(
-        alloc,
-        config(),
-        Limits::greatest(),
-        events,
-        connection,
-        count,
-    )
+    watch(alloc, config, Limits::greatest(), events, connection, count)
 }
 
 fn config() -> Config
@@ -74,9 +127,18 @@ fn config() -> Config
     }
 }
 
-// What is said where nothing is watched.
-fn fault_of(error: WatchError, last: u64) -> ScriptFault
-    ensures { result ≡ spec.fault_of last error }
+// What is said of a script whose steps are not watched.
+fn fault_of(fault: WatchFault, last: u64) -> ScriptFault
+    ensures { result ≡ spec.fault_of last fault }
+{
+    match fault {
+        WatchFault::Unwatched(error) => unwatched(error, last),
+        WatchFault::Write => ScriptFault::Write,
+    }
+}
+
+fn unwatched(error: WatchError, last: u64) -> ScriptFault
+    ensures { result ≡ spec.unwatched last error }
 {
     match error {
         WatchError::NoSuchConnection | WatchError::CutTooLong => ScriptFault::Line(last),

@@ -1,5 +1,5 @@
 use Rattle.std.specs.Prelude.{string_bytes}
-use Rattle.execution.proofs.Joining.{breaks_in_slice, ends_in_slice, on_err, slice_keeps}
+use Rattle.execution.proofs.Joining.{breaks_in_slice, ends_in_slice, on_err, slice_keeps, slice_so_far}
 use Rattle.execution.proofs.slices.run_slice.Goals as goal
 
 pub returns-in_err-part-clause-err : goal.returns-in_err-part-clause-err
@@ -17,5 +17,11 @@ returns-in-Some-clause-ok c =
 pub loop-made-preserved : goal.loop-made-preserved
 loop-made-preserved c =
     slice_keeps c.args.most c.loop-made.made c.in_ok-part.part.made c.args.runner.now c.loop-made.runner
+    c.stretch.new.runner (string_bytes c.args.lines.now) (string_bytes c.loop-made.lines) (string_bytes c.stretch.new.lines)
+    c.loop-made.invariant (rw c.in-None.is at c.in_ok-part.ensures.ok)
+
+pub returns-then-len-room-clause-ok : goal.returns-then-len-room-clause-ok
+returns-then-len-room-clause-ok c =
+    slice_so_far c.args.most c.loop-made.made c.in_ok-part.part.made c.args.runner.now c.loop-made.runner
     c.stretch.new.runner (string_bytes c.args.lines.now) (string_bytes c.loop-made.lines) (string_bytes c.stretch.new.lines)
     c.loop-made.invariant (rw c.in-None.is at c.in_ok-part.ensures.ok)

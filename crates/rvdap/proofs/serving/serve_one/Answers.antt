@@ -7,9 +7,11 @@ use Rattle.rvdap.proofs.serving.serve_one.Goals as goal
 
 pub returns : goal.returns
 returns g c s st = record {
-  end = c.drive-end.result;
+  end = c.drive_told-end.result;
+  told = _;
+  connects = c.tell.ensures;
   driven =
-      c.drive-end.ensures (Effect s Connect)
+      c.drive_told-end.ensures (Effect s Connect)
       (connected c.args.session.now c.connect.new.self c.connect.result c.connect.ensures.takes_none c.connect.ensures.stands s st);
-  is_ending = c.exit_reason_of.ensures ∙ ap (exit_reason_of c.drive-end.result) c.link_fault.ensures;
+  is_ending = c.exit_reason_of.ensures ∙ ap (exit_reason_of c.drive_told-end.result) c.link_fault.ensures;
 }

@@ -1,11 +1,12 @@
 use Rattle.std.proofs.Common.{◌≤◌}
 use Rattle.session.specs.Kept.{OfEach}
 use Rattle.transport.specs.Drives.{Driving}
+use Rattle.transport.specs.Told.{known}
 use Rattle.transport.proofs.drives.drive_in.Given as goal
 
 -- the count of moves is not above its greatest value, and the session has been driven since the start
 abbrev pub invariant-driving : goal.invariant-driving
 invariant-driving g l = record {
   since : l.since ≤ 10000000;
-  driving : OfEach l.fn.session (λ s. Driving (g.F.Files.past l.fn.files) (g.F.Files.past l.files) (g.W.Wire.line l.fn.wire) (g.W.Wire.line l.wire) l.made l.since s l.session);
+  driving : OfEach l.fn.session (λ s. Driving (known (g.F.Files.past l.fn.files) (g.R.Recorder.told l.fn.recorder)) (known (g.F.Files.past l.files) (g.R.Recorder.told l.recorder)) (g.W.Wire.line l.fn.wire) (g.W.Wire.line l.wire) l.made l.since s l.session);
 }

@@ -8,9 +8,9 @@ pub returns-then-finished-clause-went : goal.returns-then-finished-clause-went
 returns-then-finished-clause-went g c =
     let none : length c.waiting.result.now ≡ 0 = grind (arith, nat_tests) in
     rw c.leave.ensures.end
-    (all_said _ _ c.args.session.now c.leave.new.session
+    (all_said _ _ _ _ c.args.session.now c.leave.new.session
     (leave_is_due c.args.session.now c.waiting.result.now c.waiting.ensures none
-    (sym c.if-finished.ensures)) c.leave.ensures.dropped)
+    (sym c.if-finished.ensures)) c.leave.ensures.dropped c.leave.ensures.told)
 
 pub run-requires-clause-moves : goal.run-requires-clause-moves
 run-requires-clause-moves g c = granted

@@ -5,5 +5,5 @@ use Rattle.transport.proofs.RoundLemmas.{happened}
 use Rattle.transport.proofs.rounds.leave.Goals as goal
 
 pub returns-clause-dropped : goal.returns-clause-dropped
-returns-clause-dropped c = λ s st.
+returns-clause-dropped g c = λ s st.
     happened (λ _. applied.DropConnection) c.args.session.now DropConnection c.drop_connection.result c.drop_connection.new.self s (λ x. refl) c.drop_connection.ensures.stands c.drop_connection.ensures.takes_none st

@@ -11,7 +11,8 @@ loop-step-init g c =
 
 pub loop-step-preserved : goal.loop-step-preserved
 loop-step-preserved g c =
-    subst (λ (l : List Event). HasEvents (c.loop-step.yielded ++ c.in-Some.step ∷ []) (g.F.Files.past c.args.files.now) (g.F.Files.past c.event_of.new.files) l)
+    subst (λ (l : List Event). HasEvents (c.loop-step.yielded ++ c.in-Some.step ∷ []) (g.F.Files.past c.args.files.now)
+    (g.F.Files.past c.event_of.new.files) l)
     (sym c.in_ok-push.ensures.items)
     (next_event c.loop-step.yielded c.in-Some.step _ _ _ c.loop-step.events.items c.in_ok-event_of.field-0 c.loop-step.invariant
     c.in_ok-event_of.ensures)

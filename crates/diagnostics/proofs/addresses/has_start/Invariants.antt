@@ -1,0 +1,8 @@
+use Rattle.std.proofs.Common.{◌≡◌, drop}
+use Rattle.std.specs.List.{list_any}
+use Rattle.std.specs.Str.{bytes_eq}
+use Rattle.assembler.specs.Places.{start}
+use Rattle.diagnostics.proofs.addresses.has_start.Given as goal
+
+abbrev pub invariant-loop-name : goal.invariant-loop-name
+invariant-loop-name l = list_any (λ name. bytes_eq name start) l.names ≡ list_any (λ name. bytes_eq name start) (drop l.name-index l.names)

@@ -1,0 +1,16 @@
+use Rattle.std.proofs.Common.{ap, ◌∙◌}
+use Rattle.std.proofs.lemmas.List.Elements.{All-map}
+use Rattle.diagnostics.specs.Diagnoses.{HasColumn}
+use Rattle.diagnostics.specs.Diagnoses.{diagnosis}
+use Rattle.diagnostics.specs.Findings.{finding_of, findings_of}
+use Rattle.diagnostics.proofs.diagnosing.diagnose.Goals as goal
+
+pub returns : goal.returns
+returns c = (
+  findings_of c.in_ok-list.list.items,
+  record {
+    errors = c.in_ok-list.ensures.errors;
+    columns = All-map HasColumn finding_of c.in_ok-list.list.items c.in_ok-list.ensures.columns;
+  },
+  c.in_ok-lines.ensures ∙ ap (λ l. diagnosis c.args.file.now (findings_of l)) c.as_slice.ensures.value,
+)

@@ -1,0 +1,14 @@
+use Rattle.std.proofs.Common.{ap, ◌∙◌, ◌++◌}
+use Rattle.diagnostics.specs.Diagnoses.{told}
+use Rattle.diagnostics.specs.Findings.{finding_of}
+use Rattle.diagnostics.proofs.diagnosing.told.Goals as goal
+
+pub returns : goal.returns
+returns c =
+    let found = finding_of c.in_ok-told.told in (
+      found,
+      ap (λ p. p.0) c.in_ok-told.ensures.error,
+      ap (λ p. p.1) c.in_ok-told.ensures.error,
+      c.in_ok-told.ensures.column,
+      c.in_ok-push_told.ensures ∙ ap (λ b. b ++ told c.args.file.now found) c.new-lines.ensures.bytes,
+    )

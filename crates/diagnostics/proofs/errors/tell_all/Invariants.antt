@@ -1,0 +1,11 @@
+use Rattle.std.proofs.Common.{◌≡◌, ◌++◌, drop, map}
+use Rattle.diagnostics.specs.Errors.{located_among}
+use Rattle.diagnostics.specs.Findings.{errors_found, HaveColumns, located_in}
+use Rattle.diagnostics.proofs.errors.tell_all.Given as goal
+
+abbrev pub invariant-loop-one : goal.invariant-loop-one
+invariant-loop-one l = record {
+  columns : HaveColumns l.list.items;
+  errors : located_among (map (λ t. t.now) l.texts) (errors_found l.found)
+      ≡ located_in l.list.items ++ located_among (map (λ t. t.now) l.texts) (errors_found (drop l.one-index l.found));
+}

@@ -1,0 +1,9 @@
+use Rattle.std.proofs.Common.{◌≡◌, ◌++◌, drop, string_bytes}
+use Rattle.std.specs.List.{flat_map}
+use Rattle.diagnostics.specs.Findings.{findings_of}
+use Rattle.diagnostics.specs.Json.{told_json}
+use Rattle.diagnostics.proofs.json.all_lines.Given as goal
+
+abbrev pub invariant-loop-told : goal.invariant-loop-told
+invariant-loop-told l = flat_map (told_json l.file) (findings_of l.list)
+    ≡ string_bytes l.lines ++ flat_map (told_json l.file) (findings_of (drop l.told-index l.list))

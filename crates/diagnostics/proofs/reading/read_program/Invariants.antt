@@ -1,0 +1,12 @@
+use Rattle.std.proofs.Common.{◌≡◌, ◌+◌, ◌++◌, drop, map}
+use Rattle.diagnostics.specs.Findings.{program_of}
+use Rattle.diagnostics.specs.Steps.{all_read, said_lines}
+use Rattle.diagnostics.proofs.reading.read_program.Given as goal
+
+abbrev pub invariant-loop-text : goal.invariant-loop-text
+invariant-loop-text l = record {
+  count : l.number ≡ l.text-index;
+  read : all_read (map (λ t. t.now) l.texts) ≡ all_read (map (λ t. t.now) (drop l.text-index l.texts));
+  said : said_lines 1 (map (λ t. t.now) l.texts)
+      ≡ program_of l.program.items ++ said_lines (l.number + 1) (map (λ t. t.now) (drop l.text-index l.texts));
+}

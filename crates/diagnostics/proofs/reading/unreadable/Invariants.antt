@@ -1,0 +1,11 @@
+use Rattle.std.proofs.Common.{◌≡◌, ◌+◌, ◌++◌, drop, map}
+use Rattle.diagnostics.specs.Errors.{reading_errors}
+use Rattle.diagnostics.specs.Findings.{errors_found}
+use Rattle.diagnostics.proofs.reading.unreadable.Given as goal
+
+abbrev pub invariant-loop-text : goal.invariant-loop-text
+invariant-loop-text l = record {
+  count : l.number ≡ l.text-index;
+  errors : reading_errors 1 (map (λ t. t.now) l.texts)
+      ≡ errors_found l.found.items ++ reading_errors (l.number + 1) (map (λ t. t.now) (drop l.text-index l.texts));
+}

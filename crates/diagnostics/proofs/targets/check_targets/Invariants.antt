@@ -1,0 +1,14 @@
+use Rattle.std.proofs.Common.{◌≡◌, ◌++◌, Some, drop}
+use Rattle.image.specs.Lines.{labels_of}
+use Rattle.image.specs.Memory.{first_address}
+use Rattle.diagnostics.specs.Findings.{errors_found, program_of}
+use Rattle.diagnostics.specs.Steps.{content_steps, LiesWithin}
+use Rattle.diagnostics.proofs.targets.check_targets.Given as goal
+
+abbrev pub invariant-loop-source : goal.invariant-loop-source
+invariant-loop-source l = record {
+  within : LiesWithin l.limit l.address;
+  errors : content_steps l.limit (labels_of l.labels.entries) (Some first_address) (program_of l.program)
+      ≡ errors_found l.found.items ++ content_steps l.limit (labels_of l.labels.entries) l.address
+      (program_of (drop l.source-index l.program));
+}

@@ -1,0 +1,158 @@
+//! The parts of a line: its labels, its statement, and the mnemonic and the operands of that. Each part reaches up to the comment, so
+//! that its length says where it begins.
+
+ghost use Rattle.std.specs.Prelude.{◌≡◌, ◌<◌, ◌==◌, ◌∷◌, length, position, IfSome};
+ghost use Rattle.std.specs.List.{list_all};
+ghost use Rattle.std.specs.Option.{option_copied, option_map};
+ghost use Rattle.byte_strings.specs.Blanks.{is_blank, without_leading_blanks};
+ghost use Rattle.diagnostics.specs.Parts as spec;
+ghost use Rattle.statements.specs.Reading.{without_comment};
+ghost use Rattle.statements.specs.Spelling.{begins_name, fields, fields_after, is_name, is_name_byte, parted};
+
+use byte_strings::{is_blank, without_leading_blanks};
+
+/// What stands before a comment.
+pub(crate) fn without_comment(line: &[u8]) -> &[u8]
+    ensures { result.now ≡ without_comment line.now }
+{
+    match parted(b'#', line) {
+        Some((content, _)) => content,
+        None => line,
+    }
+}
+
+/// What comes before the first of a byte, and after it. `None`: there is none.
+pub(crate) fn parted(byte: u8, text: &[u8]) -> Option<(&[u8], &[u8])>
+    ensures parts { option_map (λ p. (p.0.now, p.1.now)) result ≡ parted byte text.now }
+    ensures smaller { IfSome result (λ p. length p.1.now < length text.now) }
+{
+    let i = index_of(byte, text)?;
+    Some((&text[..i], &text[i + 1..]))
+}
+
+// Where the first of a byte is.
+fn index_of(byte: u8, text: &[u8]) -> Option<usize>
+    ensures { result ≡ position (λ b. b == byte) text.now }
+{
+    text.iter().position(|b| *b == byte)
+}
+
+fn begins_name(byte: u8) -> bool
+    ensures { result ≡ begins_name byte }
+{
+    byte.is_ascii_alphabetic() || byte == b'_' || byte == b'.'
+}
+
+fn is_name_byte(byte: u8) -> bool
+    ensures { result ≡ is_name_byte byte }
+{
+    begins_name(byte) || byte.is_ascii_digit() || byte == b'$'
+}
+
+/// Whether a text is a name.
+pub(crate) fn is_name(text: &[u8]) -> bool
+    ensures { result ≡ is_name text.now }
+{
+    match text {
+        [] => false,
+        [first, rest @ ..] => begins_name(*first) && are_name_bytes(rest),
+    }
+}
+
+fn are_name_bytes(text: &[u8]) -> bool
+    ensures { result ≡ list_all is_name_byte text.now }
+{
+    text.iter().all(|b| is_name_byte(*b))
+}
+
+/// What a line has after its labels, without the blanks before it.
+pub(crate) fn statement_of(line: &[u8]) -> &[u8]
+    ensures { result.now ≡ spec.statement_of line.now }
+{
+    without_leading_blanks(after_labels(without_comment(line)))
+}
+
+// What comes after the labels of a text.
+fn after_labels(text: &[u8]) -> &[u8]
+    ensures { result.now ≡ spec.after_labels text.now }
+{
+    let mut rest = text;
+    'labels: while let Some((prefix, after)) = parted(b':', rest) {
+        if is_label(prefix) {
+            rest = after;
+        } else {
+            return rest;
+        }
+    }
+    rest
+}
+
+// Whether a field before a colon is a label.
+fn is_label(field: &[u8]) -> bool
+    ensures { result ≡ is_name (without_leading_blanks field.now) }
+{
+    is_name(without_leading_blanks(field))
+}
+
+/// A line from the label of an index on, if it has so many.
+pub(crate) fn label_part(line: &[u8], index: usize) -> &[u8] {
+    let mut rest = without_comment(line);
+    for _ in 0..index {
+        match parted(b':', rest) {
+            Some((_, after)) => rest = after,
+            None => return rest,
+        }
+    }
+    without_leading_blanks(rest)
+}
+
+// Where the first blank is.
+fn mnemonic_end(text: &[u8]) -> Option<usize>
+    ensures { result ≡ position is_blank text.now }
+{
+    text.iter().position(|b| is_blank(*b))
+}
+
+/// The mnemonic of a statement: what stands before its first blank.
+pub(crate) fn mnemonic_of(statement: &[u8]) -> &[u8]
+    ensures { result.now ≡ spec.mnemonic_of statement.now }
+{
+    match mnemonic_end(statement) {
+        Some(end) => &statement[..end],
+        None => statement,
+    }
+}
+
+/// The operands of a statement, without the blanks before them.
+pub(crate) fn operands_of(statement: &[u8]) -> &[u8]
+    ensures { result.now ≡ spec.operands_of statement.now }
+{
+    match mnemonic_end(statement) {
+        Some(end) => without_leading_blanks(&statement[end..]),
+        None => b"",
+    }
+}
+
+/// The first field of a text that is divided at commas, and what comes after the comma, if there is one.
+pub(crate) fn first_field(text: &[u8]) -> (&[u8], Option<&[u8]>)
+    ensures fields { fields 44 text.now ≡ result.0.now ∷ fields_after 44 (option_copied result.1) }
+    ensures smaller { IfSome result.1 (λ after. length after.now < length text.now) }
+{
+    match parted(b',', text) {
+        Some((field, after)) => (field, Some(after)),
+        None => (text, None),
+    }
+}
+
+/// The column, counted in bytes from 1, at which a part of a line begins.
+pub(crate) fn column_of(line: &[u8], part: &[u8]) -> u32
+    ensures value { result ≡ spec.column_of line.now part.now }
+    ensures within { spec.IsWithin line.now result }
+{
+    let before = without_comment(line).len().saturating_sub(part.len());
+    if before < u32::MAX as usize {
+        before as u32 + 1
+    } else {
+        u32::MAX
+    }
+}

@@ -1,0 +1,19 @@
+-- The paths of copies have lines.
+use Rattle.std.proofs.Common.{◌≡◌, ℕ, ◌<◌, ◌^◌, true, [], ◌∷◌, Some, codes, decimal, refl, arith}
+use Rattle.std.proofs.lemmas.Fmt.{IsAscii-decimal}
+use Rattle.std.proofs.lemmas.Str.{IsAscii-append, IsUtf8-from_ascii, is_utf8-from_IsUtf8}
+use Rattle.std.proofs.lemmas.Str.Ascii.{IsAscii-cons, IsAscii-nil}
+use Rattle.std.specs.Str.{IsAscii}
+use Rattle.recording.specs.Copies.{path_of}
+use Rattle.scripts.proofs.Lines.{can_end, number_ends, word_ends}
+use Rattle.scripts.specs.Laws.{IsInRange}
+use Rattle.scripts.specs.Writing.{has_line}
+use Rattle.scripts.specs.declared.step.Step.TheVariants.{Turn}
+
+pub paths : (number : ℕ) → number < 2 ^ 32 → IsInRange (Turn (Some (path_of number))) × (has_line (Turn (Some (path_of number))) ≡ true)
+paths number h =
+    let digits = decimal number in
+    let one = (can_end digits (number_ends number (omega arith))).one in
+    let end : IsAscii (codes ".s") = IsAscii-cons 46 (115 ∷ []) (omega arith) (IsAscii-cons 115 [] (omega arith) IsAscii-nil) in
+    let ascii : IsAscii (path_of number) = IsAscii-append digits (codes ".s") (IsAscii-decimal number (omega arith)) end in
+    (is_utf8-from_IsUtf8 (path_of number) (IsUtf8-from_ascii (path_of number) ascii), word_ends digits (codes ".s") one refl)

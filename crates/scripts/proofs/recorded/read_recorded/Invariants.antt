@@ -1,0 +1,13 @@
+use Rattle.std.proofs.Common.{◌≡◌, ◌+◌, ◌≤◌, length}
+use Rattle.scripts.specs.Recordings.{recorded, recorded_of, whole_lines}
+use Rattle.scripts.specs.Steps.{following}
+use Rattle.scripts.proofs.recorded.read_recorded.Given as goal
+
+abbrev pub invariant-loop-end : goal.invariant-loop-end
+invariant-loop-end l = record {
+  left : recorded_of l.text ≡ following l.steps.items (recorded l.number (whole_lines l.rest));
+  room : l.number + length l.rest ≤ length l.text + 1;
+}
+
+abbrev pub decreases-loop-end : goal.decreases-loop-end
+decreases-loop-end l = length l.rest

@@ -1,0 +1,14 @@
+use Rattle.std.proofs.Common.{◌≡◌, ℕ, ◌-◌, length, take, drop, length-drop, ap, sym, ◌∙◌}
+use Rattle.std.proofs.Math.Seq.{take-length}
+use Rattle.framing.specs.Headers.{begins_with_end}
+use Rattle.watch_command.proofs.Leaving.{found_later}
+use Rattle.watch_command.proofs.fed.end_of.Goals as goal
+
+pub loop-index-preserved : goal.loop-index-preserved
+loop-index-preserved c =
+    let bytes = c.args.bytes.now in
+    let index = c.loop-index.index in
+    let whole : take (length bytes - index) (drop index bytes) ≡ drop index bytes =
+    ap (λ (k : ℕ). take k (drop index bytes)) (sym (length-drop index bytes)) ∙ take-length (drop index bytes) in
+    sym (found_later index bytes c.loop-index-test.true
+    (ap begins_with_end (sym whole) ∙ sym c.begins_with_end.ensures ∙ c.if-begins_with_end.false)) ∙ c.loop-index.invariant

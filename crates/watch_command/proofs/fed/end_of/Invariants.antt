@@ -1,0 +1,8 @@
+use Rattle.std.proofs.Common.{◌≡◌, drop}
+use Rattle.framing.specs.Headers.{end_of}
+use Rattle.watch_command.proofs.Leaving.{found_after}
+use Rattle.watch_command.proofs.fed.end_of.Given as goal
+
+-- none ended before
+abbrev pub invariant-loop-index : goal.invariant-loop-index
+invariant-loop-index l = found_after l.index (end_of (drop l.index l.bytes)) ≡ end_of l.bytes

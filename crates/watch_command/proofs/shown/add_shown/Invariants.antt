@@ -1,0 +1,9 @@
+use Rattle.std.proofs.Common.{◌≡◌, ◌++◌, drop}
+use Rattle.std.specs.List.{flat_map}
+use Rattle.watch_command.specs.Shown.{shown_byte}
+use Rattle.watch_command.proofs.shown.add_shown.Given as goal
+
+-- what is shown so far, and what is left
+abbrev pub invariant-loop-byte : goal.invariant-loop-byte
+invariant-loop-byte l =
+    l.text.items ++ flat_map (shown_byte l.utf8) (drop l.byte-index l.words) ≡ l.fn.text.items ++ flat_map (shown_byte l.utf8) l.words
