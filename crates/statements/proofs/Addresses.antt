@@ -1,48 +1,14 @@
 -- Operands that are addresses: a register in brackets after an offset, and the parts of a label's address.
-use Rattle.std.proofs.Common.{◌≡◌, ℕ, ◌<◌, true, false, not, ◌==◌, ◌&&◌, List, [], ◌∷◌, ◌++◌, length, reverse, Some, None, Result, Ok, Err, refl, sym, ap, ◌∙◌, arith, append_assoc, codes, Bool}
-use Rattle.std.specs.List.{list_all}
-use Rattle.std.proofs.lemmas.List.{length-reverse}
-use Rattle.std.proofs.lemmas.Bool.Decides.{nat_tests}
-use Rattle.byte_strings.specs.Blanks.{is_blank, trimmed, without_leading_blanks}
-use Rattle.byte_strings.proofs.Conjunctions.{all_append, and_left, and_right}
-use Rattle.byte_strings.proofs.Trimming.{bare, begins_blank, between, blanks_go}
-use Rattle.rv32i.specs.Names.{Names}
-use Rattle.rv32i.specs.Texts.{with_three, with_two}
-use Rattle.statements.specs.Grammar.{AllBlank}
-use Rattle.statements.specs.Instructions.{and_then, lower, store_lower}
-use Rattle.statements.specs.Mnemonics.{mnemonic_of}
-use Rattle.statements.specs.OperandLaws.{BlanksChangeNothing, IsInner, IsOperand, JalrIsAlike, LabelsAreTargets, NoOffsetIsZero, PartsOfAddresses, SameAddress, SameImmediate, in_brackets, in_spaced_brackets, is_quiet, begins_low, is_offset, is_unclosed, low_of}
-use Rattle.statements.specs.Operands.{access_by, access_in, access_with, base_by, bits_low, bracketed, closed, immediate_in, is_operand, label_in, low_by, low_in, offset_in, or_bad, part_access, part_access_by, part_by, part_in, part_low, plain_access, register_in, target_in}
-use Rattle.statements.specs.Reading.{line_of, meaning, read, stating}
-use Rattle.statements.specs.Spelling.{is_name, is_name_byte, parted, stripped}
-use Rattle.statements.specs.declared.error.LineError.{LineError}
+use Rattle.statements.proofs.Common.{[], takes_address, access_by, access_in, access_with, all_append, AllBlank, and_left, and_right, and_then, ap, append_assoc, arith, bare, base_by, begins_blank, begins_low, between, Bits, bits_low, blanks_go, BlanksChangeNothing, Bool, bracketed, closed, codes, Err, false, immediate_in, in_brackets, in_spaced_brackets, is_blank, is_name, is_name_byte, is_offset, is_operand, is_quiet, is_unclosed, IsInner, IsOperand, JalrIsAlike, Label, label_in, LabelsAreTargets, length, length-reverse, line_of, LineError, List, list_all, Low, low_by, low_in, low_of, lower, meaning, Mnemonic, mnemonic_of, Names, nat_tests, None, NoOffsetIsZero, not, offset_in, Ok, or_bad, Part, part_access, part_access_by, part_by, part_in, part_low, parted, PartsOfAddresses, plain_access, read, refl, register_in, Result, reverse, SameAddress, SameImmediate, Some, Statement, stating, store_lower, stripped, sym, target_in, Three, trimmed, true, Two, with_three, with_two, without_leading_blanks, ℕ, ◌&&◌, ◌++◌, ◌<◌, ◌==◌, ◌∙◌, ◌∷◌, ◌≡◌, divided, takes_address, RegistersHaveNames, Said}
+use Rattle.statements.specs.Texts.{stated_alone}
 use Rattle.statements.specs.declared.forms.Access.{Access}
-use Rattle.statements.specs.declared.forms.Low.{Low}
-use Rattle.statements.specs.declared.forms.Low.TheVariants.{Bits, Part}
-use Rattle.statements.specs.declared.mnemonics.Mnemonic.{Mnemonic}
 use Rattle.statements.specs.declared.mnemonics.Mnemonic.TheVariants as w
-use Rattle.statements.specs.declared.operands.Operands.TheVariants.{Two, Three}
 use Rattle.statements.specs.declared.operations.ImmediateOperation.TheVariants as m
-use Rattle.statements.specs.declared.statement.Statement.{Statement}
 use Rattle.statements.specs.declared.statement.Statement.TheVariants as say
-use Rattle.statements.specs.declared.statement.Target.TheVariants.{Label}
-use Rattle.statements.proofs.AnyOperands.{blank_quiet, line_means, operand_begins, operand_long, quiet_append}
-use Rattle.statements.proofs.Numerals.{turned_down}
-use Rattle.statements.proofs.PseudoLines.{lower_short, parts_add, upper_whole}
-use Rattle.statements.proofs.Registers.{named_is_name, register_named}
-use Rattle.statements.proofs.Runs.{begins_so, ends_so, name_bytes, parts_join}
-use Rattle.statements.proofs.Solid.{closed_is, Ends, all_weaker, ends_after, long_is}
-use Rattle.statements.proofs.Texts.{three_ok, two_ok}
-
--- ---- lines
-
-pub two_means : (name a b : List ℕ) (mnemonic : Mnemonic) → mnemonic_of name ≡ Some mnemonic → IsOperand a → IsOperand b
-    → read (with_two name a b) ≡ line_of [] (stating (meaning mnemonic (Two a b) (a ++ 44 ∷ 32 ∷ b)))
-two_means name a b mnemonic w s t = line_means name a (b ∷ []) mnemonic w s (t, tt)
-
-pub three_means : (name a b c : List ℕ) (mnemonic : Mnemonic) → mnemonic_of name ≡ Some mnemonic → IsOperand a → IsOperand b → IsOperand c
-    → read (with_three name a b c) ≡ line_of [] (stating (meaning mnemonic (Three a b c) (a ++ 44 ∷ 32 ∷ (b ++ 44 ∷ 32 ∷ c))))
-three_means name a b c mnemonic w s t u = line_means name a (b ∷ c ∷ []) mnemonic w s (t, (u, tt))
+use Rattle.statements.proofs.AnyOperands.{blank_quiet, closed_is, ends_after, Ends, long_is, name_operand, operand_begins, operand_long, quiet_append, register_operand, three_means, three_ok, two_means, two_ok, unempty}
+use Rattle.statements.proofs.Numerals.{lower_short, no_more, not_both, parts_add, turned_down, upper_whole}
+use Rattle.statements.proofs.Registers.{register_named, name_bytes}
+use Rattle.statements.proofs.Runs.{all_weaker, parts_join}
 
 -- ---- brackets
 
@@ -62,53 +28,37 @@ bracketed_spaced p q r s a b c d =
 
 -- ---- what operands they are
 
-blank_not_opening : (b : ℕ) → is_blank b ≡ true → not (b == 40) ≡ true
-blank_not_opening b h = grind (arith, nat_tests)
-
-blank_not_closing : (b : ℕ) → is_blank b ≡ true → not (b == 41) ≡ true
-blank_not_closing b h = grind (arith, nat_tests)
-
 -- no bracket opens before the blanks after an offset
 no_opening : (i p : List ℕ) → is_offset i ≡ true → AllBlank p → list_all (λ b. not (b == 40)) (i ++ p) ≡ true
 no_opening i p h a =
     all_append (λ b. not (b == 40)) i p (and_right (not (begins_low i)) _ h)
-    (all_weaker is_blank (λ b. not (b == 40)) blank_not_opening p a)
+    (all_weaker is_blank (λ b. not (b == 40)) (λ b k. grind (arith, nat_tests)) p a)
 
 no_closing : (q x s : List ℕ) → AllBlank q → is_unclosed x ≡ true → AllBlank s → list_all (λ b. not (b == 41)) ((q ++ x) ++ s) ≡ true
 no_closing q x s a h b =
-    all_append (λ b. not (b == 41)) (q ++ x) s
-    (all_append (λ b. not (b == 41)) q x (all_weaker is_blank (λ b. not (b == 41)) blank_not_closing q a) h)
-    (all_weaker is_blank (λ b. not (b == 41)) blank_not_closing s b)
+    let unclosed : (p : List ℕ) → AllBlank p → is_unclosed p ≡ true =
+    all_weaker is_blank (λ b. not (b == 41)) (λ b k. grind (arith, nat_tests)) in
+    all_append (λ b. not (b == 41)) (q ++ x) s (all_append (λ b. not (b == 41)) q x (unclosed q a) h) (unclosed s b)
 
-unnot : (t : Bool) → not t ≡ true → t ≡ false
+pub unnot : (t : Bool) → not t ≡ true → t ≡ false
 unnot true e = cc
 unnot false e = refl
 
-pub not_low : (i : List ℕ) → is_offset i ≡ true → begins_low i ≡ false
+not_low : (i : List ℕ) → is_offset i ≡ true → begins_low i ≡ false
 not_low i h = unnot (begins_low i) (and_left (not (begins_low i)) _ h)
 
-second_not : (x y z : Bool) → y ≡ false → (x && (y && z)) ≡ false
-second_not true y z e = rw e refl
-second_not false y z e = refl
-
-third_not : (x y z v : Bool) → z ≡ false → (x && (y && (z && v))) ≡ false
-third_not true true z v e = rw e refl
-third_not true false z v e = refl
-third_not false y z v e = refl
-
-blank_no_l : (b : ℕ) → is_blank b ≡ true → (b == 108) ≡ false
-blank_no_l b h = grind (arith, nat_tests)
-
-blank_no_o : (b : ℕ) → is_blank b ≡ true → (b == 111) ≡ false
-blank_no_o b h = grind (arith, nat_tests)
+blank_no_letter : (b : ℕ) → is_blank b ≡ true → ((b == 108) ≡ false) × ((b == 111) ≡ false)
+blank_no_letter b h = (grind (arith, nat_tests), grind (arith, nat_tests))
 
 -- an offset with blanks and a bracket after it does not begin with `%lo` either
 not_low_before : (i p more : List ℕ) → is_operand i ≡ true → begins_low i ≡ false → AllBlank p → begins_low (i ++ (p ++ 40 ∷ more)) ≡ false
 not_low_before [] p more s h a = let none : false ≡ true = s in cc
-not_low_before (c ∷ []) [] more s h a = second_not (c == 37) (40 == 108) true refl
-not_low_before (c ∷ []) (b ∷ p) more s h a = second_not (c == 37) (b == 108) _ (blank_no_l b (and_left (is_blank b) _ a))
-not_low_before (c ∷ d ∷ []) [] more s h a = third_not (c == 37) (d == 108) (40 == 111) true refl
-not_low_before (c ∷ d ∷ []) (b ∷ p) more s h a = third_not (c == 37) (d == 108) (b == 111) _ (blank_no_o b (and_left (is_blank b) _ a))
+not_low_before (c ∷ []) [] more s h a = no_more (c == 37) _ refl
+not_low_before (c ∷ []) (b ∷ p) more s h a =
+    no_more (c == 37) _ (not_both (b == 108) _ (blank_no_letter b (and_left (is_blank b) _ a)).0)
+not_low_before (c ∷ d ∷ []) [] more s h a = no_more (c == 37) _ (no_more (d == 108) _ refl)
+not_low_before (c ∷ d ∷ []) (b ∷ p) more s h a =
+    no_more (c == 37) _ (no_more (d == 108) _ (not_both (b == 111) _ (blank_no_letter b (and_left (is_blank b) _ a)).1))
 not_low_before (c ∷ d ∷ e ∷ i) p more s h a = h
 
 no_low : (i p more : List ℕ) → is_operand i ≡ true → is_offset i ≡ true → AllBlank p → stripped (codes "%lo") (i ++ (p ++ 40 ∷ more)) ≡ None
@@ -121,7 +71,7 @@ access_is i p q r s o u a b c d =
     let after : List ℕ = q ++ (r ++ (s ++ 41 ∷ [])) in
     let text : List ℕ = i ++ in_spaced_brackets p q r s in
     let first : trimmed (i ++ p) ≡ i = between [] i p refl a o.bare in
-    let some : (length i == 0) ≡ false = let l : 0 < length i = operand_long i o.some in grind (arith, nat_tests) in
+    let some : (length i == 0) ≡ false = unempty i (operand_long i o.some) in
     ap (access_by text) (no_low i p after o.some u a)
     ∙ ap (λ t. plain_access (parted 40 t)) (sym (append_assoc i p (40 ∷ after)))
     ∙ ap plain_access (parts_join 40 (i ++ p) after (no_opening i p u a))
@@ -216,50 +166,31 @@ part_access_operand x r p q s t u v hx hr hp hq hs ht hu hv =
     (quiet_append (codes "%lo") (head ++ tail) refl
     (quiet_append head tail (brackets_quiet p q x s hp hq hx hs) (brackets_quiet t u r v ht hu hr hv)))
 
-name_quiet_byte : (b : ℕ) → is_name_byte b ≡ true → (not (b == 44) && not (b == 35)) ≡ true
-name_quiet_byte b h = grind (arith, nat_tests)
-
-name_some : (text : List ℕ) → is_name text ≡ true → is_operand text ≡ true
-name_some [] h = cc
-name_some (b ∷ text) h = long_is (b ∷ text) (omega arith)
-
-pub name_operand : (text : List ℕ) → is_name text ≡ true → IsOperand text
-name_operand text h =
-    let bytes = name_bytes text h in record {
-      some = name_some text h;
-      bare = bare text (begins_so text bytes) (ends_so text bytes);
-      quiet = all_weaker is_name_byte (λ b. not (b == 44) && not (b == 35)) name_quiet_byte text bytes;
-    }
-
-pub register_operand : (text : List ℕ) (r : ℕ) → Names text r → IsOperand text
-register_operand text r h = name_operand text (named_is_name text r h)
-
-name_unclosed_byte : (b : ℕ) → is_name_byte b ≡ true → not (b == 41) ≡ true
-name_unclosed_byte b h = grind (arith, nat_tests)
-
 name_unclosed : (text : List ℕ) → is_name text ≡ true → is_unclosed text ≡ true
-name_unclosed text h =
-    all_weaker is_name_byte (λ b. not (b == 41)) name_unclosed_byte text (name_bytes text h)
+name_unclosed text h = all_weaker is_name_byte (λ b. not (b == 41)) (λ b k. grind (arith, nat_tests)) text (name_bytes text h)
 
--- ---- laws of addresses
+-- ---- lines of a register and an address
+
+-- what a mnemonic that takes them states
+abbrev pub accessed : Mnemonic → ℕ → Access → Statement
+accessed (w.Load op) r access = lower op r access.base access.offset
+accessed (w.Store op) r access = store_lower op access.base r access.offset
+accessed other r access = lower m.Jalr r access.base access.offset
+
+pub address_means : (name register text : List ℕ) (mnemonic : Mnemonic) {s : Said} → mnemonic_of name ≡ Some mnemonic
+    → takes_address mnemonic ≡ true → IsOperand register → IsOperand text
+    → and_then (register_in register) (λ r. and_then (access_in text) (λ access. Ok (accessed mnemonic r access))) ≡ s
+    → read (with_two name register text) ≡ line_of [] (stating s)
+address_means name register text (w.Load op) e t o p h = two_means name register text (w.Load op) e o p h
+address_means name register text (w.Store op) e t o p h = two_means name register text (w.Store op) e o p h
+address_means name register text w.JumpAndLinkRegister e t o p h = two_means name register text w.JumpAndLinkRegister e o p h
+address_means name register text other e t o p h = let none : false ≡ true = t in cc
 
 same_address : (a b : List ℕ) → IsOperand a → IsOperand b → access_in a ≡ access_in b → SameAddress a b
-same_address a b o p e name register (w.Load op) h t r =
-    two_means name register a (w.Load op) h r o
-    ∙ ap (λ x. line_of []
-    (stating (and_then (register_in register) (λ rd. and_then x (λ access. Ok (lower op rd access.base access.offset)))))) e
-    ∙ sym (two_means name register b (w.Load op) h r p)
-same_address a b o p e name register (w.Store op) h t r =
-    two_means name register a (w.Store op) h r o
-    ∙ ap (λ x. line_of []
-    (stating (and_then (register_in register) (λ rs2. and_then x (λ access. Ok (store_lower op access.base rs2 access.offset)))))) e
-    ∙ sym (two_means name register b (w.Store op) h r p)
-same_address a b o p e name register w.JumpAndLinkRegister h t r =
-    two_means name register a w.JumpAndLinkRegister h r o
-    ∙ ap (λ x. line_of []
-    (stating (and_then (register_in register) (λ rd. and_then x (λ access. Ok (lower m.Jalr rd access.base access.offset)))))) e
-    ∙ sym (two_means name register b w.JumpAndLinkRegister h r p)
-same_address a b o p e name register other h t r = let none : false ≡ true = t in cc
+same_address a b o p e name register mnemonic h t r =
+    address_means name register a mnemonic h t r o
+    (ap (λ x. and_then (register_in register) (λ r. and_then x (λ access. Ok (accessed mnemonic r access)))) e)
+    ∙ sym (address_means name register b mnemonic h t r p refl)
 
 pub no_offset : NoOffsetIsZero
 no_offset r h =
@@ -271,9 +202,8 @@ no_offset r h =
 same_immediate : (a b : List ℕ) → IsOperand a → IsOperand b → low_in a ≡ low_in b → SameImmediate a b
 same_immediate a b o p e name rd rs1 op h x y =
     three_means name rd rs1 a (w.Immediate op) h x y o
-    ∙ ap (λ z. line_of [] (stating (and_then (register_in rd) (λ rd. and_then (register_in rs1) (λ rs1.
-    and_then z (λ imm. Ok (lower op rd rs1 imm))))))) e
-    ∙ sym (three_means name rd rs1 b (w.Immediate op) h x y p)
+    (ap (λ z. and_then (register_in rd) (λ rd. and_then (register_in rs1) (λ rs1. and_then z (λ imm. Ok (lower op rd rs1 imm))))) e)
+    ∙ sym (three_means name rd rs1 b (w.Immediate op) h x y p refl)
 
 abbrev upper_of : List ℕ → Result (List ℕ) LineError → Result Statement LineError
 upper_of d part = and_then (register_in d) (λ rd. and_then part (λ label. Ok (say.Upper rd label)))
@@ -282,8 +212,7 @@ pub upper_means : (d x p q s : List ℕ) → IsOperand d → IsInner x → AllBl
     → read (with_two (codes "lui") d (codes "%hi" ++ in_spaced_brackets p q x s)) ≡ line_of [] (stating (upper_of d (label_in x)))
 upper_means d x p q s o i a b c =
     two_means (codes "lui") d (codes "%hi" ++ in_spaced_brackets p q x s) w.LoadUpper refl o
-    (part_operand 37 104 105 p q x s refl refl a b i.quiet c)
-    ∙ ap (λ r. line_of [] (stating (upper_of d r))) (part_is p q x s a b i.bare c)
+    (part_operand 37 104 105 p q x s refl refl a b i.quiet c) (ap (upper_of d) (part_is p q x s a b i.bare c))
 
 pub blanks_nothing : BlanksChangeNothing
 blanks_nothing = record {
@@ -322,21 +251,19 @@ jalr_so : (d s i address : List ℕ) (low : Result Low LineError) → IsOperand 
     → read (with_three (codes "jalr") d s i) ≡ read (with_two (codes "jalr") d address)
 jalr_so d s i address low od os oi oa e f =
     three_means (codes "jalr") d s i w.JumpAndLinkRegister refl od os oi
-    ∙ ap (λ z. line_of [] (stating (and_then (register_in d) (λ rd. and_then (register_in s) (λ rs1.
-    and_then z (λ imm. Ok (lower m.Jalr rd rs1 imm))))))) e
-    ∙ ap (λ z. line_of [] (stating z)) (at_address (register_in d) (register_in s) low)
-    ∙ sym (ap (λ z. line_of []
-    (stating (and_then (register_in d) (λ rd. and_then z (λ access. Ok (lower m.Jalr rd access.base access.offset)))))) f)
-    ∙ sym (two_means (codes "jalr") d address w.JumpAndLinkRegister refl od oa)
+    (ap (λ z. and_then (register_in d) (λ rd. and_then (register_in s) (λ rs1. and_then z (λ imm. Ok (lower m.Jalr rd rs1 imm))))) e
+    ∙ at_address (register_in d) (register_in s) low)
+    ∙ sym (address_means (codes "jalr") d address w.JumpAndLinkRegister refl refl od oa
+    (ap (λ z. and_then (register_in d) (λ rd. and_then z (λ access. Ok (lower m.Jalr rd access.base access.offset)))) f))
 
-number_low : (i : List ℕ) → is_offset i ≡ true → low_in i ≡ bits_low (immediate_in i)
-number_low i u = ap (low_by i) (turned_down (begins_low i) _ _ (not_low i u))
+pub low_number : (i : List ℕ) → begins_low i ≡ false → low_in i ≡ bits_low (immediate_in i)
+low_number i u = ap (low_by i) (turned_down (begins_low i) _ _ u)
 
 pub jalr_alike : JalrIsAlike
 jalr_alike = record {
   number = λ d s i od os oi u.
       jalr_so d s i (i ++ in_brackets s) (bits_low (immediate_in i)) od os oi (access_operand i [] [] s [] oi refl refl os.quiet refl)
-      (number_low i u) (access_is i [] [] s [] oi u refl refl os.bare refl);
+      (low_number i (not_low i u)) (access_is i [] [] s [] oi u refl refl os.bare refl);
   part = λ d s x od os n u.
       jalr_so d s (low_of x) (low_of x ++ in_brackets s) (part_low (label_in x)) od os
       (part_operand 37 108 111 [] [] x [] refl refl refl refl n.quiet refl)
@@ -356,7 +283,7 @@ register_is d r h = ap or_bad (register_named d r h)
 name_inner : (x : List ℕ) → is_name x ≡ true → IsInner x
 name_inner x h = let o = name_operand x h in record { bare = o.bare; quiet = o.quiet }
 
-abbrev access : Low → ℕ → Access
+abbrev pub access : Low → ℕ → Access
 access low r = record { offset = low; base = r }
 
 label_access : (x s : List ℕ) (r : ℕ) → is_name x ≡ true → Names s r → access_in (low_of x ++ in_brackets s) ≡ Ok (access (Part x) r)
@@ -373,50 +300,43 @@ label_access_operand x s r h n =
 label_low : (x : List ℕ) → is_name x ≡ true → low_in (low_of x) ≡ Ok (Part x)
 label_low x h = low_is [] [] x [] refl refl (name_operand x h).bare refl ∙ ap part_low (label_is x h)
 
+part_stated : (name d s x : List ℕ) (mnemonic : Mnemonic) (rd rs1 : ℕ) → mnemonic_of name ≡ Some mnemonic → takes_address mnemonic ≡ true
+    → Names d rd → Names s rs1 → is_name x ≡ true
+    → read (with_two name d (low_of x ++ in_brackets s)) ≡ stated_alone (accessed mnemonic rd (access (Part x) rs1))
+part_stated name d s x mnemonic rd rs1 e t n k h =
+    address_means name d (low_of x ++ in_brackets s) mnemonic e t (register_operand d rd n) (label_access_operand x s rs1 h k)
+    (two_ok _ (register_is d rd n) (label_access x s rs1 h k))
+
 pub address_parts : PartsOfAddresses
 address_parts = record {
   upper = λ d x rd n h.
       upper_means d x [] [] [] (register_operand d rd n) (name_inner x h) refl refl refl
-      ∙ ap (λ z. line_of [] (stating z))
-      (two_ok (register_in d) (label_in x) rd x (λ rd label. Ok (say.Upper rd label)) (register_is d rd n) (label_is x h));
+      ∙ ap (λ z. line_of [] (stating z)) (two_ok (λ rd label. Ok (say.Upper rd label)) (register_is d rd n) (label_is x h));
   immediate = λ name d s x op rd rs1 e n k h.
       three_means name d s (low_of x) (w.Immediate op) e (register_operand d rd n) (register_operand s rs1 k)
       (part_operand 37 108 111 [] [] x [] refl refl refl refl (name_operand x h).quiet refl)
-      ∙ ap (λ z. line_of [] (stating z))
-      (three_ok (register_in d) (register_in s) (low_in (low_of x)) rd rs1 (Part x) (λ rd rs1 imm. Ok (lower op rd rs1 imm))
-      (register_is d rd n) (register_is s rs1 k) (label_low x h));
-  load = λ name d s x op rd rs1 e n k h.
-      two_means name d (low_of x ++ in_brackets s) (w.Load op) e (register_operand d rd n) (label_access_operand x s rs1 h k)
-      ∙ ap (λ z. line_of [] (stating z))
-      (two_ok (register_in d) (access_in (low_of x ++ in_brackets s)) rd (access (Part x) rs1)
-      (λ rd access. Ok (lower op rd access.base access.offset)) (register_is d rd n) (label_access x s rs1 h k));
-  jalr = λ d s x rd rs1 n k h.
-      two_means (codes "jalr") d (low_of x ++ in_brackets s) w.JumpAndLinkRegister refl (register_operand d rd n)
-      (label_access_operand x s rs1 h k)
-      ∙ ap (λ z. line_of [] (stating z))
-      (two_ok (register_in d) (access_in (low_of x ++ in_brackets s)) rd (access (Part x) rs1)
-      (λ rd access. Ok (lower m.Jalr rd access.base access.offset)) (register_is d rd n) (label_access x s rs1 h k));
-  store = λ name t s x op rs2 rs1 e n k h.
-      two_means name t (low_of x ++ in_brackets s) (w.Store op) e (register_operand t rs2 n) (label_access_operand x s rs1 h k)
-      ∙ ap (λ z. line_of [] (stating z))
-      (two_ok (register_in t) (access_in (low_of x ++ in_brackets s)) rs2 (access (Part x) rs1)
-      (λ rs2 access. Ok (store_lower op access.base rs2 access.offset)) (register_is t rs2 n) (label_access x s rs1 h k));
+      (three_ok _ (register_is d rd n) (register_is s rs1 k) (label_low x h));
+  load = λ name d s x op rd rs1 e n k h. part_stated name d s x (w.Load op) rd rs1 e refl n k h;
+  jalr = λ d s x rd rs1 n k h. part_stated (codes "jalr") d s x w.JumpAndLinkRegister rd rs1 refl refl n k h;
+  store = λ name t s x op rs2 rs1 e n k h. part_stated name t s x (w.Store op) rs2 rs1 e refl n k h;
   add_up = λ n l. (upper_whole n, lower_short n, parts_add n l);
 }
 
-pub target_is : (label : List ℕ) → is_name label ≡ true → target_in label ≡ Ok (Label label)
+target_is : (label : List ℕ) → is_name label ≡ true → target_in label ≡ Ok (Label label)
 target_is label h = rw h refl
 
 pub label_targets : LabelsAreTargets
 label_targets = record {
   branch = λ name a b label condition rs1 rs2 e n k h.
       three_means name a b label (w.Branch condition) e (register_operand a rs1 n) (register_operand b rs2 k) (name_operand label h)
-      ∙ ap (λ z. line_of [] (stating z))
-      (three_ok (register_in a) (register_in b) (target_in label) rs1 rs2 (Label label)
-      (λ rs1 rs2 target. Ok (say.Branch condition rs1 rs2 target)) (register_is a rs1 n) (register_is b rs2 k) (target_is label h));
+      (three_ok _ (register_is a rs1 n) (register_is b rs2 k) (target_is label h));
   jump = λ d label rd n h.
       two_means (codes "jal") d label w.JumpAndLink refl (register_operand d rd n) (name_operand label h)
-      ∙ ap (λ z. line_of [] (stating z))
-      (two_ok (register_in d) (target_in label) rd (Label label) (λ rd target. Ok (say.Jump rd target)) (register_is d rd n)
-      (target_is label h));
+      (two_ok _ (register_is d rd n) (target_is label h));
 }
+
+-- an instruction of three registers
+pub registers_named : RegistersHaveNames
+registers_named name a b c op rd rs1 rs2 e n k l =
+    three_means name a b c (w.Registers op) e (register_operand a rd n) (register_operand b rs1 k) (register_operand c rs2 l)
+    (three_ok _ (register_is a rd n) (register_is b rs1 k) (register_is c rs2 l))

@@ -1,63 +1,40 @@
 -- A text divided at a byte.
-use Rattle.std.proofs.Common.{◌≡◌, ℕ, ◌+◌, ◌<◌, Bool, true, false, cond, not, nat_lt, ◌==◌, List, [], ◌∷◌, ◌++◌, length, take, drop, map, Result, Ok, Err, Option, Some, None, refl, sym, ap, ◌∙◌, append_assoc, arith}
-use Rattle.std.proofs.lemmas.Bool.Decides.{nat_tests}
-use Rattle.std.proofs.lemmas.List.Splits.{slice_split_first, length-slice_split}
-use Rattle.std.specs.List.{count_by, slice_split, onto_first, position_or_len}
-use Rattle.std.specs.Option.{is_some, option_map}
-use Rattle.statements.specs.Directives.{all_of, before_others, item_in, items_of}
-use Rattle.statements.specs.Operands.{counted, operands_in}
-use Rattle.statements.specs.Spelling.{parted, parted_at, fields, fields_after}
-use Rattle.byte_strings.specs.Blanks.{trimmed}
-use Rattle.statements.specs.declared.error.LineError.{LineError}
+use Rattle.statements.proofs.Common.{[], all_of, ap, append_assoc, arith, before_others, Bool, cond, count_by, counted, drop, Err, false, fields, fields_after, is_some, item_in, items_of, length, length-slice_split, LineError, List, map, More, nat_lt, nat_tests, None, not, Ok, onto_first, operands_in, Option, option_map, parted, parted_at, position_or_len, refl, Result, slice_split, slice_split_first, Some, sym, take, trimmed, true, Width, ℕ, ◌++◌, ◌+◌, ◌<◌, ◌==◌, ◌∙◌, ◌∷◌, ◌≡◌, ◌≤◌}
+use Rattle.std.proofs.lemmas.List.Elements.{All-from_get_or}
+use Rattle.std.proofs.lemmas.List.Splits.{slice_split_none}
+use Rattle.std.proofs.lemmas.List.Sums.{fails_before_first}
 use Rattle.statements.specs.declared.items.Item.{Item}
-use Rattle.statements.specs.declared.items.Width.{Width}
-use Rattle.statements.specs.declared.operands.Operands.TheVariants.{More}
 
-whole : (p : ℕ → Bool) (text : List ℕ) → nat_lt (position_or_len p text) (length text) ≡ false → slice_split p text ≡ text ∷ []
-whole p [] h = refl
-whole p (x ∷ text) h =
-    let P : Bool → Type 0 = λ t. nat_lt (cond (not t) (1 + position_or_len p text) 0) (length (x ∷ text)) ≡ false
-    → cond t ([] ∷ slice_split p text) (onto_first x (slice_split p text)) ≡ (x ∷ text) ∷ [] in
-    let go : P (p x) = elim (p x) as P [
-      | true ↦ λ e. absurd (grind (arith, nat_tests))
-      | false ↦ λ e. let shorter : nat_lt (position_or_len p text) (length text) ≡ false =
-          grind (arith, nat_tests) in ap (onto_first x) (whole p text shorter)
-    ] in go h
+-- where a text is divided first, if it is
+abbrev parts_of : Option (List ℕ × List ℕ) → List ℕ × List ℕ
+parts_of None = ([], [])
+parts_of (Some parts) = parts
 
-pub fields_none : (byte : ℕ) (text : List ℕ) → parted byte text ≡ None → fields byte text ≡ text ∷ []
-fields_none byte text h =
-    let p : ℕ → Bool = λ b. b == byte in
-    let P : Bool → Type 0 = λ t. nat_lt (position_or_len p text) (length text) ≡ t
-    → parted_at text (cond t (Some (position_or_len p text)) None) ≡ None → slice_split p text ≡ text ∷ [] in
-    let go : P (nat_lt (position_or_len p text) (length text)) = elim (nat_lt (position_or_len p text) (length text)) as P [
-      | true ↦ λ t e. cc
-      | false ↦ λ t e. whole p text t
-    ] in go refl h
+module _ (byte : ℕ) (text : List ℕ) where
+  at : ℕ
+  at = position_or_len (λ b. b == byte) text
 
-abbrev before_of : Option (List ℕ × List ℕ) → List ℕ
-before_of None = []
-before_of (Some parts) = parts.0
+  pub fields_none : parted byte text ≡ None → fields byte text ≡ text ∷ []
+  unfolding at
+  fields_none h = go (nat_lt at (length text)) refl h where
+    go : (t : Bool) → nat_lt at (length text) ≡ t → parted_at text (cond t (Some at) None) ≡ None → fields byte text ≡ text ∷ []
+    go true t e = cc
+    go false t e =
+        let far : length text ≤ at = grind (arith, nat_tests) in
+        slice_split_none (λ b. b == byte) text (All-from_get_or (λ b. (b == byte) ≡ false) text 0
+        (λ i l. fails_before_first (λ b. b == byte) text i 0 (omega arith)))
 
-abbrev after_of : Option (List ℕ × List ℕ) → List ℕ
-after_of None = []
-after_of (Some parts) = parts.1
-
-pub fields_some : (byte : ℕ) (text prefix after : List ℕ) → parted byte text ≡ Some (prefix, after)
-    → fields byte text ≡ prefix ∷ fields byte after
-fields_some byte text prefix after h =
-    let p : ℕ → Bool = λ b. b == byte in
-    let k : ℕ = position_or_len p text in
-    let P : Bool → Type 0 = λ t. nat_lt k (length text) ≡ t → parted_at text (cond t (Some k) None) ≡ Some (prefix, after)
-    → slice_split p text ≡ prefix ∷ slice_split p after in
-    let go : P (nat_lt k (length text)) = elim (nat_lt k (length text)) as P [
-      | true ↦ λ t e.
-          let below : k < length text = grind (arith, nat_tests) in
-          let first : slice_split p text ≡ take k text ∷ slice_split p (drop (k + 1) text) = slice_split_first p text 0 below in
-          let f : take k text ≡ prefix = ap before_of e in
-          let b : drop (k + 1) text ≡ after = ap after_of e in
-          first ∙ ap (λ (l : List ℕ). l ∷ slice_split p (drop (k + 1) text)) f ∙ ap (λ (l : List ℕ). prefix ∷ slice_split p l) b
-      | false ↦ λ t e. cc
-    ] in go refl h
+  pub fields_some : (prefix after : List ℕ) → parted byte text ≡ Some (prefix, after) → fields byte text ≡ prefix ∷ fields byte after
+  unfolding at
+  fields_some prefix after h = go (nat_lt at (length text)) refl h where
+    go : (t : Bool) → nat_lt at (length text) ≡ t → parted_at text (cond t (Some at) None) ≡ Some (prefix, after)
+        → fields byte text ≡ prefix ∷ fields byte after
+    go true t e =
+        let below : at < length text = grind (arith, nat_tests) in
+        let first : take at text ≡ prefix = ap (λ o. (parts_of o).0) e in
+        let rest : drop (at + 1) text ≡ after = ap (λ o. (parts_of o).1) e in
+        slice_split_first (λ b. b == byte) text 0 below ∙ rw (first, rest) refl
+    go false t e = cc
 
 -- there is always a first field
 pub shape : (byte : ℕ) (text : List ℕ) → (first : List ℕ) × (others : List (List ℕ)) × (fields byte text ≡ first ∷ others)
@@ -97,12 +74,9 @@ one_before list a (Ok more) = ap (λ l. Ok l) (sym (append_assoc list (a ∷ [])
 one_before list a (Err error) = refl
 
 -- one more item of a list
-pub one_more : (all : Result (List Item) LineError) (width : Width) (list longer : List Item) (field : List ℕ) (rest others : List (List ℕ)) (item : Item)
+pub one_more : (all : Result (List Item) LineError) (width : Width) (list longer : List Item) (field : List ℕ)
+    (rest others : List (List ℕ)) (item : Item)
     → all ≡ followed_by list (items_of width rest) → rest ≡ field ∷ others → item_in width (trimmed field) ≡ Ok item
     → longer ≡ list ++ item ∷ [] → all ≡ followed_by longer (items_of width others)
 one_more all width list longer field rest others item h e f g =
-    h
-    ∙ ap (λ (l : List (List ℕ)). followed_by list (items_of width l)) e
-    ∙ ap (λ i. followed_by list (all_of (i ∷ map (λ (l : List ℕ). item_in width (trimmed l)) others))) f
-    ∙ one_before list item (items_of width others)
-    ∙ ap (λ (l : List Item). followed_by l (items_of width others)) (sym g)
+    h ∙ rw (e, f, g) (one_before list item (items_of width others))

@@ -1,9 +1,5 @@
 -- The labels that a text begins with.
-use Rattle.std.proofs.Common.{◌≡◌, ℕ, ◌++◌, List, [], ◌∷◌, Some, None, sym, ap, ◌∙◌, append_assoc}
-use Rattle.std.proofs.lemmas.List.Splits.{join_with_byte-slice_split}
-use Rattle.std.specs.List.{join_with_byte}
-use Rattle.statements.specs.Reading.{label_before, labels_of, labels_with, rest_of, rest_with}
-use Rattle.statements.specs.Spelling.{parted, fields}
+use Rattle.statements.proofs.Common.{[], ap, append_assoc, fields, join_with_byte, join_with_byte-slice_split, label_before, labels_of, labels_with, List, None, parted, rest_of, rest_with, Some, sym, ℕ, ◌++◌, ◌∙◌, ◌∷◌, ◌≡◌, refl}
 use Rattle.statements.proofs.Fields.{fields_none, fields_some, shape}
 
 -- without a colon there is no label
@@ -19,12 +15,7 @@ pub no_label : (text prefix rest : List ℕ) → parted 58 text ≡ Some (prefix
     → (labels_of (fields 58 text) ≡ []) × (rest_of (fields 58 text) ≡ text)
 no_label text prefix rest h t =
     let all = two text prefix rest h in
-    let s = shape 58 rest in
-    let whole = join_with_byte 58 (prefix ∷ s.0 ∷ s.1) in (
-      ap labels_of all ∙ ap (λ l. labels_with l (labels_of (s.0 ∷ s.1))) t,
-      ap rest_of all
-          ∙ ap (λ l. rest_with l whole (rest_of (s.0 ∷ s.1))) t ∙ sym (ap (join_with_byte 58) all) ∙ join_with_byte-slice_split 58 text,
-    )
+    (rw (all, t) refl, rw (all, t) (sym (ap (join_with_byte 58) all) ∙ join_with_byte-slice_split 58 text))
 
 -- it is one
 pub one_label : (text prefix rest label : List ℕ) → parted 58 text ≡ Some (prefix, rest) → label_before prefix ≡ Some label
@@ -32,17 +23,11 @@ pub one_label : (text prefix rest label : List ℕ) → parted 58 text ≡ Some 
 one_label text prefix rest label h t =
     let all = two text prefix rest h in
     let s = shape 58 rest in
-    let whole = join_with_byte 58 (prefix ∷ s.0 ∷ s.1) in (
-      ap labels_of all ∙ ap (λ l. labels_with l (labels_of (s.0 ∷ s.1))) t ∙ sym (ap (λ l. label ∷ labels_of l) s.2),
-      ap rest_of all
-          ∙ ap (λ l. rest_with l whole (rest_of (s.0 ∷ s.1))) t ∙ sym (ap rest_of s.2),
-    )
+    (rw (all, t) (sym (ap (λ l. label ∷ labels_of l) s.2)), rw (all, t) (sym (ap rest_of s.2)))
 
 -- the labels so far, and those that are left
 pub one_more : (all before after : List (List ℕ)) (text prefix rest label : List ℕ) → all ≡ before ++ labels_of (fields 58 text)
     → after ≡ before ++ label ∷ [] → parted 58 text ≡ Some (prefix, rest) → label_before prefix ≡ Some label
     → all ≡ after ++ labels_of (fields 58 rest)
 one_more all before after text prefix rest label h p e t =
-    h ∙ ap (λ (l : List (List ℕ)). before ++ l) (one_label text prefix rest label e t).0
-    ∙ sym (append_assoc before (label ∷ []) (labels_of (fields 58 rest)))
-    ∙ ap (λ (l : List (List ℕ)). l ++ labels_of (fields 58 rest)) (sym p)
+    h ∙ rw ((one_label text prefix rest label e t).0, p) (sym (append_assoc before (label ∷ []) (labels_of (fields 58 rest))))

@@ -1,3 +1,4 @@
+pub mod Common
 pub mod Fields
 pub mod Registers
 pub mod Said
@@ -5,13 +6,11 @@ pub mod Labelling
 pub mod Runs
 pub mod Dividing
 pub mod Mild
-pub mod Solid
 pub mod Numerals
 pub mod Texts
 pub mod PseudoLines
 pub mod AnyOperands
 pub mod Addresses
-pub mod NumbersRead
 pub mod Places
 pub mod DataLines
 pub mod Refused

@@ -1,26 +1,11 @@
 -- Each line with a statement, as the plain line of its mnemonic and its operands.
-use Rattle.std.proofs.Common.{◌≡◌, ℕ, Bool, true, false, cond, not, ◌==◌, ◌&&◌, List, [], ◌∷◌, ◌++◌, length, map, Option, Some, None, Ok, Err, refl, sym, ap, subst, ◌∙◌}
-use Rattle.std.specs.List.{list_all, onto_first, slice_split}
-use Rattle.std.proofs.lemmas.List.{append-nil}
-use Rattle.std.proofs.lemmas.List.Folds.{list_all-append}
-use Rattle.byte_strings.specs.Blanks.{trimmed}
-use Rattle.byte_strings.proofs.Conjunctions.{and_both, and_left, and_right}
-use Rattle.byte_strings.proofs.Trimming.{round, trimmed_bare}
-use Rattle.statements.specs.Grammar.{Division, IsLine, IsStatement, Labelled}
-use Rattle.statements.specs.Instructions.{Said}
-use Rattle.statements.specs.Mnemonics.{mnemonic_of}
-use Rattle.statements.specs.OperandLaws.{AreOperands, LinesArePlain, commas, divided, is_quiet, labelled, line_with}
-use Rattle.statements.specs.Operands.{counted, is_operand, operand_list}
-use Rattle.statements.specs.Reading.{content_by, line_of, meaning, read, said_by, stating, without_comment}
-use Rattle.statements.specs.Spelling.{is_name, is_name_byte, fields, parted, parted_at}
-use Rattle.statements.specs.declared.mnemonics.Mnemonic.{Mnemonic}
+use Rattle.statements.proofs.Common.{[], and_both, and_left, and_right, ap, append-nil, AreOperands, Bool, commas, cond, content_by, counted, divided, Division, Err, false, fields, is_name, is_name_byte, is_operand, is_quiet, IsLine, IsStatement, labelled, Labelled, length, line_of, line_with, LinesArePlain, List, list_all, list_all-append, map, meaning, Mnemonic, mnemonic_of, None, not, Ok, onto_first, operand_list, Option, parted, parted_at, read, refl, round, Said, said_by, slice_split, Some, stating, subst, sym, trimmed, trimmed_bare, true, without_comment, ℕ, ◌&&◌, ◌++◌, ◌==◌, ◌∙◌, ◌∷◌, ◌≡◌}
 use Rattle.statements.specs.declared.mnemonics.Mnemonic.TheVariants as w
-use Rattle.statements.proofs.AnyOperands.{commas_listed}
+use Rattle.statements.proofs.AnyOperands.{commas_listed, Lists, name_operand, no_sign, quiet_no_sign, spoken_line}
 use Rattle.statements.proofs.DataLines.{stated_listed}
 use Rattle.statements.proofs.Dividing.{lines_read}
 use Rattle.statements.proofs.Fields.{fields_none, fields_some}
-use Rattle.statements.proofs.Runs.{name_bytes, no_position}
-use Rattle.statements.proofs.Solid.{spoken_line, Lists, all_weaker, name_not_sign, no_sign}
+use Rattle.statements.proofs.Runs.{all_weaker, no_position}
 
 -- ---- plain lines
 
@@ -28,7 +13,7 @@ abbrev whole_content : (text : List ℕ) → no_sign text ≡ true → without_c
 whole_content text h = ap (λ p. content_by text (parted_at text p)) (no_position (λ b. b == 35) text h)
 
 name_quiet : (name : List ℕ) → is_name name ≡ true → no_sign name ≡ true
-name_quiet name n = all_weaker is_name_byte (λ c. not (c == 35)) name_not_sign name (name_bytes name n)
+name_quiet name n = quiet_no_sign name (name_operand name n).quiet
 
 -- a line that is a name and operands says what the name says of them
 pub plain_means : (name : List ℕ) (list : List (List ℕ)) → is_name name ≡ true → AreOperands list
@@ -73,7 +58,7 @@ listed_again (a ∷ more) o = (commas_listed a more o.0 o.1).parts
 all_left : (p : ℕ → Bool) (a b : List ℕ) → list_all p (a ++ b) ≡ true → list_all p a ≡ true
 all_left p a b h = and_left (list_all p a) (list_all p b) (sym (list_all-append p a b) ∙ h)
 
-all_right : (p : ℕ → Bool) (a b : List ℕ) → list_all p (a ++ b) ≡ true → list_all p b ≡ true
+pub all_right : (p : ℕ → Bool) (a b : List ℕ) → list_all p (a ++ b) ≡ true → list_all p b ≡ true
 all_right p a b h = and_right (list_all p a) (list_all p b) (sym (list_all-append p a b) ∙ h)
 
 -- each field of a text is without the byte at which the text is divided, and with what holds of the text's bytes

@@ -1,42 +1,27 @@
 -- Where a text is divided: at a colon, and at a blank.
-use Rattle.std.proofs.Common.{◌≡◌, ℕ, ◌+◌, suc, Bool, true, false, not, ◌==◌, nat_lt, List, [], ◌∷◌, ◌++◌, length, take, drop, reverse, Some, None, refl, sym, ap, ◌∙◌, arith, length-append}
-use Rattle.std.specs.List.{list_all, join_with_byte, position, position_or_len}
-use Rattle.std.proofs.Math.Seq.{take-append_seam, drop-append-add}
-use Rattle.std.proofs.lemmas.List.Splits.{join_with_byte-slice_split}
-use Rattle.std.proofs.lemmas.Bool.Decides.{nat_tests}
-use Rattle.statements.specs.Spelling.{begins_name, is_name, is_name_byte, parted, parted_at, fields}
-use Rattle.byte_strings.specs.Blanks.{is_blank}
+use Rattle.statements.proofs.Common.{[], all_reverse, and_left, and_right, ap, arith, begins_blank, begins_name, Bool, drop, drop-append-add, false, fields, is_blank, is_name, is_name_byte, join_with_byte, join_with_byte-slice_split, length, length-append, List, list_all, nat_lt, nat_tests, None, not, parted, parted_at, position, position_or_len, refl, reverse, Some, suc, sym, take, take-append_seam, true, ℕ, ◌++◌, ◌+◌, ◌==◌, ◌∙◌, ◌∷◌, ◌≡◌, append-nil, and_both, bare, length-reverse, trimmed, ◌<◌}
+use Rattle.std.proofs.Math.Numerals.{one-add}
 use Rattle.statements.proofs.Fields.{fields_some, shape}
-use Rattle.byte_strings.proofs.Conjunctions.{and_left, and_right}
-use Rattle.byte_strings.proofs.Trimming.{begins_blank}
-use Rattle.byte_strings.proofs.Conjunctions.{all_reverse}
+use Rattle.statements.proofs.Registers.{name_bytes}
 
 -- the first element that passes, after some that do not
-pub index_at : (p : ℕ → Bool) (xs ys : List ℕ) (y : ℕ) → list_all (λ x. not (p x)) xs ≡ true → p y ≡ true
-    → position_or_len p (xs ++ y ∷ ys) ≡ length xs
-index_at p [] ys y h t = rw t refl
-index_at p (x ∷ xs) ys y h t =
-    rw (and_left (not (p x)) _ h) (ap (λ n. 1 + n) (index_at p xs ys y (and_right (not (p x)) _ h) t) ∙ next (length xs)) where
-      next : (n : ℕ) → 1 + n ≡ suc n
-      next n = omega arith
+index_at : (p : ℕ → Bool) (xs rest : List ℕ) → list_all (λ x. not (p x)) xs ≡ true → position_or_len p rest ≡ 0
+    → position_or_len p (xs ++ rest) ≡ length xs
+index_at p [] rest h t = t
+index_at p (x ∷ xs) rest h t =
+    rw (and_left (not (p x)) _ h) (ap (λ n. 1 + n) (index_at p xs rest (and_right (not (p x)) _ h) t) ∙ one-add (length xs))
 
 pub position_at : (p : ℕ → Bool) (xs ys : List ℕ) (y : ℕ) → list_all (λ x. not (p x)) xs ≡ true → p y ≡ true
     → position p (xs ++ y ∷ ys) ≡ Some (length xs)
 position_at p xs ys y h t =
-    let at = index_at p xs ys y h t in
+    let at = index_at p xs (y ∷ ys) h (rw t refl) in
     let long : length (xs ++ y ∷ ys) ≡ length xs + length (y ∷ ys) = length-append xs (y ∷ ys) in
     let test : nat_lt (length xs) (length (xs ++ y ∷ ys)) ≡ true = rw long (grind (arith, nat_tests)) in
     rw at (rw test refl)
 
-pub no_index : (p : ℕ → Bool) (xs : List ℕ) → list_all (λ x. not (p x)) xs ≡ true → position_or_len p xs ≡ length xs
-no_index p [] h = refl
-no_index p (x ∷ xs) h = rw (and_left (not (p x)) _ h) (ap (λ n. 1 + n) (no_index p xs (and_right (not (p x)) _ h)) ∙ next (length xs)) where
-  next : (n : ℕ) → 1 + n ≡ suc n
-  next n = omega arith
-
 pub no_position : (p : ℕ → Bool) (xs : List ℕ) → list_all (λ x. not (p x)) xs ≡ true → position p xs ≡ None
 no_position p xs h =
-    let none = no_index p xs h in
+    let none : position_or_len p xs ≡ length xs = sym (ap (position_or_len p) (append-nil xs)) ∙ index_at p xs [] h refl in
     let test : nat_lt (length xs) (length xs) ≡ false = grind (arith, nat_tests) in
     rw none (rw test refl)
 
@@ -59,42 +44,35 @@ parts_join byte prefix after h =
     ap (parted_at (prefix ++ byte ∷ after)) at ∙ ap (λ (l : List ℕ). Some (l, drop (length prefix + 1) (prefix ++ byte ∷ after))) t
     ∙ ap (λ (l : List ℕ). Some (prefix, l)) d
 
--- the bytes of names
-pub name_bytes : (name : List ℕ) → is_name name ≡ true → list_all is_name_byte name ≡ true
-name_bytes [] h = cc
-name_bytes (b ∷ name) h =
-    let first : is_name_byte b ≡ true = rw (and_left (begins_name b) _ h) refl in
-    rw first (and_right (begins_name b) _ h)
+pub all_weaker : (p q : ℕ → Bool) → ((b : ℕ) → p b ≡ true → q b ≡ true) → (text : List ℕ) → list_all p text ≡ true → list_all q text ≡ true
+all_weaker p q f [] h = refl
+all_weaker p q f (b ∷ text) h = and_both _ _ (f b (and_left (p b) _ h)) (all_weaker p q f text (and_right (p b) _ h))
 
-byte_not_blank : (b : ℕ) → is_name_byte b ≡ true → is_blank b ≡ false
-byte_not_blank b h = grind (arith, nat_tests)
+pub names_not_blank : (name : List ℕ) → is_name name ≡ true → list_all (λ b. not (is_blank b)) name ≡ true
+names_not_blank name h = all_weaker is_name_byte (λ b. not (is_blank b)) (λ b k. grind (arith, nat_tests)) name (name_bytes name h)
 
-byte_not_colon : (b : ℕ) → is_name_byte b ≡ true → (b == 58) ≡ false
-byte_not_colon b h = grind (arith, nat_tests)
-
-pub blank_not_colon : (b : ℕ) → is_blank b ≡ true → (b == 58) ≡ false
-blank_not_colon b h = grind (arith, nat_tests)
-
-pub names_not_blank : (name : List ℕ) → list_all is_name_byte name ≡ true → list_all (λ b. not (is_blank b)) name ≡ true
-names_not_blank [] h = refl
-names_not_blank (b ∷ name) h = rw (byte_not_blank b (and_left (is_name_byte b) _ h)) (names_not_blank name (and_right (is_name_byte b) _ h))
-
-pub names_not_colon : (name : List ℕ) → list_all is_name_byte name ≡ true → list_all (λ b. not (b == 58)) name ≡ true
-names_not_colon [] h = refl
-names_not_colon (b ∷ name) h = rw (byte_not_colon b (and_left (is_name_byte b) _ h)) (names_not_colon name (and_right (is_name_byte b) _ h))
+pub names_not_colon : (name : List ℕ) → is_name name ≡ true → list_all (λ b. not (b == 58)) name ≡ true
+names_not_colon name h = all_weaker is_name_byte (λ b. not (b == 58)) (λ b k. grind (arith, nat_tests)) name (name_bytes name h)
 
 pub blanks_not_colon : (text : List ℕ) → list_all is_blank text ≡ true → list_all (λ b. not (b == 58)) text ≡ true
-blanks_not_colon [] h = refl
-blanks_not_colon (b ∷ text) h = rw (blank_not_colon b (and_left (is_blank b) _ h)) (blanks_not_colon text (and_right (is_blank b) _ h))
+blanks_not_colon text h = all_weaker is_blank (λ b. not (b == 58)) (λ b k. grind (arith, nat_tests)) text h
 
-pub begins_so : (name : List ℕ) → list_all is_name_byte name ≡ true → begins_blank name ≡ false
-begins_so [] h = refl
-begins_so (b ∷ name) h = byte_not_blank b (and_left (is_name_byte b) _ h)
+-- a text without blanks
+pub begins_so : (text more : List ℕ) → 0 < length text → list_all (λ b. not (is_blank b)) text ≡ true → begins_blank (text ++ more) ≡ false
+begins_so [] more l h = absurd (omega arith)
+begins_so (b ∷ text) more l h = unnot (is_blank b) (and_left (not (is_blank b)) _ h) where
+  unnot : (t : Bool) → not t ≡ true → t ≡ false
+  unnot true e = cc
+  unnot false e = refl
 
-pub ends_so : (name : List ℕ) → list_all is_name_byte name ≡ true → begins_blank (reverse name) ≡ false
-ends_so name h = begins_so (reverse name) (all_reverse is_name_byte name h)
+pub unblank_bare : (text : List ℕ) → list_all (λ b. not (is_blank b)) text ≡ true → trimmed text ≡ text
+unblank_bare [] h = refl
+unblank_bare (b ∷ text) h =
+    let all : List ℕ = b ∷ text in
+    let last = begins_so (reverse all) [] (rw (length-reverse all) (omega arith)) (all_reverse (λ c. not (is_blank c)) all h) in
+    bare all (begins_so all [] (omega arith) h) (sym (ap begins_blank (append-nil (reverse all))) ∙ last)
 
--- whether a text goes on with a byte of a name
+-- whether a text continues with a byte of a name
 abbrev pub goes_on : List ℕ → Bool
 goes_on [] = false
 goes_on (b ∷ text) = is_name_byte b

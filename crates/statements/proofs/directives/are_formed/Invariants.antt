@@ -1,9 +1,4 @@
-use Rattle.std.proofs.Common.{◌≡◌, map}
-use Rattle.std.specs.List.{list_all}
-use Rattle.std.specs.Option.{option_copied}
-use Rattle.statements.specs.Directives.{are_formed, is_formed}
-use Rattle.statements.specs.Spelling.{fields_after}
-use Rattle.byte_strings.specs.Blanks.{trimmed}
+use Rattle.statements.proofs.Common.{are_formed, fields_after, is_formed, list_all, map, option_copied, trimmed, ◌≡◌}
 use Rattle.statements.proofs.Fields.{left}
 use Rattle.statements.proofs.directives.are_formed.Given as goal
 

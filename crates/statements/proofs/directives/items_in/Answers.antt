@@ -1,8 +1,4 @@
-use Rattle.std.proofs.Common.{rules, ◌≡◌, ◌∙◌, refl, ap, Ok}
-use Rattle.std.specs.Option.{option_copied}
-use Rattle.byte_strings.specs.Blanks.{trimmed}
-use Rattle.statements.specs.Directives.{item_in, items_in}
-use Rattle.statements.specs.Spelling.{fields, fields_after}
+use Rattle.statements.proofs.Common.{ap, fields, fields_after, item_in, items_in, Ok, option_copied, refl, rules, trimmed, ◌∙◌, ◌≡◌}
 use Rattle.statements.proofs.Fields.{one_more}
 use Rattle.statements.proofs.directives.items_in.Goals as goal
 

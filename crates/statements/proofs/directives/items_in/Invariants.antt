@@ -1,7 +1,4 @@
-use Rattle.std.proofs.Common.{◌≡◌}
-use Rattle.std.specs.Option.{option_copied}
-use Rattle.statements.specs.Directives.{items_in, items_of}
-use Rattle.statements.specs.Spelling.{fields_after}
+use Rattle.statements.proofs.Common.{fields_after, items_in, items_of, option_copied, ◌≡◌}
 use Rattle.statements.proofs.Fields.{followed_by, left}
 use Rattle.statements.proofs.directives.items_in.Given as goal
 

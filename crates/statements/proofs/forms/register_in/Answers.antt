@@ -1,6 +1,4 @@
-use Rattle.std.proofs.Common.{◌≡◌, Some, ap, sym, subst, ◌∙◌}
-use Rattle.rv32i.specs.Names.{Names}
-use Rattle.statements.specs.Operands.{or_bad}
+use Rattle.statements.proofs.Common.{is_name, ap, Names, or_bad, Some, subst, sym, ◌∙◌, ◌≡◌}
 use Rattle.statements.proofs.Registers.{register_named, register_none, unnamed, named_text, named_is_name}
 use Rattle.statements.proofs.forms.register_in.Goals as goal
 
@@ -11,12 +9,12 @@ returns-in_default c =
 
 pub returns-in-Some-reg_of : goal.returns-in-Some-reg_of
 returns-in-Some-reg_of c =
-    let same : c.as_str.result.now ≡ c.args.text.now = c.as_str.ensures ∙ named_text c.args.text.now c.in-Some.name c.in-Some.ensures in
+    let same : c.as_str.result.now ≡ c.args.text.now = c.as_str.ensures ∙ (named_text _ _ _ c.in-Some.ensures).1 in
     let named : Names c.args.text.now c.in-Some-reg_of.number = subst
     (λ t. Names t c.in-Some-reg_of.number) same c.in-Some-reg_of.ensures in
     ap or_bad (ap (λ n. Some n) c.new.ensures ∙ sym (register_named c.args.text.now c.in-Some-reg_of.number named))
 
 pub returns-in-None : goal.returns-in-None
 returns-in-None c =
-    let same : c.as_str.result.now ≡ c.args.text.now = c.as_str.ensures ∙ named_text c.args.text.now c.in-Some.name c.in-Some.ensures in
+    let same : c.as_str.result.now ≡ c.args.text.now = c.as_str.ensures ∙ (named_text _ _ _ c.in-Some.ensures).1 in
     sym (ap or_bad (register_none c.args.text.now (λ n h. c.in-None.ensures n (subst (λ t. Names t n) (sym same) h))))

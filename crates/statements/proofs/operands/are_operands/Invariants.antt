@@ -1,9 +1,4 @@
-use Rattle.std.proofs.Common.{◌≡◌, map}
-use Rattle.std.specs.List.{list_all}
-use Rattle.statements.specs.Operands.{are_operands, is_operand}
-use Rattle.statements.specs.Spelling.{fields_after}
-use Rattle.byte_strings.specs.Blanks.{trimmed}
-use Rattle.std.specs.Option.{option_copied}
+use Rattle.statements.proofs.Common.{are_operands, fields_after, is_operand, list_all, map, option_copied, trimmed, ◌≡◌}
 use Rattle.statements.proofs.Fields.{left}
 use Rattle.statements.proofs.operands.are_operands.Given as goal
 

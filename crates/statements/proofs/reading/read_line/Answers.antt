@@ -1,7 +1,4 @@
-use Rattle.std.proofs.Common.{ap, subst, ◌∙◌}
-use Rattle.statements.specs.Directives.{OrNoMemory}
-use Rattle.statements.specs.Reading.{labels_of, rest_of, statement_in}
-use Rattle.statements.specs.Spelling.{fields}
+use Rattle.statements.proofs.Common.{ap, fields, labels_of, OrNoMemory, rest_of, statement_in, subst, ◌∙◌}
 use Rattle.statements.proofs.Said.{read_so}
 use Rattle.statements.proofs.reading.read_line.Goals as goal
 

@@ -1,8 +1,4 @@
-use Rattle.std.proofs.Common.{◌≡◌, refl, ap, sym, subst, true, Some, None, ◌∙◌}
-use Rattle.statements.specs.Directives.{OrNoMemory}
-use Rattle.statements.specs.Operands.{are_operands}
-use Rattle.statements.specs.Reading.{meaning, said, said_by}
-use Rattle.statements.specs.Mnemonics.{mnemonic_of}
+use Rattle.statements.proofs.Common.{ap, are_operands, meaning, mnemonic_of, None, OrNoMemory, refl, said, said_by, Some, subst, sym, true, ◌∙◌, ◌≡◌}
 use Rattle.statements.proofs.Said.{said_named}
 use Rattle.statements.proofs.reading.said.Goals as goal
 

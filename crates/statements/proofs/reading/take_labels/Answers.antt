@@ -1,5 +1,4 @@
-use Rattle.std.proofs.Common.{◌++◌, List, ℕ, refl, sym, ap, ◌∙◌}
-use Rattle.std.proofs.lemmas.List.{append-nil}
+use Rattle.statements.proofs.Common.{ap, append-nil, List, refl, sym, ℕ, ◌++◌, ◌∙◌}
 use Rattle.statements.proofs.Labelling.{no_colon, no_label, one_label, one_more}
 use Rattle.statements.proofs.reading.take_labels.Goals as goal
 

@@ -1,6 +1,4 @@
-use Rattle.std.proofs.Common.{◌≡◌, ◌++◌, length}
-use Rattle.statements.specs.Reading.{labels_of, rest_of}
-use Rattle.statements.specs.Spelling.{fields}
+use Rattle.statements.proofs.Common.{fields, labels_of, length, rest_of, ◌++◌, ◌≡◌}
 use Rattle.statements.proofs.reading.take_labels.Given as goal
 
 abbrev pub invariant-labels : goal.invariant-labels
