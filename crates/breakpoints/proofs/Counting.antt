@@ -1,9 +1,7 @@
 -- Hits, counted over many checks.
-use Rattle.std.proofs.Common.{◌≡◌, ℕ, ◌+◌, ◌≤◌, Bool, true, false, cond, ◌&&◌, leb, min, List, [], ◌∷◌, refl, ap, ◌∙◌, arith}
-use Rattle.std.proofs.lemmas.Bool.{le-leb, leb-false, leb-true, lt-leb}
+use Rattle.breakpoints.proofs.Common.{[], ap, arith, Bool, cond, counted, false, fresh, is_hit, is_reached, le-leb, leb, leb-false, leb-true, List, lt-leb, min, Placed, refl, reset, true, with_hit, ℕ, ◌&&◌, ◌+◌, ◌∙◌, ◌∷◌, ◌≡◌, ◌≤◌}
 use Rattle.std.specs.Prelude.{Option, is_some, not}
 use Rattle.breakpoints.specs.Laws.{Check, LogsFromItsHit, ResetCountsAnew, after_checks, hits_among, is_reached_at}
-use Rattle.breakpoints.specs.Stops.{counted, fresh, is_hit, is_reached, Placed, reset, with_hit}
 
 abbrev with_hits : ℕ → Placed → Placed
 with_hits n b = record b { hits = n }

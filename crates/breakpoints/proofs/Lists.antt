@@ -1,13 +1,7 @@
 -- Lists of breakpoints, as a check leaves them.
-use Rattle.std.proofs.Common.{◌≡◌, ℕ, zero, suc, ◌+◌, ◌<◌, ◌≤◌, Bool, true, false, cond, ◌==◌, ◌||◌, List, [], ◌∷◌, ◌++◌, length, map, filter, take, drop, get_or, refl, ap, ◌∙◌, arith}
-use Rattle.std.specs.List.{list_any}
-use Rattle.std.proofs.lemmas.Bool.{or_parts}
-use Rattle.std.proofs.lemmas.List.{map-append}
+use Rattle.breakpoints.proofs.Common.{[], ap, arith, Bool, checked, cond, counted, Covers, drop, false, filter, get_or, has_place, hit_in, hit_where, ids_where, is_among, is_at, is_hit, IsKept, length, List, list_any, list_any-append, Lists, logging_from, logs, looked, map, map-append, or_parts, Placed, refl, reset, SamePlaces, standing_in, stands, stopping_ids, stops, suc, take, true, with_hit, zero, ℕ, ◌++◌, ◌+◌, ◌<◌, ◌==◌, ◌||◌, ◌∙◌, ◌∷◌, ◌≡◌, ◌≤◌}
 use Rattle.std.proofs.lemmas.List.Elements.{filter_more}
 use Rattle.rv32i.specs.declared.hart.Hart.{Hart}
-use Rattle.std.proofs.lemmas.List.Folds.{list_any-append}
-use Rattle.breakpoints.specs.Places.{Covers, IsKept, SamePlaces, has_place, is_among, is_at}
-use Rattle.breakpoints.specs.Stops.{checked, counted, hit_in, hit_where, ids_where, is_hit, Lists, logging_from, logs, looked, Placed, reset, standing_in, stands, stopping_ids, stops, with_hit}
 
 -- ---- the addresses stay
 
@@ -76,7 +70,7 @@ unchanged pc hart memory (b ∷ list) h =
     let parts = or_parts (is_at pc b) (list_any (is_at pc) list) h in
     rw (none_counted pc hart memory b parts.0) (ap (λ (x : List Placed). b ∷ x) (unchanged pc hart memory list parts.1))
 
--- this is so of breakpoints at pc alone
+-- this is true of breakpoints at pc alone
 abbrev AtPc : ℕ → (Placed → Bool) → Type 0
 AtPc pc test = (b : Placed) → is_at pc b ≡ false → test b ≡ false
 

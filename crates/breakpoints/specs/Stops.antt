@@ -103,7 +103,7 @@ logs pc hart memory b = is_reached pc hart memory b && is_some b.log
 abbrev pub stands : ℕ → Hart → List ℕ → Placed → Bool
 stands pc hart memory b = is_hit pc hart memory b && not (is_some b.log)
 
--- the ids of those of which this is so, in order
+-- the ids of those that pass the test, in order
 abbrev pub ids_where : (Placed → Bool) → List Placed → List ℕ
 ids_where test list = map (λ b. b.id) (filter test list)
 
@@ -129,7 +129,7 @@ checked pc hart memory lists = record {
   logs = logging_from pc hart memory 0 lists.source;
 }
 
--- the kinds of those of which this is so
+-- the kinds of those that pass the test
 abbrev pub hit_where : (Placed → Bool) → Lists → Hit
 hit_where test lists = record {
   source = list_any test lists.source;
@@ -160,7 +160,7 @@ log_of (Some b) = b.log
 abbrev pub log_at : Lists → ℕ → Option (List ℕ)
 log_at lists place = log_of (slice_get lists.source place)
 
--- a list that can be set: at most 1,024 breakpoints, each of which stops at its first hit or a later one
+-- a list that can be set: at most 1,024 breakpoints, each to stop at its first hit or a later one
 pub record CanBeSet (specs : List BreakSpec) : Type 0 where
   pub few : length specs ≤ 1024
   pub reachable : All (λ spec. 1 ≤ spec.hit) specs

@@ -106,17 +106,17 @@ impl Breakpoint {
     pub(crate) fn logs(&self, pc: u32, hart: &Hart, memory: &Memory) -> bool
         ensures { result ≡ logs pc hart.now memory.now self.now }
     {
-        if self.address != pc || !self.holds(hart, memory) {
+        if self.address != pc || self.log.is_none() || !self.holds(hart, memory) {
             return false;
         }
-        self.hits.saturating_add(1) >= self.hit && self.log.is_some()
+        self.hits.saturating_add(1) >= self.hit
     }
 
     /// Whether it stands here, however often it was hit.
     pub(crate) fn stands(&self, pc: u32, hart: &Hart, memory: &Memory) -> bool
         ensures { result ≡ stands pc hart.now memory.now self.now }
     {
-        self.address == pc && self.holds(hart, memory) && self.log.is_none()
+        self.address == pc && self.log.is_none() && self.holds(hart, memory)
     }
 
     /// It was not hit yet.

@@ -67,7 +67,7 @@ impl Breaks {
         }
     }
 
-    /// Replaces the breakpoints of source lines, at most 1,024, by these, none of which was hit yet; no ids and no places of logpoints
+    /// Replaces the breakpoints of source lines, at most 1,024, by these, with no hits yet; no ids and no places of logpoints
     /// are lent until the next check. Where no memory is left, nothing changes.
     pub fn set_source(&mut self, specs: Vec<BreakSpec>) -> Result<(), AllocError>
         requires { CanBeSet specs.items }
@@ -88,7 +88,7 @@ impl Breaks {
         Ok(())
     }
 
-    /// Replaces the breakpoints of instructions, at most 1,024, by these, none of which was hit yet; no ids and no places of logpoints
+    /// Replaces the breakpoints of instructions, at most 1,024, by these, with no hits yet; no ids and no places of logpoints
     /// are lent until the next check. Where no memory is left, nothing changes.
     pub fn set_instructions(&mut self, specs: Vec<BreakSpec>) -> Result<(), AllocError>
         requires { CanBeSet specs.items }
@@ -108,7 +108,7 @@ impl Breaks {
         Ok(())
     }
 
-    /// Replaces the breakpoints of functions, at most 1,024, by these, none of which was hit yet; no ids and no places of logpoints are
+    /// Replaces the breakpoints of functions, at most 1,024, by these, with no hits yet; no ids and no places of logpoints are
     /// lent until the next check. Where no memory is left, nothing changes.
     pub fn set_functions(&mut self, specs: Vec<BreakSpec>) -> Result<(), AllocError>
         requires { CanBeSet specs.items }
@@ -283,7 +283,7 @@ const NO_HIT: Hit = Hit {
     function: false,
 };
 
-// The breakpoints of specs, none of which was hit yet.
+// The breakpoints of specs, with no hits yet.
 fn fresh_list(alloc: Global, specs: Vec<BreakSpec>) -> Result<Vec<Breakpoint>, AllocError>
     requires { CanBeSet specs.items }
     ensures { IfOk result (λ list. list.items ≡ map fresh (map wanted_by specs.items)) }

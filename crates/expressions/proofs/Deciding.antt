@@ -1,11 +1,6 @@
 -- Tokens and trees together: which texts have a tree, and that it is one.
-use Rattle.std.proofs.Common.{◌≡◌, ℕ, List, [], Option, Some, None, sym, ap, ◌∙◌, subst}
-use Rattle.expressions.specs.Scanning.{Spelled, SpelledOrNot, lexemes}
-use Rattle.expressions.specs.Shifting.{parsed}
+use Rattle.expressions.proofs.Common.{[], ap, IsTokens, lexemes, List, None, Option, parsed, Some, Spelled, SpelledOrNot, subst, sym, Token, tokens_of, Tree, ℕ, ◌∙◌, ◌≡◌}
 use Rattle.expressions.specs.Texts.{IsTreeOf, TreeIsUnique}
-use Rattle.expressions.specs.Tokens.{IsTokens}
-use Rattle.expressions.specs.Trees.{Tree, tokens_of}
-use Rattle.expressions.specs.declared.token.Token.{Token}
 use Rattle.expressions.proofs.Dividing.{divides, gone_through}
 use Rattle.expressions.proofs.Grouping.{found_is_tree, tree_found}
 use Rattle.expressions.proofs.Same.{spelled_same}

@@ -1,11 +1,5 @@
 -- A text divided by the rules, and as it is gone through.
-use Rattle.std.proofs.Common.{◌≡◌, ◌≢◌, ℕ, Bool, true, false, cond, List, [], ◌∷◌, ◌++◌, refl, sym, ap, ◌∙◌, subst, append_assoc}
-use Rattle.std.proofs.lemmas.Bool.{and_parts, both_ways}
-use Rattle.std.proofs.lemmas.List.{append-nil}
-use Rattle.byte_strings.specs.Blanks.{is_blank}
-use Rattle.expressions.specs.Scanning.{Spelled, lexemes, with_first}
-use Rattle.expressions.specs.Tokens.{AllBlank, IsLongest, IsTokens, Spells, is_lexeme}
-use Rattle.expressions.specs.declared.token.Token.{Token}
+use Rattle.expressions.proofs.Common.{[], AllBlank, and_parts, ap, append-nil, append_assoc, Bool, both_ways, cond, false, is_blank, is_lexeme, IsLongest, IsTokens, lexemes, List, refl, Spelled, Spells, subst, sym, Token, true, with_first, ℕ, ◌++◌, ◌∙◌, ◌∷◌, ◌≡◌, ◌≢◌}
 use Rattle.expressions.proofs.Lexemes.{blank_is_none, lexeme_begins, token_lexeme}
 use Rattle.expressions.proofs.Scanned.{begins_with, lexemes_end}
 

@@ -1,36 +1,12 @@
 -- The tree of tokens is found, and what is found is their tree.
-use Rattle.std.proofs.Common.{◌≡◌, ℕ, ◌<◌, ◌≤◌, Bool, true, false, cond, ◌&&◌, ltb, leb, List, [], ◌∷◌, ◌++◌, Option, Some, None, refl, sym, ap, ◌∙◌, subst, arith, append_assoc}
-use Rattle.std.specs.Prelude.{⊤}
-use Rattle.std.proofs.lemmas.Bool.{and_parts, le-ltb, lt-ltb, ltb-true, ltb-false, leb-true, le-leb}
-use Rattle.std.proofs.lemmas.List.{append-nil}
-use Rattle.expressions.specs.Shifting.{Empty, Before, Inside, LeftOf, Full, Open, Grouped, Place, Stack, closed, closed_at, ended, ended_at, finished_on, follows, grouped, joined, opens, parsed, parsed_from, shifted_on}
-use Rattle.expressions.specs.Trees.{Tree, Number, Register, Pc, Unary, Binary, Enclosed, binding, groups, level_of, token_before, tokens_of}
-use Rattle.expressions.specs.declared.token.Bracket.{Bracket}
-use Rattle.expressions.specs.declared.token.Bracket.TheVariants.{Round, Square}
-use Rattle.expressions.specs.declared.token.Infix.{Infix}
-use Rattle.expressions.specs.declared.token.Infix.TheVariants.{OrElse, AndThen, Or, Xor, And, Equal, NotEqual, Less, LessEqual, Greater, GreaterEqual, ShiftLeft, ShiftRight, Plus, Minus, Times}
+use Rattle.expressions.proofs.Common.{[], And, and_parts, AndThen, ap, append-nil, append_assoc, arith, Before, Binary, binding, Bool, Bracket, closed, closed_at, cond, Empty, Enclosed, ended, ended_at, Equal, false, finished_on, follows, Full, Greater, GreaterEqual, Grouped, grouped, groups, Infix, Inside, joined, le-leb, le-ltb, leb, leb-true, LeftOf, Less, LessEqual, level_of, List, lt-ltb, ltb, ltb-false, ltb-true, Minus, None, NotEqual, Number, Open, opens, Option, Or, OrElse, parsed, parsed_from, Pc, Place, Plus, refl, Register, Round, shifted_on, ShiftLeft, ShiftRight, Some, Square, Stack, subst, sym, Times, Token, token_before, tokens_of, Tree, true, Unary, Xor, ℕ, ⊤, ◌&&◌, ◌++◌, ◌<◌, ◌∙◌, ◌∷◌, ◌≡◌, ◌≤◌}
 use Rattle.expressions.specs.declared.token.Prefix.{Prefix}
 use Rattle.expressions.specs.declared.token.Prefix.TheVariants.{Negate, Complement, Not}
-use Rattle.expressions.specs.declared.token.Token.{Token}
 use Rattle.expressions.specs.declared.token.Token.TheVariants as t
 
 level_small : (operator : Infix) → level_of operator ≤ 10
 level_small OrElse = omega arith
-level_small AndThen = omega arith
-level_small Or = omega arith
-level_small Xor = omega arith
-level_small And = omega arith
-level_small Equal = omega arith
-level_small NotEqual = omega arith
-level_small Less = omega arith
-level_small LessEqual = omega arith
-level_small Greater = omega arith
-level_small GreaterEqual = omega arith
-level_small ShiftLeft = omega arith
-level_small ShiftRight = omega arith
-level_small Plus = omega arith
-level_small Minus = omega arith
-level_small Times = omega arith
+level_small _ = omega arith
 
 -- ---- a tree is found
 
@@ -51,24 +27,12 @@ looser_more (LeftOf left operator stack) level more h l = omega (arith, h, l)
 abbrev NoTighter : List Token → ℕ → Type 0
 NoTighter [] level = ⊤
 NoTighter ((t.Infix operator) ∷ rest) level = level_of operator ≤ level
-NoTighter ((t.Number n) ∷ rest) level = ⊤
-NoTighter ((t.Register r) ∷ rest) level = ⊤
-NoTighter (t.Pc ∷ rest) level = ⊤
-NoTighter (t.Tilde ∷ rest) level = ⊤
-NoTighter (t.Bang ∷ rest) level = ⊤
-NoTighter ((t.Open bracket) ∷ rest) level = ⊤
-NoTighter ((t.Close bracket) ∷ rest) level = ⊤
+NoTighter _ level = ⊤
 
 no_tighter_more : (rest : List Token) (level more : ℕ) → level ≤ more → NoTighter rest level → NoTighter rest more
 no_tighter_more [] level more h l = tt
 no_tighter_more ((t.Infix operator) ∷ rest) level more h l = omega (arith, h, l)
-no_tighter_more ((t.Number n) ∷ rest) level more h l = tt
-no_tighter_more ((t.Register r) ∷ rest) level more h l = tt
-no_tighter_more (t.Pc ∷ rest) level more h l = tt
-no_tighter_more (t.Tilde ∷ rest) level more h l = tt
-no_tighter_more (t.Bang ∷ rest) level more h l = tt
-no_tighter_more ((t.Open bracket) ∷ rest) level more h l = tt
-no_tighter_more ((t.Close bracket) ∷ rest) level more h l = tt
+no_tighter_more _ level more h l = tt
 
 -- what waits looser stays
 stays : (stack : Stack) (level : ℕ) (operand : Tree) → level ≤ 10 → Looser stack level
@@ -88,12 +52,7 @@ alike [] level stack operand other tree n h = ap ended_at (h 0 (omega arith))
 alike ((t.Infix operator) ∷ rest) level stack operand other tree n h =
     ap (λ g. parsed_from (Some (joined operator g)) rest) (h (level_of operator) n)
 alike ((t.Close bracket) ∷ rest) level stack operand other tree n h = ap (λ g. parsed_from (closed_at bracket g) rest) (h 0 (omega arith))
-alike ((t.Number m) ∷ rest) level stack operand other tree n h = refl
-alike ((t.Register r) ∷ rest) level stack operand other tree n h = refl
-alike (t.Pc ∷ rest) level stack operand other tree n h = refl
-alike (t.Tilde ∷ rest) level stack operand other tree n h = refl
-alike (t.Bang ∷ rest) level stack operand other tree n h = refl
-alike ((t.Open bracket) ∷ rest) level stack operand other tree n h = refl
+alike _ level stack operand other tree n h = refl
 
 opened : (operator : Prefix) (stack : Stack) → opens stack (token_before operator) ≡ Some (Open (Before operator stack))
 opened Negate stack = refl
@@ -348,11 +307,7 @@ follows_right stack operand (t.Infix operator) done h b =
 follows_right stack operand (t.Close bracket) done h b =
     closed_right bracket _ _ done (grouped_well 0 stack operand done (omega arith) (omega arith) h).holds
 follows_right stack operand (t.Number n) done h b = tt
-follows_right stack operand (t.Register r) done h b = tt
-follows_right stack operand t.Pc done h b = tt
-follows_right stack operand t.Tilde done h b = tt
-follows_right stack operand t.Bang done h b = tt
-follows_right stack operand (t.Open bracket) done h b = tt
+follows_right stack operand _ done h b = tt
 
 shifted_right : (place : Option Place) (token : Token) (done : List Token) → Goes place done
     → Goes (shifted_on place token) (done ++ token ∷ [])

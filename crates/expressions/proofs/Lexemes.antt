@@ -1,20 +1,11 @@
 -- Words and signs: what they begin with, and what spells a token.
-use Rattle.std.proofs.Common.{◌≡◌, ℕ, ◌≤◌, Bool, true, false, not, cond, ◌&&◌, ◌||◌, ◌==◌, List, [], ◌∷◌, ◌++◌, length, Some, None, Ok, Err, refl, sym, ap, ◌∙◌, arith, ◌⊎◌, inl, inr}
+use Rattle.expressions.proofs.Common.{[], And, and_from, and_parts, AndThen, ap, arith, Bool, Bracket, closing, cond, eqb-true, Equal, Err, false, Greater, GreaterEqual, Infix, inl, inr, is_blank, is_lexeme, is_sign, is_sign_byte, is_sign_pair, is_word, is_word_byte, length, Less, LessEqual, List, Minus, Names, None, not, NotEqual, Ok, opening, Or, or_left, or_right, OrElse, Plus, refl, Round, ShiftLeft, ShiftRight, sign_of, Some, Spells, Square, sym, Times, Token, true, Xor, ℕ, ◌&&◌, ◌++◌, ◌==◌, ◌||◌, ◌∙◌, ◌∷◌, ◌≡◌, ◌≤◌, ◌⊎◌}
 use Rattle.std.specs.Char.{is_digit}
 use Rattle.std.specs.Str.Parse.{digits_value}
 use Rattle.numerals.specs.declared.NumeralError.TheVariants.{Malformed}
 use Rattle.std.specs.List.{list_all}
-use Rattle.std.proofs.lemmas.Bool.{and_from, and_parts, or_left, or_right, eqb-true}
 use Rattle.std.proofs.lemmas.Bool.Decides.{nat_tests}
-use Rattle.byte_strings.specs.Blanks.{is_blank}
 use Rattle.numerals.specs.Numerals.{magnitude, magnitude_by, numeral, within}
-use Rattle.rv32i.specs.Names.{Names}
-use Rattle.expressions.specs.Tokens.{Spells, closing, is_lexeme, is_sign, is_sign_byte, is_sign_pair, is_word, is_word_byte, opening, sign_of}
-use Rattle.expressions.specs.declared.token.Bracket.{Bracket}
-use Rattle.expressions.specs.declared.token.Bracket.TheVariants.{Round, Square}
-use Rattle.expressions.specs.declared.token.Infix.{Infix}
-use Rattle.expressions.specs.declared.token.Infix.TheVariants.{OrElse, AndThen, Or, Xor, And, Equal, NotEqual, Less, LessEqual, Greater, GreaterEqual, ShiftLeft, ShiftRight, Plus, Minus, Times}
-use Rattle.expressions.specs.declared.token.Token.{Token}
 use Rattle.expressions.specs.declared.token.Token.TheVariants as t
 use Rattle.expressions.proofs.Words.{named_passes}
 use Rattle.byte_strings.proofs.Below.{all_below}
@@ -113,21 +104,7 @@ register_lexeme bytes r h = named_passes is_lexeme refl refl bytes r h
 
 infix_lexeme : (operator : Infix) → is_lexeme (sign_of operator) ≡ true
 infix_lexeme OrElse = refl
-infix_lexeme AndThen = refl
-infix_lexeme Or = refl
-infix_lexeme Xor = refl
-infix_lexeme And = refl
-infix_lexeme Equal = refl
-infix_lexeme NotEqual = refl
-infix_lexeme Less = refl
-infix_lexeme LessEqual = refl
-infix_lexeme Greater = refl
-infix_lexeme GreaterEqual = refl
-infix_lexeme ShiftLeft = refl
-infix_lexeme ShiftRight = refl
-infix_lexeme Plus = refl
-infix_lexeme Minus = refl
-infix_lexeme Times = refl
+infix_lexeme _ = refl
 
 open_lexeme : (bracket : Bracket) → is_lexeme (opening bracket) ≡ true
 open_lexeme Round = refl

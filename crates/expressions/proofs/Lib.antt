@@ -1,3 +1,4 @@
+pub mod Common
 pub mod Words
 pub mod Same
 pub mod Scanned
@@ -6,3 +7,5 @@ pub mod Dividing
 pub mod Shifted
 pub mod Grouping
 pub mod Deciding
+pub mod Stacking
+pub mod Flattened

@@ -1,7 +1,5 @@
 -- A word or a sign spells one token at most.
-use Rattle.std.proofs.Common.{◌≡◌, ℕ, List, [], ◌∷◌, refl, ap, ◌∙◌}
-use Rattle.expressions.specs.Scanning.{Spelled}
-use Rattle.expressions.specs.declared.token.Token.{Token}
+use Rattle.expressions.proofs.Common.{[], ap, List, refl, Spelled, Token, ℕ, ◌∙◌, ◌∷◌, ◌≡◌}
 use Rattle.expressions.proofs.Words.{one_token}
 
 pub spelled_same : (tokens others : List Token) (list : List (List ℕ)) → Spelled tokens list → Spelled others list → tokens ≡ others

@@ -1,10 +1,5 @@
 -- A text is gone through byte by byte.
-use Rattle.std.proofs.Common.{◌≡◌, ℕ, ◌+◌, ◌-◌, ◌<◌, ◌≤◌, Bool, true, false, cond, List, [], ◌∷◌, ◌++◌, length, take, drop, get_or, refl, sym, ap, ◌∙◌, subst, arith, append_assoc, length-drop}
-use Rattle.std.proofs.lemmas.List.{take_more, get_or-drop, append-nil, drop_all, drop_more}
-use Rattle.byte_strings.specs.Blanks.{is_blank}
-use Rattle.expressions.specs.Scanning.{SoFar, Spelled, Takes, lexemes, with_first}
-use Rattle.expressions.specs.Tokens.{Spells, is_lexeme}
-use Rattle.expressions.specs.declared.token.Token.{Token}
+use Rattle.expressions.proofs.Common.{[], ap, append-nil, append_assoc, arith, Bool, cond, drop, drop_all, drop_more, false, get_or, get_or-drop, is_blank, is_lexeme, length, length-drop, lexemes, List, refl, SoFar, Spelled, Spells, subst, sym, take, take_more, Takes, Token, true, with_first, ℕ, ◌++◌, ◌+◌, ◌-◌, ◌<◌, ◌∙◌, ◌∷◌, ◌≡◌, ◌≤◌}
 
 -- one more byte of what has begun
 pub one_more : (s i : ℕ) (text : List ℕ) → s ≤ i → i < length text
@@ -33,7 +28,7 @@ spelled_there [] (other ∷ done) bytes more h = absurd h
 spelled_there (first ∷ tokens) [] bytes more h = (first, h.0)
 spelled_there (first ∷ tokens) (other ∷ done) bytes more h = spelled_there tokens done bytes more h.1
 
--- the lexeme goes on with a byte
+-- the lexeme continues with a byte
 pub goes_on : (text : List ℕ) (tokens : List Token) (begun : List ℕ) (b : ℕ) (rest : List ℕ) → is_lexeme (begun ++ b ∷ []) ≡ true
     → SoFar text tokens begun (b ∷ rest) → SoFar text tokens (begun ++ b ∷ []) rest
 goes_on text tokens begun b rest t h = record {

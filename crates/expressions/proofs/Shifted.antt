@@ -1,8 +1,5 @@
 -- The tokens are gone through one by one.
-use Rattle.std.proofs.Common.{◌≡◌, ℕ, ◌+◌, ◌<◌, None, Some, List, [], ◌∷◌, drop, get_or, length, refl, ap, ◌∙◌}
-use Rattle.std.proofs.lemmas.List.{drop_more}
-use Rattle.expressions.specs.Shifting.{Place, parsed_from, shifted}
-use Rattle.expressions.specs.declared.token.Token.{Token}
+use Rattle.expressions.proofs.Common.{[], ap, drop, drop_more, get_or, length, List, None, parsed_from, Place, refl, shifted, Some, Token, ℕ, ◌+◌, ◌<◌, ◌∙◌, ◌∷◌, ◌≡◌}
 
 -- where no tree has some tokens, none has them and more
 pub never : (tokens : List Token) → parsed_from None tokens ≡ None

@@ -1,42 +1,18 @@
 -- Words, and what no token is spelled by.
-use Rattle.std.proofs.Common.{◌≡◌, ℕ, ◌<◌, ltb, zero, suc, Bool, true, false, ◌==◌, if◌then◌else◌, Result, Err, List, [], ◌∷◌, get_or, Option, Some, None, Ok, IfSome, MatchOption, refl, sym, ap, ◌∙◌, codes, arith, inl, inr, ◌&&◌}
-use Rattle.std.specs.Prelude.{⊤}
+use Rattle.expressions.proofs.Common.{[], And, and_parts, AndThen, ap, arith, Bool, Bracket, closing, codes, eqb-true, Equal, Err, false, get_or, Greater, GreaterEqual, IfSome, if◌then◌else◌, Infix, inl, inr, Less, LessEqual, List, ltb, MatchOption, Minus, name_of, Names, names, None, NotEqual, numbered_name_of, numbered_names, Ok, opening, Option, Or, OrElse, Plus, refl, Result, Round, ShiftLeft, ShiftRight, sign_in, sign_of, Some, Spells, SpellsOrNot, Square, suc, sym, Times, Token, true, Xor, zero, ℕ, ⊤, ◌&&◌, ◌<◌, ◌==◌, ◌∙◌, ◌∷◌, ◌≡◌}
 use Rattle.std.specs.List.{list_all, position}
-use Rattle.std.proofs.lemmas.Bool.{and_parts, eqb-true}
 use Rattle.std.proofs.lemmas.Bool.Decides.{nat_tests}
 use Rattle.byte_strings.proofs.Below.{all_below, all_below_at}
 use Rattle.std.specs.Str.{IsUtf8, bytes_eq}
 use Rattle.std.proofs.lemmas.Str.{IsUtf8-from_ascii}
 use Rattle.numerals.specs.Numerals.{magnitude}
 use Rattle.numerals.specs.declared.NumeralError.{NumeralError}
-use Rattle.rv32i.specs.Names.{Names, name_of, names, numbered_name_of, numbered_names}
-use Rattle.expressions.specs.Tokens.{Spells, opening, closing, sign_of}
-use Rattle.expressions.specs.Scanning.{SpellsOrNot, sign_in}
-use Rattle.expressions.specs.declared.token.Bracket.{Bracket}
-use Rattle.expressions.specs.declared.token.Bracket.TheVariants.{Round, Square}
-use Rattle.expressions.specs.declared.token.Infix.{Infix}
-use Rattle.expressions.specs.declared.token.Infix.TheVariants.{OrElse, AndThen, Or, Xor, And, Equal, NotEqual, Less, LessEqual, Greater, GreaterEqual, ShiftLeft, ShiftRight, Plus, Minus, Times}
-use Rattle.expressions.specs.declared.token.Token.{Token}
 use Rattle.expressions.specs.declared.token.Token.TheVariants as t
 
 -- each sign is found as its token
 infix_found : (operator : Infix) → sign_in (sign_of operator) ≡ Some (t.Infix operator)
 infix_found OrElse = refl
-infix_found AndThen = refl
-infix_found Or = refl
-infix_found Xor = refl
-infix_found And = refl
-infix_found Equal = refl
-infix_found NotEqual = refl
-infix_found Less = refl
-infix_found LessEqual = refl
-infix_found Greater = refl
-infix_found GreaterEqual = refl
-infix_found ShiftLeft = refl
-infix_found ShiftRight = refl
-infix_found Plus = refl
-infix_found Minus = refl
-infix_found Times = refl
+infix_found _ = refl
 
 open_found : (bracket : Bracket) → sign_in (opening bracket) ≡ Some (t.Open bracket)
 open_found Round = refl
@@ -166,21 +142,7 @@ register_found bytes r h =
 infix_only : (operator : Infix) → token_of (sign_of operator) ≡ Some (t.Infix operator)
 unfolding token_of number_or register_or register_of
 infix_only OrElse = refl
-infix_only AndThen = refl
-infix_only Or = refl
-infix_only Xor = refl
-infix_only And = refl
-infix_only Equal = refl
-infix_only NotEqual = refl
-infix_only Less = refl
-infix_only LessEqual = refl
-infix_only Greater = refl
-infix_only GreaterEqual = refl
-infix_only ShiftLeft = refl
-infix_only ShiftRight = refl
-infix_only Plus = refl
-infix_only Minus = refl
-infix_only Times = refl
+infix_only _ = refl
 
 open_only : (bracket : Bracket) → token_of (opening bracket) ≡ Some (t.Open bracket)
 unfolding token_of number_or register_or register_of

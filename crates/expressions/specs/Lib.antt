@@ -8,8 +8,10 @@ pub mod Texts
 pub mod Values
 -- the tree that the code keeps, as the grammar's
 pub mod Nodes
--- ---- for private clauses alone
+-- ---- the same as functions
 -- how the code divides a text
 pub mod Scanning
 -- how the code finds the tree
 pub mod Shifting
+-- what private clauses alone cite
+pub mod Private

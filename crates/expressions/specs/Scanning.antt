@@ -1,6 +1,6 @@
--- How the code divides a text: cited by private clauses alone.
+-- How a text is divided, as a function: for private clauses, and for `Expressions` of `answers`.
 --
--- A word or a sign goes on as long as it can; where it can't, the next one begins, or there is a blank.
+-- A word or a sign continues as long as it can; where it can't, the next one begins, or there is a blank.
 use Rattle.std.specs.Prelude.{◌≡◌, ℕ, Bool, true, false, ◌==◌, if◌then◌else◌, List, [], ◌∷◌, ◌++◌, Option, Some, None}
 use Rattle.std.specs.Prelude.{MatchOption, ⊤}
 use Rattle.byte_strings.specs.Blanks.{is_blank}
@@ -77,7 +77,7 @@ SpelledOrNot text found =
     MatchOption found ((tokens : List Token) → Spelled tokens (lexemes [] text) → ⊥)
     (λ tokens. Spelled tokens (lexemes [] text))
 
--- What is so far of a text: these tokens are spelled by lexemes of it, and this is what is left: bytes that have
+-- How far a text was read: these tokens are spelled by lexemes of it, and this is what is left: bytes that have
 -- begun one, and more.
 pub record SoFar (text : List ℕ) (tokens : List Token) (begun rest : List ℕ) : Type 0 where
   pub done : List (List ℕ)

@@ -1,4 +1,4 @@
--- How the code finds the tree of tokens: cited by private clauses alone.
+-- The tree of tokens, as a function: for private clauses, and for `Expressions` of `answers`.
 --
 -- It goes over the tokens once. What waits for the operand that is being read is a stack: operators before it, brackets
 -- round it, and left operands with their operator.

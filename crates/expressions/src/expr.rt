@@ -3,7 +3,9 @@
 use crate::error::{ExprError, ExprFault};
 use crate::lexing::tokens;
 use crate::node::Node;
+use crate::operation::{Operation, operations};
 use crate::parsing::parse;
+use crate::running::outcome;
 use image::Memory;
 use rv32i::Hart;
 use std::alloc::Global;
@@ -15,10 +17,11 @@ const TEXT_LIMIT: usize = 1024;
 /// How deep brackets and operators before their operand may nest.
 const NESTING_LIMIT: u32 = 64;
 
-/// An expression. A contract sees its tree.
+/// An expression: its tree, and what to do for its value, one operation after the other. A contract sees its tree.
 #[derive(Drop)]
 pub struct Expr {
     root: Node,
+    operations: Vec<Operation>,
 }
 
 impl Model for Expr {
@@ -31,6 +34,12 @@ impl Model for Expr {
     ghost coded = { Prim.hlevel (codes, node.the_row.coded) };
 
     ghost view = { λ e. e.root };
+
+    ghost use Rattle.std.specs.Prelude.{◌≡◌};
+    ghost use Rattle.expressions.specs.Nodes.{tree_of};
+    ghost use Rattle.expressions.specs.Private.Flat.{operations_of};
+
+    ghost invariant = { λ e. e.operations.items ≡ operations_of (tree_of e.root) };
 }
 
 impl Expr {
@@ -54,11 +63,11 @@ impl Expr {
         let Some(root) = parse(alloc, &tokens)? else {
             return Err(ExprError::Syntax);
         };
-        if root.nests_within(NESTING_LIMIT) {
-            Ok(Expr { root })
-        } else {
-            Err(ExprError::TooDeep)
+        if !root.nests_within(NESTING_LIMIT) {
+            return Err(ExprError::TooDeep);
         }
+        let operations = operations(alloc, &root)?;
+        Ok(Expr { root, operations })
     }
 
     /// The value of the expression on a hart and its memory, without taking memory. `Outside`: a word that is
@@ -66,6 +75,13 @@ impl Expr {
     pub fn value(&self, hart: &Hart, memory: &Memory) -> Result<u32, ExprFault>
         ensures { result ≡ value_of (tree_of self.now) hart.now memory.now }
     {
-        self.root.value(hart, memory)
+        // Of one operation the tree is as quick, and needs no stack.
+        if self.operations.len() < 2 {
+            return self.root.value(hart, memory);
+        }
+        match outcome(&self.operations, hart, memory) {
+            Some(found) => found,
+            None => self.root.value(hart, memory),
+        }
     }
 }

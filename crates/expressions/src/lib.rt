@@ -7,7 +7,9 @@ mod expr;
 pub mod laws;
 mod lexing;
 mod node;
+mod operation;
 mod parsing;
+mod running;
 mod token;
 mod value;
 

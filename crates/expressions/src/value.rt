@@ -37,8 +37,8 @@ impl Node {
     }
 }
 
-// An operator before a value.
-fn before(operator: Prefix, value: u32) -> u32
+/// An operator before a value.
+pub(crate) fn before(operator: Prefix, value: u32) -> u32
     ensures { result ≡ before operator value }
 {
     match operator {
@@ -48,8 +48,8 @@ fn before(operator: Prefix, value: u32) -> u32
     }
 }
 
-// Whether the left side decides.
-fn decides(operator: Infix, left: u32) -> bool
+/// Whether the left side decides.
+pub(crate) fn decides(operator: Infix, left: u32) -> bool
     ensures { result ≡ decides operator left }
 {
     match operator {
@@ -59,8 +59,8 @@ fn decides(operator: Infix, left: u32) -> bool
     }
 }
 
-// An operator between two values.
-fn between(operator: Infix, left: u32, right: u32) -> u32
+/// An operator between two values.
+pub(crate) fn between(operator: Infix, left: u32, right: u32) -> u32
     ensures { result ≡ between operator left right }
 {
     match operator {
@@ -93,8 +93,8 @@ fn enclosed(bracket: Bracket, value: u32, memory: &Memory) -> Result<u32, ExprFa
     }
 }
 
-// The word at any address.
-fn word_anywhere(memory: &Memory, address: u32) -> Result<u32, ExprFault>
+/// The word at any address.
+pub(crate) fn word_anywhere(memory: &Memory, address: u32) -> Result<u32, ExprFault>
     ensures { result ≡ word_anywhere memory.now address }
 {
     let mut bytes = [0; 4];

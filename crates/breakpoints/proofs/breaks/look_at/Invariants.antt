@@ -1,6 +1,4 @@
-use Rattle.std.proofs.Common.{◌≡◌, ◌≤◌, ◌+◌, ◌-◌, ◌++◌, length, take, vec_len, vec_capacity}
-use Rattle.std.specs.List.{list_any}
-use Rattle.breakpoints.specs.Stops.{ids_where, stands}
+use Rattle.breakpoints.proofs.Common.{ids_where, length, list_any, stands, take, vec_capacity, vec_len, ◌++◌, ◌+◌, ◌-◌, ◌≡◌, ◌≤◌}
 use Rattle.breakpoints.proofs.breaks.look_at.Given as goal
 
 abbrev pub invariant-loop-breakpoint : goal.invariant-loop-breakpoint

@@ -1,6 +1,4 @@
-use Rattle.std.proofs.Common.{subst, ℕ, List, MatchOption}
-use Rattle.std.specs.Prelude.{⊤}
-use Rattle.rv32i.specs.Names.{Names}
+use Rattle.expressions.proofs.Common.{List, MatchOption, Names, subst, ℕ, ⊤}
 use Rattle.expressions.proofs.Words.{names_are_utf8}
 use Rattle.expressions.proofs.lexing.register_in.Goals as goal
 

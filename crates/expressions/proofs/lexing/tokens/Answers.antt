@@ -1,6 +1,4 @@
-use Rattle.std.proofs.Common.{◌-◌, take, drop, get_or, sym, ◌∙◌, subst, arith, length}
-use Rattle.byte_strings.specs.Blanks.{is_blank}
-use Rattle.expressions.specs.Scanning.{Takes}
+use Rattle.expressions.proofs.Common.{arith, drop, get_or, is_blank, length, subst, sym, take, Takes, ◌-◌, ◌∙◌}
 use Rattle.expressions.proofs.Scanned.{at_end, ended_at, ends, failed_at, fails_at_end, kept_at, next_within}
 use Rattle.expressions.proofs.lexing.tokens.Goals as goal
 use Rattle.expressions.proofs.lexing.tokens.Goals.{then-not-is_lexeme+in_ok-take+else-not-branch, else-not-is_lexeme}

@@ -1,5 +1,4 @@
-use Rattle.std.proofs.Common.{◌≤◌, ◌-◌, take, drop}
-use Rattle.expressions.specs.Scanning.{SoFar}
+use Rattle.expressions.proofs.Common.{drop, SoFar, take, ◌-◌, ◌≤◌}
 use Rattle.expressions.proofs.lexing.tokens.Given as goal
 
 abbrev pub invariant-loop-end : goal.invariant-loop-end

@@ -1,5 +1,4 @@
-use Rattle.std.proofs.Common.{sym, ◌∙◌}
-use Rattle.std.proofs.lemmas.Bool.{true≢false}
+use Rattle.expressions.proofs.Common.{sym, true≢false, ◌∙◌}
 use Rattle.std.proofs.lemmas.Slice.Eq.{bytes_eq-Decides}
 use Rattle.expressions.proofs.Words.{word_or_not}
 use Rattle.expressions.proofs.lexing.word_in.Goals as goal

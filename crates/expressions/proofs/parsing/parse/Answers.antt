@@ -1,6 +1,5 @@
-use Rattle.std.proofs.Common.{sym, ap, ◌∙◌}
+use Rattle.expressions.proofs.Common.{ap, place_of, sym, ◌∙◌}
 use Rattle.std.specs.Option.{option_map}
-use Rattle.expressions.specs.Shifting.{place_of}
 use Rattle.expressions.proofs.Shifted.{none_here}
 use Rattle.expressions.proofs.parsing.parse.Goals as goal
 

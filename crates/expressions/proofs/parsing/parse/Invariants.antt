@@ -1,5 +1,4 @@
-use Rattle.std.proofs.Common.{◌≡◌, Some, drop}
-use Rattle.expressions.specs.Shifting.{parsed, parsed_from, place_of}
+use Rattle.expressions.proofs.Common.{drop, parsed, parsed_from, place_of, Some, ◌≡◌}
 use Rattle.expressions.proofs.parsing.parse.Given as goal
 
 abbrev pub invariant-loop-token : goal.invariant-loop-token

@@ -1,5 +1,4 @@
-use Rattle.std.proofs.Common.{sym, ap, ◌∙◌, arith, vec_capacity}
-use Rattle.breakpoints.specs.Stops.{Lists, checked, counted, hit_in}
+use Rattle.breakpoints.proofs.Common.{ap, arith, checked, counted, hit_in, Lists, sym, vec_capacity, ◌∙◌}
 use Rattle.breakpoints.proofs.Lists.{counted_address, no_check, no_hit, still_kept}
 use Rattle.breakpoints.proofs.breaks.Breaks.check.Goals as goal
 

@@ -1,5 +1,4 @@
-use Rattle.std.proofs.Common.{sym, ap, ◌∙◌}
-use Rattle.breakpoints.specs.Stops.{Lists, looked, standing_in}
+use Rattle.breakpoints.proofs.Common.{ap, Lists, looked, standing_in, sym, ◌∙◌}
 use Rattle.breakpoints.proofs.Lists.{no_look, none_standing}
 use Rattle.breakpoints.proofs.breaks.Breaks.look.Goals as goal
 

@@ -1,9 +1,6 @@
-use Rattle.std.proofs.Common.{sym, ap, ◌∙◌, arith}
-use Rattle.std.proofs.lemmas.Bool.{leb-false, leb-true}
+use Rattle.expressions.proofs.Common.{ap, arith, leb-false, leb-true, nesting, parsed, sym, ◌∙◌}
 use Rattle.std.specs.Option.{option_map}
 use Rattle.expressions.specs.Nodes.{tree_of}
-use Rattle.expressions.specs.Shifting.{parsed}
-use Rattle.expressions.specs.Trees.{nesting}
 use Rattle.expressions.proofs.Deciding.{is_tree, no_tree, none_spelled, some_spelled}
 use Rattle.expressions.proofs.expr.Expr.parse.Goals as goal
 
@@ -23,22 +20,8 @@ returns-in_default-2 c =
           (ap parsed (sym c.deref.ensures.value) ∙ sym c.in_ok-root.ensures ∙ ap (option_map tree_of) c.in_default-2.is),
     )
 
-pub returns-then-nests_within : goal.returns-then-nests_within
-returns-then-nests_within c =
-    let spelled = some_spelled c.args.text.now c.as_bytes.result.now _ c.in-Some.tokens.items c.as_bytes.ensures.value
-    (ap (option_map (λ tokens. tokens.items)) c.in-Some.is) c.in_ok-tokens.ensures in
-    let root = c.in-Some-2.root in (
-      omega (arith, c.if-text-gt-TEXT_LIMIT.false),
-      (
-        is_tree c.args.text.now c.in-Some.tokens.items (tree_of root) spelled
-            (ap parsed (sym c.deref.ensures.value) ∙ sym c.in_ok-root.ensures ∙ ap (option_map tree_of) c.in-Some-2.is),
-        leb-true
-            (nesting (tree_of root)) 64 (sym c.nests_within.ensures ∙ c.if-nests_within.true),
-      ),
-    )
-
-pub returns : goal.returns
-returns c =
+pub returns-then-not-nests_within : goal.returns-then-not-nests_within
+returns-then-not-nests_within c =
     let spelled = some_spelled c.args.text.now c.as_bytes.result.now _ c.in-Some.tokens.items c.as_bytes.ensures.value
     (ap (option_map (λ tokens. tokens.items)) c.in-Some.is) c.in_ok-tokens.ensures in
     let root = c.in-Some-2.root in (
@@ -49,7 +32,21 @@ returns c =
           is_tree c.args.text.now c.in-Some.tokens.items (tree_of root) spelled
               (ap parsed (sym c.deref.ensures.value) ∙ sym c.in_ok-root.ensures ∙ ap (option_map tree_of) c.in-Some-2.is),
           leb-false
-              (nesting (tree_of root)) 64 (sym c.nests_within.ensures ∙ c.if-nests_within.false),
+              (nesting (tree_of root)) 64 (sym c.nests_within.ensures ∙ c.if-not-nests_within.true),
         ),
+      ),
+    )
+
+pub returns : goal.returns
+returns c =
+    let spelled = some_spelled c.args.text.now c.as_bytes.result.now _ c.in-Some.tokens.items c.as_bytes.ensures.value
+    (ap (option_map (λ tokens. tokens.items)) c.in-Some.is) c.in_ok-tokens.ensures in
+    let root = c.in-Some-2.root in (
+      omega (arith, c.if-text-gt-TEXT_LIMIT.false),
+      (
+        is_tree c.args.text.now c.in-Some.tokens.items (tree_of root) spelled
+            (ap parsed (sym c.deref.ensures.value) ∙ sym c.in_ok-root.ensures ∙ ap (option_map tree_of) c.in-Some-2.is),
+        leb-true
+            (nesting (tree_of root)) 64 (sym c.nests_within.ensures ∙ c.if-not-nests_within.false),
       ),
     )
