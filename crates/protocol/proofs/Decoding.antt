@@ -8,12 +8,11 @@ use Rattle.base64.specs.declared.decode.DecodeError.{DecodeError}
 use Rattle.base64.specs.declared.engine.general_purpose.GeneralPurpose.{GeneralPurpose}
 use Rattle.protocol.specs.Laws.{ReadsEncodings}
 
--- what is decoded
 pub decoded_of-ok : (e : GeneralPurpose) (text bytes : List ℕ) → decode_of e text ≡ Ok bytes → decoded_of e text ≡ Some bytes
 unfolding decoded_of
 decoded_of-ok e text bytes h = ap result_ok h
 
--- what is not
+-- what is not decoded
 pub decoded_of-err : (e : GeneralPurpose) (text : List ℕ) (fault : DecodeError) → decode_of e text ≡ Err fault → decoded_of e text ≡ None
 unfolding decoded_of
 decoded_of-err e text fault h = ap result_ok h
@@ -26,7 +25,7 @@ decoded_of-is : (e : GeneralPurpose) (text bytes : List ℕ) → decoded_of e te
 unfolding decoded_of
 decoded_of-is e text bytes h = ok_is (decode_of e text) bytes h
 
--- the bytes of a text are those of which it is the encoding
+-- the bytes of a text are those that it encodes
 pub reads_encodings : ReadsEncodings
 reads_encodings text bytes text_is bytes_is =
     let strict = decode_of_iff standard text bytes (refl, refl) text_is bytes_is in

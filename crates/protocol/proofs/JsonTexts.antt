@@ -26,10 +26,7 @@ json_of-unread body unread =
 -- where the library finds memory, its fault is that of the text
 pub gives_fault : (k : Category) (meant : Option Data) → ((k ≡ Memory → ⊥) → meant ≡ None) → GivesValue (Err (fault_of k)) meant
 gives_fault Memory meant h = tt
-gives_fault Syntax meant h = h (λ e. cc)
-gives_fault IsData meant h = h (λ e. cc)
-gives_fault Eof meant h = h (λ e. cc)
-gives_fault Io meant h = h (λ e. cc)
+gives_fault _ meant h = h (λ e. cc)
 
 -- a body that has a value is text
 utf8_if : (b : Bool) (found : Option Data) (value : Data) → cond b found None ≡ Some value → b ≡ true

@@ -239,7 +239,7 @@ message_of-put ms k d t c s a =
     let same_arguments = property-put ARGUMENTS.now k d ms a in
     simp (same_type, same_command, same_seq, same_arguments)
 
--- what was found goes on
+-- what was found is passed on
 next_is : {A : Type 0} (found : Option A) (value : A) (fault : MessageError)
     (next : A → Result Incoming MessageError)
     → found ≡ Some value → (ok_or found fault >>= next) ≡ next value

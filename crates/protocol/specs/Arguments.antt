@@ -39,7 +39,7 @@ a_number_is_not_true = refl
 abbrev pub base64 : Data → Option (List ℕ)
 base64 value = as_str value >>= decoded_of standard
 
--- the entries of a list, each of which has to mean something
+-- the entries of a list; each has to mean something
 abbrev pub each : {A : Type 0} → (Data → Option A) → Items → Option (List A)
 each meaning no_items = Some []
 each meaning (item value rest) = do
@@ -51,7 +51,7 @@ each meaning (item value rest) = do
 abbrev pub list : {A : Type 0} → (Data → Option A) → Data → Option (List A)
 list meaning value = as_array value >>= each meaning
 
--- For private clauses alone: of which values memory may run out in reading a text, a list or an
+-- For private clauses alone: the values for which memory may run out in reading a text, a list or an
 -- object
 abbrev pub IsText : Data → Type 0
 IsText value = IsSome (as_str value)

@@ -16,13 +16,8 @@ use Rattle.protocol.specs.Disconnect.{disconnect_request}
 use Rattle.protocol.specs.SetBreakpoints.{set_breakpoints_request}
 use Rattle.protocol.specs.SetFunctionBreakpoints.{set_function_breakpoints_request}
 use Rattle.protocol.specs.SetInstructionBreakpoints.{set_instruction_breakpoints_request}
-use Rattle.protocol.specs.Continue.{continue_request}
-use Rattle.protocol.specs.Next.{next_request}
-use Rattle.protocol.specs.StepIn.{step_in_request}
-use Rattle.protocol.specs.StepOut.{step_out_request}
-use Rattle.protocol.specs.StepBack.{step_back_request}
-use Rattle.protocol.specs.ReverseContinue.{reverse_continue_request}
-use Rattle.protocol.specs.Pause.{pause_request}
+use Rattle.protocol.specs.StepArguments.{step}
+use Rattle.protocol.specs.ThreadArguments.{on_thread}
 use Rattle.protocol.specs.StackTrace.{stack_trace_request}
 use Rattle.protocol.specs.Scopes.{scopes_request}
 use Rattle.protocol.specs.Variables.{variables_request}
@@ -43,6 +38,13 @@ use Rattle.protocol.specs.declared.threads.TheConstants.{NAME as THREADS}
 use Rattle.protocol.specs.declared.restart.TheConstants.{NAME as RESTART}
 use Rattle.protocol.specs.declared.terminate.TheConstants.{NAME as TERMINATE}
 use Rattle.protocol.specs.declared.set_exception_breakpoints.TheConstants.{NAME as SET_EXCEPTION_BREAKPOINTS}
+use Rattle.protocol.specs.declared.continue_.TheConstants.{NAME as CONTINUE}
+use Rattle.protocol.specs.declared.next.TheConstants.{NAME as NEXT}
+use Rattle.protocol.specs.declared.step_in.TheConstants.{NAME as STEP_IN}
+use Rattle.protocol.specs.declared.step_out.TheConstants.{NAME as STEP_OUT}
+use Rattle.protocol.specs.declared.step_back.TheConstants.{NAME as STEP_BACK}
+use Rattle.protocol.specs.declared.reverse_continue.TheConstants.{NAME as REVERSE_CONTINUE}
+use Rattle.protocol.specs.declared.pause.TheConstants.{NAME as PAUSE}
 
 -- the start and the end of a session, and what is asked at any time
 abbrev pub session_requests : List Row
@@ -57,19 +59,19 @@ session_requests = initialize_request
     ∷ disconnect_request
     ∷ []
 
--- where the program stops, and how it goes on
+-- where the program stops, and how it continues
 unfoldable pub execution_requests : List Row
 execution_requests = set_breakpoints_request
     ∷ set_function_breakpoints_request
     ∷ set_instruction_breakpoints_request
     ∷ bare SET_EXCEPTION_BREAKPOINTS.now command.SetExceptionBreakpoints
-    ∷ continue_request
-    ∷ next_request
-    ∷ step_in_request
-    ∷ step_out_request
-    ∷ step_back_request
-    ∷ reverse_continue_request
-    ∷ pause_request
+    ∷ on_thread CONTINUE.now (λ a. command.Continue a)
+    ∷ step NEXT.now (λ a. command.Next a)
+    ∷ step STEP_IN.now (λ a. command.StepIn a)
+    ∷ step STEP_OUT.now (λ a. command.StepOut a)
+    ∷ step STEP_BACK.now (λ a. command.StepBack a)
+    ∷ on_thread REVERSE_CONTINUE.now (λ a. command.ReverseContinue a)
+    ∷ on_thread PAUSE.now (λ a. command.Pause a)
     ∷ []
 
 -- what the program is at
@@ -151,13 +153,13 @@ name_of (command.SetBreakpoints arguments) = set_breakpoints_request.name
 name_of (command.SetFunctionBreakpoints arguments) = set_function_breakpoints_request.name
 name_of (command.SetInstructionBreakpoints arguments) = set_instruction_breakpoints_request.name
 name_of command.SetExceptionBreakpoints = SET_EXCEPTION_BREAKPOINTS.now
-name_of (command.Continue arguments) = continue_request.name
-name_of (command.Next arguments) = next_request.name
-name_of (command.StepIn arguments) = step_in_request.name
-name_of (command.StepOut arguments) = step_out_request.name
-name_of (command.StepBack arguments) = step_back_request.name
-name_of (command.ReverseContinue arguments) = reverse_continue_request.name
-name_of (command.Pause arguments) = pause_request.name
+name_of (command.Continue arguments) = CONTINUE.now
+name_of (command.Next arguments) = NEXT.now
+name_of (command.StepIn arguments) = STEP_IN.now
+name_of (command.StepOut arguments) = STEP_OUT.now
+name_of (command.StepBack arguments) = STEP_BACK.now
+name_of (command.ReverseContinue arguments) = REVERSE_CONTINUE.now
+name_of (command.Pause arguments) = PAUSE.now
 name_of (command.StackTrace arguments) = stack_trace_request.name
 name_of (command.Scopes arguments) = scopes_request.name
 name_of (command.Variables arguments) = variables_request.name

@@ -87,7 +87,7 @@ LinesWithinMax =
     (body : List ℕ) (request : ARequest) → incoming_of body ≡ Ok (Request request)
     → AsksLinesWithin request.command
 
--- A request is refused as it stands for its name or its arguments alone, and never for its phase.
+-- Read on its own, a request is refused for its name or its arguments alone, and never for its phase.
 abbrev pub RefusesForNameOrArguments : Type 0
 RefusesForNameOrArguments =
     (body : List ℕ) (seq : ℕ) (name : List ℕ) (refusal : Refusal)
@@ -105,7 +105,7 @@ PassesOverUnknownMembers =
 abbrev pub NeverMeansNoMemory : Type 0
 NeverMeansNoMemory = (body : List ℕ) → incoming_of body ≢ Err NoMemory
 
--- A text in base64 stands for the bytes of which it is the encoding (RFC 4648, section 4), and no other text does.
+-- A text in base64 is read as the bytes that it encodes (RFC 4648, section 4), and no other text is read as these.
 abbrev pub ReadsEncodings : Type 0
 ReadsEncodings =
     (text bytes : List ℕ) → IsBytes text → IsBytes bytes

@@ -22,13 +22,8 @@ pub mod Disconnect
 pub mod SetBreakpoints
 pub mod SetFunctionBreakpoints
 pub mod SetInstructionBreakpoints
-pub mod Continue
-pub mod Next
-pub mod StepIn
-pub mod StepOut
-pub mod StepBack
-pub mod ReverseContinue
-pub mod Pause
+pub mod StepArguments
+pub mod ThreadArguments
 pub mod StackTrace
 pub mod Scopes
 pub mod Variables

@@ -13,6 +13,6 @@ abbrev pub row : {A : Type 0} → List ℕ → (Members → Option A) → (A →
 row name arguments make =
     record { name = name; meaning = λ members. option_map make (arguments members) }
 
--- the request of that name, of whose arguments none is looked at
+-- the request of that name; none of its arguments is looked at
 abbrev pub bare : List ℕ → Command → Row
 bare name command = record { name = name; meaning = λ _. Some command }

@@ -1,6 +1,6 @@
 -- The request `setFunctionBreakpoints` (`SetFunctionBreakpointsRequest`): what its arguments mean.
 --
--- The editor says which breakpoints at functions there are to be. Each has the function's name, and may have two
+-- The editor says which breakpoints at functions it wants. Each has the function's name, and may have two
 -- texts. All three are read later.
 use Rattle.std.specs.Prelude.{◌≡◌, [], Option, Some, None, codes, refl}
 use Rattle.serde_json.specs.Data.{Data, object, array, no_items, string, Members, no_members, member}

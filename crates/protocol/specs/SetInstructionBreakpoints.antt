@@ -1,6 +1,6 @@
 -- The request `setInstructionBreakpoints` (`SetInstructionBreakpointsRequest`): what its arguments mean.
 --
--- The editor says which breakpoints at addresses there are to be. Each has an address, which is a text, and
+-- The editor says which breakpoints at addresses it wants. Each has an address, which is a text, and
 -- may have a number that is added to it, and two texts. The texts are read later. `mode` is not looked at.
 use Rattle.std.specs.Prelude.{◌≡◌, [], Option, Some, None, pos, codes, refl, unwrap_or}
 use Rattle.serde_json.specs.Data.{Data, object, array, no_items, string, Members, no_members, member, number, unsigned}

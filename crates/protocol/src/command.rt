@@ -5,6 +5,8 @@ ghost use Rattle.serde_json.specs.View.{view, members_view};
 ghost use Rattle.protocol.specs.Commands.{command_among, command_of, name_of, requests, Finds};
 ghost use Rattle.protocol.specs.Commands.{execution_requests, inspection_requests};
 
+use crate::step_arguments::{StepArguments, step_arguments};
+use crate::thread_arguments::{ThreadArguments, thread_arguments};
 use crate::unread::Unread;
 use crate::{
     attach, cancel, configuration_done, continue_, disassemble, disconnect, evaluate, initialize,
@@ -45,19 +47,19 @@ pub enum Command {
     /// The exceptions to stop at (`SetExceptionBreakpointsRequest`).
     SetExceptionBreakpoints,
     /// A thread runs on (`ContinueRequest`).
-    Continue(continue_::ContinueArguments),
+    Continue(ThreadArguments),
     /// A step over calls (`NextRequest`).
-    Next(next::NextArguments),
+    Next(StepArguments),
     /// A step into calls (`StepInRequest`).
-    StepIn(step_in::StepInArguments),
+    StepIn(StepArguments),
     /// A step out of the running call (`StepOutRequest`).
-    StepOut(step_out::StepOutArguments),
+    StepOut(StepArguments),
     /// A step back (`StepBackRequest`).
-    StepBack(step_back::StepBackArguments),
+    StepBack(StepArguments),
     /// A thread runs backward (`ReverseContinueRequest`).
-    ReverseContinue(reverse_continue::ReverseContinueArguments),
+    ReverseContinue(ThreadArguments),
     /// A thread is to stop (`PauseRequest`).
-    Pause(pause::PauseArguments),
+    Pause(ThreadArguments),
     /// The frames of the call stack (`StackTraceRequest`).
     StackTrace(stack_trace::StackTraceArguments),
     /// The scopes of a frame (`ScopesRequest`).
@@ -189,15 +191,15 @@ fn execution_command(alloc: Global, name: &str, members: Members) -> Result<Opti
             members?;
             Ok(Some(Command::SetExceptionBreakpoints))
         }
-        continue_::NAME => Ok(Some(Command::Continue(continue_::arguments(alloc, members?)?))),
-        next::NAME => Ok(Some(Command::Next(next::arguments(alloc, members?)?))),
-        step_in::NAME => Ok(Some(Command::StepIn(step_in::arguments(alloc, members?)?))),
-        step_out::NAME => Ok(Some(Command::StepOut(step_out::arguments(alloc, members?)?))),
-        step_back::NAME => Ok(Some(Command::StepBack(step_back::arguments(alloc, members?)?))),
-        reverse_continue::NAME => Ok(Some(Command::ReverseContinue(reverse_continue::arguments(
+        continue_::NAME => Ok(Some(Command::Continue(thread_arguments(alloc, members?)?))),
+        next::NAME => Ok(Some(Command::Next(step_arguments(alloc, members?)?))),
+        step_in::NAME => Ok(Some(Command::StepIn(step_arguments(alloc, members?)?))),
+        step_out::NAME => Ok(Some(Command::StepOut(step_arguments(alloc, members?)?))),
+        step_back::NAME => Ok(Some(Command::StepBack(step_arguments(alloc, members?)?))),
+        reverse_continue::NAME => Ok(Some(Command::ReverseContinue(thread_arguments(
             alloc, members?,
         )?))),
-        pause::NAME => Ok(Some(Command::Pause(pause::arguments(alloc, members?)?))),
+        pause::NAME => Ok(Some(Command::Pause(thread_arguments(alloc, members?)?))),
         _ => inspection_command(alloc, name, members),
     }
 }

@@ -47,7 +47,7 @@ impl<T> Entries<T> {
     }
 }
 
-/// A list, of which each entry is of that type.
+/// A list; each of its entries is of that type.
 impl<T: Argument> Argument for Entries<T> {
     ghost use Rattle.protocol.specs.Arguments.{IsList, list};
 

@@ -28,7 +28,7 @@ pub fn lines_within_max()
     ensures { law.LinesWithinMax }
 {}
 
-/// A request is refused as it stands for its name or its arguments alone.
+/// Read on its own, a request is refused for its name or its arguments alone.
 pub fn refuses_for_name_or_arguments()
     ensures { law.RefusesForNameOrArguments }
 {}

@@ -1,17 +1,15 @@
--- What comes of each request, kind by kind: what holds of each kind of success holds of the success of each request.
+-- The success of each request, kind by kind: what holds of each kind of success holds of the success of each request.
 --
--- This is the one list of requests in the laws over what is answered. A further request that looks into the program, lets it go on or sets a list of
--- breakpoints has a line in it, and none in those laws.
-use Rattle.session.proofs.Common.{[], Answering, ap, AsmError, Bool, Command, demand_of, Done, false, Given, Goal, has_none, has_room, has_text, is_taken_in, issues, length, List, looks_in, looks_on, None, Ok, Option, Phase, Position, Program, refl, Refusal, replaces, ResponseBody, resumed, run_of, seen_in, set_variable, sets_breakpoints, Setting, SetVariableArguments, Some, subst, success_of, success_on, sym, Terms, true, Wanted, with_hart, write_memory, WriteMemoryArguments, Writing, written, ℕ, ◌+◌, ◌∙◌, ◌∷◌, ◌≡◌, ◌≤◌}
-use Rattle.std.specs.Prelude.{IsTrue, ◌&&◌, take}
+-- This is the one list of requests in the laws over what is answered. A further request that looks into the program, lets it continue or
+-- sets breakpoints has a line in it, and none in those laws.
+use Rattle.session.proofs.Common.{[], agreeing, Answering, ap, AsmError, AssemblyFailed, Bool, changing, Command, demand_of, Done, false, FileUnreadable, Given, Goal, has_none, has_room, has_text, initializes, is_resume, is_taken_in, issues, IsTrue, length, List, looks_in, looks_on, NoHistory, None, Ok, Option, Phase, Position, Program, refl, Refusal, refusing, replaces, ResponseBody, resumed, resuming, run_of, seen_in, set_variable, sets_breakpoints, Setting, SetVariableArguments, Some, subst, success_of, success_on, sym, take, Terms, true, Wanted, with_hart, write_memory, WriteMemoryArguments, Writing, written, ℕ, ◌&&◌, ◌+◌, ◌∙◌, ◌∷◌, ◌≡◌, ◌≤◌}
 use Rattle.assembler.specs.Placed.{error_of}
 use Rattle.protocol.specs.Commands.{name_of}
 use Rattle.protocol.specs.declared.command.Command.TheVariants as command
 use Rattle.protocol.specs.declared.disconnect.DisconnectArguments.{DisconnectArguments}
 use Rattle.protocol.specs.declared.initialize.InitializeArguments.{InitializeArguments}
 use Rattle.protocol.specs.declared.launch.LaunchArguments.{LaunchArguments}
-use Rattle.protocol.specs.declared.pause.PauseArguments.{PauseArguments}
-use Rattle.protocol.specs.declared.refusal.Refusal.TheVariants.{AssemblyFailed, FileUnreadable, NoHistory}
+use Rattle.protocol.specs.declared.thread_arguments.ThreadArguments.{ThreadArguments}
 use Rattle.replies.specs.Responses.{IsOutcomeOf}
 use Rattle.replies.specs.declared.response.ResponseBody.TheVariants as body
 use Rattle.handlers.specs.declared.phase.Phase.TheVariants.{Active}
@@ -21,12 +19,10 @@ use Rattle.handlers.specs.Disconnect as disconnect
 use Rattle.handlers.specs.GoingBack as going_back
 use Rattle.handlers.specs.Initialize as initialize
 use Rattle.handlers.specs.Launch.{assembles, error_text, loads}
-use Rattle.session.specs.Kinds.{initializes, is_resume}
 use Rattle.handlers.specs.Pause as pause
 use Rattle.handlers.specs.Phases.{is_active_in}
 use Rattle.handlers.specs.Restart as restart
 use Rattle.handlers.specs.Stepping.{granularity_of}
-use Rattle.handlers.specs.Successes.{agreeing, changing, refusing, resuming}
 use Rattle.handlers.specs.Terminate as terminate
 use Rattle.session.proofs.Breaking.{answer_on, by_answer}
 use Rattle.session.proofs.Looked.{by_look, by_setting, by_writing}
@@ -52,7 +48,7 @@ pub record Agrees (c : Command) : Type 0 where
   pub plain : initializes (Done (agreed_body c)) ≡ 0
   pub stays : is_resume (name_of c) ≡ false
 
--- one that lets the program go on with a goal, and its body
+-- one that lets the program continue with a goal, and its body
 abbrev pub steps : Command → Bool
 steps (command.Continue arguments) = true
 steps (command.Next arguments) = true
@@ -74,7 +70,7 @@ pub record Steps (c : Command) : Type 0 where
   pub loaded : (demand_of c).loaded ≡ true
   pub still : (demand_of c).still ≡ true
 
--- one that asks for a program, and does not let it go on
+-- one that asks for a program, and does not let it continue
 pub record IsAboutProgram (c : Command) : Type 0 where
   pub loaded : (demand_of c).loaded ≡ true
   pub stays : is_resume (name_of c) ≡ false
@@ -119,7 +115,7 @@ pub record BySuccess (given : Given) (terms : Terms) (P : Command → Answering 
   pub restarts : P command.Restart (restart.success given terms)
   pub terminates : P command.Terminate (terminate.success given terms)
   pub leaves : (arguments : DisconnectArguments) → P (command.Disconnect arguments) (disconnect.success given terms arguments)
-  pub pauses : (arguments : PauseArguments) → P (command.Pause arguments) (pause.success given terms)
+  pub pauses : (arguments : ThreadArguments) → P (command.Pause arguments) (pause.success given terms)
   pub stepped : (c : Command) → Steps c → (g : Goal) → P c (resuming given terms (resumed g) (step_body c))
   -- of those that are answered by the program: none is there, or it is refused; as one is that lets it go back, too
   pub absent : (c : Command) → IsAboutProgram c → given.debuggee.program ≡ None → P c (agreeing given terms body.Empty)

@@ -1,4 +1,4 @@
--- A look-up in the map is one among the members that the map stands for.
+-- A look-up in the map is one among the members that the map represents.
 use Rattle.std.proofs.Common.{option_map, ap, ◌∙◌}
 use Rattle.serde_json.specs.View.{view}
 use Rattle.serde_json.proofs.Views.{view_of_ref, view-lookup}
