@@ -7,6 +7,7 @@ import signal
 import subprocess
 import tempfile
 import time
+from multiprocessing.pool import ThreadPool
 
 from support.allocations import each_refusal
 from support.files import file_of
@@ -115,15 +116,19 @@ def cut_pieces_and_what_is_no_message_are_recorded():
     expect_recorded(many, "pieces of 65,536 bytes")
 
 
+def one_at_random_is_recorded(number):
+    pieces, program = session_of("recorded", number)
+    with folder() as place:
+        there = os.path.join(place, "there")
+        with open(os.path.join(place, HERE), "wb") as file:
+            file.write(program)
+        ran = subprocess.run([PROGRAM, "--record", there], input=b"".join(pieces), cwd=place, capture_output=True, timeout=SECONDS)
+        expect(bytes_of(script_of(there)), [ran.stdout], "session %d: what is replayed" % number)
+
+
 def sessions_at_random_are_recorded():
-    for number in range(40):
-        pieces, program = session_of("recorded", number)
-        with folder() as place:
-            there = os.path.join(place, "there")
-            with open(os.path.join(place, HERE), "wb") as file:
-                file.write(program)
-            ran = subprocess.run([PROGRAM, "--record", there], input=b"".join(pieces), cwd=place, capture_output=True, timeout=SECONDS)
-            expect(bytes_of(script_of(there)), [ran.stdout], "session %d: what is replayed" % number)
+    with ThreadPool(os.cpu_count()) as pool:
+        pool.map(one_at_random_is_recorded, range(1000), chunksize=10)
 
 
 def two_editors_are_recorded():
@@ -233,6 +238,25 @@ def a_recording_that_cannot_be_written_ends_and_the_session_goes_on():
         expect(b"".join(bytes_of(script_of(there))), b"", "what is replayed: no line was whole but the first")
 
 
+def a_full_disk_ends_a_recording():
+    """A file system of four pages, where this may mount one: one is left, for what the session began with."""
+    with folder() as place:
+        disk = os.path.join(place, "disk")
+        os.mkdir(disk)
+        if subprocess.run(["mount", "-t", "tmpfs", "-o", "size=16k", "tmpfs", disk], capture_output=True, check=False).returncode != 0:
+            print("left out: a disk that is full, since none can be mounted here")
+            return
+        try:
+            with open(os.path.join(disk, "full"), "wb") as file:
+                file.write(bytes(3 * 4096))
+            there = os.path.join(disk, "there")
+            out, err, status = run(SESSION, words=["--record", there])
+            expect((out, status), (ANSWERS, 0), "the session")
+            expect(err, b"rvdap: %s: the recording ends: No space left on device (os error 28)\n" % there.encode(), "one line")
+        finally:
+            subprocess.run(["umount", disk], check=True)
+
+
 def wrong_scripts_are_refused():
     with folder() as place:
         script = os.path.join(place, "s.watch")
@@ -270,6 +294,8 @@ def a_recording_without_memory():
         for (out, err, status), there in gave:
             if status == 0:
                 expect(out, ANSWERS, "a whole session")
+                ended = err == b"rvdap: %s: the recording ends: no memory\n" % there.encode()
+                expect(ended or (err == b"" and text_of(there, "session.watch").endswith(b"\nwatch 1 all\n")), True, "what is said: %r" % err)
             else:
                 expect(out, ANSWERS[:len(out)], "what was told before")
                 expect(err.startswith(b"rvdap: "), True, "a line")
@@ -311,6 +337,7 @@ def checks():
         what_was_killed_is_a_script_but_for_its_last_line,
         a_folder_that_is_no_new_one_is_refused,
         a_recording_that_cannot_be_written_ends_and_the_session_goes_on,
+        a_full_disk_ends_a_recording,
         wrong_scripts_are_refused,
         facts_are_those_of_watch,
         a_recording_without_memory,

@@ -1,4 +1,4 @@
--- What the program begins with: a session in which a machine gets so much memory, with a program or none, and with the greatest limits.
+-- What the program begins with: a session with a size of memory for a machine, a program or none, and the greatest limits.
 use Rattle.std.specs.Prelude.{◌≡◌, ℕ, List, Option, Result, Ok, Err, refl, true, ⊤}
 use Rattle.rvdap.specs.declared.serving.NoSession.{NoSession}
 use Rattle.rvdap.specs.declared.serving.NoSession.TheVariants.{Assembly, NoMemory}
@@ -8,7 +8,7 @@ use Rattle.session.specs.Kept.{Kept, Stands}
 use Rattle.session.specs.Limits.{greatest_limits}
 use Rattle.session.specs.Sessions.{Beginning, start}
 
--- what a session begins with, where a machine can get so many bytes and the program has an image
+-- what a session begins with, where a machine can get this many bytes and the program has an image
 abbrev pub begins_with : (bytes : ℕ) (program : Option (List ℕ × List ℕ)) → is_size bytes ≡ true → HasImage program bytes → Beginning
 begins_with bytes program can image = record {
   limits = greatest_limits;

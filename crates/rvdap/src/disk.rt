@@ -34,7 +34,7 @@ impl Files for Disk<'_> {
     }
 }
 
-/// The bytes of a regular file, of which there may be so many.
+/// The bytes of a regular file, at most `most` of them.
 pub(crate) fn bytes_in(
     rt: &HostRuntime,
     alloc: Global,

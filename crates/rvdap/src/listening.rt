@@ -27,7 +27,7 @@ pub(crate) fn listen<R: Recorder>(
     serve_accepted(rt.alloc(), session, &mut door, &mut disk, recorder, editors)
 }
 
-/// The same, and what goes on is told (`--verbose`): at which address it is listened on, or why not, and what is heard of each editor.
+/// The same, told as it happens (`--verbose`): at which address it listens, or why not, and what is heard of each editor.
 pub(crate) fn listen_verbosely<R: Recorder>(
     rt: &HostRuntime,
     session: &mut Session,

@@ -1,8 +1,8 @@
-//! The files of a recording. The first that cannot be written is told on standard error: the recording ends there, and the session continues.
+//! The files of a recording.
 ghost use Rattle.std.specs.Prelude.{None};
 
 use commands::say;
-use recording::Copies;
+use scripts::Copies;
 use std::alloc::{AllocError, Global};
 use std::fs::File;
 use std::io;
@@ -25,37 +25,49 @@ pub(crate) fn write_new(rt: &HostRuntime, folder: &str, name: &str, text: &[u8])
     file.write_all(text)
 }
 
-fn say_end(rt: &HostRuntime, folder: &str, error: &io::Error) {
-    say(
-        rt,
-        format_args!("rvdap: {folder}: the recording ends: {error}\n"),
-    );
+/// Says on standard error that a recording ends: for the error of a file, or since no memory was left.
+pub(crate) fn say_end(rt: &HostRuntime, folder: &str, error: Option<&io::Error>) {
+    match error {
+        Some(error) => say(
+            rt,
+            format_args!("rvdap: {folder}: the recording ends: {error}\n"),
+        ),
+        None => say(
+            rt,
+            format_args!("rvdap: {folder}: the recording ends: no memory\n"),
+        ),
+    }
 }
 
 /// The script of a recording.
 #[derive(Drop)]
-pub(crate) struct ScriptFile<'a> {
-    rt: &'a HostRuntime,
-    folder: &'a str,
+pub(crate) struct ScriptFile {
     file: File,
+    error: Option<io::Error>,
 }
 
-impl<'a> ScriptFile<'a> {
-    /// The script that is written to this file, in this folder.
-    pub(crate) fn new(rt: &'a HostRuntime, folder: &'a str, file: File) -> ScriptFile<'a> {
-        ScriptFile { rt, folder, file }
+impl ScriptFile {
+    /// The script that is written to this file.
+    pub(crate) fn new(file: File) -> ScriptFile {
+        ScriptFile { file, error: None }
+    }
+
+    /// The last error of writing it.
+    pub(crate) fn error(&self) -> Option<&io::Error> {
+        self.error.as_ref()
     }
 }
 
-impl Write for ScriptFile<'_> {
+impl Write for ScriptFile {
     ghost contents = { λ script. None };
 
     fn write(&mut self, text: &[u8]) -> io::Result<usize> {
         match self.file.write(text) {
             Ok(count) => Ok(count),
             Err(error) => {
-                say_end(self.rt, self.folder, &error);
-                Err(error)
+                let kind = error.kind();
+                self.error = Some(error);
+                Err(kind.into())
             }
         }
     }
@@ -70,12 +82,22 @@ impl Write for ScriptFile<'_> {
 pub(crate) struct TextFiles<'a> {
     rt: &'a HostRuntime,
     folder: &'a str,
+    error: Option<io::Error>,
 }
 
 impl<'a> TextFiles<'a> {
     /// Copies in this folder.
     pub(crate) fn new(rt: &'a HostRuntime, folder: &'a str) -> TextFiles<'a> {
-        TextFiles { rt, folder }
+        TextFiles {
+            rt,
+            folder,
+            error: None,
+        }
+    }
+
+    /// Why a copy was not kept.
+    pub(crate) fn error(&self) -> Option<&io::Error> {
+        self.error.as_ref()
     }
 
     fn written(&self, number: u32, text: &[u8]) -> io::Result<()> {
@@ -91,7 +113,7 @@ impl Copies for TextFiles<'_> {
         match self.written(number, text) {
             Ok(()) => true,
             Err(error) => {
-                say_end(self.rt, self.folder, &error);
+                self.error = Some(error);
                 false
             }
         }

@@ -2,11 +2,10 @@
 
 ghost use Rattle.std.specs.Prelude.{None};
 
-use crate::recorded_files::{ScriptFile, TextFiles, joined_path, write_new};
+use crate::recorded_files::{ScriptFile, TextFiles, joined_path, say_end, write_new};
 use options::Options;
 use protocol::Text;
-use recording::ScriptRecorder;
-use scripts::StepRef;
+use scripts::{ScriptRecorder, StepRef};
 use session::Bytes;
 use std::fs::File;
 use std::io::ErrorKind;
@@ -25,7 +24,9 @@ pub(crate) const PROGRAM: &str = "program.s";
 /// A recording.
 #[derive(Drop)]
 pub(crate) struct Recording<'a> {
-    recorder: ScriptRecorder<ScriptFile<'a>, TextFiles<'a>>,
+    rt: &'a HostRuntime,
+    folder: &'a str,
+    recorder: ScriptRecorder<ScriptFile, TextFiles<'a>>,
     editors: u32,
 }
 
@@ -40,25 +41,24 @@ impl<'a> Recording<'a> {
         make_empty(rt, folder)?;
         write_options(rt, folder, options, program)?;
         let script = File::create_new(rt, joined_path(rt.alloc(), folder, SCRIPT)?.as_str())?;
-        let script = ScriptFile::new(rt, folder, script);
         let copies = TextFiles::new(rt, folder);
         Ok(Recording {
-            recorder: ScriptRecorder::new(rt.alloc(), script, copies),
+            rt,
+            folder,
+            recorder: ScriptRecorder::new(rt.alloc(), ScriptFile::new(script), copies),
             editors: 0,
         })
     }
 
     /// Ends the recording: all for the last editor is watched.
     pub(crate) fn end(&mut self) {
-        let _ = self.recorder.finish(self.editors.max(1));
+        let was_recording = self.recorder.is_recording();
+        if !self.recorder.finish(self.editors.max(1)) && was_recording {
+            self.say_why();
+        }
     }
-}
 
-// What is recorded is in no contract here, but in those of `recording`.
-impl Recorder for Recording<'_> {
-    ghost told = { λ recording. None };
-
-    fn tell(&mut self, event: EventRef<'_>) {
+    fn tell_event(&mut self, event: EventRef<'_>) {
         match event {
             EventRef::Connect => {
                 self.editors = self.editors.saturating_add(1);
@@ -71,6 +71,28 @@ impl Recorder for Recording<'_> {
             EventRef::Hold => self.recorder.tell(StepRef::Hold),
             EventRef::Sent(count) => self.recorder.tell(StepRef::Sent(count as u64)),
             EventRef::DropConnection => self.recorder.tell(StepRef::DropConnection),
+        }
+    }
+
+    // Says why the recording has ended.
+    fn say_why(&self) {
+        match self.recorder.script().error() {
+            Some(error) => say_end(self.rt, self.folder, Some(error)),
+            None => say_end(self.rt, self.folder, self.recorder.copies().error()),
+        }
+    }
+}
+
+// What is recorded is in no contract here, but in those of `scripts`.
+impl Recorder for Recording<'_> {
+    ghost told = { λ recording. None };
+
+    // The first event that could not be recorded is said on standard error; the session continues.
+    fn tell(&mut self, event: EventRef<'_>) {
+        let was_recording = self.recorder.is_recording();
+        self.tell_event(event);
+        if was_recording && !self.recorder.is_recording() {
+            self.say_why();
         }
     }
 }

@@ -24,7 +24,7 @@ pub(crate) enum NoSession {
     NoMemory,
 }
 
-/// A session in which a machine gets so much memory, with this program, if one is given (the path of its file, and what that holds), and
+/// A session with this much memory for a machine, with this program, if one is given (the path of its file, and what that holds), and
 /// with the greatest limits.
 pub(crate) fn new_session(
     alloc: Global,

@@ -1,20 +1,14 @@
 -- Digits, and what they write.
-use Rattle.std.proofs.Common.{◌≡◌, ℕ, ◌+◌, ◌*◌, ◌<◌, ◌≤◌, ◌^◌, List, length, drop, Some, None, false, true, nat_lt, refl, arith, slice_index_or}
-use Rattle.std.proofs.lemmas.Bool.Decides.{nat_tests}
-use Rattle.std.specs.Char.{digit_value}
-use Rattle.std.specs.Str.Parse.{digits_value_after}
+use Rattle.scripts.proofs.Common.{arith, digit_value, digits_value_after, drop, false, fitting, length, List, nat_lt, nat_tests, None, refl, slice_index_or, Some, true, ℕ, ◌*◌, ◌+◌, ◌<◌, ◌^◌, ◌≡◌, ◌≤◌}
 use Rattle.numerals.proofs.Values.{value_past}
-use Rattle.scripts.specs.Lines.{fitting}
 
 -- a number that does not fit
 pub too_large : (n : ℕ) → 2 ^ 64 ≤ n → None ≡ fitting n
 too_large n h = let t : nat_lt n (2 ^ 64) ≡ false = grind (arith, nat_tests) in rw t refl
 
--- one that fits
 pub fits : (n : ℕ) → n < 2 ^ 64 → Some n ≡ fitting n
 fits n h = let t : nat_lt n (2 ^ 64) ≡ true = grind (arith, nat_tests) in rw t refl
 
--- it is large
 pub is_large : (n : ℕ) → None ≡ fitting n → 2 ^ 64 ≤ n
 is_large n h = grind (arith, nat_tests, h)
 

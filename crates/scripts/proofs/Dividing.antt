@@ -1,13 +1,7 @@
 -- A text, its first line and the lines after it.
-use Rattle.std.proofs.Common.{◌≡◌, ℕ, ◌+◌, ◌-◌, ◌==◌, ◌<◌, ◌≤◌, Bool, true, false, nat_lt, List, [], ◌∷◌, length, take, drop, Option, Some, None, refl, sym, ap, ◌∙◌, arith}
-use Rattle.std.specs.List.{position, position_or_len, slice_split, onto_first}
-use Rattle.std.specs.Str.Lines.{lines, lines_of_parts, strip_carriage_return}
-use Rattle.std.proofs.lemmas.Bool.Decides.{nat_tests}
+use Rattle.scripts.proofs.Common.{[], ap, arith, Bool, drop, false, first_line, last, length, line_before, line_then, lines, lines_of_parts, List, nat_lt, nat_tests, None, onto_first, Option, position, position_or_len, read, refl, rest_after, rest_of_lines, slice_split, Some, step_of, strip_carriage_return, sym, take, true, watch_of, ℕ, ◌+◌, ◌-◌, ◌<◌, ◌==◌, ◌∙◌, ◌∷◌, ◌≡◌, ◌≤◌}
 use Rattle.std.proofs.lemmas.List.{length-drop}
 use Rattle.std.proofs.lemmas.List.Splits.{slice_split_first, slice_split-cons_yes, slice_split-cons_no}
-use Rattle.scripts.specs.Lines.{step_of, watch_of}
-use Rattle.scripts.specs.Scripts.{last, line_then, read}
-use Rattle.scripts.specs.Steps.{first_line, line_before, rest_after, rest_of_lines}
 
 abbrev pub feed : ℕ → Bool
 feed b = b == 10
@@ -97,7 +91,6 @@ last_by number text (Some at) h e =
     ap (λ (p : List (List ℕ)). read number (lines_of_parts p))
     (parts_at text at h ∙ ap (λ (r : List ℕ). take at text ∷ slice_split feed r) e)
 
--- the last line
 pub last_line : (number : ℕ) (text : List ℕ) → rest_of_lines text ≡ [] → read number (lines text) ≡ last number (watch_of (first_line text))
 last_line number text h = last_by number text (position feed text) refl h
 

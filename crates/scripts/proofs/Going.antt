@@ -1,16 +1,10 @@
 -- The lines that were read, and those that are left.
-use Rattle.std.proofs.Common.{◌≡◌, ℕ, ◌+◌, ◌==◌, ◌<◌, true, false, List, [], ◌∷◌, ◌++◌, length, Option, Some, None, Result, Ok, Err, refl, sym, ap, subst, ◌∙◌, append_assoc, arith}
-use Rattle.std.proofs.lemmas.Bool.Decides.{nat_tests}
-use Rattle.std.specs.Str.Lines.{lines}
+use Rattle.scripts.proofs.Common.{[], Adds, ap, append_assoc, arith, Err, false, first_line, following, last, length, line_then, lines, List, nat_tests, None, Ok, Option, read, Reads, refl, Refuses, rest_of_lines, Result, Some, Step, step_of, subst, sym, true, Watch, watch_of, ℕ, ◌++◌, ◌+◌, ◌<◌, ◌==◌, ◌∙◌, ◌∷◌, ◌≡◌}
 use Rattle.scripts.proofs.Dividing.{last_line, more_lines}
-use Rattle.scripts.specs.Lines.{step_of, watch_of}
-use Rattle.scripts.specs.Scripts.{Reads, last, line_then, read, script_of}
-use Rattle.scripts.specs.Steps.{Adds, Refuses, first_line, following, rest_of_lines}
+use Rattle.scripts.specs.Scripts.{script_of}
 use Rattle.scripts.specs.declared.fault.ScriptFault.{ScriptFault}
 use Rattle.scripts.specs.declared.fault.ScriptFault.TheVariants.{Line, Write, NoMemory}
 use Rattle.scripts.specs.declared.script.Script.{Script}
-use Rattle.scripts.specs.declared.step.Step.{Step}
-use Rattle.scripts.specs.declared.watch.Watch.{Watch}
 
 -- what a text says
 abbrev Said : Type 0

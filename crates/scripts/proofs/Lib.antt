@@ -1,3 +1,4 @@
+pub mod Common
 -- The proofs of `scripts`.
 
 -- digits and what they write
@@ -14,3 +15,15 @@ mod Recording
 pub mod Lines
 -- what was written of events is read as these, wherever it is cut
 pub mod ReadBack
+-- what a script has after several writes
+mod Appended
+-- joined events are the same events
+mod Joins
+-- what a script got of the events that were told
+mod Records
+-- the paths of copies have lines
+mod CopyPaths
+-- that is read back
+mod JoinedReadBack
+-- an event is told
+mod Told

@@ -1,25 +1,14 @@
 -- The lines that say events are read as these.
-use Rattle.std.proofs.Common.{◌≡◌, ℕ, suc, ◌-◌, ◌/◌, ◌%◌, ◌<◌, ◌^◌, ◌==◌, Bool, true, false, ◌&&◌, not, nat_le, List, [], ◌∷◌, ◌++◌, length, get_or, slice_index, Some, None, codes, decimal, refl, sym, ap, ◌∙◌, arith, length-append, if◌then◌else◌, bytes_eq, position}
-use Rattle.std.proofs.Math.Seq.{get_or-append_right}
-use Rattle.std.proofs.lemmas.Bool.Decides.{nat_tests}
-use Rattle.std.proofs.lemmas.Fmt.{decimal_is_IsNumeral}
+use Rattle.scripts.proofs.Common.{[], after_header, AllDigits, ap, arith, body_if, Bool, bytes_eq, can_end_line, codes, coming, Connect, decimal, decimal_is_IsNumeral, digit_value, DropConnection, false, get_or, get_or-append_right, has_line, Hold, if◌then◌else◌, in_one_line, is_digit, IsInRange, length, length-append, line_of, List, list_all, moves, nat_le, nat_tests, None, not, piece_line, Recv, refl, sending, Sent, Slice, slice_index, small, Some, Step, step_of, strip_carriage_return, suc, sym, taken, true, Turn, wide, ℕ, ◌%◌, ◌&&◌, ◌++◌, ◌-◌, ◌/◌, ◌<◌, ◌==◌, ◌^◌, ◌∙◌, ◌∷◌, ◌≡◌}
+use Rattle.std.proofs.Common.{position}
 use Rattle.std.proofs.lemmas.List.Folds.{list_all_at}
 use Rattle.std.proofs.lemmas.Slice.Eq.{bytes_eq-Decides}
-use Rattle.std.specs.Char.{digit_value, is_digit}
-use Rattle.std.specs.List.{list_all}
-use Rattle.std.specs.Str.Lines.{strip_carriage_return}
-use Rattle.std.specs.Str.Parse.{AllDigits}
 use Rattle.byte_strings.proofs.Below.{all_below, all_below_at}
 use Rattle.byte_strings.proofs.Conjunctions.{all_append, and_both, and_left, and_right}
 use Rattle.framing.specs.Frames.{minimal_frame}
 use Rattle.hex.proofs.HexLemmas.{decode_of-encode_lower}
 use Rattle.hex.specs.Hex.{IsBytes, encode_lower, encode_with, lower_digits}
 use Rattle.scripts.proofs.Digits.{fits}
-use Rattle.scripts.specs.Laws.{IsInRange}
-use Rattle.scripts.specs.Lines.{coming, moves, sending, small, step_of, taken, wide}
-use Rattle.scripts.specs.Writing.{after_header, body_if, can_end_line, has_line, in_one_line, line_of, piece_line}
-use Rattle.scripts.specs.declared.step.Step.{Step}
-use Rattle.scripts.specs.declared.step.Step.TheVariants.{Connect, Recv, Turn, Slice, Hold, Sent, DropConnection}
 
 pub turned : (t : Bool) → not t ≡ true → t ≡ false
 turned true h = sym h

@@ -1,8 +1,5 @@
 -- Paths are UTF-8.
-use Rattle.std.proofs.Common.{◌≡◌, ℕ, List, true, false, Some, None, refl, ap}
-use Rattle.std.specs.Str.{is_utf8}
-use Rattle.scripts.specs.Lines.{with_path}
-use Rattle.scripts.specs.declared.step.Step.TheVariants.{Turn}
+use Rattle.scripts.proofs.Common.{ap, false, is_utf8, List, None, refl, Some, true, Turn, with_path, ℕ, ◌≡◌}
 
 pub a_path : (text path : List ℕ) → is_utf8 text ≡ true → path ≡ text → Some (Turn (Some path)) ≡ with_path text
 a_path text path valid same = rw valid (ap (λ (p : List ℕ). Some (Turn (Some p))) same)

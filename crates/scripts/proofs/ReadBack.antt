@@ -1,27 +1,15 @@
 -- What was written of events is read as these, wherever it is cut.
-use Rattle.std.proofs.Common.{◌≡◌, ℕ, ◌+◌, ◌-◌, ◌<◌, ◌≤◌, ◌^◌, ◌==◌, Bool, true, false, not, nat_lt, List, [], ◌∷◌, ◌++◌, length, take, drop, Option, Some, None, Result, Ok, codes, decimal, refl, sym, ap, zero, suc, ◌∙◌, arith, append_assoc, length-append, take_at, position, bytes_eq}
-use Rattle.std.proofs.Math.Seq.{take-append-add, take-append-le, take-nil, drop-append-add}
-use Rattle.std.proofs.lemmas.Bool.Decides.{nat_tests}
-use Rattle.std.proofs.lemmas.Fmt.{decimal_is_IsNumeral}
+use Rattle.scripts.proofs.Common.{[], after_header, all_for, AllDigits, ap, append_assoc, arith, before, body_if, Bool, bytes_eq, can_end_line, codes, cut_of, decimal, decimal_is_IsNumeral, digit_value, drop, drop-append-add, false, HaveLines, in_one_line, last, length, length-append, line_of, line_then, lines, lines_of_parts, List, nat_lt, nat_tests, None, not, Ok, onto_first, Option, or_last, piece_line, position_or_len, read, recorded, Recv, refl, Result, slice_split, small, Some, Step, step_or, strip_carriage_return, suc, sym, take, take-append-add, take-append-le, take-nil, take_at, text_of, true, Watch, watch_all, watch_of, watching, whole_lines, whole_of_parts, words_round, zero, ℕ, ◌++◌, ◌+◌, ◌-◌, ◌<◌, ◌==◌, ◌^◌, ◌∙◌, ◌∷◌, ◌≡◌, ◌≤◌}
+use Rattle.std.proofs.Common.{position}
 use Rattle.std.proofs.lemmas.Slice.Eq.{bytes_eq-Decides}
 use Rattle.std.proofs.lemmas.List.Splits.{slice_split-cons_yes, slice_split-cons_no}
-use Rattle.std.specs.Char.{digit_value}
-use Rattle.std.specs.List.{onto_first, position_or_len, slice_split}
-use Rattle.std.specs.Str.Lines.{lines, lines_of_parts, strip_carriage_return}
-use Rattle.std.specs.Str.Parse.{AllDigits}
 use Rattle.byte_strings.proofs.Conjunctions.{and_both, and_left, and_right}
 use Rattle.framing.specs.Frames.{minimal_frame}
 use Rattle.scripts.proofs.Dividing.{feed, read_more, some_line, some_part}
 use Rattle.scripts.proofs.Lines.{Says, Stays, can_end, number_ends, says, small_back, turned, word_stays}
 use Rattle.scripts.proofs.Recording.{whole_next}
-use Rattle.scripts.specs.Laws.{HaveLines, all_for}
-use Rattle.scripts.specs.Lines.{cut_of, small, watch_of, watching, words_round}
-use Rattle.scripts.specs.Recordings.{or_last, recorded, recorded_of, step_or, whole_lines, whole_of_parts}
-use Rattle.scripts.specs.Scripts.{before, last, line_then, read, script_of}
-use Rattle.scripts.specs.Writing.{after_header, body_if, can_end_line, in_one_line, line_of, piece_line, text_of, watch_all}
-use Rattle.scripts.specs.declared.step.Step.{Step}
-use Rattle.scripts.specs.declared.step.Step.TheVariants.{Recv}
-use Rattle.scripts.specs.declared.watch.Watch.{Watch}
+use Rattle.scripts.specs.Recordings.{recorded_of}
+use Rattle.scripts.specs.Scripts.{script_of}
 
 -- ---- parts
 

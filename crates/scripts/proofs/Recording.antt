@@ -1,17 +1,10 @@
 -- The whole lines that were read, and those that are left.
-use Rattle.std.proofs.Common.{◌≡◌, ℕ, ◌+◌, ◌==◌, Bool, true, false, List, [], ◌∷◌, ◌++◌, length, take, drop, Option, Some, None, Result, Ok, Err, refl, sym, ap, subst, ◌∙◌, append_assoc, append-nil, is_none, is_some, not, nat_lt, arith, length-drop, ◌<◌}
-use Rattle.std.proofs.lemmas.Bool.Decides.{nat_tests}
-use Rattle.std.specs.List.{position, position_or_len, slice_split}
-use Rattle.std.specs.Str.Lines.{strip_carriage_return}
+use Rattle.scripts.proofs.Common.{[], Adds, ap, append-nil, append_assoc, arith, Bool, drop, Err, false, following, Holds, is_none, is_some, length, length-drop, List, nat_lt, nat_tests, None, not, Ok, Option, or_last, position, position_or_len, recorded, refl, Refuses, Result, slice_split, Some, Step, step_of, step_or, strip_carriage_return, subst, sym, take, true, Watch, watch_of, whole_lines, whole_of_parts, ℕ, ◌++◌, ◌+◌, ◌<◌, ◌==◌, ◌∙◌, ◌∷◌, ◌≡◌}
 use Rattle.scripts.proofs.Dividing.{feed, parts_at, parts_none, some_part}
-use Rattle.scripts.specs.Lines.{step_of, watch_of}
-use Rattle.scripts.specs.Recordings.{Holds, or_last, recorded, recorded_of, step_or, whole_lines, whole_of_parts}
-use Rattle.scripts.specs.Steps.{Adds, Refuses, following}
+use Rattle.scripts.specs.Recordings.{recorded_of}
 use Rattle.scripts.specs.declared.fault.ScriptFault.{ScriptFault}
 use Rattle.scripts.specs.declared.fault.ScriptFault.TheVariants.{Line}
 use Rattle.scripts.specs.declared.recorded.Recorded.{Recorded}
-use Rattle.scripts.specs.declared.step.Step.{Step}
-use Rattle.scripts.specs.declared.watch.Watch.{Watch}
 
 -- what a recording says
 abbrev Said : Type 0

@@ -10,8 +10,16 @@ pub mod Recordings
 pub mod Writing
 -- what holds of every recording
 pub mod Laws
--- ---- for private clauses alone: how the code goes over the lines
-pub mod Steps
+-- copies of the texts that a session was given
+pub mod Copies
+-- slices that follow each other
+pub mod Joining
+-- what a script gets while events are told
+pub mod Telling
+-- what holds of every recorder
+pub mod RecorderLaws
+-- what private clauses alone cite
+pub mod Private
 -- ---- of the crates below
 -- a frame
 pub use Rattle.framing.specs.Frames

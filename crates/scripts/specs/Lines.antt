@@ -71,7 +71,7 @@ with_path path = if is_utf8 path then Some (Turn (Some path)) else None
 abbrev pub turning : List ℕ → Option Step
 turning file = if length file == 0 then None else with_path file
 
--- so many moves
+-- a number of moves
 abbrev pub moves : Option ℕ → Option Step
 moves None = None
 moves (Some count) = Some (Slice count)
@@ -79,7 +79,7 @@ moves (Some count) = Some (Slice count)
 abbrev pub slicing : List ℕ → Option Step
 slicing digits = moves (small digits)
 
--- so many bytes
+-- a number of bytes
 abbrev pub taken : Option ℕ → Option Step
 taken None = None
 taken (Some count) = Some (Sent count)
@@ -114,7 +114,7 @@ step_of line =
 
 -- ---- what is watched
 
--- so many bytes
+-- a number of bytes
 abbrev pub at : Option ℕ → Option Cut
 at None = None
 at (Some count) = Some (At count)

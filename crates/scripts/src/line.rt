@@ -3,7 +3,7 @@ ghost use Rattle.std.specs.Prelude.{◌≡◌, ◌==◌, ◌<◌, ◌+◌, optio
 ghost use Rattle.std.specs.List.{position};
 ghost use Rattle.std.specs.Str.Lines.{strip_carriage_return};
 ghost use Rattle.scripts.specs.Lines.{after};
-ghost use Rattle.scripts.specs.Steps.{first_line, rest_of_lines};
+ghost use Rattle.scripts.specs.Private.Steps.{first_line, rest_of_lines};
 
 /// The first line of a text without its end, and what comes after it.
 pub(crate) fn first_line(text: &[u8]) -> (&[u8], &[u8])

@@ -2,7 +2,7 @@
 ghost use Rattle.std.specs.Prelude.{◌≡◌, ◌==◌, length};
 ghost use Rattle.scripts.specs.Lines as spec;
 ghost use Rattle.scripts.specs.Recordings.{Holds, or_last, recorded_of, whole_lines};
-ghost use Rattle.scripts.specs.Steps.{following};
+ghost use Rattle.scripts.specs.Private.Steps.{following};
 
 use crate::fault::ScriptFault;
 use crate::line::{divided, end_of_line};

@@ -2,7 +2,7 @@
 ghost use Rattle.std.specs.Prelude.{◌≡◌, IfErr, OnErr, OnOk};
 ghost use Rattle.scripts.specs.Lines as spec;
 ghost use Rattle.scripts.specs.Scripts.{Reads, last, script_of};
-ghost use Rattle.scripts.specs.Steps.{Adds, Refuses, following};
+ghost use Rattle.scripts.specs.Private.Steps.{Adds, Refuses, following};
 
 use crate::fault::ScriptFault;
 use crate::line::first_line;

@@ -20,11 +20,11 @@ pub enum Step {
     Recv(Bytes),
     /// A request is answered, with what the file at this path holds, if one is named.
     Turn(Option<Path>),
-    /// The program is given time for so many moves.
+    /// The program is given time for this many moves.
     Slice(u32),
     /// The program is to stand still before its next move.
     Hold,
-    /// So many of the waiting bytes were sent.
+    /// This many of the waiting bytes were sent.
     Sent(u64),
     /// The connection ends.
     DropConnection,
@@ -122,7 +122,7 @@ fn with_path(alloc: Global, path: &[u8]) -> Result<Option<Step>, AllocError>
     }
 }
 
-// So many moves.
+// A number of moves.
 fn slicing(digits: &[u8]) -> Option<Step>
     ensures { result ≡ spec.slicing digits.now }
 {
@@ -132,7 +132,7 @@ fn slicing(digits: &[u8]) -> Option<Step>
     }
 }
 
-// So many bytes.
+// A number of bytes.
 fn taking(digits: &[u8]) -> Option<Step>
     ensures { result ≡ spec.taking digits.now }
 {

@@ -9,7 +9,7 @@ use crate::number::{small, wide};
 /// How much of what a connection gets is watched.
 #[derive(Clone, Copy, Debug, PartialEq, Eq)]
 pub enum Cut {
-    /// The first so many bytes.
+    /// This many, from the first on.
     At(u64),
     /// All.
     All,

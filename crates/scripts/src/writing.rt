@@ -54,7 +54,6 @@ pub fn watch_line(alloc: Global, connection: u32) -> Result<Bytes, AllocError>
     line(alloc, b"watch ", number.as_bytes(), b" all")
 }
 
-// The line of a piece.
 fn piece_line(alloc: Global, piece: &[u8]) -> Result<Option<Bytes>, AllocError>
     ensures line { IfOk result (λ line. line ≡ spec.written (Recv piece.now)) }
     ensures short { OnErr result (spec.has_line (Recv piece.now) ≡ true) }
@@ -113,7 +112,6 @@ fn file_line(alloc: Global, path: &[u8]) -> Result<Option<Bytes>, AllocError>
     word_line(alloc, b"turn ", path)
 }
 
-// A line with a number.
 fn number_line(alloc: Global, word: &[u8], number: u64) -> Result<Option<Bytes>, AllocError>
     ensures { IfOk result (λ line. line ≡ Some ((word.now ++ decimal number) ++ 10 ∷ [])) }
 {

@@ -1,4 +1,4 @@
-//! Plays `scripts` and `recording`.
+//! Plays `scripts`.
 //!
 //! - `script BYTES`: what the script that these bytes are lists, and what it watches; or its fault.
 //! - `recorded BYTES`: the same of a recording, which may watch nothing.

@@ -2,14 +2,13 @@
 ghost use Rattle.std.specs.Prelude.{None};
 
 use crate::lent;
-use recording::{Copies, ScriptRecorder};
-use scripts::Step;
+use scripts::{Copies, ScriptRecorder, Step};
 use std::alloc::{AllocError, Global};
 use std::io::{Error, ErrorKind, Write};
 use std::{cmp, io};
 use testing::{Fault, Line};
 
-/// A script that takes so many bytes, and then fails. Their memory is there from the start.
+/// A script that takes `room` bytes, and then fails. Their memory is there from the start.
 #[derive(Drop)]
 pub(crate) struct Script {
     pub bytes: Vec<u8>,
@@ -41,7 +40,7 @@ impl Write for Script {
     }
 }
 
-/// Copies that are words of an answer, each with its number before it; so many are kept.
+/// Copies that are words of an answer, each with its number before it; at most `room` are kept.
 #[derive(Drop)]
 pub(crate) struct Words<'a> {
     pub line: &'a mut Line,

@@ -1,8 +1,6 @@
-use Rattle.std.proofs.Common.{◌∙◌, sym, ap, arith}
+use Rattle.scripts.proofs.Common.{ap, arith, digits_value_after, fitting, sym, ◌∙◌}
 use Rattle.std.proofs.lemmas.List.{at_drop_all}
-use Rattle.std.specs.Str.Parse.{digits_value_after}
 use Rattle.scripts.proofs.Digits.{fits, past}
-use Rattle.scripts.specs.Lines.{fitting}
 use Rattle.scripts.proofs.number.value.Goals as goal
 
 pub returns-in-None : goal.returns-in-None

@@ -1,6 +1,4 @@
-use Rattle.std.proofs.Common.{◌≡◌, ◌+◌, ◌≤◌, length}
-use Rattle.scripts.specs.Recordings.{recorded, recorded_of, whole_lines}
-use Rattle.scripts.specs.Steps.{following}
+use Rattle.scripts.proofs.Common.{following, length, recorded, recorded_of, whole_lines, ◌+◌, ◌≡◌, ◌≤◌}
 use Rattle.scripts.proofs.recorded.read_recorded.Given as goal
 
 abbrev pub invariant-loop-end : goal.invariant-loop-end

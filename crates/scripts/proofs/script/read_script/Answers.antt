@@ -1,7 +1,6 @@
-use Rattle.std.proofs.Common.{◌≡◌, ◌<◌, length, ap, arith}
+use Rattle.scripts.proofs.Common.{ap, arith, length, rest_of_lines, ◌<◌, ◌≡◌}
 use Rattle.scripts.proofs.Dividing.{shorter}
 use Rattle.scripts.proofs.Going.{empty, ended, filled, one_more, refused, start}
-use Rattle.scripts.specs.Steps.{rest_of_lines}
 use Rattle.scripts.proofs.script.read_script.Goals as goal
 
 pub loop-after-init : goal.loop-after-init

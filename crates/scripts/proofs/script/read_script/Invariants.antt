@@ -1,7 +1,4 @@
-use Rattle.std.proofs.Common.{◌≡◌, ◌+◌, ◌≤◌, length}
-use Rattle.std.specs.Str.Lines.{lines}
-use Rattle.scripts.specs.Scripts.{read, script_of}
-use Rattle.scripts.specs.Steps.{following}
+use Rattle.scripts.proofs.Common.{following, length, lines, read, script_of, ◌+◌, ◌≡◌, ◌≤◌}
 use Rattle.scripts.proofs.script.read_script.Given as goal
 
 abbrev pub invariant-loop-after : goal.invariant-loop-after

@@ -1,5 +1,0 @@
-use Rattle.recording.proofs.Joins.{joined_same as law}
-use Rattle.recording.proofs.laws.joined_are_the_same.Goals as goal
-
-pub returns : goal.returns
-returns c = law

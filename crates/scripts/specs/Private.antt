@@ -1,0 +1,5 @@
+-- What private clauses alone cite: how the code works. No statement of a public call needs any of it.
+
+-- how the code goes over the lines
+pub mod Steps
+pub mod Telling
